@@ -1,0 +1,40 @@
+-- The tests that TCP makes on an arriving segment (RFC 9293, 3.10.7.4), over offsets in the receiver's and the sender's streams.
+-- `first` is the offset of the segment's number, `len` is SEG.LEN, `next` is RCV.NXT and `window` is RCV.WND.
+use Rattle.std.specs.Prelude.{ℕ, ℤ, Bool, true, false, pos, negsuc, ◌+◌, ◌-◌, ◌+ℤ◌, ◌==◌, ◌&&◌, ◌||◌, nat_lt, nat_le, int_lt, int_le, if◌then◌else◌}
+
+-- equal integers
+abbrev pub int_eq : ℤ → ℤ → Bool
+int_eq x y = int_le x y && int_le y x
+
+-- the offset lies in a window that begins at next
+abbrev pub lies_in : ℕ → ℕ → ℤ → Bool
+lies_in next window offset = int_le (pos next) offset && int_lt offset (pos (next + window))
+
+-- RFC 9293, 3.10.7.4, first check, table 6: the four cases by length and window
+abbrev pub is_acceptable : ℕ → ℕ → ℤ → ℕ → Bool
+is_acceptable next window first len =
+    if len == 0
+    then (if window == 0 then int_eq first (pos next) else lies_in next window first)
+    else (if window == 0 then false else (lies_in next window first || lies_in next window (first +ℤ pos (len - 1))))
+
+-- how much of a text that begins at first lies before next
+abbrev pub below : ℕ → ℤ → ℕ
+below next (pos first) = next - first
+below next (negsuc first) = next + first + 1
+
+-- SND.UNA < SEG.ACK =< SND.NXT
+abbrev pub is_new_ack : ℕ → ℕ → ℤ → Bool
+is_new_ack una sent ack = int_lt (pos una) ack && int_le ack (pos sent)
+
+-- SEG.ACK > SND.NXT
+abbrev pub is_beyond : ℕ → ℤ → Bool
+is_beyond sent ack = int_lt (pos sent) ack
+
+-- what is acknowledged after an acknowledgement that isn't beyond what was sent
+abbrev pub una_after : ℕ → ℕ → ℕ
+una_after una ack = if nat_lt una ack then ack else una
+
+-- RFC 9293, 3.10.7.4, fifth check: the window is updated where SND.UNA =< SEG.ACK =< SND.NXT and either SND.WL1 < SEG.SEQ, or
+-- SND.WL1 = SEG.SEQ and SND.WL2 =< SEG.ACK. Here the acknowledgement is already known to be at most SND.NXT
+abbrev pub updates_window : ℕ → ℤ → ℕ → ℤ → ℕ → Bool
+updates_window una wl1 wl2 first ack = nat_le una ack && (int_lt wl1 first || (int_eq wl1 first && nat_le wl2 ack))

@@ -1,0 +1,4 @@
+pub mod Number
+pub mod Arrival
+pub mod Packet
+pub mod Message

@@ -1,0 +1,61 @@
+-- What a message between server and logger says: a boot number and one of eighteen bodies.
+use Rattle.std.specs.Prelude.{ℕ, Bool, List}
+use Rattle.ft_io.specs.declared.Key.{Key}
+
+-- the numbers of a connection: the client's and the server's initial numbers as the client knows them, and the segment size
+pub record Numbers : Type 0 where
+  pub key : Key
+  pub cisn : ℕ
+  pub sisn : ℕ
+  pub mss : ℕ
+
+-- how much of a connection is logged: bytes, whether the client's FIN is, and how many read lengths
+pub record Kept : Type 0 where
+  pub key : Key
+  pub length : ℕ
+  pub fin : Bool
+  pub reads : ℕ
+
+-- an entry of the log without its bytes and lengths
+pub record EntryHead : Type 0 where
+  pub key : Key
+  pub cisn : ℕ
+  pub sisn : ℕ
+  pub mss : ℕ
+  pub length : ℕ
+  pub fin : Bool
+  pub done : Bool
+  pub reads : ℕ
+  pub acked : ℕ
+
+-- a part of a client's stream, with the server's output that the client has acknowledged
+pub record Part : Type 0 where
+  pub key : Key
+  pub offset : ℕ
+  pub acked : ℕ
+  pub fin : Bool
+  pub bytes : List ℕ
+
+pub data Body : Type 0 where
+  HelloMsg : Body
+  SummaryMsg : (count : ℕ) → Body
+  ListMsg : (index : ℕ) → Body
+  EntryMsg : (index : ℕ) → EntryHead → Body
+  BytesMsg : Key → (offset : ℕ) → Body
+  PartMsg : Key → (offset : ℕ) → (bytes : List ℕ) → Body
+  CutsMsg : Key → (first : ℕ) → Body
+  LensMsg : Key → (first : ℕ) → (lens : List ℕ) → Body
+  OpenMsg : Numbers → Body
+  OpenedMsg : Numbers → Body
+  DataMsg : Part → Body
+  StableMsg : Kept → Body
+  ReadMsg : Key → (index : ℕ) → (length : ℕ) → Body
+  ReadsMsg : Kept → Body
+  DoneMsg : Key → Body
+  EndedMsg : Key → Body
+  StaleMsg : (newer : ℕ) → Body
+  FullMsg : Key → Body
+
+pub record Message : Type 0 where
+  pub boot : ℕ
+  pub body : Body

@@ -1,0 +1,35 @@
+-- What a TCP packet says: the value that its bytes spell (RFC 791, 3.1; RFC 9293, 3.1).
+use Rattle.std.specs.Prelude.{ℕ, Bool, Option, List, ◌/◌, ◌%◌, ◌==◌}
+
+-- the fields of the two headers that this project keeps. Numbers are modulo 2^32
+pub record Head : Type 0 where
+  pub src : ℕ
+  pub dst : ℕ
+  pub sport : ℕ
+  pub dport : ℕ
+  pub seq : ℕ
+  pub ack : ℕ
+  pub flags : ℕ
+  pub window : ℕ
+  pub mss : Option ℕ
+
+-- a segment with its addresses
+pub record Segment : Type 0 where
+  pub head : Head
+  pub payload : List ℕ
+
+-- whether a flag is set, by its value in the octet of flags
+abbrev pub is_flagged : ℕ → ℕ → Bool
+is_flagged flag flags = flags / flag % 2 == 1
+
+abbrev pub has_fin : Segment → Bool
+has_fin segment = is_flagged 1 segment.head.flags
+
+abbrev pub has_syn : Segment → Bool
+has_syn segment = is_flagged 2 segment.head.flags
+
+abbrev pub has_rst : Segment → Bool
+has_rst segment = is_flagged 4 segment.head.flags
+
+abbrev pub has_ack : Segment → Bool
+has_ack segment = is_flagged 16 segment.head.flags
