@@ -1,0 +1,231 @@
+-- The client: what it may send, and what it does with what comes (RFC 9293, 3.10). A scripted client follows the schedule; a live
+-- client is a TCP of its own, whose packets are moves of this machine too. Its offsets are units: bytes, and one more for a FIN.
+use Rattle.std.specs.Prelude.{◌≡◌, ℕ, ℤ, Bool, true, false, pos, ◌+◌, ◌-◌, ◌+ℤ◌, ◌%◌, ◌^◌, ◌<◌, ◌==◌, ◌&&◌, ◌||◌, not, nat_lt, nat_le, int_lt, int_le, max, min, Option, Some, None, List, [], ◌++◌, length, take, drop, nat_abs, if◌then◌else◌}
+use Rattle.ft_io.specs.declared.Addr.{Addr}
+use Rattle.ft_io.specs.declared.Key.{Key}
+use Rattle.seq_arith.specs.Number.{number_at}
+use Rattle.seq_arith.specs.Arrival.{int_eq, is_acceptable, below}
+use Rattle.seq_arith.specs.Packet.{Head, Segment, has_syn, has_rst, has_ack}
+use Rattle.ft_model.specs.Offset.{first_of, ack_of, text_of, fin_of, length_of, one_if}
+use Rattle.ft_model.specs.declared.phase.Phase.{Phase}
+use Rattle.ft_model.specs.declared.phase.Phase.TheVariants.{New, Opening, Established, Ended, Reset}
+use Rattle.ft_model.specs.declared.event.Event.{Event}
+use Rattle.ft_model.specs.declared.event.Event.TheVariants as events
+use Rattle.ft_model.specs.declared.event.EventWhy.{EventWhy}
+use Rattle.ft_model.specs.declared.event.EventWhy.TheVariants.{State, Range}
+
+pub record Client : Type 0 where
+  pub key : Key
+  pub server : Addr
+  pub isn : ℕ
+  pub script : List ℕ
+  pub phase : Phase
+  pub sisn : ℕ  -- the server's initial number; 0 until it is known
+  pub sent : ℕ  -- units sent, from the first on
+  pub acknowledged : ℕ  -- units of these that the server acknowledged
+  pub accepted : List ℕ  -- the server's bytes
+  pub edge : ℕ  -- the right edge: no byte from here on is accepted
+
+abbrev pub new_client : Addr → Key → ℕ → List ℕ → Client
+new_client server key isn script = record { key = key; server = server; isn = isn; script = script; phase = New; sisn = 0; sent = 0; acknowledged = 0; accepted = []; edge = 0 }
+
+abbrev pub is_new : Phase → Bool
+is_new New = true
+is_new _ = false
+
+abbrev pub is_opening : Phase → Bool
+is_opening Opening = true
+is_opening _ = false
+
+abbrev pub is_ended : Phase → Bool
+is_ended Ended = true
+is_ended _ = false
+
+-- the connection stands, in one direction at least
+abbrev pub is_open : Phase → Bool
+is_open Established = true
+is_open Ended = true
+is_open _ = false
+
+-- the accepted units: the server's FIN counts as one
+abbrev pub accepted_units : Client → ℕ
+accepted_units client = length client.accepted + one_if (is_ended client.phase)
+
+-- What a client may send. A live client's SYN may tell a segment size, and a live client may refuse a wrong acknowledgement of its SYN
+-- by a RST with that number.
+pub data Move : Type 0 where
+  Syn : (mss : Option ℕ) → Move
+  Text : (from len : ℕ) → Move
+  Fin : Move
+  Acknowledge : Move
+  Rst : Move
+  Refuse : (number : ℕ) → Move
+
+-- the phases in which the move may be made. After its FIN was acknowledged a client sends neither text nor FIN
+abbrev pub suits_phase : Client → Move → Bool
+suits_phase client (Syn mss) = is_new client.phase || is_opening client.phase
+suits_phase client (Text from len) = is_open client.phase && nat_le client.acknowledged (length client.script)
+suits_phase client Fin = is_open client.phase && nat_le client.acknowledged (length client.script)
+suits_phase client Acknowledge = is_open client.phase
+suits_phase client Rst = is_opening client.phase || is_open client.phase
+suits_phase client (Refuse number) = is_opening client.phase
+
+-- text begins with what isn't acknowledged or has just not been sent, has 1 to 1,460 bytes and stays within the script; a FIN comes
+-- when the script is sent whole
+abbrev pub suits_range : Client → Move → Bool
+suits_range client (Text from len) = nat_le client.acknowledged from && nat_le from client.sent && nat_le 1 len && nat_le len 1460 && nat_le (from + len) (length client.script)
+suits_range client Fin = nat_le (length client.script) client.sent
+suits_range client _ = true
+
+abbrev pub may_move : Client → Move → Bool
+may_move client move = suits_phase client move && suits_range client move
+
+-- the flags of a move: SYN 2, FIN 1, RST 4, ACK 16
+abbrev pub flags_of : Move → ℕ
+flags_of (Syn mss) = 2
+flags_of (Text from len) = 16
+flags_of Fin = 17
+flags_of Acknowledge = 16
+flags_of Rst = 4
+flags_of (Refuse number) = 4
+
+-- the number that a move has
+abbrev pub seq_of : Client → Move → ℕ
+seq_of client (Syn mss) = client.isn
+seq_of client (Text from len) = number_at client.isn from
+seq_of client Fin = number_at client.isn (length client.script)
+seq_of client Acknowledge = number_at client.isn client.sent
+seq_of client Rst = number_at client.isn client.sent
+seq_of client (Refuse number) = number
+
+abbrev pub is_acknowledging : Move → Bool
+is_acknowledging (Text from len) = true
+is_acknowledging Fin = true
+is_acknowledging Acknowledge = true
+is_acknowledging _ = false
+
+-- text, FIN and ACK acknowledge all that is accepted; the others acknowledge nothing
+abbrev pub ack_number_of : Client → Move → ℕ
+ack_number_of client move = if is_acknowledging move then number_at client.sisn (accepted_units client) else 0
+
+abbrev pub mss_of : Move → Option ℕ
+mss_of (Syn mss) = mss
+mss_of _ = None
+
+abbrev pub payload_of : Client → Move → List ℕ
+payload_of client (Text from len) = take len (drop from client.script)
+payload_of client _ = []
+
+-- the packet of a move, with the window that it announces
+abbrev pub segment_of : Client → Move → ℕ → Segment
+segment_of client move window = record {
+  head = record {
+    src = client.key.ip;
+    dst = client.server.ip;
+    sport = client.key.port;
+    dport = client.server.port;
+    seq = seq_of client move;
+    ack = ack_number_of client move;
+    flags = flags_of move;
+    window = window;
+    mss = mss_of move;
+  };
+  payload = payload_of client move;
+}
+
+abbrev pub sent_after : Client → Move → ℕ
+sent_after client (Text from len) = max client.sent (from + len)
+sent_after client Fin = length client.script + 1
+sent_after client _ = client.sent
+
+abbrev pub phase_after : Phase → Move → Phase
+phase_after phase (Syn mss) = Opening
+phase_after phase Rst = Reset
+phase_after phase _ = phase
+
+-- the client after a move: what it announced raises its right edge and never lowers it
+abbrev pub moved : Client → Move → ℕ → Client
+moved client move window = record client { phase = phase_after client.phase move; sent = sent_after client move; edge = max client.edge (length client.accepted + window) }
+
+-- a packet is a move of the client, which then stands so
+pub record IsMove (client : Client) (segment : Segment) (after : Client) : Type 0 where
+  pub move : Move
+  pub window : ℕ
+  pub may : may_move client move ≡ true
+  pub fits : window < 2 ^ 16
+  pub segment_is : segment ≡ segment_of client move window
+  pub after_is : after ≡ moved client move window
+
+-- The scripted client: an event of the schedule asks for a move ..
+abbrev pub move_of : Event → Option Move
+move_of (events.Begin client window) = Some (Syn None)
+move_of (events.Send client from len) = Some (Text from len)
+move_of (events.Fin client) = Some Fin
+move_of (events.Ack client window) = Some Acknowledge
+move_of (events.Reset client) = Some Rst
+move_of _ = None
+
+-- .. with a window: that of the event, or for text and FIN the room that was announced before, and none with a RST
+abbrev pub window_of : Client → Event → ℕ
+window_of client (events.Begin number window) = window
+window_of client (events.Ack number window) = window
+window_of client (events.Send number from len) = min 65535 (client.edge - length client.accepted)
+window_of client (events.Fin number) = min 65535 (client.edge - length client.accepted)
+window_of client _ = 0
+
+-- why the client's state doesn't allow the move
+abbrev pub refusal_of_move : Client → Move → Option EventWhy
+refusal_of_move client move = if suits_phase client move then (if suits_range client move then None else Some Range) else Some State
+
+-- RCV.NXT and RCV.WND of the client, in units
+abbrev pub next_of : Client → ℕ
+next_of client = accepted_units client
+
+abbrev pub room_of : Client → ℕ
+room_of client = client.edge - length client.accepted
+
+-- the SYN is answered: a SYN-ACK opens and a RST resets, if they acknowledge the SYN
+abbrev pub opened_by : Client → Segment → Client
+opened_by client segment =
+    if has_ack segment && segment.head.ack == number_at client.isn 0
+    then (if has_rst segment then record client { phase = Reset } else (if has_syn segment then record client { phase = Established; sisn = segment.head.seq } else client))
+    else client
+
+-- text that continues what is accepted is accepted up to the right edge; once the server's FIN is, no text is any more
+abbrev pub with_text : Client → ℤ → List ℕ → Client
+with_text client first text =
+    if is_ended client.phase || int_lt (pos (length client.accepted)) first
+    then client
+    else record client { accepted = client.accepted ++ take (client.edge - length client.accepted) (drop (below (length client.accepted) first) text) }
+
+-- a FIN at the next number, below the right edge, ends the server's stream; `behind` is the offset behind the text
+abbrev pub with_fin : Client → ℤ → Bool → Client
+with_fin client behind fin =
+    if fin && not (is_ended client.phase) && int_eq behind (pos (length client.accepted)) && nat_lt (length client.accepted) client.edge
+    then record client { phase = Ended }
+    else client
+
+abbrev pub with_ack : Client → ℤ → Client
+with_ack client ack = record client { acknowledged = if int_lt (pos client.acknowledged) ack then nat_abs ack else client.acknowledged }
+
+-- a segment with ACK that is acceptable, in an open connection. One that acknowledges what was not sent is dropped
+abbrev pub used : Client → Segment → Client
+used client segment =
+    if int_lt (pos client.sent) (ack_of client.isn segment)
+    then client
+    else with_fin
+    (with_text (with_ack client (ack_of client.isn segment)) (first_of client.sisn segment) (text_of segment))
+    (first_of client.sisn segment +ℤ pos (length (text_of segment))) (fin_of segment)
+
+-- RFC 9293, 3.10.7.4, as far as a client that never answers goes: acceptability, RST at exactly the next number, SYN, ACK
+abbrev pub arrived : Client → Segment → Client
+arrived client segment =
+    if is_acceptable (next_of client) (room_of client) (first_of client.sisn segment) (length_of segment)
+    then (if has_rst segment
+    then (if int_eq (first_of client.sisn segment) (pos (next_of client)) then record client { phase = Reset } else client)
+    else (if has_syn segment || not (has_ack segment) then client else used client segment))
+    else client
+
+-- a client with a packet that came to it. A client that is new or reset drops it
+abbrev pub received : Client → Segment → Client
+received client segment = if is_opening client.phase then opened_by client segment else (if is_open client.phase then arrived client segment else client)

@@ -1,0 +1,72 @@
+-- A legal trace of a schedule: it starts from the schedule's clients and the empty log, its events are the schedule's, all and in
+-- order, each of them allowed, and its clients follow the script.
+use Rattle.std.specs.Prelude.{◌≡◌, ℕ, Bool, true, false, zero, suc, ◌+◌, ◌-◌, nat_lt, nat_le, Option, Some, None, is_some, List, [], ◌∷◌, length, if◌then◌else◌}
+use Rattle.ft_model.specs.Client.{Client, Move, move_of, window_of, refusal_of_move, segment_of}
+use Rattle.ft_model.specs.Log.{empty_log}
+use Rattle.ft_model.specs.Network.{Packet, packet_at}
+use Rattle.ft_model.specs.Network.Packet.{To_server}
+use Rattle.ft_model.specs.Schedule.{clients_of}
+use Rattle.ft_model.specs.World.{World, Moment, client_at, world_after, events_of, Joint}
+use Rattle.ft_model.specs.declared.event.Event.{Event}
+use Rattle.ft_model.specs.declared.event.Event.TheVariants.{Boot, Crash, Tick, Deliver, Flip, Begin, Send, Fin, Ack, Reset}
+use Rattle.ft_model.specs.declared.event.EventWhy.{EventWhy}
+use Rattle.ft_model.specs.declared.event.EventWhy.TheVariants as why
+use Rattle.ft_model.specs.declared.schedule.Schedule.{Schedule}
+
+-- before the first event: nothing was sent, nothing is logged, and the server is down
+abbrev pub start_of : Schedule → World
+start_of schedule = record { server = schedule.server; clients = clients_of schedule.server schedule.clients; log = empty_log; packets = []; boot = 0; node = None }
+
+-- why a client of the schedule, if there is one, doesn't make the move
+abbrev pub refusal_of_client : Option Client → Option Move → Option EventWhy
+refusal_of_client None move = Some why.Client
+refusal_of_client (Some client) None = None
+refusal_of_client (Some client) (Some move) = refusal_of_move client move
+
+-- Why an event may not happen: the first test that holds.
+abbrev pub refusal : World → Event → Option EventWhy
+refusal w (Boot boot isn) = if is_some w.node then Some why.Up else (if nat_le boot w.boot then Some why.Boot else None)
+refusal w Crash = if is_some w.node then None else Some why.Down
+refusal w Tick = if is_some w.node then None else Some why.Down
+refusal w (Deliver number) = if is_some (packet_at w.packets number) then None else Some why.Packet
+-- the test of the bit comes with the packets' bytes
+refusal w (Flip number bit) = if is_some (packet_at w.packets number) then None else Some why.Packet
+refusal w (Begin client window) = refusal_of_client (client_at w.clients client) (move_of (Begin client window))
+refusal w (Send client from len) = refusal_of_client (client_at w.clients client) (move_of (Send client from len))
+refusal w (Fin client) = refusal_of_client (client_at w.clients client) (move_of (Fin client))
+refusal w (Ack client window) = refusal_of_client (client_at w.clients client) (move_of (Ack client window))
+refusal w (Reset client) = refusal_of_client (client_at w.clients client) (move_of (Reset client))
+
+-- the client at which a move is aimed
+abbrev pub mover_of : Event → ℕ
+mover_of (Begin client window) = client
+mover_of (Send client from len) = client
+mover_of (Fin client) = client
+mover_of (Ack client window) = client
+mover_of (Reset client) = client
+mover_of _ = 0
+
+-- a client's packet is the one that the event asks for, with the scripted client's window
+abbrev pub IsScripted : World → Event → List Packet → Type 0
+IsScripted before event sent =
+    (client : Client) (move : Move) → client_at before.clients (mover_of event) ≡ Some client → move_of event ≡ Some move
+    → sent ≡ To_server (segment_of client move (window_of client event)) ∷ []
+
+-- an allowed event, played by scripted clients
+pub record IsAllowed (before : World) (moment : Moment) : Type 0 where
+  pub allowed : refusal before moment.event ≡ None
+  pub scripted : IsScripted before moment.event moment.sent
+
+abbrev pub AllAllowed : World → List Moment → Type 0
+AllAllowed start [] = Unit {0}
+AllAllowed start (moment ∷ earlier) = AllAllowed start earlier × IsAllowed (world_after start earlier) moment
+
+-- a legal trace of these events, from the start of the schedule
+pub record IsLegalFor (schedule : Schedule) (events : List Event) (trace : List Moment) : Type 0 where
+  pub joint : Joint (start_of schedule) trace
+  pub events_are : events_of trace ≡ events
+  pub allowed : AllAllowed (start_of schedule) trace
+
+-- a legal trace of a schedule, from its first event to its last
+abbrev pub Legal : Schedule → List Moment → Type 0
+Legal schedule trace = IsLegalFor schedule schedule.events trace

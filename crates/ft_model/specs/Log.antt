@@ -1,0 +1,143 @@
+-- The logger (the FT-TCP article's logger): a boot number, and an entry for each connection with the client's bytes, whether its FIN
+-- is kept, the lengths of the server's reads, and how much output the client has acknowledged. One message gives at most one answer.
+use Rattle.std.specs.Prelude.{ℕ, Bool, true, false, ◌+◌, ◌-◌, ◌==◌, ◌&&◌, ◌||◌, not, nat_lt, nat_le, max, min, sum, map, find, Option, Some, None, option_map, List, [], ◌∷◌, ◌++◌, length, take, drop, slice_get, if◌then◌else◌}
+use Rattle.std.specs.List.{list_any}
+use Rattle.ft_io.specs.declared.Key.{Key}
+use Rattle.ft_io.specs.Key.{key_eq}
+use Rattle.seq_arith.specs.Message.{Numbers, Kept, EntryHead, Part, Body, Message}
+use Rattle.seq_arith.specs.Message.Body.{HelloMsg, SummaryMsg, ListMsg, EntryMsg, BytesMsg, PartMsg, CutsMsg, LensMsg, OpenMsg, OpenedMsg, DataMsg, StableMsg, ReadMsg, ReadsMsg, DoneMsg, EndedMsg, StaleMsg, FullMsg}
+
+pub record Entry : Type 0 where
+  pub key : Key
+  pub cisn : ℕ
+  pub sisn : ℕ
+  pub mss : ℕ
+  pub bytes : List ℕ
+  pub fin : Bool
+  pub lengths : List ℕ
+  pub acknowledged : ℕ  -- units of output
+  pub done : Bool
+
+pub record Log : Type 0 where
+  pub boot : ℕ
+  pub entries : List Entry  -- at most 64, in the order in which they were opened
+
+abbrev pub empty_log : Log
+empty_log = record { boot = 0; entries = [] }
+
+-- the entry of a key
+abbrev pub entry_of : Key → Log → Option Entry
+entry_of key log = find (λ e. key_eq e.key key) log.entries
+
+abbrev pub with_entry : Key → (Entry → Entry) → Log → Log
+with_entry key change log = record log { entries = map (λ e. if key_eq e.key key then change e else e) log.entries }
+
+abbrev pub new_entry : Numbers → Entry
+new_entry n = record { key = n.key; cisn = n.cisn; sisn = n.sisn; mss = n.mss; bytes = []; fin = false; lengths = []; acknowledged = 0; done = false }
+
+-- Open adds an entry of an unknown key, while there are fewer than 64
+abbrev pub opened : Numbers → Log → Log
+opened n log = if list_any (λ e. key_eq e.key n.key) log.entries || nat_le 64 (length log.entries) then log else record log { entries = log.entries ++ new_entry n ∷ [] }
+
+-- Data adds the bytes past what is kept, unless it leaves a gap; kept bytes stay, and nothing is added behind a FIN
+abbrev pub with_bytes : Part → Entry → Entry
+with_bytes part e = if e.fin || nat_lt (length e.bytes) part.offset then e else record e { bytes = e.bytes ++ drop (length e.bytes - part.offset) part.bytes }
+
+-- .. and then its FIN, if it ends where the kept bytes end
+abbrev pub with_its_fin : Part → Entry → Entry
+with_its_fin part e = if part.fin && part.offset + length part.bytes == length e.bytes then record e { fin = true } else e
+
+abbrev pub with_part : Part → Entry → Entry
+with_part part e = record (with_its_fin part (with_bytes part e)) { acknowledged = max e.acknowledged part.acked }
+
+-- a Read is kept where it is the next one, no closing read is kept, and the bytes are; the closing read, of length 0, where the FIN is
+-- kept and all bytes are read
+abbrev pub is_next_read : Entry → ℕ → ℕ → Bool
+is_next_read e index n =
+    index == length e.lengths && not (list_any (λ k. k == 0) e.lengths) && nat_le (sum e.lengths + n) (length e.bytes)
+    && (nat_lt 0 n || (e.fin && sum e.lengths == length e.bytes))
+
+abbrev pub with_read : ℕ → ℕ → Entry → Entry
+with_read index n e = if is_next_read e index n then record e { lengths = e.lengths ++ n ∷ [] } else e
+
+-- what a message of the log's own boot changes
+abbrev pub kept : Body → Log → Log
+kept (OpenMsg n) log = opened n log
+kept (DataMsg part) log = with_entry part.key (with_part part) log
+kept (ReadMsg key index n) log = with_entry key (with_read index n) log
+kept (DoneMsg key) log = with_entry key (λ e. record e { done = true }) log
+kept _ log = log
+
+abbrev pub is_hello : Body → Bool
+is_hello HelloMsg = true
+is_hello _ = false
+
+-- the kinds that only the logger sends
+abbrev pub is_answer : Body → Bool
+is_answer (SummaryMsg count) = true
+is_answer (EntryMsg index head) = true
+is_answer (PartMsg key offset bytes) = true
+is_answer (LensMsg key first lens) = true
+is_answer (OpenedMsg n) = true
+is_answer (StableMsg k) = true
+is_answer (ReadsMsg k) = true
+is_answer (EndedMsg key) = true
+is_answer (StaleMsg newer) = true
+is_answer (FullMsg key) = true
+is_answer _ = false
+
+-- a Hello makes its boot the log's; any other kind counts only in the log's own boot
+abbrev pub heard : Message → Log → Log
+heard message log = if is_hello message.body then record log { boot = message.boot } else (if message.boot == log.boot then kept message.body log else log)
+
+-- The log after a message: nothing is changed by a kind that only the logger sends, nor by a smaller boot.
+unfoldable pub log_after : Log → Message → Log
+log_after log message = if is_answer message.body || nat_lt message.boot log.boot then log else heard message log
+
+abbrev pub numbers_of : Entry → Numbers
+numbers_of e = record { key = e.key; cisn = e.cisn; sisn = e.sisn; mss = e.mss }
+
+abbrev pub kept_of : Entry → Kept
+kept_of e = record { key = e.key; length = length e.bytes; fin = e.fin; reads = length e.lengths }
+
+abbrev pub head_of : Entry → EntryHead
+head_of e = record { key = e.key; cisn = e.cisn; sisn = e.sisn; mss = e.mss; length = length e.bytes; fin = e.fin; done = e.done; reads = length e.lengths; acked = e.acknowledged }
+
+-- at most 1,024 bytes of an entry, from an offset below its length
+abbrev pub part_of : Entry → ℕ → Option Body
+part_of e offset = if nat_lt offset (length e.bytes) then Some (PartMsg e.key offset (take 1024 (drop offset e.bytes))) else None
+
+-- at most 512 lengths of an entry, from a place below their count
+abbrev pub lens_of : Entry → ℕ → Option Body
+lens_of e first = if nat_lt first (length e.lengths) then Some (LensMsg e.key first (take 512 (drop first e.lengths))) else None
+
+abbrev pub opened_answer : Key → Option Entry → Option Body
+opened_answer key (Some e) = Some (OpenedMsg (numbers_of e))
+opened_answer key None = Some (FullMsg key)
+
+abbrev pub on_entry : (Entry → Option Body) → Option Entry → Option Body
+on_entry tell (Some e) = tell e
+on_entry tell None = None
+
+-- what the log tells after it took a message of its own boot
+abbrev pub told : Body → Log → Option Body
+told HelloMsg log = Some (SummaryMsg (length log.entries))
+told (ListMsg index) log = on_entry (λ e. Some (EntryMsg index (head_of e))) (slice_get log.entries index)
+told (BytesMsg key offset) log = on_entry (λ e. part_of e offset) (entry_of key log)
+told (CutsMsg key first) log = on_entry (λ e. lens_of e first) (entry_of key log)
+told (OpenMsg n) log = opened_answer n.key (entry_of n.key log)
+told (DataMsg part) log = on_entry (λ e. Some (StableMsg (kept_of e))) (entry_of part.key log)
+told (ReadMsg key index n) log = on_entry (λ e. Some (ReadsMsg (kept_of e))) (entry_of key log)
+told (DoneMsg key) log = on_entry (λ e. Some (EndedMsg key)) (entry_of key log)
+told _ log = None
+
+-- the body of the answer to a message, of which `log` is the log before and `after` the log after
+abbrev pub answer_body : Log → Log → Message → Option Body
+answer_body log after message =
+    if is_answer message.body then None
+    else (if nat_lt message.boot log.boot then Some (StaleMsg log.boot)
+    else (if is_hello message.body || message.boot == log.boot then told message.body after else None))
+
+-- The answer to a message, with the message's own boot.
+unfoldable pub answer_to : Log → Message → Option Message
+answer_to log message = option_map (λ body. record { boot = message.boot; body = body }) (answer_body log (log_after log message) message)

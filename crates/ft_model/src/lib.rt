@@ -1,0 +1,15 @@
+//! The model of FT-TCP: what a schedule asks, what clients, log, server and network may do, and what a report says of it. The
+//! definitions stand in `specs/`; here are the plain types that they and the programs share.
+#![tactic(auto)]
+
+pub use event::{Event, EventWhy};
+pub use phase::Phase;
+pub use schedule::{
+    ClientLine, ClientLines, Events, Limit, LineWhy, Schedule, Script, ServiceKind,
+};
+pub use way::Way;
+
+mod event;
+mod phase;
+mod schedule;
+mod way;

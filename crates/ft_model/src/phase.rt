@@ -1,0 +1,16 @@
+//! The phases of a client.
+
+/// Where a client's connection stands.
+#[derive(Clone, Copy, Debug, PartialEq, Eq)]
+pub enum Phase {
+    /// Nothing was sent.
+    New,
+    /// The SYN was sent, and no SYN-ACK has come.
+    Opening,
+    /// The SYN-ACK has come. The report prints `open`.
+    Established,
+    /// The server's FIN was accepted.
+    Ended,
+    /// The connection was reset, by either side.
+    Reset,
+}

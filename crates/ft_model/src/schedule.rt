@@ -1,0 +1,132 @@
+//! A schedule as a value, and why a text spells none.
+
+ghost use Rattle.std.specs.Prelude.{◌≡◌, List, length};
+
+use crate::event::Event;
+use ft_io::{Addr, Key, Octets};
+use std::marker::Model;
+
+/// The services that a schedule can name.
+#[derive(Clone, Copy, Debug, PartialEq, Eq)]
+pub enum ServiceKind {
+    Echo,
+    Line,
+    Transfer,
+    Meter,
+}
+
+/// What a client has to say.
+#[derive(Debug, Drop)]
+pub enum Script {
+    /// These bytes.
+    Bytes(Octets),
+    /// So many bytes, the letters from `a` to `z` again and again.
+    Fill { len: u32 },
+}
+
+/// A client: its address and port, its initial number and its script.
+#[derive(Debug, Drop)]
+pub struct ClientLine {
+    pub key: Key,
+    pub isn: u32,
+    pub script: Script,
+}
+
+/// The clients of a schedule, numbered from 1 in this order.
+#[derive(Debug, Drop)]
+pub struct ClientLines {
+    lines: Vec<ClientLine>,
+}
+
+impl Model for ClientLines {
+    ghost use Rattle.std.specs.Prelude.{List};
+    ghost use Rattle.ft_model.specs.declared.schedule.ClientLine.{ClientLine};
+
+    ghost Value = { List ClientLine };
+
+    ghost view = { λ c. c.lines.items };
+}
+
+impl ClientLines {
+    /// The list of these clients. It takes no memory.
+    pub fn new(lines: Vec<ClientLine>) -> ClientLines
+        ensures { result ≡ lines.items }
+    {
+        ClientLines { lines }
+    }
+
+    pub fn as_slice(&self) -> &[ClientLine]
+        ensures { result.now ≡ self.now }
+    {
+        self.lines.as_slice()
+    }
+}
+
+/// The events of a schedule, in order.
+#[derive(Debug, Drop)]
+pub struct Events {
+    events: Vec<Event>,
+}
+
+impl Model for Events {
+    ghost use Rattle.std.specs.Prelude.{List};
+    ghost use Rattle.ft_model.specs.declared.event.Event.{Event};
+
+    ghost Value = { List Event };
+
+    ghost view = { λ e. e.events.items };
+}
+
+impl Events {
+    /// The list of these events. It takes no memory.
+    pub fn new(events: Vec<Event>) -> Events
+        ensures { result ≡ events.items }
+    {
+        Events { events }
+    }
+
+    pub fn as_slice(&self) -> &[Event]
+        ensures { result.now ≡ self.now }
+    {
+        self.events.as_slice()
+    }
+}
+
+/// A run as it is written down: the service, the server's address, the clients, and the events in order.
+#[derive(Debug, Drop)]
+pub struct Schedule {
+    pub service: ServiceKind,
+    pub server: Addr,
+    pub clients: ClientLines,
+    pub events: Events,
+}
+
+/// Why a line of a schedule is refused, in the order of the tests.
+#[derive(Clone, Copy, Debug, PartialEq, Eq)]
+pub enum LineWhy {
+    /// A byte that is no printable ASCII.
+    Character,
+    /// A first word that begins no line, or a service that there isn't.
+    Word,
+    /// A line that may not stand here.
+    Place,
+    /// Too few words, or too many.
+    Count,
+    /// A number outside its spelling or range.
+    Number,
+    /// An address outside its spelling, or one that is taken.
+    Address,
+    /// A script outside its spelling.
+    Script,
+    /// A well-formed line that asks for a part that is not built yet.
+    Built,
+}
+
+/// The limits of a schedule's text.
+#[derive(Clone, Copy, Debug, PartialEq, Eq)]
+pub enum Limit {
+    /// The bytes of the text.
+    Text,
+    /// The event lines.
+    Events,
+}

@@ -1,0 +1,7 @@
+//! The texts of a run: the schedule that is read and the report that is written.
+#![tactic(auto)]
+
+pub use ft_model::{ClientLine, ClientLines, Events, Limit, LineWhy, Schedule, Script, Way};
+pub use packet::{Body, Head, Kept, Message, Numbers, Packet, Part, Segment};
+
+mod packet;
