@@ -1,6 +1,6 @@
 -- The tests that TCP makes on an arriving segment (RFC 9293, 3.10.7.4), over offsets in the receiver's and the sender's streams.
 -- `first` is the offset of the segment's number, `len` is SEG.LEN, `next` is RCV.NXT and `window` is RCV.WND.
-use Rattle.std.specs.Prelude.{ℕ, ℤ, Bool, true, false, pos, negsuc, ◌+◌, ◌-◌, ◌+ℤ◌, ◌==◌, ◌&&◌, ◌||◌, nat_lt, nat_le, int_lt, int_le, if◌then◌else◌}
+use Rattle.std.specs.Prelude.{ℕ, ℤ, Bool, false, pos, negsuc, ◌+◌, ◌-◌, ◌+ℤ◌, ◌==◌, ◌&&◌, ◌||◌, nat_lt, nat_le, int_lt, int_le, if◌then◌else◌}
 
 -- equal integers
 abbrev pub int_eq : ℤ → ℤ → Bool

@@ -2,3 +2,4 @@ pub mod Number
 pub mod Arrival
 pub mod Packet
 pub mod Message
+pub mod Checksum

@@ -1,8 +1,14 @@
-//! Numbers modulo 2^32, and the values that packets and messages spell.
+//! Numbers modulo 2^32, the Internet checksum, and the text of what packets and messages say and how they are spelled. Nothing here
+//! takes memory.
 #![tactic(auto)]
 
 ghost use Rattle.std.specs.Prelude.{◌≡◌, ◌+◌, ◌%◌, ◌^◌};
-ghost use Rattle.seq_arith.specs.Number.{distance};
+ghost use Rattle.seq_arith.specs.Number.{distance, gap, precedes, precedes_or_is, is_in_window};
+
+pub use checksum::{Sum16, patch16};
+
+mod checksum;
+pub mod laws;
 
 /// A sequence number of TCP, modulo 2^32 (RFC 9293, 3.4).
 #[derive(Clone, Copy, Debug, PartialEq, Eq)]
@@ -21,5 +27,35 @@ impl Seq {
         ensures { result ≡ distance self.0 from.0 }
     {
         self.0.wrapping_sub(from.0)
+    }
+
+    /// Whether `other` is 1 to 2^31 - 1 further on.
+    pub fn lt(self, other: Seq) -> bool
+        ensures { result ≡ precedes self.0 other.0 }
+    {
+        let n = other.minus(self);
+        0 < n && n < 1 << 31
+    }
+
+    /// Whether `other` is this number or comes after it.
+    pub fn le(self, other: Seq) -> bool
+        ensures { result ≡ precedes_or_is self.0 other.0 }
+    {
+        self.0 == other.0 || self.lt(other)
+    }
+
+    /// Whether this is one of the `len` numbers from `first` on.
+    pub fn in_window(self, first: Seq, len: u32) -> bool
+        ensures { result ≡ is_in_window self.0 first.0 len }
+    {
+        self.minus(first) < len
+    }
+
+    /// The one number from -2^31 to 2^31 - 1 that is this number less `from`, modulo 2^32.
+    pub fn signed_gap(self, from: Seq) -> i64
+        ensures { result ≡ gap self.0 from.0 }
+    {
+        let n = i64::from(self.minus(from));
+        if n < 1 << 31 { n } else { n - (1 << 32) }
     }
 }

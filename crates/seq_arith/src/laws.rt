@@ -1,0 +1,84 @@
+//! Laws of the words in `specs`, each the clause of a function that does nothing: what a crate above may cite. Most say that a test on
+//! numbers or on offsets stays as it is where both its sides move by one number.
+
+ghost use Rattle.std.specs.Prelude.{◌≡◌, ◌<◌, ◌≤◌, ◌+◌, ◌-◌, ◌*◌, ◌/◌, ◌%◌, ◌^◌, ℕ, ℤ, pos, ◌+ℤ◌, ◌-ℤ◌, ◌≤ℤ◌, Bool, false, List, ◌∷◌, ◌++◌, length};
+ghost use Rattle.seq_arith.specs.Number.{gap, number_at, offset_of};
+ghost use Rattle.seq_arith.specs.Arrival.{is_acceptable, below, is_new_ack, is_beyond, una_after, updates_window};
+ghost use Rattle.seq_arith.specs.Checksum.{word_sum, odd_after, check_of, Summed, with_bytes};
+
+/// A gap stays where both its ends move by one number.
+pub fn gap_shifts()
+    ensures { (to from d : ℕ) → to < 2 ^ 32 → from < 2 ^ 32
+        → gap ((to + d) % 2 ^ 32) ((from + d) % 2 ^ 32) ≡ gap to from }
+{}
+
+/// The gap to the number k further on is k.
+pub fn gap_is_the_way()
+    ensures { (from k : ℕ) → from < 2 ^ 32 → k < 2 ^ 31 → gap ((from + k) % 2 ^ 32) from ≡ pos k }
+{}
+
+/// A gap from k further on is k less, where that is still a gap.
+pub fn gap_shortens()
+    ensures { (to from k : ℕ) → to < 2 ^ 32 → from < 2 ^ 32 → k < 2 ^ 31 → (pos k -ℤ pos (2 ^ 31)) ≤ℤ gap to from
+        → gap to ((from + k) % 2 ^ 32) ≡ gap to from -ℤ pos k }
+{}
+
+/// An offset's number names that offset.
+pub fn number_names_its_offset()
+    ensures { (isn k : ℕ) → k < 2 ^ 31 → offset_of isn (number_at isn k) ≡ pos k }
+{}
+
+/// A number names the same offset where the stream and the number move by one number.
+pub fn offset_shifts()
+    ensures { (isn number d : ℕ) → number < 2 ^ 32
+        → offset_of ((isn + d) % 2 ^ 32) ((number + d) % 2 ^ 32) ≡ offset_of isn number }
+{}
+
+/// Acceptability stays where the next offset and the segment's move by one number.
+pub fn acceptable_shifts()
+    ensures { (next window k : ℕ) (first : ℤ) (len : ℕ)
+        → is_acceptable (next + k) window (first +ℤ pos k) len ≡ is_acceptable next window first len }
+{}
+
+/// So does how much of a text was taken before.
+pub fn below_shifts()
+    ensures { (next k : ℕ) (first : ℤ) → below (next + k) (first +ℤ pos k) ≡ below next first }
+{}
+
+/// So does whether an acknowledgement is new.
+pub fn new_ack_shifts()
+    ensures { (una sent k : ℕ) (ack : ℤ) → is_new_ack (una + k) (sent + k) (ack +ℤ pos k) ≡ is_new_ack una sent ack }
+{}
+
+/// So does whether an acknowledgement is of what was never sent.
+pub fn beyond_shifts()
+    ensures { (sent k : ℕ) (ack : ℤ) → is_beyond (sent + k) (ack +ℤ pos k) ≡ is_beyond sent ack }
+{}
+
+/// What is acknowledged moves along.
+pub fn una_shifts()
+    ensures { (una k ack : ℕ) → una_after (una + k) (ack + k) ≡ una_after una ack + k }
+{}
+
+/// Whether a segment updates the window stays where the receiver's offsets move by j and the sender's by k.
+pub fn window_update_shifts()
+    ensures { (una : ℕ) (wl1 : ℤ) (wl2 : ℕ) (first : ℤ) (ack j k : ℕ)
+        → updates_window (una + k) (wl1 +ℤ pos j) (wl2 + k) (first +ℤ pos j) (ack + k) ≡ updates_window una wl1 wl2 first ack }
+{}
+
+/// Two pieces sum as the one string that they make.
+pub fn pieces_sum_as_one()
+    ensures { (summed : Summed) (a b : List ℕ) → with_bytes (with_bytes summed a) b ≡ with_bytes summed (a ++ b) }
+{}
+
+/// A string with its checksum in the place of a zero word has the checksum 0.
+pub fn checksum_fits_in_place()
+    ensures { (front rest : List ℕ) (check : ℕ) → odd_after false front ≡ false → check ≡ check_of (word_sum false (front ++ 0 ∷ 0 ∷ rest))
+        → check_of (word_sum false (front ++ check / 256 % 256 ∷ check % 256 ∷ rest)) ≡ 0 }
+{}
+
+/// A word that is replaced changes the sum by the difference.
+pub fn word_replaced()
+    ensures { (front rest : List ℕ) (x y z w : ℕ) → odd_after false front ≡ false
+        → word_sum false (front ++ z ∷ w ∷ rest) ≡ word_sum false (front ++ x ∷ y ∷ rest) - (256 * x + y) + (256 * z + w) }
+{}
