@@ -1,5 +1,7 @@
 //! Packets as values, each what its bytes would spell. They stand for the packets until these are kept as bytes.
 
+ghost use Rattle.std.specs.Prelude.{◌≡◌, ◌≤◌, ◌^◌};
+
 use ft_io::{Key, Octets};
 
 /// The fields of a TCP packet's headers. Numbers are modulo 2^32, and flags are those of RFC 9293, 3.1, in their octet.
@@ -21,6 +23,68 @@ pub struct Head {
 pub struct Segment {
     pub head: Head,
     pub payload: Octets,
+}
+
+impl Segment {
+    ghost use Rattle.seq_arith.specs.Packet.{has_fin as fin_lem, has_syn as syn_lem, has_rst as rst_lem, has_ack as ack_lem};
+    ghost use Rattle.ft_model.specs.Offset.{text_of, fin_of, length_of};
+    ghost use Rattle.schedule_text.specs.Packet.{segment_of};
+
+    pub fn has_fin(&self) -> bool
+        ensures { result ≡ fin_lem (segment_of self.now) }
+    {
+        self.head.flags % 2 == 1
+    }
+
+    pub fn has_syn(&self) -> bool
+        ensures { result ≡ syn_lem (segment_of self.now) }
+    {
+        self.head.flags / 2 % 2 == 1
+    }
+
+    pub fn has_rst(&self) -> bool
+        ensures { result ≡ rst_lem (segment_of self.now) }
+    {
+        self.head.flags / 4 % 2 == 1
+    }
+
+    pub fn has_ack(&self) -> bool
+        ensures { result ≡ ack_lem (segment_of self.now) }
+    {
+        self.head.flags / 16 % 2 == 1
+    }
+
+    /// The text that counts: none beside a SYN or a RST.
+    pub fn text(&self) -> &[u8]
+        ensures { result.now ≡ text_of (segment_of self.now) }
+    {
+        if self.has_syn() || self.has_rst() {
+            &[]
+        } else {
+            self.payload.as_slice()
+        }
+    }
+
+    /// Whether it has a FIN that counts: none does beside a SYN or a RST.
+    pub fn counts_fin(&self) -> bool
+        ensures { result ≡ fin_of (segment_of self.now) }
+    {
+        self.has_fin() && !(self.has_syn() || self.has_rst())
+    }
+
+    /// SEG.LEN: data and FIN, or the SYN alone; none with a RST.
+    pub fn segment_len(&self) -> u64
+        ensures value { result ≡ length_of (segment_of self.now) }
+        ensures within { result ≤ 2 ^ 63 }
+    {
+        if self.has_rst() {
+            0
+        } else if self.has_syn() {
+            1
+        } else {
+            self.payload.as_slice().len() as u64 + u64::from(self.has_fin())
+        }
+    }
 }
 
 /// The numbers of a connection: both initial numbers as the client knows them, and the segment size in bytes.
@@ -75,6 +139,27 @@ pub enum Body {
     StaleMsg { newer: u64 },
     /// There is no room for another connection.
     FullMsg(Key),
+}
+
+impl Body {
+    ghost use Rattle.ft_model.specs.Log.{is_answer, is_hello};
+    ghost use Rattle.schedule_text.specs.Packet.{body_of};
+
+    /// Whether only the logger sends this kind.
+    pub fn is_answer(&self) -> bool
+        ensures { result ≡ is_answer (body_of self.now) }
+    {
+        match self {
+            Body::HelloMsg | Body::OpenMsg(_) | Body::DataMsg(_) | Body::ReadMsg { .. } => false,
+            _ => true,
+        }
+    }
+
+    pub fn is_hello(&self) -> bool
+        ensures { result ≡ is_hello (body_of self.now) }
+    {
+        matches!(self, Body::HelloMsg)
+    }
 }
 
 /// A message between server and logger.

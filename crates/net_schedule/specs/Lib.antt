@@ -1,0 +1,4 @@
+pub mod ClientMove
+pub mod Moving
+pub mod Mapped
+pub mod Keeping
