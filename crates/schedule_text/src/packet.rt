@@ -1,6 +1,6 @@
 //! Packets as values, each what its bytes would spell. They stand for the packets until these are kept as bytes.
 
-ghost use Rattle.std.specs.Prelude.{◌≡◌, ◌≤◌, ◌^◌};
+ghost use Rattle.std.specs.Prelude.{◌≡◌, ◌≤◌, ◌^◌, ◌&&◌, not};
 
 use ft_io::{Key, Octets};
 
@@ -28,6 +28,7 @@ pub struct Segment {
 impl Segment {
     ghost use Rattle.seq_arith.specs.Packet.{has_fin as fin_lem, has_syn as syn_lem, has_rst as rst_lem, has_ack as ack_lem};
     ghost use Rattle.ft_model.specs.Offset.{text_of, fin_of, length_of};
+    ghost use Rattle.ft_model.specs.Network.{source_of, destination_of};
     ghost use Rattle.schedule_text.specs.Packet.{segment_of};
 
     pub fn has_fin(&self) -> bool
@@ -52,6 +53,33 @@ impl Segment {
         ensures { result ≡ ack_lem (segment_of self.now) }
     {
         self.head.flags / 16 % 2 == 1
+    }
+
+    /// A SYN that opens a connection: without ACK and RST.
+    pub fn is_syn(&self) -> bool
+        ensures { result ≡ (syn_lem (segment_of self.now) && not (ack_lem (segment_of self.now)) && not (rst_lem (segment_of self.now))) }
+    {
+        self.has_syn() && !self.has_ack() && !self.has_rst()
+    }
+
+    /// The client that sent it, for a packet to the server.
+    pub fn source(&self) -> Key
+        ensures { result ≡ source_of (segment_of self.now) }
+    {
+        Key {
+            ip: self.head.src,
+            port: self.head.sport,
+        }
+    }
+
+    /// The client that it goes to, for a packet of the server.
+    pub fn destination(&self) -> Key
+        ensures { result ≡ destination_of (segment_of self.now) }
+    {
+        Key {
+            ip: self.head.dst,
+            port: self.head.dport,
+        }
     }
 
     /// The text that counts: none beside a SYN or a RST.
