@@ -23,3 +23,4 @@ pub mod Lawful
 pub mod World
 pub mod Schedule
 pub mod Legal
+pub mod Rows

@@ -11,5 +11,6 @@ pub use way::Way;
 
 mod event;
 mod phase;
+pub mod rows;
 mod schedule;
 mod way;
