@@ -1,11 +1,11 @@
 -- The client: what it may send, and what it does with what comes (RFC 9293, 3.10). A scripted client follows the schedule; a live
 -- client is a TCP of its own, whose packets are moves of this machine too. Its offsets are units: bytes, and one more for a FIN.
-use Rattle.std.specs.Prelude.{◌≡◌, ℕ, ℤ, Bool, true, false, pos, ◌+◌, ◌-◌, ◌+ℤ◌, ◌%◌, ◌^◌, ◌<◌, ◌==◌, ◌&&◌, ◌||◌, not, nat_lt, nat_le, int_lt, int_le, max, min, Option, Some, None, List, [], ◌++◌, length, take, drop, nat_abs, if◌then◌else◌}
+use Rattle.std.specs.Prelude.{◌≡◌, ℕ, ℤ, Bool, true, false, pos, ◌+◌, ◌-◌, ◌+ℤ◌, ◌^◌, ◌<◌, ◌==◌, ◌&&◌, ◌||◌, not, nat_lt, nat_le, int_lt, max, min, Option, Some, None, List, [], ◌++◌, length, take, drop, nat_abs, if◌then◌else◌}
 use Rattle.ft_io.specs.declared.Addr.{Addr}
 use Rattle.ft_io.specs.declared.Key.{Key}
 use Rattle.seq_arith.specs.Number.{number_at}
 use Rattle.seq_arith.specs.Arrival.{int_eq, is_acceptable, below}
-use Rattle.seq_arith.specs.Packet.{Head, Segment, has_syn, has_rst, has_ack}
+use Rattle.seq_arith.specs.Packet.{Segment, has_syn, has_rst, has_ack}
 use Rattle.ft_model.specs.Offset.{first_of, ack_of, text_of, fin_of, length_of, one_if}
 use Rattle.ft_model.specs.declared.phase.Phase.{Phase}
 use Rattle.ft_model.specs.declared.phase.Phase.TheVariants.{New, Opening, Established, Ended, Reset}

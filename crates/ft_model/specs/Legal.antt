@@ -1,6 +1,7 @@
 -- A legal trace of a schedule: it starts from the schedule's clients and the empty log, its events are the schedule's, all and in
 -- order, each of them allowed, and its clients follow the script.
-use Rattle.std.specs.Prelude.{◌≡◌, ℕ, Bool, true, false, zero, suc, ◌+◌, ◌-◌, nat_lt, nat_le, Option, Some, None, is_some, List, [], ◌∷◌, length, if◌then◌else◌}
+use Rattle.std.specs.Prelude.{◌≡◌, ℕ, nat_le, Option, Some, None, is_some, List, [], ◌∷◌, if◌then◌else◌}
+use Rattle.server_trait.specs.Service.{Machine}
 use Rattle.ft_model.specs.Client.{Client, Move, move_of, window_of, refusal_of_move, segment_of}
 use Rattle.ft_model.specs.Log.{empty_log}
 use Rattle.ft_model.specs.Network.{Packet, packet_at}
@@ -61,12 +62,12 @@ abbrev pub AllAllowed : World → List Moment → Type 0
 AllAllowed start [] = Unit {0}
 AllAllowed start (moment ∷ earlier) = AllAllowed start earlier × IsAllowed (world_after start earlier) moment
 
--- a legal trace of these events, from the start of the schedule
-pub record IsLegalFor (schedule : Schedule) (events : List Event) (trace : List Moment) : Type 0 where
-  pub joint : Joint (start_of schedule) trace
+-- a legal trace of these events, from the start of the schedule, with the schedule's service
+pub record IsLegalFor {State : Type 0} (service : Machine State) (schedule : Schedule) (events : List Event) (trace : List Moment) : Type 0 where
+  pub joint : Joint service (start_of schedule) trace
   pub events_are : events_of trace ≡ events
   pub allowed : AllAllowed (start_of schedule) trace
 
 -- a legal trace of a schedule, from its first event to its last
-abbrev pub Legal : Schedule → List Moment → Type 0
-Legal schedule trace = IsLegalFor schedule schedule.events trace
+abbrev pub Legal : {State : Type 0} → Machine State → Schedule → List Moment → Type 0
+Legal service schedule trace = IsLegalFor service schedule schedule.events trace

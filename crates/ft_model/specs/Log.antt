@@ -1,6 +1,6 @@
 -- The logger (the FT-TCP article's logger): a boot number, and an entry for each connection with the client's bytes, whether its FIN
 -- is kept, the lengths of the server's reads, and how much output the client has acknowledged. One message gives at most one answer.
-use Rattle.std.specs.Prelude.{ℕ, Bool, true, false, ◌+◌, ◌-◌, ◌==◌, ◌&&◌, ◌||◌, not, nat_lt, nat_le, max, min, sum, map, find, Option, Some, None, option_map, List, [], ◌∷◌, ◌++◌, length, take, drop, slice_get, if◌then◌else◌}
+use Rattle.std.specs.Prelude.{ℕ, Bool, true, false, ◌+◌, ◌-◌, ◌==◌, ◌&&◌, ◌||◌, not, nat_lt, nat_le, max, sum, map, find, Option, Some, None, option_map, List, [], ◌∷◌, ◌++◌, length, take, drop, slice_get, if◌then◌else◌}
 use Rattle.std.specs.List.{list_any}
 use Rattle.ft_io.specs.declared.Key.{Key}
 use Rattle.ft_io.specs.Key.{key_eq}
@@ -50,12 +50,15 @@ with_its_fin part e = if part.fin && part.offset + length part.bytes == length e
 abbrev pub with_part : Part → Entry → Entry
 with_part part e = record (with_its_fin part (with_bytes part e)) { acknowledged = max e.acknowledged part.acked }
 
--- a Read is kept where it is the next one, no closing read is kept, and the bytes are; the closing read, of length 0, where the FIN is
--- kept and all bytes are read
+-- a read may follow these, of a stream with so many bytes: no closing read is among them, and the bytes suffice; the closing read, of
+-- length 0, where the FIN is kept and all bytes are read
+abbrev pub may_follow : (len : ℕ) → (fin : Bool) → List ℕ → ℕ → Bool
+may_follow len fin lengths n =
+    not (list_any (λ k. k == 0) lengths) && nat_le (sum lengths + n) len && (nat_lt 0 n || (fin && sum lengths == len))
+
+-- a Read is kept where it is the next one, and may follow those that are kept
 abbrev pub is_next_read : Entry → ℕ → ℕ → Bool
-is_next_read e index n =
-    index == length e.lengths && not (list_any (λ k. k == 0) e.lengths) && nat_le (sum e.lengths + n) (length e.bytes)
-    && (nat_lt 0 n || (e.fin && sum e.lengths == length e.bytes))
+is_next_read e index n = index == length e.lengths && may_follow (length e.bytes) e.fin e.lengths n
 
 abbrev pub with_read : ℕ → ℕ → Entry → Entry
 with_read index n e = if is_next_read e index n then record e { lengths = e.lengths ++ n ∷ [] } else e

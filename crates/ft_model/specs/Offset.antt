@@ -1,7 +1,7 @@
 -- A packet in stream offsets (RFC 9293, 3.4): where its text stands in the sender's stream and what it acknowledges of the
 -- receiver's. The SYN stands at offset -1 and byte k at offset k. For a packet of the client, `own` is the client's initial number
 -- and `peer` the server's; for a packet of the server it is the other way round.
-use Rattle.std.specs.Prelude.{◌≡◌, ℕ, ℤ, Bool, true, pos, negsuc, ◌+◌, ◌-◌, ◌+ℤ◌, ◌-ℤ◌, ◌≤ℤ◌, ◌^◌, ◌&&◌, ◌||◌, not, List, [], length, if◌then◌else◌}
+use Rattle.std.specs.Prelude.{◌≡◌, ℕ, ℤ, Bool, true, pos, ◌+◌, ◌-ℤ◌, ◌≤ℤ◌, ◌^◌, ◌&&◌, ◌||◌, not, List, [], length, if◌then◌else◌}
 use Rattle.seq_arith.specs.Number.{offset_of}
 use Rattle.seq_arith.specs.Packet.{Segment, has_fin, has_syn, has_rst, has_ack}
 

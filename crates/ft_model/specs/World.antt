@@ -1,26 +1,22 @@
 -- The world: clients, log, network and server, and what each event of a schedule does to them. A trace is a list of moments, newest
 -- first, each with the world after it. That world is a witness: clients, log and packets are those that the events determine.
-use Rattle.std.specs.Prelude.{◌≡◌, ℕ, Bool, true, false, zero, suc, ◌+◌, ◌<◌, ◌≤◌, nat_le, nat_lt, map, Option, Some, None, option_map, is_some, is_none, List, [], ◌∷◌, ◌++◌, length, slice_get, if◌then◌else◌}
-use Rattle.std.specs.List.{AllByRecursion}
+use Rattle.std.specs.Prelude.{◌≡◌, ℕ, Bool, true, zero, suc, ◌<◌, ◌≤◌, ◌^◌, ◌==◌, ◌&&◌, not, map, Option, Some, None, option_map, is_some, List, [], ◌∷◌, ◌++◌, length, slice_get, if◌then◌else◌}
+use Rattle.std.specs.List.{AllByRecursion, list_any}
 use Rattle.std.specs.Option.{option_to_list}
 use Rattle.ft_io.specs.declared.Addr.{Addr}
 use Rattle.ft_io.specs.declared.Key.{Key}
 use Rattle.ft_io.specs.Key.{key_eq}
 use Rattle.seq_arith.specs.Packet.{Segment}
-use Rattle.seq_arith.specs.Message.{Message}
-use Rattle.ft_model.specs.Client.{Client, IsMove, move_of, window_of, refusal_of_move, received, new_client, moved, segment_of}
+use Rattle.server_trait.specs.Service.{Machine}
+use Rattle.ft_model.specs.Client.{Client, IsMove, received, new_client}
 use Rattle.ft_model.specs.Log.{Log, empty_log, log_after, answer_to}
-use Rattle.ft_model.specs.Network.{Packet, packet_at, destination_of, is_of_server}
+use Rattle.ft_model.specs.Network.{Packet, packet_at, destination_of}
 use Rattle.ft_model.specs.Network.Packet.{To_server, To_client, To_logger, From_logger}
+use Rattle.ft_model.specs.Node.{Node, Input, booted}
+use Rattle.ft_model.specs.Node.Input.{Packet_comes, Message_comes, Tick_comes}
+use Rattle.ft_model.specs.Lawful.{LawfulTurn, hello}
 use Rattle.ft_model.specs.declared.event.Event.{Event}
 use Rattle.ft_model.specs.declared.event.Event.TheVariants.{Boot, Crash, Tick, Deliver, Flip, Begin, Send, Fin, Ack, Reset}
-use Rattle.ft_model.specs.declared.event.EventWhy.{EventWhy}
-use Rattle.ft_model.specs.declared.event.EventWhy.TheVariants as why
-
--- an incarnation of the server: from its boot to its crash
-pub record Node : Type 0 where
-  pub boot : ℕ
-  pub isn : ℕ
 
 pub record World : Type 0 where
   pub server : Addr
@@ -38,22 +34,25 @@ client_at clients (suc n) = slice_get clients n
 abbrev pub with_client : Key → (Client → Client) → List Client → List Client
 with_client key change clients = map (λ c. if key_eq c.key key then change c else c) clients
 
--- a server that is down sends nothing; one that is up sends to clients and to the logger alone
-abbrev pub ServerTurn : Option Node → List Packet → Option Node → Type 0
-ServerTurn None sent after = (sent ≡ []) × (after ≡ None)
-ServerTurn (Some node) sent after = AllByRecursion (λ p. is_of_server p ≡ true) sent × (after ≡ Some node)
+-- a server that is down sends nothing; one that is up makes a lawful turn
+abbrev pub ServerTurn : {State : Type 0} → Machine State → Input → Option Node → List Packet → Option Node → Type 0
+ServerTurn service input None sent after = (sent ≡ []) × (after ≡ None)
+ServerTurn service input (Some node) sent after = (later : Node) × (after ≡ Some later) × LawfulTurn service node input sent later
+
+-- what comes to the server has its turn
+abbrev pub ServerMoves : {State : Type 0} → Machine State → Input → World → List Packet → World → Type 0
+ServerMoves service input before sent after =
+    ServerTurn service input before.node sent after.node × (after ≡ record before { node = after.node; packets = before.packets ++ sent })
 
 -- one packet reaches its addressee. A client that receives sends nothing, and the log sends its answer and nothing else
-abbrev pub Delivered : World → Packet → List Packet → World → Type 0
-Delivered before (To_server segment) sent after =
-    ServerTurn before.node sent after.node × (after ≡ record before { node = after.node; packets = before.packets ++ sent })
-Delivered before (To_client segment) sent after =
+abbrev pub Delivered : {State : Type 0} → Machine State → World → Packet → List Packet → World → Type 0
+Delivered service before (To_server segment) sent after = ServerMoves service (Packet_comes segment) before sent after
+Delivered service before (To_client segment) sent after =
     (sent ≡ []) × (after ≡ record before { clients = with_client (destination_of segment) (λ c. received c segment) before.clients; packets = before.packets ++ sent })
-Delivered before (To_logger message) sent after =
+Delivered service before (To_logger message) sent after =
     (sent ≡ option_to_list (option_map From_logger (answer_to before.log message)))
     × (after ≡ record before { log = log_after before.log message; packets = before.packets ++ sent })
-Delivered before (From_logger message) sent after =
-    ServerTurn before.node sent after.node × (after ≡ record before { node = after.node; packets = before.packets ++ sent })
+Delivered service before (From_logger message) sent after = ServerMoves service (Message_comes message) before sent after
 
 -- a client makes a move
 pub record Moves (before : World) (number : ℕ) (sent : List Packet) (after : World) : Type 0 where
@@ -65,22 +64,24 @@ pub record Moves (before : World) (number : ℕ) (sent : List Packet) (after : W
   pub sent_is : sent ≡ To_server segment ∷ []
   pub after_is : after ≡ record before { clients = with_client client.key (λ _. later) before.clients; packets = before.packets ++ sent }
 
--- what may happen: from the world before, by this event, with these packets sent, to the world after
-abbrev pub Happens : World → Event → List Packet → World → Type 0
-Happens before (Boot boot isn) sent after =
-    (before.node ≡ None) × (before.boot < boot) × AllByRecursion (λ p. is_of_server p ≡ true) sent
-    × (after ≡ record before { boot = boot; node = Some (record { boot = boot; isn = isn }); packets = before.packets ++ sent })
-Happens before Crash sent after = (is_some before.node ≡ true) × (sent ≡ []) × (after ≡ record before { node = None; packets = before.packets ++ sent })
-Happens before Tick sent after =
-    (is_some before.node ≡ true) × ServerTurn before.node sent after.node × (after ≡ record before { node = after.node; packets = before.packets ++ sent })
-Happens before (Deliver number) sent after = (packet : Packet) × (packet_at before.packets number ≡ Some packet) × Delivered before packet sent after
+-- what may happen: from the world before, by this event, with these packets sent, to the world after. Boot numbers rise, one server is up
+-- at a time, and a server that goes down loses all that it held
+abbrev pub Happens : {State : Type 0} → Machine State → World → Event → List Packet → World → Type 0
+Happens service before (Boot boot isn) sent after =
+    (before.node ≡ None) × (before.boot < boot) × (sent ≡ hello (booted before.server boot isn))
+    × (after ≡ record before { boot = boot; node = Some (booted before.server boot isn); packets = before.packets ++ sent })
+Happens service before Crash sent after =
+    (is_some before.node ≡ true) × (sent ≡ []) × (after ≡ record before { node = None; packets = before.packets ++ sent })
+Happens service before Tick sent after = (is_some before.node ≡ true) × ServerMoves service Tick_comes before sent after
+Happens service before (Deliver number) sent after =
+    (packet : Packet) × (packet_at before.packets number ≡ Some packet) × Delivered service before packet sent after
 -- no event of a trace changes a bit yet
-Happens before (Flip number bit) sent after = ⊥
-Happens before (Begin client window) sent after = Moves before client sent after
-Happens before (Send client from len) sent after = Moves before client sent after
-Happens before (Fin client) sent after = Moves before client sent after
-Happens before (Ack client window) sent after = Moves before client sent after
-Happens before (Reset client) sent after = Moves before client sent after
+Happens service before (Flip number bit) sent after = ⊥
+Happens service before (Begin client window) sent after = Moves before client sent after
+Happens service before (Send client from len) sent after = Moves before client sent after
+Happens service before (Fin client) sent after = Moves before client sent after
+Happens service before (Ack client window) sent after = Moves before client sent after
+Happens service before (Reset client) sent after = Moves before client sent after
 
 pub record Moment : Type 0 where
   pub event : Event
@@ -92,10 +93,35 @@ abbrev pub world_after : World → List Moment → World
 world_after start [] = start
 world_after start (moment ∷ earlier) = moment.world
 
--- every moment of a trace happens in the world that the earlier ones leave
-abbrev pub Joint : World → List Moment → Type 0
-Joint start [] = Unit {0}
-Joint start (moment ∷ earlier) = Joint start earlier × Happens (world_after start earlier) moment.event moment.sent moment.world
+-- a client's key isn't the server's address, nor that of any of these
+abbrev pub is_apart : Addr → Key → List Client → Bool
+is_apart server key clients = not (key.ip == server.ip && key.port == server.port) && not (list_any (λ c. key_eq c.key key) clients)
+
+-- the keys of the clients differ from one another and from the server's address
+abbrev pub are_apart : Addr → List Client → Bool
+are_apart server [] = true
+are_apart server (c ∷ clients) = is_apart server c.key clients && are_apart server clients
+
+-- a client before its first move: its number is modulo 2^32, and its script fits a stream
+pub record IsNewClient (server : Addr) (client : Client) : Type 0 where
+  pub new : client ≡ new_client server client.key client.isn client.script
+  pub number : client.isn < 2 ^ 32
+  pub short : length client.script ≤ 2 ^ 24
+
+-- where a trace starts: new clients with keys of their own, the empty log, nothing sent, and no server
+pub record IsStart (w : World) : Type 0 where
+  pub apart : are_apart w.server w.clients ≡ true
+  pub clients : AllByRecursion (IsNewClient w.server) w.clients
+  pub log : w.log ≡ empty_log
+  pub packets : w.packets ≡ []
+  pub boot : w.boot ≡ 0
+  pub node : w.node ≡ None
+
+-- Joint: every moment of a trace happens in the world that the earlier ones leave, from a start on. So each run of turns from a boot to the
+-- next crash is lawful over what was delivered to it
+abbrev pub Joint : {State : Type 0} → Machine State → World → List Moment → Type 0
+Joint service start [] = IsStart start
+Joint service start (moment ∷ earlier) = Joint service start earlier × Happens service (world_after start earlier) moment.event moment.sent moment.world
 
 -- the events of a trace, oldest first
 abbrev pub events_of : List Moment → List Event

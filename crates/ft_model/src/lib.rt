@@ -10,6 +10,8 @@ pub use schedule::{
 pub use way::Way;
 
 mod event;
+pub mod laws;
 mod phase;
+pub mod rows;
 mod schedule;
 mod way;

@@ -1,0 +1,254 @@
+-- Every moment of the first path happens: each equation computes.
+use Rattle.std.proofs.Common.{◌≡◌, ℕ, ◌^◌, true, false, refl, Some, None, List, [], ◌∷◌}
+use native.Mathlib.Bridge.{le_by_compare, IsLe}
+use Rattle.seq_arith.specs.Packet.{Segment}
+use Rattle.ft_model.specs.News.{News}
+use Rattle.ft_model.specs.News.News.{Comes, Logged, Begins}
+use Rattle.ft_model.specs.Point.{Point}
+use Rattle.ft_model.specs.Connection.{ConnectionTurn}
+use Rattle.ft_model.specs.Opening.{point_opened}
+use Rattle.ft_model.specs.Network.{Packet}
+use Rattle.ft_model.specs.Node.{Node, Input}
+use Rattle.ft_model.specs.Node.Input.{Packet_comes, Message_comes}
+use Rattle.ft_model.specs.Node.{booted}
+use Rattle.ft_model.specs.Node.Stage.{Serving}
+use Rattle.ft_model.specs.Node.Place.{Opens, Lives}
+use Rattle.ft_model.specs.Serving.{PlaceTurn}
+use Rattle.ft_model.specs.Lawful.{LawfulTurn}
+use Rattle.ft_model.specs.Client.Move.{Syn, Text, Acknowledge}
+use Rattle.ft_model.specs.World.{Joint, Happens, IsStart}
+use Rattle.ft_model.specs.Rows.Common.{echo, server, numbers, hello_text, client_with}
+use Rattle.ft_model.specs.Rows.FirstPath as row
+use Rattle.ft_model.proofs.Turns.{laws, alone, segment_in, message_in, kept_in}
+
+starts : IsStart row.start
+unfolding IsLe
+starts = record {
+  apart = refl;
+  clients = (record { new = refl; number = le_by_compare 1001 (2 ^ 32) tt; short = le_by_compare 5 (2 ^ 24) tt }, tt);
+  log = refl;
+  packets = refl;
+  boot = refl;
+  node = refl;
+}
+
+-- a turn of the one live connection
+abbrev Goes : News → Point → Point → List Packet → Type 0
+Goes news before after sent = ConnectionTurn echo server 1 news before after sent
+
+-- the SYN-ACK leaves
+begins : Goes Begins (point_opened numbers) row.begun_point row.moment_7.sent
+unfolding laws
+begins = record {
+  same = record { key = refl; cisn = refl; sisn = refl; mss = refl; fetched = refl };
+  taken = refl;
+  fin = refl;
+  answered = refl;
+  reads_answered = refl;
+  reads = record { news = []; lengths = refl; makes = refl };
+  counted = refl;
+  una = refl;
+  edge = refl;
+  wl1 = refl;
+  wl2 = refl;
+  sent_units = refl;
+  interval = refl;
+  rest = refl;
+  end_ticks = refl;
+  reset = refl;
+  packets = refl;
+}
+
+-- the SYN is acknowledged
+opens : Goes (Comes (segment_in row.packet_7)) row.begun_point row.open_point row.moment_10.sent
+unfolding laws
+opens = record {
+  same = record { key = refl; cisn = refl; sisn = refl; mss = refl; fetched = refl };
+  taken = refl;
+  fin = refl;
+  answered = refl;
+  reads_answered = refl;
+  reads = record { news = []; lengths = refl; makes = refl };
+  counted = refl;
+  una = refl;
+  edge = refl;
+  wl1 = refl;
+  wl2 = refl;
+  sent_units = refl;
+  interval = refl;
+  rest = refl;
+  end_ticks = refl;
+  reset = refl;
+  packets = refl;
+}
+
+-- the text is taken and read
+takes : Goes (Comes (segment_in row.packet_8)) row.open_point row.taken_point row.moment_12.sent
+unfolding laws
+takes = record {
+  same = record { key = refl; cisn = refl; sisn = refl; mss = refl; fetched = refl };
+  taken = refl;
+  fin = refl;
+  answered = refl;
+  reads_answered = refl;
+  reads = record { news = 5 ∷ []; lengths = refl; makes = (refl, refl) };
+  counted = refl;
+  una = refl;
+  edge = refl;
+  wl1 = refl;
+  wl2 = refl;
+  sent_units = refl;
+  interval = refl;
+  rest = refl;
+  end_ticks = refl;
+  reset = refl;
+  packets = refl;
+}
+
+-- the text is logged
+hears : Goes (Logged (kept_in row.packet_12)) row.taken_point row.logged_point row.moment_14.sent
+unfolding laws
+hears = record {
+  same = record { key = refl; cisn = refl; sisn = refl; mss = refl; fetched = refl };
+  taken = refl;
+  fin = refl;
+  answered = refl;
+  reads_answered = refl;
+  reads = record { news = []; lengths = refl; makes = refl };
+  counted = refl;
+  una = refl;
+  edge = refl;
+  wl1 = refl;
+  wl2 = refl;
+  sent_units = refl;
+  interval = refl;
+  rest = refl;
+  end_ticks = refl;
+  reset = refl;
+  packets = refl;
+}
+
+-- the read is logged
+releases : Goes (Logged (kept_in row.packet_14)) row.logged_point row.released_point row.moment_16.sent
+unfolding laws
+releases = record {
+  same = record { key = refl; cisn = refl; sisn = refl; mss = refl; fetched = refl };
+  taken = refl;
+  fin = refl;
+  answered = refl;
+  reads_answered = refl;
+  reads = record { news = []; lengths = refl; makes = refl };
+  counted = refl;
+  una = refl;
+  edge = refl;
+  wl1 = refl;
+  wl2 = refl;
+  sent_units = refl;
+  interval = refl;
+  rest = refl;
+  end_ticks = refl;
+  reset = refl;
+  packets = refl;
+}
+
+-- the server's turns
+turn_3 : LawfulTurn echo (booted server 1 5000) (Message_comes (message_in row.packet_2)) [] (row.node_at (Serving 0 []))
+unfolding laws
+turn_3 = record { server = refl; boot = refl; isn = refl; live = refl; stage = ([], refl, (refl, refl)) }
+
+turn_5 : LawfulTurn echo (row.node_at (Serving 0 [])) (Packet_comes (segment_in row.packet_3)) row.moment_5.sent (row.node_at (Serving 1 (Opens numbers ∷ [])))
+unfolding laws
+turn_5 = record { server = refl; boot = refl; isn = refl; live = refl; stage = (Opens numbers ∷ [], refl, record { gone = []; by_places = []; all_go = (refl, refl); places = refl; packets = refl }) }
+
+turn_7 : LawfulTurn echo (row.node_at (Serving 1 (Opens numbers ∷ []))) (Message_comes (message_in row.packet_5)) row.moment_7.sent (row.node_live row.begun_point)
+unfolding laws
+turn_7 = record { server = refl; boot = refl; isn = refl; live = refl; stage = (Lives row.begun_point ∷ [], refl, record { gone = Lives row.begun_point ∷ []; by_places = row.moment_7.sent; all_go = alone (PlaceTurn echo (row.node_at (Serving 1 (Opens numbers ∷ []))) (Message_comes (message_in row.packet_5))) (Opens numbers) (Lives row.begun_point ∷ []) row.moment_7.sent (row.begun_point, refl, begins); places = refl; packets = refl }) }
+
+turn_10 : LawfulTurn echo (row.node_live row.begun_point) (Packet_comes (segment_in row.packet_7)) row.moment_10.sent (row.node_live row.open_point)
+unfolding laws
+turn_10 = record { server = refl; boot = refl; isn = refl; live = refl; stage = (Lives row.open_point ∷ [], refl, record { gone = Lives row.open_point ∷ []; by_places = row.moment_10.sent; all_go = alone (PlaceTurn echo (row.node_live row.begun_point) (Packet_comes (segment_in row.packet_7))) (Lives row.begun_point) (Lives row.open_point ∷ []) row.moment_10.sent (row.open_point, refl, opens); places = refl; packets = refl }) }
+
+turn_12 : LawfulTurn echo (row.node_live row.open_point) (Packet_comes (segment_in row.packet_8)) row.moment_12.sent (row.node_live row.taken_point)
+unfolding laws
+turn_12 = record { server = refl; boot = refl; isn = refl; live = refl; stage = (Lives row.taken_point ∷ [], refl, record { gone = Lives row.taken_point ∷ []; by_places = row.moment_12.sent; all_go = alone (PlaceTurn echo (row.node_live row.open_point) (Packet_comes (segment_in row.packet_8))) (Lives row.open_point) (Lives row.taken_point ∷ []) row.moment_12.sent (row.taken_point, refl, takes); places = refl; packets = refl }) }
+
+turn_14 : LawfulTurn echo (row.node_live row.taken_point) (Message_comes (message_in row.packet_12)) row.moment_14.sent (row.node_live row.logged_point)
+unfolding laws
+turn_14 = record { server = refl; boot = refl; isn = refl; live = refl; stage = (Lives row.logged_point ∷ [], refl, record { gone = Lives row.logged_point ∷ []; by_places = row.moment_14.sent; all_go = alone (PlaceTurn echo (row.node_live row.taken_point) (Message_comes (message_in row.packet_12))) (Lives row.taken_point) (Lives row.logged_point ∷ []) row.moment_14.sent (row.logged_point, refl, hears); places = refl; packets = refl }) }
+
+turn_16 : LawfulTurn echo (row.node_live row.logged_point) (Message_comes (message_in row.packet_14)) row.moment_16.sent (row.node_live row.released_point)
+unfolding laws
+turn_16 = record { server = refl; boot = refl; isn = refl; live = refl; stage = (Lives row.released_point ∷ [], refl, record { gone = Lives row.released_point ∷ []; by_places = row.moment_16.sent; all_go = alone (PlaceTurn echo (row.node_live row.logged_point) (Message_comes (message_in row.packet_14))) (Lives row.logged_point) (Lives row.released_point ∷ []) row.moment_16.sent (row.released_point, refl, releases); places = refl; packets = refl }) }
+
+-- what happens in each moment
+happens_1 : Happens echo row.start row.moment_1.event row.moment_1.sent row.moment_1.world
+unfolding laws IsLe
+happens_1 = (refl, le_by_compare 1 1 tt, refl, refl)
+
+happens_2 : Happens echo row.moment_1.world row.moment_2.event row.moment_2.sent row.moment_2.world
+unfolding laws IsLe
+happens_2 = (row.packet_1, refl, (refl, refl))
+
+happens_3 : Happens echo row.moment_2.world row.moment_3.event row.moment_3.sent row.moment_3.world
+unfolding laws IsLe
+happens_3 = (row.packet_2, refl, ((row.node_at (Serving 0 []), refl, turn_3), refl))
+
+happens_4 : Happens echo row.moment_3.world row.moment_4.event row.moment_4.sent row.moment_4.world
+unfolding laws IsLe
+happens_4 = record { client = client_with hello_text; segment = segment_in row.packet_3; later = row.opening; is_there = refl; move = record { move = Syn None; window = 65535; may = refl; fits = le_by_compare 65536 (2 ^ 16) tt; segment_is = refl; after_is = refl }; sent_is = refl; after_is = refl }
+
+happens_5 : Happens echo row.moment_4.world row.moment_5.event row.moment_5.sent row.moment_5.world
+unfolding laws IsLe
+happens_5 = (row.packet_3, refl, ((row.node_at (Serving 1 (Opens numbers ∷ [])), refl, turn_5), refl))
+
+happens_6 : Happens echo row.moment_5.world row.moment_6.event row.moment_6.sent row.moment_6.world
+unfolding laws IsLe
+happens_6 = (row.packet_4, refl, (refl, refl))
+
+happens_7 : Happens echo row.moment_6.world row.moment_7.event row.moment_7.sent row.moment_7.world
+unfolding laws IsLe
+happens_7 = (row.packet_5, refl, ((row.node_live row.begun_point, refl, turn_7), refl))
+
+happens_8 : Happens echo row.moment_7.world row.moment_8.event row.moment_8.sent row.moment_8.world
+unfolding laws IsLe
+happens_8 = (row.packet_6, refl, (refl, refl))
+
+happens_9 : Happens echo row.moment_8.world row.moment_9.event row.moment_9.sent row.moment_9.world
+unfolding laws IsLe
+happens_9 = record { client = row.open_client; segment = segment_in row.packet_7; later = row.open_client; is_there = refl; move = record { move = Acknowledge; window = 65535; may = refl; fits = le_by_compare 65536 (2 ^ 16) tt; segment_is = refl; after_is = refl }; sent_is = refl; after_is = refl }
+
+happens_10 : Happens echo row.moment_9.world row.moment_10.event row.moment_10.sent row.moment_10.world
+unfolding laws IsLe
+happens_10 = (row.packet_7, refl, ((row.node_live row.open_point, refl, turn_10), refl))
+
+happens_11 : Happens echo row.moment_10.world row.moment_11.event row.moment_11.sent row.moment_11.world
+unfolding laws IsLe
+happens_11 = record { client = row.open_client; segment = segment_in row.packet_8; later = row.told_client; is_there = refl; move = record { move = Text 0 5; window = 65535; may = refl; fits = le_by_compare 65536 (2 ^ 16) tt; segment_is = refl; after_is = refl }; sent_is = refl; after_is = refl }
+
+happens_12 : Happens echo row.moment_11.world row.moment_12.event row.moment_12.sent row.moment_12.world
+unfolding laws IsLe
+happens_12 = (row.packet_8, refl, ((row.node_live row.taken_point, refl, turn_12), refl))
+
+happens_13 : Happens echo row.moment_12.world row.moment_13.event row.moment_13.sent row.moment_13.world
+unfolding laws IsLe
+happens_13 = (row.packet_10, refl, (refl, refl))
+
+happens_14 : Happens echo row.moment_13.world row.moment_14.event row.moment_14.sent row.moment_14.world
+unfolding laws IsLe
+happens_14 = (row.packet_12, refl, ((row.node_live row.logged_point, refl, turn_14), refl))
+
+happens_15 : Happens echo row.moment_14.world row.moment_15.event row.moment_15.sent row.moment_15.world
+unfolding laws IsLe
+happens_15 = (row.packet_11, refl, (refl, refl))
+
+happens_16 : Happens echo row.moment_15.world row.moment_16.event row.moment_16.sent row.moment_16.world
+unfolding laws IsLe
+happens_16 = (row.packet_14, refl, ((row.node_live row.released_point, refl, turn_16), refl))
+
+happens_17 : Happens echo row.moment_16.world row.moment_17.event row.moment_17.sent row.moment_17.world
+unfolding laws IsLe
+happens_17 = (row.packet_15, refl, (refl, refl))
+
+-- the first path, whole
+pub is_joint : Joint echo row.start row.trace
+is_joint = (((((((((((((((((starts, happens_1), happens_2), happens_3), happens_4), happens_5), happens_6), happens_7), happens_8), happens_9), happens_10), happens_11), happens_12), happens_13), happens_14), happens_15), happens_16), happens_17)

@@ -1,0 +1,4 @@
+pub mod Turns
+pub mod FirstPath
+pub mod LiveOnce
+pub mod TurnOnce

@@ -1,0 +1,17 @@
+-- The law Answered: what the logger's answers say is logged (FT-TCP, INFOCOM 2001: the stable number). Each Stable and each Reads of
+-- this boot tells how much of the connection the log has.
+use Rattle.std.specs.Prelude.{ℕ, ◌+◌, max, min, length}
+use Rattle.ft_model.specs.Offset.{one_if}
+use Rattle.ft_model.specs.Point.{Point}
+use Rattle.ft_model.specs.News.{News}
+use Rattle.ft_model.specs.News.News.{Logged}
+
+-- Answered: the units known to be logged never fall
+unfoldable pub answered_after : News → Point → ℕ
+answered_after (Logged kept) p = max p.answered (kept.length + one_if kept.fin)
+answered_after _ p = p.answered
+
+-- .. nor does the count of logged reads, which is at most that of the reads made before the turn
+unfoldable pub reads_answered_after : News → Point → ℕ
+reads_answered_after (Logged kept) p = max p.reads_answered (min kept.reads (length p.lengths))
+reads_answered_after _ p = p.reads_answered

@@ -1,0 +1,160 @@
+-- A lawful incarnation: it boots, fetches the log, and serves. Each of its turns is determined by where it stands and what comes.
+use Rattle.std.specs.Prelude.{◌≡◌, ℕ, Bool, true, false, ◌+◌, ◌==◌, ◌&&◌, not, nat_lt, map, filter, Option, Some, None, List, [], ◌∷◌, ◌++◌, length, if◌then◌else◌}
+use Rattle.std.specs.List.{AllByRecursion}
+use Rattle.std.specs.Option.{option_to_list}
+use Rattle.ft_io.specs.declared.Addr.{Addr}
+use Rattle.ft_io.specs.Key.{key_eq}
+use Rattle.seq_arith.specs.Packet.{Segment, has_rst}
+use Rattle.seq_arith.specs.Message.{Body}
+use Rattle.seq_arith.specs.Message.Body.{HelloMsg, SummaryMsg, StaleMsg}
+use Rattle.server_trait.specs.Service.{Machine}
+use Rattle.ft_model.specs.Offset.{IsNear}
+use Rattle.ft_model.specs.Network.{Packet, source_of}
+use Rattle.ft_model.specs.Network.Packet.{To_client}
+use Rattle.ft_model.specs.News.News.{Begins}
+use Rattle.ft_model.specs.Connection.{told_by}
+use Rattle.ft_model.specs.Restart.{Fetched, Wanted, wanted, question, fetched_after, holding_segment, live_entry, entry_in, point_of, IsSound}
+use Rattle.ft_model.specs.Node.{Node, Place, Stage, Input, booted, is_for}
+use Rattle.ft_model.specs.Node.Place.{Lives, Ended}
+use Rattle.ft_model.specs.Node.Stage.{Asking, Fetching, Serving, Fenced}
+use Rattle.ft_model.specs.Node.Input.{Packet_comes, Message_comes, Noise_comes, Tick_comes}
+use Rattle.ft_model.specs.Serving.{Stays, LivesOn, AllGo, newcomers, ServingTurn}
+
+-- nothing happens, and nothing is sent
+abbrev pub Rests : Stage → Stage → List Packet → Type 0
+Rests before after sent = (after ≡ before) × (sent ≡ [])
+
+-- the boot's own turn sends Hello, and so does each tick until it is answered
+abbrev pub hello : Node → List Packet
+hello node = told_by node.boot HelloMsg ∷ []
+
+-- a question to the log
+abbrev pub asked : Node → Option Wanted → List Packet
+asked node w = map (λ x. told_by node.boot (question x)) (option_to_list w)
+
+-- the place of a fetched entry: its connection at the entry's point, unless it is done
+abbrev pub restored : {State : Type 0} → Machine State → Fetched → Place
+restored service f = if f.head.done then Ended f.head.key else Lives (point_of service (entry_in f))
+
+-- the places of the fetched entries, in the log's order
+abbrev pub all_restored : {State : Type 0} → Machine State → List Fetched → List Place
+all_restored service [] = []
+all_restored service (f ∷ earlier) = all_restored service earlier ++ restored service f ∷ []
+
+-- each restarted connection uses up an initial number
+abbrev pub restored_count : List Fetched → ℕ
+restored_count fetched = length (filter (λ f. not f.head.done) fetched)
+
+-- a restored place in the turn in which it becomes live
+abbrev pub Revives : {State : Type 0} → Machine State → Node → Place → List Place → List Packet → Type 0
+Revives service node (Lives p) now sent = LivesOn service node Begins p now sent
+Revives service node place now sent = Stays place now sent
+
+-- Restart: the next question is asked at once. When nothing is missing any more, all entries that aren't done become live in this turn,
+-- each at its point, and go on by the law of every turn
+abbrev pub Continues : {State : Type 0} → Machine State → Node → (count : ℕ) → List Fetched → Option Wanted → Stage → List Packet → Type 0
+Continues service node count fetched (Some w) after sent = (after ≡ Fetching count fetched) × (sent ≡ asked node (Some w))
+Continues service node count fetched None after sent =
+    (places : List Place) × (after ≡ Serving (restored_count fetched) places) × AllGo (Revives service node) (all_restored service fetched) places sent
+
+abbrev pub Fetches : {State : Type 0} → Machine State → Node → (count : ℕ) → List Fetched → Stage → List Packet → Type 0
+Fetches service node count fetched after sent = Continues service node count fetched (wanted count fetched) after sent
+
+-- the count of a Summary
+abbrev pub count_told : Body → Option ℕ
+count_told (SummaryMsg count) = Some count
+count_told _ = None
+
+-- what a server does that waits for the Summary
+abbrev pub AskingTurn : {State : Type 0} → Machine State → Node → Option ℕ → Stage → List Packet → Type 0
+AskingTurn service node (Some count) after sent = Fetches service node count [] after sent
+AskingTurn service node None after sent = Rests Asking after sent
+
+-- what a server does that waits for an answer: an answer that doesn't fit is dropped
+abbrev pub FetchingTurn : {State : Type 0} → Machine State → Node → (count : ℕ) → List Fetched → Option (List Fetched) → Stage → List Packet → Type 0
+FetchingTurn service node count fetched (Some more) after sent = Fetches service node count more after sent
+FetchingTurn service node count fetched None after sent = Rests (Fetching count fetched) after sent
+
+-- what a client gets while the server fetches: nothing, until its entry has come, nor if that is done, nor for a RST
+abbrev pub held : Node → List Fetched → Segment → List Packet
+held node fetched segment =
+    if is_for node.server segment && not (has_rst segment)
+    then map (λ f. To_client (holding_segment node.server f.head)) (option_to_list (live_entry (source_of segment) fetched))
+    else []
+
+-- a turn, by the stage before it. A message counts only in the server's own boot
+abbrev pub StageTurn : {State : Type 0} → Machine State → Node → Stage → Input → Stage → List Packet → Type 0
+StageTurn service node Asking Tick_comes after sent = (after ≡ Asking) × (sent ≡ hello node)
+StageTurn service node Asking (Message_comes message) after sent =
+    AskingTurn service node (if message.boot == node.boot then count_told message.body else None) after sent
+StageTurn service node Asking _ after sent = Rests Asking after sent
+StageTurn service node (Fetching count fetched) Tick_comes after sent = (after ≡ Fetching count fetched) × (sent ≡ asked node (wanted count fetched))
+StageTurn service node (Fetching count fetched) (Message_comes message) after sent =
+    FetchingTurn service node count fetched (if message.boot == node.boot then fetched_after (wanted count fetched) message.body fetched else None) after sent
+StageTurn service node (Fetching count fetched) (Packet_comes segment) after sent = (after ≡ Fetching count fetched) × (sent ≡ held node fetched segment)
+StageTurn service node (Fetching count fetched) Noise_comes after sent = Rests (Fetching count fetched) after sent
+StageTurn service node (Serving opened places) input after sent =
+    (later : List Place) × (after ≡ Serving (opened + length (newcomers node input opened places)) later) × ServingTurn service node input opened places later sent
+StageTurn service node (Fenced newer) input after sent = ⊥
+
+abbrev pub newer_than : ℕ → Body → Option ℕ
+newer_than boot (StaleMsg newer) = if nat_lt boot newer then Some newer else None
+newer_than boot _ = None
+
+-- a Stale of the server's own boot that names a larger one
+abbrev pub fence : Node → Input → Option ℕ
+fence node (Message_comes message) = if message.boot == node.boot then newer_than node.boot message.body else None
+fence node _ = None
+
+abbrev pub NodeTurn : {State : Type 0} → Machine State → Node → Input → Option ℕ → Stage → List Packet → Type 0
+NodeTurn service node input (Some newer) after sent = (after ≡ Fenced newer) × (sent ≡ [])
+NodeTurn service node input None after sent = StageTurn service node node.stage input after sent
+
+abbrev pub is_fenced : Stage → Bool
+is_fenced (Fenced newer) = true
+is_fenced _ = false
+
+-- One turn of an incarnation, from where it stands, by this input, with these packets sent. One that is fenced has no further turn
+pub record LawfulTurn {State : Type 0} (service : Machine State) (before : Node) (input : Input) (sent : List Packet) (after : Node) : Type 0 where
+  pub server : after.server ≡ before.server
+  pub boot : after.boot ≡ before.boot
+  pub isn : after.isn ≡ before.isn
+  pub live : is_fenced before.stage ≡ false
+  pub stage : NodeTurn service before input (fence before input) after.stage sent
+
+-- a turn of a process of its own, with the server after it
+pub record Turn : Type 0 where
+  pub input : Input
+  pub sent : List Packet
+  pub node : Node
+
+abbrev pub node_after : Node → List Turn → Node
+node_after first [] = first
+node_after first (turn ∷ earlier) = turn.node
+
+-- an incarnation, by its own inputs and outputs, newest turn first. The boot's own turn, `hello`, comes before them all
+abbrev pub IsLawful : {State : Type 0} → Machine State → Node → List Turn → Type 0
+IsLawful service first [] = Unit {0}
+IsLawful service first (turn ∷ earlier) = IsLawful service first earlier × LawfulTurn service (node_after first earlier) turn.input turn.sent turn.node
+
+-- an incarnation of this server from its boot on: what the boot sends, and the turns after it
+abbrev pub Lawful : {State : Type 0} → Machine State → Addr → (boot isn : ℕ) → List Packet → List Turn → Type 0
+Lawful service server boot isn at_boot turns = (at_boot ≡ hello (booted server boot isn)) × IsLawful service (booted server boot isn) turns
+
+-- the premises of a lawful process: packets to its live connections are near, ..
+abbrev pub IsNearTo : Segment → Place → Type 0
+IsNearTo segment (Lives p) = key_eq (source_of segment) p.key ≡ true → IsNear p.cisn p.sisn segment
+IsNearTo segment _ = Unit {0}
+
+abbrev pub AreNear : Segment → Stage → Type 0
+AreNear segment (Serving opened places) = AllByRecursion (IsNearTo segment) places
+AreNear segment _ = Unit {0}
+
+abbrev pub IsNearInput : Input → Stage → Type 0
+IsNearInput (Packet_comes segment) stage = AreNear segment stage
+IsNearInput _ stage = Unit {0}
+
+-- .. and the entries that it fetches are sound
+abbrev pub AreSound : {State : Type 0} → Machine State → Stage → Type 0
+AreSound service (Fetching count fetched) = AllByRecursion (λ f. IsSound service (entry_in f)) fetched
+AreSound service _ = Unit {0}

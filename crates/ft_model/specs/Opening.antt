@@ -1,0 +1,49 @@
+-- The law Opening: how a connection comes to be (RFC 9293, 3.10.7.2; FT-TCP, INFOCOM 2001: the initial numbers are logged before the
+-- SYN-ACK leaves).
+use Rattle.std.specs.Prelude.{ℕ, Bool, false, pos, ◌+◌, ◌*◌, ◌%◌, ◌^◌, ◌&&◌, not, max, min, Option, Some, None, []}
+use Rattle.seq_arith.specs.Packet.{Segment, has_syn, has_rst, has_ack}
+use Rattle.seq_arith.specs.Message.{Numbers}
+use Rattle.ft_model.specs.Network.{source_of}
+use Rattle.ft_model.specs.Point.{Point}
+
+-- a SYN that opens: without ACK and RST
+abbrev pub is_syn : Segment → Bool
+is_syn segment = has_syn segment && not (has_ack segment) && not (has_rst segment)
+
+-- RFC 9293, 3.7.1: the segment size is the SYN's option, brought into 64 to 1,460, or 536 without it
+abbrev pub segment_size : Option ℕ → ℕ
+segment_size (Some mss) = max 64 (min 1460 mss)
+segment_size None = 536
+
+-- the initial number of the nth connection, from 0, that an incarnation restarts or opens
+abbrev pub initial_number : (isn n : ℕ) → ℕ
+initial_number isn n = (isn + 65536 * n) % 2 ^ 32
+
+-- the numbers that a SYN asks for
+abbrev pub numbers_for : (isn n : ℕ) → Segment → Numbers
+numbers_for isn n syn = record { key = source_of syn; cisn = syn.head.seq; sisn = initial_number isn n; mss = segment_size syn.head.mss }
+
+-- the point of a new connection, with the numbers that the log keeps: nothing is taken, and nothing may be sent yet
+abbrev pub point_opened : Numbers → Point
+point_opened numbers = record {
+  key = numbers.key;
+  cisn = numbers.cisn;
+  sisn = numbers.sisn;
+  mss = numbers.mss;
+  fetched = 0;
+  taken = [];
+  fin = false;
+  answered = 0;
+  lengths = [];
+  reads_answered = 0;
+  una = 0;
+  sent = 0;
+  edge = 0;
+  wl1 = pos 0;
+  wl2 = 0;
+  counted = false;
+  interval = 1;
+  rest = 0;
+  end_ticks = 0;
+  reset = false;
+}

@@ -1,0 +1,77 @@
+-- The point of a live connection: all that one incarnation of the server knows of it, and what is computed from that (RFC 9293, 3.3.1;
+-- FT-TCP, INFOCOM 2001: the stable number and the delayed output). Offsets and counts are whole numbers without wrap. Units count
+-- bytes, and one more where the FIN of that side is counted.
+use Rattle.std.specs.Prelude.{ℕ, ℤ, Bool, ◌+◌, ◌-◌, ◌^◌, ◌&&◌, nat_lt, max, min, sum, List, length, take}
+use Rattle.ft_io.specs.declared.Key.{Key}
+use Rattle.server_trait.specs.Service.{Machine, Run, reference}
+use Rattle.ft_model.specs.Offset.{one_if}
+
+pub record Point : Type 0 where
+  pub key : Key
+  pub cisn : ℕ  -- the client's initial number
+  pub sisn : ℕ  -- the server's initial number, as the client knows it
+  pub mss : ℕ  -- the segment size
+  pub fetched : ℕ  -- the client's bytes that a restart fetched from the log; else 0
+  pub taken : List ℕ  -- the client's bytes that are taken, the fetched ones first
+  pub fin : Bool  -- whether the client's FIN is taken
+  pub answered : ℕ  -- the client's units that are known to be logged
+  pub lengths : List ℕ  -- of all reads, the fetched ones first
+  pub reads_answered : ℕ  -- how many of these, from the first on, are known to be logged
+  pub una : ℕ  -- SND.UNA: the units of output that are acknowledged
+  pub sent : ℕ  -- SND.NXT: the units of output that are sent
+  pub edge : ℕ  -- SND.UNA + SND.WND: the client's right edge, from which on nothing may be sent
+  pub wl1 : ℤ  -- SND.WL1: where the segment began that set the edge last
+  pub wl2 : ℕ  -- SND.WL2: what it acknowledged
+  pub counted : Bool  -- whether an acknowledgement has counted. Until then the SYN is unacknowledged
+  pub interval : ℕ  -- of the timer, in ticks
+  pub rest : ℕ  -- the ticks until the timer expires; 0 while it doesn't run
+  pub end_ticks : ℕ  -- the end ticks counted so far, up to four
+  pub reset : Bool  -- whether the client reset the connection
+
+-- RCV.NXT: the units taken
+abbrev pub taken_units : Point → ℕ
+taken_units p = length p.taken + one_if p.fin
+
+-- what may be acknowledged: the units that are taken and known to be logged
+abbrev pub acknowledgement : Point → ℕ
+acknowledgement p = min (taken_units p) p.answered
+
+-- the bytes read by the service, the fetched reads included
+abbrev pub bytes_read : Point → ℕ
+bytes_read p = sum p.lengths
+
+-- the uncrashed server's run over all reads, ..
+abbrev pub whole_run : {State : Type 0} → Machine State → Point → Run State
+whole_run service p = reference service p.taken p.lengths
+
+-- .. and over those reads alone that are known to be logged
+abbrev pub answered_run : {State : Type 0} → Machine State → Point → Run State
+answered_run service p = reference service p.taken (take p.reads_answered p.lengths)
+
+-- the output bytes of all reads
+abbrev pub made : {State : Type 0} → Machine State → Point → ℕ
+made service p = length (whole_run service p).output
+
+-- the output bytes that may leave: those of logged reads
+abbrev pub released : {State : Type 0} → Machine State → Point → ℕ
+released service p = length (answered_run service p).output
+
+-- the units that may leave: a FIN stands behind the output once a logged read has closed the service
+abbrev pub target : {State : Type 0} → Machine State → Point → ℕ
+target service p = released service p + one_if (answered_run service p).closed
+
+-- the receive edge: 65,535 bytes are buffered beyond what is read, the fetched bytes are there already, and a stream has 2^24 bytes
+abbrev pub receive_edge : Point → ℕ
+receive_edge p = min (max p.fetched (bytes_read p) + 65535) (2 ^ 24)
+
+-- the edge that TCP announces: a taken FIN has used up one number
+abbrev pub announced_edge : Point → ℕ
+announced_edge p = receive_edge p + one_if p.fin
+
+-- RCV.WND: the room that TCP has
+abbrev pub room : Point → ℕ
+room p = announced_edge p - taken_units p
+
+-- the connection is over: both FINs are there, the client's taken and the server's, the unit behind all output, acknowledged
+abbrev pub is_over : {State : Type 0} → Machine State → Point → Bool
+is_over service p = p.fin && nat_lt (released service p) p.una

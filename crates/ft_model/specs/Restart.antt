@@ -1,0 +1,160 @@
+-- The law Restart: what a server asks the log when it boots, which answers it takes, and where each connection stands then (FT-TCP,
+-- INFOCOM 2001: the restarted server reads the log before it serves).
+use Rattle.std.specs.Prelude.{◌≡◌, ℕ, Bool, true, false, pos, ◌+◌, ◌^◌, ◌≤◌, ◌<◌, ◌==◌, ◌&&◌, not, nat_lt, nat_le, min, find, Option, Some, None, List, [], ◌∷◌, ◌++◌, length, if◌then◌else◌}
+use Rattle.std.specs.List.{list_any}
+use Rattle.ft_io.specs.declared.Addr.{Addr}
+use Rattle.ft_io.specs.declared.Key.{Key}
+use Rattle.ft_io.specs.Key.{key_eq}
+use Rattle.seq_arith.specs.Number.{number_at}
+use Rattle.seq_arith.specs.Packet.{Segment}
+use Rattle.seq_arith.specs.Message.{EntryHead, Body}
+use Rattle.seq_arith.specs.Message.Body.{ListMsg, EntryMsg, BytesMsg, PartMsg, CutsMsg, LensMsg}
+use Rattle.server_trait.specs.Service.{Machine, Run, reference}
+use Rattle.ft_model.specs.Offset.{one_if}
+use Rattle.ft_model.specs.Log.{Entry, may_follow}
+use Rattle.ft_model.specs.Point.{Point}
+
+-- an entry of the log, as far as it is fetched. Of one that is done the head alone is fetched
+pub record Fetched : Type 0 where
+  pub head : EntryHead
+  pub bytes : List ℕ
+  pub lengths : List ℕ
+
+-- what is missing next: an entry, bytes of one, or lengths of one
+pub data Wanted : Type 0 where
+  An_entry : (index : ℕ) → Wanted
+  Its_bytes : Key → (offset : ℕ) → Wanted
+  Its_lengths : Key → (first : ℕ) → Wanted
+
+abbrev pub lacks_bytes : Fetched → Bool
+lacks_bytes f = not f.head.done && nat_lt (length f.bytes) f.head.length
+
+abbrev pub lacks_lengths : Fetched → Bool
+lacks_lengths f = not f.head.done && nat_lt (length f.lengths) f.head.reads
+
+abbrev pub next_entry : (count index : ℕ) → Option Wanted
+next_entry count index = if nat_lt index count then Some (An_entry index) else None
+
+-- What is missing, of so many entries: the newest fetched one stands first, and is made whole before the next is asked for
+abbrev pub wanted : (count : ℕ) → List Fetched → Option Wanted
+wanted count [] = next_entry count 0
+wanted count (f ∷ earlier) =
+    if lacks_bytes f then Some (Its_bytes f.head.key (length f.bytes))
+    else (if lacks_lengths f then Some (Its_lengths f.head.key (length f.lengths)) else next_entry count (length (f ∷ earlier)))
+
+-- the question after it
+abbrev pub question : Wanted → Body
+question (An_entry index) = ListMsg index
+question (Its_bytes key offset) = BytesMsg key offset
+question (Its_lengths key first) = CutsMsg key first
+
+abbrev pub is_fetched : Key → List Fetched → Bool
+is_fetched key fetched = list_any (λ f. key_eq f.head.key key) fetched
+
+-- an entry answers, if its key is new
+abbrev pub with_head : Bool → EntryHead → List Fetched → Option (List Fetched)
+with_head fits head fetched = if fits && not (is_fetched head.key fetched) then Some (record { head = head; bytes = []; lengths = [] } ∷ fetched) else None
+
+-- bytes answer, if they end within the length
+abbrev pub with_more_bytes : Bool → List ℕ → List Fetched → Option (List Fetched)
+with_more_bytes fits bytes [] = None
+with_more_bytes fits bytes (f ∷ earlier) =
+    if fits && nat_le (length f.bytes + length bytes) f.head.length then Some (record f { bytes = f.bytes ++ bytes } ∷ earlier) else None
+
+-- each of these lengths may follow the ones before it, as the log keeps reads
+abbrev pub all_follow : (len : ℕ) → (fin : Bool) → List ℕ → List ℕ → Bool
+all_follow len fin lengths [] = true
+all_follow len fin lengths (n ∷ more) = may_follow len fin lengths n && all_follow len fin (lengths ++ n ∷ []) more
+
+-- lengths answer, if they end within the count and keep the log's rule for reads
+abbrev pub with_more_lengths : Bool → List ℕ → List Fetched → Option (List Fetched)
+with_more_lengths fits lens [] = None
+with_more_lengths fits lens (f ∷ earlier) =
+    if fits && nat_le (length f.lengths + length lens) f.head.reads && all_follow f.head.length f.head.fin f.lengths lens
+    then Some (record f { lengths = f.lengths ++ lens } ∷ earlier)
+    else None
+
+-- what is fetched after an answer of this boot, if the answer fits the question: of its kind, with its index, or its key and place
+abbrev pub fetched_by : Wanted → Body → List Fetched → Option (List Fetched)
+fetched_by (An_entry index) (EntryMsg i head) fetched = with_head (i == index) head fetched
+fetched_by (Its_bytes key offset) (PartMsg k o bytes) fetched = with_more_bytes (key_eq k key && o == offset) bytes fetched
+fetched_by (Its_lengths key first) (LensMsg k o lens) fetched = with_more_lengths (key_eq k key && o == first) lens fetched
+fetched_by _ _ _ = None
+
+-- an answer that comes while nothing is missing fits nothing
+abbrev pub fetched_after : Option Wanted → Body → List Fetched → Option (List Fetched)
+fetched_after (Some w) body fetched = fetched_by w body fetched
+fetched_after None body fetched = None
+
+-- The answer to a client whose entry has come, while the node still fetches: the logged length and FIN, with window 0
+abbrev pub holding_segment : Addr → EntryHead → Segment
+holding_segment server head = record {
+  head = record {
+    src = server.ip;
+    dst = head.key.ip;
+    sport = server.port;
+    dport = head.key.port;
+    seq = number_at head.sisn head.acked;
+    ack = number_at head.cisn (head.length + one_if head.fin);
+    flags = 16;
+    window = 0;
+    mss = None;
+  };
+  payload = [];
+}
+
+-- the fetched entry of a client that isn't done
+abbrev pub live_entry : Key → List Fetched → Option Fetched
+live_entry key fetched = find (λ f. key_eq f.head.key key && not f.head.done) fetched
+
+-- a fetched entry as an entry of the log
+abbrev pub entry_in : Fetched → Entry
+entry_in f = record {
+  key = f.head.key;
+  cisn = f.head.cisn;
+  sisn = f.head.sisn;
+  mss = f.head.mss;
+  bytes = f.bytes;
+  fin = f.head.fin;
+  lengths = f.lengths;
+  acknowledged = f.head.acked;
+  done = f.head.done;
+}
+
+-- the uncrashed server's run over an entry
+abbrev pub run_of : {State : Type 0} → Machine State → Entry → Run State
+run_of service e = reference service e.bytes e.lengths
+
+-- where the output goes on: what the client acknowledged of it. An acknowledged FIN is sent again
+abbrev pub resumed_at : {State : Type 0} → Machine State → Entry → ℕ
+resumed_at service e = min e.acknowledged (length (run_of service e).output)
+
+-- The point of an entry: all of it is taken, known to be logged and read as before, and one acknowledgement has counted, with window 0
+abbrev pub point_of : {State : Type 0} → Machine State → Entry → Point
+point_of service e = record {
+  key = e.key;
+  cisn = e.cisn;
+  sisn = e.sisn;
+  mss = e.mss;
+  fetched = length e.bytes;
+  taken = e.bytes;
+  fin = e.fin;
+  answered = length e.bytes + one_if e.fin;
+  lengths = e.lengths;
+  reads_answered = length e.lengths;
+  una = resumed_at service e;
+  sent = resumed_at service e;
+  edge = resumed_at service e;
+  wl1 = pos (length e.bytes);
+  wl2 = resumed_at service e;
+  counted = true;
+  interval = 1;
+  rest = 0;
+  end_ticks = 0;
+  reset = false;
+}
+
+-- an entry is sound: a server that keeps its limits can have logged it
+pub record IsSound {State : Type 0} (service : Machine State) (e : Entry) : Type 0 where
+  pub output : length (run_of service e).output ≤ 2 ^ 24
+  pub fin : e.fin ≡ true → length e.bytes < 2 ^ 24

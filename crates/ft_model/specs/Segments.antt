@@ -1,0 +1,122 @@
+-- What a turn sends to the client of a live connection (RFC 9293, 3.8.1, 3.8.3, 3.8.6.1 and 3.10.7.4). The laws Acknowledgement and Window
+-- are in the one head that all these segments share, the law Output in `text_at` and `fin_segment`.
+use Rattle.std.specs.Prelude.{ℕ, Bool, false, zero, suc, ◌+◌, ◌-◌, ◌==◌, ◌&&◌, ◌||◌, not, nat_lt, nat_le, max, min, Option, Some, None, List, [], ◌∷◌, ◌++◌, take, drop, if◌then◌else◌}
+use Rattle.ft_io.specs.declared.Addr.{Addr}
+use Rattle.seq_arith.specs.Number.{number_at}
+use Rattle.seq_arith.specs.Packet.{Head, Segment}
+use Rattle.server_trait.specs.Service.{Machine}
+use Rattle.ft_model.specs.Point.{Point, taken_units, acknowledgement, announced_edge, answered_run, released}
+use Rattle.ft_model.specs.News.{News}
+use Rattle.ft_model.specs.News.News.{Comes, Begins}
+use Rattle.ft_model.specs.Opening.{is_syn}
+use Rattle.ft_model.specs.Sending.{sent_at_once}
+use Rattle.ft_model.specs.Timer.{expires}
+use Rattle.ft_model.specs.Owed.{is_owed}
+
+-- Window: from what is acknowledged up to the edge that TCP announces
+abbrev pub window : Point → ℕ
+window p = min 65535 (announced_edge p - acknowledgement p)
+
+-- Acknowledgement: every segment to a live key acknowledges exactly what is both taken and known to be logged
+abbrev pub head_to : Addr → Point → (seq flags : ℕ) → Option ℕ → Head
+head_to server p seq flags mss = record {
+  src = server.ip;
+  dst = p.key.ip;
+  sport = server.port;
+  dport = p.key.port;
+  seq = seq;
+  ack = number_at p.cisn (acknowledgement p);
+  flags = flags;
+  window = window p;
+  mss = mss;
+}
+
+-- a segment at an offset of the output, with ACK alone (16), or FIN and ACK (17)
+abbrev pub segment_at : Addr → Point → (offset flags : ℕ) → List ℕ → Segment
+segment_at server p offset flags payload = record { head = head_to server p (number_at p.sisn offset) flags None; payload = payload }
+
+-- the SYN-ACK, with the kept numbers. No client byte is taken where it is sent, so it acknowledges the SYN and has the whole window
+abbrev pub syn_ack : Addr → Point → Segment
+syn_ack server p = record { head = head_to server p p.sisn 18 (Some 1460); payload = [] }
+
+-- Output: text is a part of the uncrashed server's output over the logged reads
+abbrev pub text_at : {State : Type 0} → Machine State → Addr → Point → (offset n : ℕ) → Segment
+text_at service server p offset n = segment_at server p offset 16 (take n (drop offset (answered_run service p).output))
+
+-- Output: the FIN stands behind all of it, in a segment of its own
+abbrev pub fin_segment : {State : Type 0} → Machine State → Addr → Point → Segment
+fin_segment service server p = segment_at server p (released service p) 17 []
+
+-- a segment without data stands at SND.NXT
+abbrev pub bare_segment : Addr → Point → Segment
+bare_segment server p = segment_at server p p.sent 16 []
+
+-- so many bytes from an offset on, in at most k segments, of the segment size each but the last
+abbrev pub texts : {State : Type 0} → Machine State → Addr → Point → (k offset left : ℕ) → List Segment
+texts service server p zero offset left = []
+texts service server p (suc k) offset left =
+    if nat_lt 0 left then text_at service server p offset (min left p.mss) ∷ texts service server p k (offset + min left p.mss) (left - min left p.mss) else []
+
+-- the client's own SYN comes again, and nothing of it or of the output has gone further: the kept SYN-ACK answers
+abbrev pub repeats_syn : Point → Segment → Bool
+repeats_syn p segment = is_syn segment && segment.head.seq == p.cisn && taken_units p == 0 && p.una == 0
+
+-- the SYN-ACK goes out when a new connection begins and when its SYN is repeated (its timer is in `resent`)
+abbrev pub opens_with : News → Point → Bool
+opens_with (Comes segment) before = repeats_syn before segment
+opens_with Begins before = not before.counted
+opens_with _ before = false
+
+abbrev pub syn_acks : Addr → News → Point → Point → List Segment
+syn_acks server news before after = if opens_with news before then syn_ack server after ∷ [] else []
+
+-- how much is sent again: a segment's worth of what was sent, but no more than the client has room for, and at least one byte
+abbrev pub resent_length : {State : Type 0} → Machine State → Point → Point → ℕ
+resent_length service before after = min after.mss (min (min before.sent (released service after) - after.una) (max 1 (after.edge - after.una)))
+
+-- the first segment that is unacknowledged: the SYN-ACK, else the FIN where all output is acknowledged, else text from SND.UNA on
+abbrev pub first_unacknowledged : {State : Type 0} → Machine State → Addr → Point → Point → Segment
+first_unacknowledged service server before after =
+    if not after.counted then syn_ack server after
+    else (if after.una == released service after then fin_segment service server after
+    else text_at service server after after.una (resent_length service before after))
+
+-- a probe stands at SND.NXT: one byte, or the FIN where no byte waits
+abbrev pub probe : {State : Type 0} → Machine State → Addr → Point → Point → Segment
+probe service server before after =
+    if nat_lt before.sent (released service after) then text_at service server after before.sent 1 else fin_segment service server after
+
+-- at a tick at which the timer expires, exactly one segment goes out besides: again what is unacknowledged, or else a probe
+unfoldable pub resent : {State : Type 0} → Machine State → Addr → News → Point → Point → List Segment
+resent service server news before after =
+    if expires news before
+    then (if not after.counted || nat_lt after.una before.sent then first_unacknowledged service server before after else probe service server before after) ∷ []
+    else []
+
+-- the bytes that are sent for the first time
+abbrev pub new_length : {State : Type 0} → Machine State → Point → Point → ℕ
+new_length service before after = min (sent_at_once service before after) (released service after) - before.sent
+
+unfoldable pub new_texts : {State : Type 0} → Machine State → Addr → Point → Point → List Segment
+new_texts service server before after = texts service server after (new_length service before after) before.sent (new_length service before after)
+
+-- the FIN is sent for the first time
+unfoldable pub new_fin : {State : Type 0} → Machine State → Addr → Point → Point → List Segment
+new_fin service server before after =
+    if nat_lt (released service after) (sent_at_once service before after) && nat_le before.sent (released service after)
+    then fin_segment service server after ∷ []
+    else []
+
+-- all but the bare segment, in order
+unfoldable pub full_segments : {State : Type 0} → Machine State → Addr → News → Point → Point → List Segment
+full_segments service server news before after =
+    syn_acks server news before after ++ (resent service server news before after ++ (new_texts service server before after ++ new_fin service server before after))
+
+-- Acknowledgement: one bare segment, exactly where one is owed and no other goes out
+abbrev pub or_bare : Bool → Segment → List Segment → List Segment
+or_bare owed bare [] = if owed then bare ∷ [] else []
+or_bare owed bare (segment ∷ segments) = segment ∷ segments
+
+unfoldable pub segments_of : {State : Type 0} → Machine State → Addr → News → Point → Point → List Segment
+segments_of service server news before after =
+    or_bare (is_owed service news before after) (bare_segment server after) (full_segments service server news before after)

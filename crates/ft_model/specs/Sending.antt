@@ -1,0 +1,62 @@
+-- The law Sending: what an acknowledgement does, and how much is sent (RFC 9293, 3.10.7.4, fifth check, and 3.8). All fields are read
+-- from the point before the turn, but `sent_after`, which looks at the released output and the edge after it.
+use Rattle.std.specs.Prelude.{ℕ, ℤ, Bool, pos, ◌+◌, ◌-◌, ◌&&◌, ◌||◌, not, int_le, max, min, nat_abs, if◌then◌else◌}
+use Rattle.seq_arith.specs.Arrival.{una_after, updates_window}
+use Rattle.seq_arith.specs.Packet.{Segment}
+use Rattle.server_trait.specs.Service.{Machine}
+use Rattle.ft_model.specs.Offset.{first_of, ack_of, one_if}
+use Rattle.ft_model.specs.Point.{Point, target}
+use Rattle.ft_model.specs.News.{News}
+use Rattle.ft_model.specs.News.News.{Comes}
+use Rattle.ft_model.specs.Taken.{counts}
+use Rattle.ft_model.specs.Timer.{probes}
+
+-- the segment's acknowledgement is used: it counts, and names an offset of the output
+abbrev pub acknowledges : Point → Segment → Bool
+acknowledges p segment = counts p segment && int_le (pos 0) (ack_of p.sisn segment)
+
+-- what it acknowledges: at most what this incarnation sent. The client may know more from an earlier one ..
+abbrev pub acknowledged_by : Point → Segment → ℕ
+acknowledged_by p segment = min (nat_abs (ack_of p.sisn segment)) p.sent
+
+-- .. and its window is then raised by the same amount, so that the right edge stays where the client put it
+abbrev pub window_by : Point → Segment → ℕ
+window_by p segment = min 65535 (segment.head.window + nat_abs (ack_of p.sisn segment) - acknowledged_by p segment)
+
+-- the window is used: by TCP's test on older segments, and always where none has counted yet
+abbrev pub moves_edge : Point → Segment → Bool
+moves_edge p segment =
+    acknowledges p segment
+    && (not p.counted || updates_window p.una p.wl1 p.wl2 (first_of p.cisn segment) (acknowledged_by p segment))
+
+unfoldable pub counted_after : News → Point → Bool
+counted_after (Comes segment) p = p.counted || counts p segment
+counted_after _ p = p.counted
+
+-- SND.UNA
+unfoldable pub acknowledged_after : News → Point → ℕ
+acknowledged_after (Comes segment) p = if acknowledges p segment then una_after p.una (acknowledged_by p segment) else p.una
+acknowledged_after _ p = p.una
+
+-- the right edge is absolute: it stays where only SND.UNA moves
+unfoldable pub edge_after : News → Point → ℕ
+edge_after (Comes segment) p = if moves_edge p segment then acknowledged_by p segment + window_by p segment else p.edge
+edge_after _ p = p.edge
+
+-- SND.WL1
+unfoldable pub wl1_after : News → Point → ℤ
+wl1_after (Comes segment) p = if moves_edge p segment then first_of p.cisn segment else p.wl1
+wl1_after _ p = p.wl1
+
+-- SND.WL2
+unfoldable pub wl2_after : News → Point → ℕ
+wl2_after (Comes segment) p = if moves_edge p segment then acknowledged_by p segment else p.wl2
+wl2_after _ p = p.wl2
+
+-- what is sent at once: all that may leave, up to the right edge, and never less than before
+unfoldable pub sent_at_once : {State : Type 0} → Machine State → Point → Point → ℕ
+sent_at_once service before after = max before.sent (min (target service after) after.edge)
+
+-- SND.NXT: a probe sends one unit more
+unfoldable pub sent_after : {State : Type 0} → Machine State → News → Point → Point → ℕ
+sent_after service news before after = sent_at_once service before after + one_if (probes news before)

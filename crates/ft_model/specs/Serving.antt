@@ -1,0 +1,118 @@
+-- A turn of a server that serves: what it does for each key that it knows, for keys that it doesn't know, and in which order.
+use Rattle.std.specs.Prelude.{◌≡◌, ℕ, Bool, true, false, ◌==◌, ◌&&◌, not, nat_lt, map, Option, Some, None, List, [], ◌∷◌, ◌++◌, if◌then◌else◌}
+use Rattle.std.specs.Bool.{MatchBool}
+use Rattle.std.specs.List.{flat_map}
+use Rattle.ft_io.specs.declared.Key.{Key}
+use Rattle.ft_io.specs.Key.{key_eq}
+use Rattle.seq_arith.specs.Packet.{Segment}
+use Rattle.seq_arith.specs.Message.{Numbers, Body}
+use Rattle.seq_arith.specs.Message.Body.{OpenMsg, OpenedMsg, StableMsg, ReadsMsg, EndedMsg, FullMsg}
+use Rattle.server_trait.specs.Service.{Machine}
+use Rattle.ft_model.specs.Network.{Packet, source_of}
+use Rattle.ft_model.specs.Network.Packet.{To_client}
+use Rattle.ft_model.specs.Point.{Point}
+use Rattle.ft_model.specs.News.{News}
+use Rattle.ft_model.specs.News.News.{Comes, Logged, Ticks, Begins}
+use Rattle.ft_model.specs.Connection.{ConnectionTurn, told_by}
+use Rattle.ft_model.specs.Opening.{is_syn, numbers_for, point_opened}
+use Rattle.ft_model.specs.Refusal.{as_listen, as_closed, full_rst}
+use Rattle.ft_model.specs.Node.{Node, Place, Input, key_of, is_for, is_known, pending_count}
+use Rattle.ft_model.specs.Node.Place.{Opens, Lives, Ended}
+use Rattle.ft_model.specs.Node.Input.{Packet_comes, Message_comes, Noise_comes, Tick_comes}
+
+-- nothing happens to a place
+abbrev pub Stays : Place → List Place → List Packet → Type 0
+Stays place now sent = (now ≡ place ∷ []) × (sent ≡ [])
+
+-- a connection goes on from a point by one turn, and stays live
+abbrev pub LivesOn : {State : Type 0} → Machine State → Node → News → Point → List Place → List Packet → Type 0
+LivesOn service node news p now sent = (after : Point) × (now ≡ Lives after ∷ []) × ConnectionTurn service node.server node.boot news p after sent
+
+-- Opening: Opened with the client's number makes the connection, by the numbers that the log keeps; with another number it drops the opening
+abbrev pub IsOpened : {State : Type 0} → Machine State → Node → Numbers → Numbers → List Place → List Packet → Type 0
+IsOpened service node asked kept now sent =
+    MatchBool (kept.cisn == asked.cisn) (LivesOn service node Begins (point_opened kept) now sent) ((now ≡ []) × (sent ≡ []))
+
+-- what a message of this boot does at the place of its key. Ended ends a live connection, whether or not Done was sent; Full drops an
+-- opening and refuses its SYN
+abbrev pub Hears : {State : Type 0} → Machine State → Node → Body → Place → List Place → List Packet → Type 0
+Hears service node (StableMsg kept) (Lives p) now sent = LivesOn service node (Logged kept) p now sent
+Hears service node (ReadsMsg kept) (Lives p) now sent = LivesOn service node (Logged kept) p now sent
+Hears service node (EndedMsg key) (Lives p) now sent = (now ≡ Ended p.key ∷ []) × (sent ≡ [])
+Hears service node (OpenedMsg kept) (Opens asked) now sent = IsOpened service node asked kept now sent
+Hears service node (FullMsg key) (Opens asked) now sent = (now ≡ []) × (sent ≡ To_client (full_rst node.server asked) ∷ [])
+Hears service node _ place now sent = Stays place now sent
+
+-- what an input of its own does at a place. A segment of a pending key is dropped here: its Open, if it repeats the SYN, comes last
+abbrev pub Meets : {State : Type 0} → Machine State → Node → Input → Place → List Place → List Packet → Type 0
+Meets service node (Packet_comes segment) (Lives p) now sent = LivesOn service node (Comes segment) p now sent
+Meets service node (Packet_comes segment) (Ended key) now sent = (now ≡ Ended key ∷ []) × (sent ≡ map To_client (as_closed node.server segment))
+Meets service node (Message_comes message) place now sent = Hears service node message.body place now sent
+Meets service node Tick_comes (Lives p) now sent = LivesOn service node Ticks p now sent
+Meets service node _ place now sent = Stays place now sent
+
+-- the key that a message to a known connection names
+abbrev pub key_named : Body → Option Key
+key_named (OpenedMsg numbers) = Some numbers.key
+key_named (StableMsg kept) = Some kept.key
+key_named (ReadsMsg kept) = Some kept.key
+key_named (EndedMsg key) = Some key
+key_named (FullMsg key) = Some key
+key_named _ = None
+
+abbrev pub names : Option Key → Key → Bool
+names (Some named) key = key_eq named key
+names None key = false
+
+-- an input concerns a key: a packet for this server from its client, a message of this boot that names it, and each tick
+abbrev pub concerns : Node → Input → Key → Bool
+concerns node (Packet_comes segment) key = is_for node.server segment && key_eq (source_of segment) key
+concerns node (Message_comes message) key = message.boot == node.boot && names (key_named message.body) key
+concerns node Noise_comes key = false
+concerns node Tick_comes key = true
+
+-- one place in one turn: the places that stand there after it, one or none, and what is sent
+abbrev pub PlaceTurn : {State : Type 0} → Machine State → Node → Input → Place → List Place → List Packet → Type 0
+PlaceTurn service node input place now sent = MatchBool (concerns node input (key_of place)) (Meets service node input place now sent) (Stays place now sent)
+
+-- all places, one after another, each by this law: so they stay in order, and so do the packets
+abbrev pub AllGo : (Place → List Place → List Packet → Type 0) → List Place → List Place → List Packet → Type 0
+AllGo Goes [] after sent = (after ≡ []) × (sent ≡ [])
+AllGo Goes (place ∷ places) after sent =
+    (now : List Place) × (later : List Place) × (first : List Packet) × (others : List Packet)
+    × (after ≡ now ++ later) × (sent ≡ first ++ others) × Goes place now first × AllGo Goes places later others
+
+-- a packet of a client that isn't known
+abbrev pub is_strange : Node → Segment → List Place → Bool
+is_strange node segment places = is_for node.server segment && not (is_known (source_of segment) places)
+
+-- Opening: a SYN of an unknown key makes a pending opening with the next initial number, while fewer than 64 are pending
+abbrev pub newcomers : Node → Input → (opened : ℕ) → List Place → List Place
+newcomers node (Packet_comes segment) opened places =
+    if is_strange node segment places && is_syn segment && nat_lt (pending_count places) 64 then Opens (numbers_for node.isn opened segment) ∷ [] else []
+newcomers node _ opened places = []
+
+-- Reset and end: an acknowledgement of an unknown key is refused
+abbrev pub refusals : Node → Input → List Place → List Packet
+refusals node (Packet_comes segment) places = if is_strange node segment places then map To_client (as_listen node.server segment) else []
+refusals node _ places = []
+
+-- Opening: a pending opening is asked for at its SYN, at each repetition of it, and at each tick
+abbrev pub is_asked : Node → Input → Numbers → Bool
+is_asked node (Packet_comes segment) numbers =
+    is_for node.server segment && is_syn segment && key_eq (source_of segment) numbers.key && segment.head.seq == numbers.cisn
+is_asked node Tick_comes numbers = true
+is_asked node _ numbers = false
+
+abbrev pub opens_at : Node → Input → Place → List Packet
+opens_at node input (Opens numbers) = if is_asked node input numbers then told_by node.boot (OpenMsg numbers) ∷ [] else []
+opens_at node input _ = []
+
+-- A turn of a server that serves. First comes what the known connections send, in order, then the pending Opens in the same order. A
+-- packet of an unknown key that is refused meets no place, so its RST stands alone
+pub record ServingTurn {State : Type 0} (service : Machine State) (node : Node) (input : Input) (opened : ℕ) (before after : List Place) (sent : List Packet) : Type 0 where
+  pub gone : List Place
+  pub by_places : List Packet
+  pub all_go : AllGo (PlaceTurn service node input) before gone by_places
+  pub places : after ≡ gone ++ newcomers node input opened before
+  pub packets : sent ≡ by_places ++ (refusals node input before ++ flat_map (opens_at node input) after)

@@ -1,0 +1,42 @@
+-- The timer for retransmissions and probes (RFC 9293, 3.8.1 and 3.8.6.1, with ticks for time: RFC 6298's estimates are left out).
+use Rattle.std.specs.Prelude.{ℕ, Bool, true, false, ◌-◌, ◌*◌, ◌==◌, ◌&&◌, ◌||◌, not, nat_lt, max, min, if◌then◌else◌}
+use Rattle.server_trait.specs.Service.{Machine}
+use Rattle.ft_model.specs.Point.{Point, target}
+use Rattle.ft_model.specs.News.{News}
+use Rattle.ft_model.specs.News.News.{Ticks}
+
+abbrev pub is_tick : News → Bool
+is_tick Ticks = true
+is_tick _ = false
+
+-- the timer runs, and this tick is its last
+abbrev pub expires : News → Point → Bool
+expires news before = is_tick news && before.rest == 1
+
+-- it expires with nothing unacknowledged, so one unit goes out beyond the edge
+abbrev pub probes : News → Point → Bool
+probes news before = expires news before && before.counted && not (nat_lt before.una before.sent)
+
+-- It must run while something is unacknowledged (the SYN too), or waits to be sent
+unfoldable pub must_run : {State : Type 0} → Machine State → Point → Bool
+must_run service p = not p.counted || nat_lt p.una (max p.sent (target service p))
+
+-- something new was acknowledged, the SYN included
+abbrev pub is_renewed : Point → Point → Bool
+is_renewed before after = nat_lt before.una after.una || (after.counted && not before.counted)
+
+-- it starts anew: it didn't run, or something new was acknowledged
+abbrev pub starts : Point → Point → Bool
+starts before after = before.rest == 0 || is_renewed before after
+
+-- the interval is 1 tick at the start and doubles at each expiry, up to 64
+unfoldable pub interval_after : News → Point → Point → ℕ
+interval_after news before after = if starts before after then 1 else (if expires news before then min 64 (2 * before.interval) else before.interval)
+
+-- the ticks that are left: a whole interval when it starts or has expired, and one less at each other tick
+unfoldable pub rest_after : {State : Type 0} → Machine State → News → Point → Point → ℕ
+rest_after service news before after =
+    if must_run service after
+    then (if starts before after || expires news before then interval_after news before after
+    else (if is_tick news then before.rest - 1 else before.rest))
+    else 0
