@@ -4,6 +4,7 @@
 
 pub use event::{Event, EventWhy};
 pub use phase::Phase;
+pub use report::worked_lines;
 pub use schedule::{
     ClientLine, ClientLines, Events, Limit, LineWhy, Schedule, Script, ServiceKind,
 };
@@ -11,5 +12,6 @@ pub use way::Way;
 
 mod event;
 mod phase;
+mod report;
 mod schedule;
 mod way;
