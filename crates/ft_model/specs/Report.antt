@@ -99,6 +99,9 @@ part_words p =
     codes "key" ∷ key_text p.key ∷ codes "offset" ∷ decimal p.offset ∷ codes "acked" ∷ decimal p.acked ∷ codes "fin" ∷ bit_text p.fin
     ∷ codes "bytes" ∷ hex_text p.bytes ∷ []
 
+abbrev pub read_words : Key → ℕ → ℕ → List (List ℕ)
+read_words key index length = codes "key" ∷ key_text key ∷ codes "index" ∷ decimal index ∷ codes "length" ∷ decimal length ∷ []
+
 -- the fields of a body by name, in the order in which a message holds them
 abbrev pub field_words : Body → List (List ℕ)
 field_words HelloMsg = []
@@ -113,7 +116,7 @@ field_words (OpenMsg n) = numbers_words n
 field_words (OpenedMsg n) = numbers_words n
 field_words (DataMsg part) = part_words part
 field_words (StableMsg k) = kept_words k
-field_words (ReadMsg key index length) = codes "key" ∷ key_text key ∷ codes "index" ∷ decimal index ∷ codes "length" ∷ decimal length ∷ []
+field_words (ReadMsg key index length) = read_words key index length
 field_words (ReadsMsg k) = kept_words k
 field_words (DoneMsg key) = key_words key
 field_words (EndedMsg key) = key_words key
