@@ -24,3 +24,6 @@ pub mod World
 pub mod Schedule
 pub mod Legal
 pub mod Rows
+pub mod Texts
+pub mod Report
+pub mod FirstPath

@@ -4,6 +4,7 @@
 
 pub use event::{Event, EventWhy};
 pub use phase::Phase;
+pub use report::worked_lines;
 pub use schedule::{
     ClientLine, ClientLines, Events, Limit, LineWhy, Schedule, Script, ServiceKind,
 };
@@ -13,5 +14,6 @@ mod event;
 pub mod laws;
 mod phase;
 pub mod rows;
+mod report;
 mod schedule;
 mod way;

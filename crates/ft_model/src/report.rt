@@ -1,0 +1,49 @@
+//! The report of a run is a definition alone, `specs/Report.antt`. Here are lines of it that were worked out by hand, for a run in which
+//! a client says hello to an echo.
+
+ghost use Rattle.std.specs.Prelude.{◌≡◌, [], ◌∷◌, codes, None, Some, false};
+ghost use Rattle.ft_model.specs.FirstPath.{client_key, from_client, from_server, hello, opening, bytes_to_log, read, stable, reads, entry, part, cuts, lens};
+ghost use Rattle.ft_model.specs.Report.{event_line, packet_line, phase_line, entry_line, end_line};
+ghost use Rattle.ft_model.specs.declared.way.Way.TheVariants.{ClientToServer, ServerToClient, ServerToLogger, LoggerToServer};
+ghost use Rattle.ft_model.specs.declared.event.Event.TheVariants.{Begin, Boot, Deliver, Send};
+ghost use Rattle.ft_model.specs.declared.phase.Phase.TheVariants.{Established};
+
+/// Each form of line, by an example: segments, messages, events, and how client and log stand at the end.
+pub fn worked_lines()
+    ensures boot { event_line 1 (Boot 1 5000) ≡ codes "event 1 boot 1 5000\n" }
+    ensures deliver { event_line 2 (Deliver 1) ≡ codes "event 2 deliver 1\n" }
+    ensures begin { event_line 4 (Begin 1 65535) ≡ codes "event 4 open 1 65535\n" }
+    ensures send { event_line 11 (Send 1 0 5) ≡ codes "event 11 send 1 0 5\n" }
+
+    ensures syn { packet_line 3 (ClientToServer 1) (from_client 1000 0 2 [])
+        ≡ codes "packet 3 1>S S seq 1000 ack 0 window 65535 mss - data -\n" }
+    ensures syn_ack { packet_line 6 (ServerToClient 1) (from_server 5000 1001 18 (Some 1460) [])
+        ≡ codes "packet 6 S>1 AS seq 5000 ack 1001 window 65535 mss 1460 data -\n" }
+    ensures text { packet_line 8 (ClientToServer 1) (from_client 1001 5001 16 (codes "hello"))
+        ≡ codes "packet 8 1>S A seq 1001 ack 5001 window 65535 mss - data 68656c6c6f\n" }
+
+    ensures hello { packet_line 1 ServerToLogger hello ≡ codes "packet 1 S>L Hello boot 1\n" }
+    ensures opening { packet_line 4 ServerToLogger opening
+        ≡ codes "packet 4 S>L Open boot 1 key 192.0.2.1:40000 cisn 1000 sisn 5000 mss 536\n" }
+    ensures bytes { packet_line 10 ServerToLogger bytes_to_log
+        ≡ codes "packet 10 S>L Data boot 1 key 192.0.2.1:40000 offset 0 acked 0 fin 0 bytes 68656c6c6f\n" }
+    ensures read { packet_line 11 ServerToLogger read
+        ≡ codes "packet 11 S>L Read boot 1 key 192.0.2.1:40000 index 0 length 5\n" }
+    ensures stable { packet_line 12 LoggerToServer stable
+        ≡ codes "packet 12 L>S Stable boot 1 key 192.0.2.1:40000 length 5 fin 0 reads 0\n" }
+    ensures reads { packet_line 14 LoggerToServer reads
+        ≡ codes "packet 14 L>S Reads boot 1 key 192.0.2.1:40000 length 5 fin 0 reads 1\n" }
+
+    ensures entry { packet_line 19 LoggerToServer entry
+        ≡ codes "packet 19 L>S Entry boot 2 index 0 key 192.0.2.1:40000 cisn 1000 sisn 5000 mss 536 length 5 fin 0 done 0 reads 1 acked 0\n" }
+    ensures part { packet_line 21 LoggerToServer part
+        ≡ codes "packet 21 L>S Part boot 2 key 192.0.2.1:40000 offset 0 bytes 68656c6c6f\n" }
+    ensures cuts { packet_line 22 ServerToLogger cuts ≡ codes "packet 22 S>L Cuts boot 2 key 192.0.2.1:40000 first 0\n" }
+    ensures lens { packet_line 23 LoggerToServer lens
+        ≡ codes "packet 23 L>S Lens boot 2 key 192.0.2.1:40000 first 0 lens 2,1\n" }
+
+    ensures client { phase_line 1 Established (codes "hello") ≡ codes "client 1 open accepted 5 68656c6c6f\n" }
+    ensures log { entry_line client_key 5 false 0 false (5 ∷ [])
+        ≡ codes "log 192.0.2.1:40000 length 5 fin 0 acked 0 done 0 reads 5\n" }
+    ensures end { end_line 17 ≡ codes "end 17\n" }
+{}

@@ -1,0 +1,6 @@
+use Rattle.std.proofs.Common.{◌≡◌, ◌++◌, take}
+use Rattle.schedule_text.specs.Line.{behind_commas}
+use Rattle.schedule_text.proofs.line_text.put_others.Given as goal
+
+abbrev pub invariant-loop-number : goal.invariant-loop-number
+invariant-loop-number l = l.text.items ≡ l.initial.text.items ++ behind_commas (take l.number-index l.numbers)
