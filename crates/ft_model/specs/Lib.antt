@@ -5,3 +5,6 @@ pub mod Network
 pub mod World
 pub mod Schedule
 pub mod Legal
+pub mod Words
+pub mod Spelling
+pub mod Grammar

@@ -3,6 +3,7 @@
 #![tactic(auto)]
 
 pub use event::{Event, EventWhy};
+pub use line::{Draft, Keyword, Line, Verb};
 pub use phase::Phase;
 pub use schedule::{
     ClientLine, ClientLines, Events, Limit, LineWhy, Schedule, Script, ServiceKind,
@@ -10,6 +11,7 @@ pub use schedule::{
 pub use way::Way;
 
 mod event;
+mod line;
 mod phase;
 mod schedule;
 mod way;
