@@ -8,7 +8,7 @@ use Rattle.std.specs.List.{list_all, list_any}
 use Rattle.std.specs.Option.{ok_or}
 use Rattle.std.specs.Str.{bytes_eq}
 use Rattle.ft_io.specs.declared.Addr.{Addr}
-use Rattle.ft_model.specs.Words.{lines_of, words_of}
+use Rattle.ft_model.specs.Words.{is_empty, lines_of, words_of}
 use Rattle.ft_model.specs.Spelling.{numeral, number_of, addr_of, service_of, script_of}
 use Rattle.ft_model.specs.declared.event.Event.{Event}
 use Rattle.ft_model.specs.declared.event.Event.TheVariants as event
@@ -281,7 +281,7 @@ is_comment [] = false
 is_comment (byte ∷ more) = byte == 35
 
 unfoldable pub is_passed_over : List ℕ → Bool
-is_passed_over text = is_comment text || length (words_of text) == 0
+is_passed_over text = is_comment text || is_empty (words_of text)
 
 -- an event's line behind 100,000 of them is too much, whatever else it holds
 abbrev pub is_full : Draft → Bool

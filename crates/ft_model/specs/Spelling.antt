@@ -4,9 +4,10 @@
 -- from 1 to 65535, each of these with at most five digits. A script is `-`, or `hex:` and 1 to 2^24 pairs of hexadecimal digits of
 -- either case, or `fill:` and a number from 1 to 2^24. A service is `echo`, `line`, `transfer` or `meter`.
 use Rattle.std.specs.Prelude.{ℕ, Bool, ◌+◌, ◌-◌, ◌*◌, ◌%◌, ◌^◌, ◌==◌, ◌&&◌, ◌||◌, nat_eq, nat_le, Option, Some, None, option_map, List, [], ◌∷◌, length, drop, codes, if◌then◌else◌}
+use Rattle.std.specs.Char.{digit_value, is_ascii_digit, is_ascii_hexdigit}
 use Rattle.std.specs.List.{list_all, slice_split, starts_with}
 use Rattle.std.specs.Option.{option_and_then}
-use Rattle.std.specs.Str.{all_ascii_digits, bytes_eq}
+use Rattle.std.specs.Str.{bytes_eq}
 use Rattle.std.specs.Str.Parse.{digits_value}
 use Rattle.ft_io.specs.declared.Addr.{Addr}
 use Rattle.ft_model.specs.Words.{is}
@@ -17,7 +18,7 @@ use Rattle.ft_model.specs.declared.schedule.ServiceKind.TheVariants.{Echo, Line,
 
 -- the number that one to so many decimal digits write
 unfoldable pub numeral : ℕ → List ℕ → Option ℕ
-numeral digits word = if nat_le 1 (length word) && nat_le (length word) digits && all_ascii_digits word then Some (digits_value 10 word) else None
+numeral digits word = if nat_le 1 (length word) && nat_le (length word) digits && list_all is_ascii_digit word then Some (digits_value 10 word) else None
 
 -- a number, if it isn't below the least nor above the most
 abbrev pub within : ℕ → ℕ → ℕ → Option ℕ
@@ -67,22 +68,15 @@ service_of word =
     else (if bytes_eq word (codes "meter") then Some Meter
     else None)))
 
--- `0` to `9`, `a` to `f` or `A` to `F`
-abbrev pub is_hex_digit : ℕ → Bool
-is_hex_digit byte = nat_le 48 byte && nat_le byte 57 || nat_le 97 byte && nat_le byte 102 || nat_le 65 byte && nat_le byte 70
-
-abbrev pub hex_value : ℕ → ℕ
-hex_value byte = if nat_le byte 57 then byte - 48 else (if nat_le byte 70 then byte - 55 else byte - 87)
-
 -- the byte of each pair of hexadecimal digits
 unfoldable pub hex_bytes : List ℕ → List ℕ
 hex_bytes [] = []
 hex_bytes (high ∷ []) = []
-hex_bytes (high ∷ low ∷ more) = (16 * hex_value high + hex_value low) ∷ hex_bytes more
+hex_bytes (high ∷ low ∷ more) = (16 * digit_value high + digit_value low) ∷ hex_bytes more
 
 -- pairs of hexadecimal digits, from 1 to 2^24
 unfoldable pub is_hex : List ℕ → Bool
-is_hex digits = list_all is_hex_digit digits && length digits % 2 == 0 && nat_le 2 (length digits) && nat_le (length digits) (2 * 2 ^ 24)
+is_hex digits = list_all is_ascii_hexdigit digits && length digits % 2 == 0 && nat_le 2 (length digits) && nat_le (length digits) (2 * 2 ^ 24)
 
 unfoldable pub script_of : List ℕ → Option Script
 script_of word =

@@ -2,6 +2,9 @@
 #![tactic(auto)]
 
 pub use ft_model::{ClientLine, ClientLines, Events, Limit, LineWhy, Schedule, Script, Way};
+pub use spelling::{read_addr, read_number, read_script, read_service};
 pub use packet::{Body, Head, Kept, Message, Numbers, Packet, Part, Segment};
 
 mod packet;
+mod spelling;
+mod words;
