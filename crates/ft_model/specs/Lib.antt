@@ -27,3 +27,6 @@ pub mod Rows
 pub mod Texts
 pub mod Report
 pub mod FirstPath
+pub mod Words
+pub mod Spelling
+pub mod Grammar

@@ -3,6 +3,7 @@
 #![tactic(auto)]
 
 pub use event::{Event, EventWhy};
+pub use line::{Draft, Keyword, Line, Verb};
 pub use phase::Phase;
 pub use report::worked_lines;
 pub use schedule::{
@@ -12,6 +13,7 @@ pub use way::Way;
 
 mod event;
 pub mod laws;
+mod line;
 mod phase;
 pub mod rows;
 mod report;

@@ -1,9 +1,9 @@
 //! A schedule as a value, and why a text spells none.
 
-ghost use Rattle.std.specs.Prelude.{◌≡◌, List, length};
+ghost use Rattle.std.specs.Prelude.{◌≡◌, List, [], ◌∷◌, ◌++◌, length, OnOk, OnErr};
 
 use crate::event::Event;
-use ft_io::{Addr, Key, Octets};
+use ft_io::{Addr, Key, NoMemory, Octets};
 use std::marker::Model;
 
 /// The services that a schedule can name.
@@ -60,6 +60,15 @@ impl ClientLines {
     {
         self.lines.as_slice()
     }
+
+    /// Adds the next client.
+    pub fn push(&mut self, line: ClientLine) -> Result<(), NoMemory>
+        ensures ok { OnOk result (self.new ≡ self.old ++ line ∷ []) }
+        ensures err { OnErr result (self.new ≡ self.old) }
+    {
+        self.lines.push(line)?;
+        Ok(())
+    }
 }
 
 /// The events of a schedule, in order.
@@ -89,6 +98,15 @@ impl Events {
         ensures { result.now ≡ self.now }
     {
         self.events.as_slice()
+    }
+
+    /// Adds the next event.
+    pub fn push(&mut self, event: Event) -> Result<(), NoMemory>
+        ensures ok { OnOk result (self.new ≡ self.old ++ event ∷ []) }
+        ensures err { OnErr result (self.new ≡ self.old) }
+    {
+        self.events.push(event)?;
+        Ok(())
     }
 }
 

@@ -5,6 +5,7 @@ pub use closing_text::{LogLine, write_client_line, write_end, write_log_line};
 pub use event_text::write_event;
 pub use ft_model::{ClientLine, ClientLines, Events, Limit, LineWhy, Schedule, Script, Way};
 pub use header_text::write_header;
+pub use spelling::{read_addr, read_number, read_script, read_service};
 pub use packet::{Body, Head, Kept, Message, Numbers, Packet, Part, Segment};
 pub use packet_text::write_packet_line;
 
@@ -16,3 +17,5 @@ mod packet;
 mod packet_text;
 #[cfg(test)]
 mod writing_tests;
+mod spelling;
+mod words;

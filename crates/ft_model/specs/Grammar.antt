@@ -1,0 +1,322 @@
+-- The grammar of a schedule's text: the schedule that it spells, or the first line that is refused and why.
+--
+-- First `service NAME`, then `server ADDRESS`, then 0 to 16 times `client N ADDRESS ISN SCRIPT` with N from 1 in order, then events:
+-- `boot BOOT ISN`, `crash`, `tick`, `deliver P`, `flip P BIT`, `open N W`, `send N FROM LEN`, `fin N`, `ack N W`, `reset N`. A line without
+-- words, or whose first byte is `#`, is passed over, and counted.
+use Rattle.std.specs.Prelude.{ℕ, Bool, true, false, ◌+◌, ◌-◌, ◌^◌, ◌==◌, ◌&&◌, ◌||◌, not, nat_lt, nat_le, Option, Some, None, is_none, option_map, Result, Ok, Err, List, [], ◌∷◌, ◌++◌, length, codes, if◌then◌else◌}
+use Rattle.std.specs.List.{list_all, list_any}
+use Rattle.std.specs.Option.{ok_or}
+use Rattle.std.specs.Str.{bytes_eq}
+use Rattle.ft_io.specs.declared.Addr.{Addr}
+use Rattle.ft_model.specs.Words.{is_empty, lines_of, words_of}
+use Rattle.ft_model.specs.Spelling.{numeral, number_of, addr_of, service_of, script_of}
+use Rattle.ft_model.specs.declared.event.Event.{Event}
+use Rattle.ft_model.specs.declared.event.Event.TheVariants as event
+use Rattle.ft_model.specs.declared.line.Draft.{Draft}
+use Rattle.ft_model.specs.declared.line.Draft.TheVariants.{Empty, Named, Begun}
+use Rattle.ft_model.specs.declared.line.Keyword.{Keyword}
+use Rattle.ft_model.specs.declared.line.Keyword.TheVariants as keyword
+use Rattle.ft_model.specs.declared.line.Line.{Line}
+use Rattle.ft_model.specs.declared.line.Line.TheVariants as line
+use Rattle.ft_model.specs.declared.line.Verb.{Verb}
+use Rattle.ft_model.specs.declared.line.Verb.TheVariants as verb
+use Rattle.ft_model.specs.declared.schedule.ClientLine.{ClientLine}
+use Rattle.ft_model.specs.declared.schedule.Limit.{Limit}
+use Rattle.ft_model.specs.declared.schedule.Limit.TheVariants as limit
+use Rattle.ft_model.specs.declared.schedule.LineWhy.{LineWhy}
+use Rattle.ft_model.specs.declared.schedule.LineWhy.TheVariants as why
+use Rattle.ft_model.specs.declared.schedule.Schedule.{Schedule}
+use Rattle.ft_model.specs.declared.schedule.Script.{Script}
+use Rattle.ft_model.specs.declared.schedule.Script.TheVariants.{Bytes, Fill}
+use Rattle.ft_model.specs.declared.schedule.ServiceKind.{ServiceKind}
+use Rattle.ft_model.specs.declared.schedule.ServiceKind.TheVariants as service
+
+-- why a text spells no schedule: a line, counted from 1, or a limit
+pub data Refusal : Type 0 where
+  BadLine : (line : ℕ) (why : LineWhy) → Refusal
+  TooLong : (what : Limit) → Refusal
+
+-- one test after another: the first refusal decides
+infixl 10 ◌>>=◌
+abbrev pub ◌>>=◌ : {A B E : Type 0} → Result A E → (A → Result B E) → Result B E
+(Ok x) >>= f = f x
+(Err e) >>= f = Err e
+
+-- Numbers, each with its range.
+abbrev pub number : ℕ → ℕ → List ℕ → Result ℕ LineWhy
+number least most word = ok_or (number_of least most word) why.Number
+
+abbrev pub boot_number : List ℕ → Result ℕ LineWhy
+boot_number word = number 1 (2 ^ 64 - 1) word
+
+abbrev pub packet_number : List ℕ → Result ℕ LineWhy
+packet_number word = number 1 (2 ^ 32 - 1) word
+
+abbrev pub client_number : List ℕ → Result ℕ LineWhy
+client_number word = number 1 16 word
+
+abbrev pub window : List ℕ → Result ℕ LineWhy
+window word = number 0 65535 word
+
+-- a number of 32 bits: an initial number, a bit, an offset or a length
+abbrev pub long_number : List ℕ → Result ℕ LineWhy
+long_number word = number 0 (2 ^ 32 - 1) word
+
+-- The lines of events, from the words behind the first. First their count is tested, then the numbers in order.
+unfoldable pub boot_line : List (List ℕ) → Result Event LineWhy
+boot_line (boot ∷ isn ∷ []) = do
+  b ← boot_number boot
+  i ← long_number isn
+  Ok (event.Boot b i)
+boot_line _ = Err why.Count
+
+-- a line of one word
+unfoldable pub bare_line : Event → List (List ℕ) → Result Event LineWhy
+bare_line e [] = Ok e
+bare_line e _ = Err why.Count
+
+unfoldable pub deliver_line : List (List ℕ) → Result Event LineWhy
+deliver_line (packet ∷ []) = do
+  p ← packet_number packet
+  Ok (event.Deliver p)
+deliver_line _ = Err why.Count
+
+unfoldable pub flip_line : List (List ℕ) → Result Event LineWhy
+flip_line (packet ∷ bit ∷ []) = do
+  p ← packet_number packet
+  b ← long_number bit
+  Ok (event.Flip p b)
+flip_line _ = Err why.Count
+
+-- a line with a client and a window
+unfoldable pub window_line : (ℕ → ℕ → Event) → List (List ℕ) → Result Event LineWhy
+window_line move (client ∷ room ∷ []) = do
+  c ← client_number client
+  w ← window room
+  Ok (move c w)
+window_line move _ = Err why.Count
+
+unfoldable pub send_line : List (List ℕ) → Result Event LineWhy
+send_line (client ∷ from ∷ len ∷ []) = do
+  c ← client_number client
+  f ← long_number from
+  l ← long_number len
+  Ok (event.Send c f l)
+send_line _ = Err why.Count
+
+-- a line with a client alone
+unfoldable pub client_move_line : (ℕ → Event) → List (List ℕ) → Result Event LineWhy
+client_move_line move (client ∷ []) = do
+  c ← client_number client
+  Ok (move c)
+client_move_line move _ = Err why.Count
+
+abbrev pub event_line : Verb → List (List ℕ) → Result Event LineWhy
+event_line verb.Boot words = boot_line words
+event_line verb.Crash words = bare_line event.Crash words
+event_line verb.Tick words = bare_line event.Tick words
+event_line verb.Deliver words = deliver_line words
+event_line verb.Flip words = flip_line words
+event_line verb.Open words = window_line event.Begin words
+event_line verb.Send words = send_line words
+event_line verb.Fin words = client_move_line event.Fin words
+event_line verb.Ack words = window_line event.Ack words
+event_line verb.Reset words = client_move_line event.Reset words
+
+-- The lines before the events, likewise.
+unfoldable pub service_line : List (List ℕ) → Result ServiceKind LineWhy
+service_line (name ∷ []) = ok_or (service_of name) why.Word
+service_line _ = Err why.Count
+
+unfoldable pub server_line : List (List ℕ) → Result Addr LineWhy
+server_line (address ∷ []) = ok_or (addr_of address) why.Address
+server_line _ = Err why.Count
+
+-- whether the server or an earlier client has the address
+unfoldable pub is_taken : Draft → Addr → Bool
+is_taken (Begun schedule) addr =
+    schedule.server.ip == addr.ip && schedule.server.port == addr.port
+    || list_any (λ client. client.key.ip == addr.ip && client.key.port == addr.port) schedule.clients
+is_taken draft addr = false
+
+-- an address that nobody has yet
+unfoldable pub free_address : Draft → List ℕ → Result Addr LineWhy
+free_address draft word = do
+  addr ← ok_or (addr_of word) why.Address
+  if is_taken draft addr then Err why.Address else Ok addr
+
+-- both numbers are tested before the address, and the script last
+unfoldable pub client_line : Draft → List (List ℕ) → Result ClientLine LineWhy
+client_line draft (client ∷ address ∷ isn ∷ script ∷ []) = do
+  c ← client_number client
+  i ← long_number isn
+  addr ← free_address draft address
+  s ← ok_or (script_of script) why.Script
+  Ok (record { key = record { ip = addr.ip; port = addr.port }; isn = i; script = s })
+client_line draft _ = Err why.Count
+
+abbrev pub line_from : Draft → Keyword → List (List ℕ) → Result Line LineWhy
+line_from draft keyword.Service words = service_line words >>= λ kind. Ok (line.Service kind)
+line_from draft keyword.Server words = server_line words >>= λ addr. Ok (line.Server addr)
+line_from draft keyword.Client words = client_line draft words >>= λ client. Ok (line.Client client)
+line_from draft (keyword.Event v) words = event_line v words >>= λ e. Ok (line.Event e)
+
+-- The test `word`: the first word is one of these, and a service has one of the four names.
+unfoldable pub verb_of : List ℕ → Option Verb
+verb_of word =
+    if bytes_eq word (codes "boot") then Some verb.Boot
+    else (if bytes_eq word (codes "crash") then Some verb.Crash
+    else (if bytes_eq word (codes "tick") then Some verb.Tick
+    else (if bytes_eq word (codes "deliver") then Some verb.Deliver
+    else (if bytes_eq word (codes "flip") then Some verb.Flip
+    else (if bytes_eq word (codes "open") then Some verb.Open
+    else (if bytes_eq word (codes "send") then Some verb.Send
+    else (if bytes_eq word (codes "fin") then Some verb.Fin
+    else (if bytes_eq word (codes "ack") then Some verb.Ack
+    else (if bytes_eq word (codes "reset") then Some verb.Reset
+    else None)))))))))
+
+unfoldable pub keyword_of : List ℕ → Option Keyword
+keyword_of word =
+    if bytes_eq word (codes "service") then Some keyword.Service
+    else (if bytes_eq word (codes "server") then Some keyword.Server
+    else (if bytes_eq word (codes "client") then Some keyword.Client
+    else option_map keyword.Event (verb_of word)))
+
+-- a service line without a name is left to the test `count`
+unfoldable pub names_no_service : Keyword → List (List ℕ) → Bool
+names_no_service keyword.Service (name ∷ more) = is_none (service_of name)
+names_no_service _ _ = false
+
+-- The test `place`. A client line's number is the next one; a line without a number is left to the test `count`, and a word that is
+-- no number to the test `number`.
+unfoldable pub is_next : ℕ → Option ℕ → Bool
+is_next count None = true
+is_next count (Some n) = n == count + 1
+
+unfoldable pub has_next_number : ℕ → List (List ℕ) → Bool
+has_next_number count [] = true
+has_next_number count (client ∷ more) = is_next count (numeral 20 client)
+
+-- clients come before events, and there are at most 16
+unfoldable pub may_join : Schedule → List (List ℕ) → Bool
+may_join schedule words = length schedule.events == 0 && nat_lt (length schedule.clients) 16 && has_next_number (length schedule.clients) words
+
+abbrev pub may_stand : Draft → Keyword → List (List ℕ) → Bool
+may_stand Empty keyword.Service words = true
+may_stand (Named kind) keyword.Server words = true
+may_stand (Begun schedule) keyword.Client words = may_join schedule words
+may_stand (Begun schedule) (keyword.Event v) words = true
+may_stand _ _ words = false
+
+-- The test `built`: well-formed lines that ask for what isn't built yet.
+abbrev pub is_echo : ServiceKind → Bool
+is_echo service.Echo = true
+is_echo _ = false
+
+abbrev pub is_fill : Script → Bool
+is_fill (Fill len) = true
+is_fill (Bytes bytes) = false
+
+abbrev pub is_boot : Event → Bool
+is_boot (event.Boot boot isn) = true
+is_boot _ = false
+
+unfoldable pub has_client : Draft → Bool
+has_client (Begun schedule) = nat_lt 0 (length schedule.clients)
+has_client _ = false
+
+unfoldable pub has_boot : Draft → Bool
+has_boot (Begun schedule) = list_any is_boot schedule.events
+has_boot _ = false
+
+unfoldable pub event_asks_for_more : Draft → Event → Bool
+event_asks_for_more draft (event.Boot boot isn) = has_boot draft  -- a second boot
+event_asks_for_more draft event.Crash = true
+event_asks_for_more draft event.Tick = true
+event_asks_for_more draft (event.Flip packet bit) = true
+event_asks_for_more draft (event.Fin client) = true
+event_asks_for_more draft (event.Reset client) = true
+event_asks_for_more draft _ = false
+
+unfoldable pub asks_for_more : Draft → Line → Bool
+asks_for_more draft (line.Service kind) = not (is_echo kind)
+asks_for_more draft (line.Server addr) = false
+asks_for_more draft (line.Client client) = has_client draft || is_fill client.script
+asks_for_more draft (line.Event e) = event_asks_for_more draft e
+
+-- The tests of a line in their order: character, word, place, those of its kind (count, number, address, script), and built.
+unfoldable pub is_printable : List ℕ → Bool
+is_printable text = list_all (λ byte. nat_le 32 byte && nat_le byte 126) text
+
+unfoldable pub built : Draft → Line → Result Line LineWhy
+built draft l = if asks_for_more draft l then Err why.Built else Ok l
+
+unfoldable pub line_behind : Draft → Keyword → List (List ℕ) → Result Line LineWhy
+line_behind draft k words =
+    if names_no_service k words then Err why.Word
+    else (if may_stand draft k words then line_from draft k words >>= built draft
+    else Err why.Place)
+
+abbrev pub line_of_words : Draft → List (List ℕ) → Result Line LineWhy
+line_of_words draft [] = Err why.Word
+line_of_words draft (word ∷ words) = do
+  k ← ok_or (keyword_of word) why.Word
+  line_behind draft k words
+
+unfoldable pub line_of : Draft → List ℕ → Result Line LineWhy
+line_of draft text = if is_printable text then line_of_words draft (words_of text) else Err why.Character
+
+-- what a line adds to the lines before it
+abbrev pub with_line : Draft → Line → Draft
+with_line Empty (line.Service kind) = Named kind
+with_line (Named kind) (line.Server addr) = Begun (record { service = kind; server = addr; clients = []; events = [] })
+with_line (Begun schedule) (line.Client client) = Begun (record schedule { clients = schedule.clients ++ client ∷ [] })
+with_line (Begun schedule) (line.Event e) = Begun (record schedule { events = schedule.events ++ e ∷ [] })
+with_line draft _ = draft
+
+-- a line without words, or a comment: its first byte is `#`
+abbrev pub is_comment : List ℕ → Bool
+is_comment [] = false
+is_comment (byte ∷ more) = byte == 35
+
+unfoldable pub is_passed_over : List ℕ → Bool
+is_passed_over text = is_comment text || is_empty (words_of text)
+
+-- an event's line behind 100,000 of them is too much, whatever else it holds
+abbrev pub is_full : Draft → Bool
+is_full (Begun schedule) = nat_le 100000 (length schedule.events)
+is_full _ = false
+
+abbrev pub begins_event : List (List ℕ) → Bool
+begins_event [] = false
+begins_event (word ∷ words) = not (is_none (verb_of word))
+
+unfoldable pub is_too_much : Draft → List ℕ → Bool
+is_too_much draft text = is_full draft && begins_event (words_of text)
+
+-- a refusal with the number of its line
+abbrev pub at_line : ℕ → Result Draft LineWhy → Result Draft Refusal
+at_line n (Ok draft) = Ok draft
+at_line n (Err reason) = Err (BadLine n reason)
+
+-- what the lines spell with line n among them
+unfoldable pub after_line : ℕ → Draft → List ℕ → Result Draft Refusal
+after_line n draft text =
+    if is_passed_over text then Ok draft
+    else (if is_too_much draft text then Err (TooLong limit.Events)
+    else at_line n (line_of draft text >>= λ l. Ok (with_line draft l)))
+
+-- a text that ends before its server line lacks it in the line behind its last
+abbrev pub schedule_of : ℕ → Draft → Result Schedule Refusal
+schedule_of n (Begun schedule) = Ok schedule
+schedule_of n _ = Err (BadLine n why.Place)
+
+-- what the lines from number n on spell, behind those before
+unfoldable pub read_lines : ℕ → Draft → List (List ℕ) → Result Schedule Refusal
+read_lines n draft [] = schedule_of n draft
+read_lines n draft (text ∷ more) = after_line n draft text >>= λ later. read_lines (n + 1) later more
+
+-- The schedule that a text spells, or why it spells none. At most 2^23 bytes are looked at.
+unfoldable pub read_text : List ℕ → Result Schedule Refusal
+read_text text = if nat_le (length text) 8388608 then read_lines 1 Empty (lines_of text) else Err (TooLong limit.Text)

@@ -1,0 +1,50 @@
+//! The lines of a schedule as values: what a line's first word announces, what a well-formed line says, and what the lines read so
+//! far spell together.
+
+use crate::event::Event;
+use crate::schedule::{ClientLine, Schedule, ServiceKind};
+use ft_io::Addr;
+
+/// The first word of an event's line.
+#[derive(Clone, Copy, Debug, PartialEq, Eq)]
+pub enum Verb {
+    Boot,
+    Crash,
+    Tick,
+    Deliver,
+    Flip,
+    Open,
+    Send,
+    Fin,
+    Ack,
+    Reset,
+}
+
+/// The first word of a line, which announces what the line is.
+#[derive(Clone, Copy, Debug, PartialEq, Eq)]
+pub enum Keyword {
+    Service,
+    Server,
+    Client,
+    Event(Verb),
+}
+
+/// What a well-formed line says.
+#[derive(Debug, Drop)]
+pub enum Line {
+    Service(ServiceKind),
+    Server(Addr),
+    Client(ClientLine),
+    Event(Event),
+}
+
+/// What the lines read so far spell.
+#[derive(Debug, Drop)]
+pub enum Draft {
+    /// Nothing: the service line comes next.
+    Empty,
+    /// A service: the server line comes next.
+    Named(ServiceKind),
+    /// A schedule, to which clients and events may be added.
+    Begun(Schedule),
+}

@@ -1,0 +1,229 @@
+//! The words of a schedule: numbers, addresses, services and scripts, each read by its spelling alone.
+
+ghost use Rattle.std.specs.Prelude.{◌≡◌, ◌+◌, ◌*◌, ◌<◌, ◌≤◌, ◌^◌, true, length, option_map, IsTrue, IfOk, IfSome};
+ghost use Rattle.std.specs.List.{list_all};
+ghost use Rattle.ft_model.specs.declared.schedule.Script.TheVariants.{Fill};
+ghost use Rattle.std.specs.Char.{digit_value, is_ascii_digit, is_ascii_hexdigit};
+ghost use Rattle.std.specs.Str.Parse.{digits_value};
+ghost use Rattle.ft_model.specs.Spelling.{numeral, within, number_of, short_number_of, octet_of, host_of, addr_of, service_of, script_of, is_hex, hex_bytes};
+
+use crate::words::{last_piece, next_piece};
+use ft_io::{Addr, NoMemory, Octets};
+use ft_model::{Script, ServiceKind};
+use std::alloc::Global;
+
+/// The most digits of a number.
+const NUMBER_DIGITS: usize = 20;
+
+/// The most digits of a number in an address.
+const ADDRESS_DIGITS: usize = 5;
+
+/// The most bytes of a script.
+const SCRIPT_LIMIT: usize = 1 << 24;
+
+fn is_digit(byte: u8) -> bool
+    ensures { result ≡ is_ascii_digit byte }
+{
+    byte.is_ascii_digit()
+}
+
+fn all_digits(word: &[u8]) -> bool
+    ensures { result ≡ list_all is_ascii_digit word.now }
+{
+    word.iter().all(|byte| is_digit(*byte))
+}
+
+/// The number that digits write.
+fn value_of(word: &[u8]) -> u128
+    requires digits { list_all is_ascii_digit word.now ≡ true }
+    requires short { length word.now ≤ 20 }
+    ensures { result ≡ digits_value 10 word.now }
+{
+    let mut value = 0;
+    for byte in word {
+        value = value * 10 + u128::from(*byte - b'0');
+    }
+    value
+}
+
+/// The number that one to so many digits write.
+#[tactic(auto, unfolding(ft_model::specs::Spelling::numeral))]
+pub(crate) fn read_numeral(digits: usize, word: &[u8]) -> Option<u128>
+    requires { digits ≤ 20 }
+    ensures { result ≡ numeral digits word.now }
+{
+    if word.is_empty() || word.len() > digits {
+        return None;
+    }
+    if !all_digits(word) {
+        return None;
+    }
+    Some(value_of(word))
+}
+
+fn brought_within(least: u64, most: u64, n: u128) -> Option<u64>
+    ensures value { result ≡ within least most n }
+    ensures range { IfSome result (λ n. (least ≤ n) × (n ≤ most)) }
+{
+    if u128::from(least) <= n && n <= u128::from(most) {
+        Some(n as u64)
+    } else {
+        None
+    }
+}
+
+/// Reads a number from `least` to `most`: 1 to 20 decimal digits, leading zeros allowed.
+#[tactic(auto, unfolding(ft_model::specs::Spelling::number_of))]
+pub fn read_number(word: &[u8], least: u64, most: u64) -> Option<u64>
+    ensures value { result ≡ number_of least most word.now }
+    ensures range { IfSome result (λ n. (least ≤ n) × (n ≤ most)) }
+{
+    brought_within(least, most, read_numeral(NUMBER_DIGITS, word)?)
+}
+
+/// Reads a number of an address.
+#[tactic(auto, unfolding(ft_model::specs::Spelling::short_number_of))]
+fn read_short(word: &[u8], least: u64, most: u64) -> Option<u64>
+    ensures value { result ≡ short_number_of least most word.now }
+    ensures range { IfSome result (λ n. (least ≤ n) × (n ≤ most)) }
+{
+    brought_within(least, most, read_numeral(ADDRESS_DIGITS, word)?)
+}
+
+fn read_octet(word: &[u8]) -> Option<u32>
+    ensures value { result ≡ octet_of word.now }
+    ensures range { IfSome result (λ n. n ≤ 255) }
+{
+    Some(read_short(word, 0, 255)? as u32)
+}
+
+/// Reads the four octets of an IPv4 address.
+#[tactic(auto, unfolding(ft_model::specs::Spelling::host_of))]
+fn read_host(word: &[u8]) -> Option<u32>
+    ensures { result ≡ host_of word.now }
+{
+    let (first, rest) = next_piece(word, b'.')?;
+    let (second, rest) = next_piece(rest, b'.')?;
+    let (third, rest) = next_piece(rest, b'.')?;
+    let fourth = last_piece(rest, b'.')?;
+    let first = read_octet(first)?;
+    let second = read_octet(second)?;
+    let third = read_octet(third)?;
+    let fourth = read_octet(fourth)?;
+    Some(16_777_216 * first + 65_536 * second + 256 * third + fourth)
+}
+
+/// Reads an IPv4 address and a port, as `192.0.2.1:40000`.
+#[tactic(auto, unfolding(ft_model::specs::Spelling::addr_of))]
+pub fn read_addr(word: &[u8]) -> Option<Addr>
+    ensures { result ≡ addr_of word.now }
+{
+    let (host, rest) = next_piece(word, b':')?;
+    let port = last_piece(rest, b':')?;
+    let ip = read_host(host)?;
+    let port = read_short(port, 1, 65_535)? as u16;
+    Some(Addr { ip, port })
+}
+
+/// Reads the name of a service.
+#[tactic(auto, unfolding(ft_model::specs::Spelling::service_of))]
+pub fn read_service(word: &[u8]) -> Option<ServiceKind>
+    ensures { result ≡ service_of word.now }
+{
+    if word == b"echo".as_slice() {
+        Some(ServiceKind::Echo)
+    } else if word == b"line".as_slice() {
+        Some(ServiceKind::Line)
+    } else if word == b"transfer".as_slice() {
+        Some(ServiceKind::Transfer)
+    } else if word == b"meter".as_slice() {
+        Some(ServiceKind::Meter)
+    } else {
+        None
+    }
+}
+
+fn is_hex_byte(byte: u8) -> bool
+    ensures { result ≡ is_ascii_hexdigit byte }
+{
+    byte.is_ascii_hexdigit()
+}
+
+fn hex_digit_value(byte: u8) -> u8
+    requires { is_ascii_hexdigit byte ≡ true }
+    ensures value { result ≡ digit_value byte }
+    ensures small { result < 16 }
+{
+    match byte {
+        0..=b'9' => byte - b'0',
+        b':'..=b'F' => byte - 55,
+        _ => byte - 87,
+    }
+}
+
+fn all_hex_digits(digits: &[u8]) -> bool
+    ensures { result ≡ list_all is_ascii_hexdigit digits.now }
+{
+    digits.iter().all(|byte| is_hex_byte(*byte))
+}
+
+/// Whether pairs of hexadecimal digits stand there, as many as a script may have.
+#[tactic(auto, unfolding(ft_model::specs::Spelling::is_hex))]
+fn is_hex_text(digits: &[u8]) -> bool
+    ensures value { result ≡ is_hex digits.now }
+    ensures digits { IsTrue result → list_all is_ascii_hexdigit digits.now ≡ true }
+{
+    if !all_hex_digits(digits) {
+        return false;
+    }
+    if digits.len() % 2 != 0 {
+        return false;
+    }
+    2 <= digits.len() && digits.len() <= 2 * SCRIPT_LIMIT
+}
+
+/// The bytes that pairs of hexadecimal digits write.
+#[tactic(auto, using(std::proofs::Common::append_assoc), unfolding(ft_model::specs::Spelling::hex_bytes))]
+fn bytes_of_hex(alloc: Global, digits: &[u8]) -> Result<Vec<u8>, NoMemory>
+    requires { list_all is_ascii_hexdigit digits.now ≡ true }
+    ensures { IfOk result (λ bytes. bytes.items ≡ hex_bytes digits.now) }
+{
+    let mut bytes = Vec::with_capacity(alloc, digits.len() / 2)?;
+    let mut rest = digits;
+    while let Some((high, behind)) = rest.split_first() {
+        let Some((low, behind)) = behind.split_first() else {
+            return Ok(bytes);
+        };
+        bytes.push(16 * hex_digit_value(*high) + hex_digit_value(*low))?;
+        rest = behind;
+    }
+    Ok(bytes)
+}
+
+/// Reads a client's script: `-`, `hex:` and pairs of hexadecimal digits, or `fill:` and a number of bytes.
+#[tactic(auto, unfolding(ft_model::specs::Spelling::script_of))]
+pub fn read_script(alloc: Global, word: &[u8]) -> Result<Option<Script>, NoMemory>
+    ensures { IfOk result (λ script. script ≡ script_of word.now) }
+{
+    if word == b"-".as_slice() {
+        return Ok(Some(Script::Bytes(Octets::new(Vec::new(alloc)))));
+    }
+    if word.starts_with(b"hex:") {
+        let digits = &word[4..];
+        if !is_hex_text(digits) {
+            return Ok(None);
+        }
+        return Ok(Some(Script::Bytes(Octets::new(bytes_of_hex(alloc, digits)?))));
+    }
+    if word.starts_with(b"fill:") {
+        return Ok(read_fill(&word[5..]));
+    }
+    Ok(None)
+}
+
+fn read_fill(word: &[u8]) -> Option<Script>
+    ensures { result ≡ option_map Fill (number_of 1 (2 ^ 24) word.now) }
+{
+    let len = read_number(word, 1, SCRIPT_LIMIT as u64)? as u32;
+    Some(Script::Fill { len })
+}
