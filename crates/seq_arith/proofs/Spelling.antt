@@ -10,10 +10,10 @@ use Rattle.seq_arith.proofs.Sums.{checked_in_place}
 use Rattle.seq_arith.proofs.Passing.{AllFail, passes, no_difference}
 
 -- the fields of a spelling, whatever its checksums
-word_back : (n : ℕ) → n < 2 ^ 16 → 256 * (n / 256 % 256) + n % 256 ≡ n
+pub word_back : (n : ℕ) → n < 2 ^ 16 → 256 * (n / 256 % 256) + n % 256 ≡ n
 word_back n h = omega arith
 
-long_back : (n : ℕ) → n < 2 ^ 32 → 16777216 * (n / 16777216 % 256) + 65536 * (n / 65536 % 256) + 256 * (n / 256 % 256) + n % 256 ≡ n
+pub long_back : (n : ℕ) → n < 2 ^ 32 → 16777216 * (n / 16777216 % 256) + 65536 * (n / 65536 % 256) + 256 * (n / 256 % 256) + n % 256 ≡ n
 long_back n h = omega arith
 
 -- a segment with this offered segment size, to go by cases on it
