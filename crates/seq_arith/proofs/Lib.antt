@@ -1,3 +1,5 @@
 pub mod Gaps
 pub mod Shifts
 pub mod Sums
+pub mod Passing
+pub mod Spelling

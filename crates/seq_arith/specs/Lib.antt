@@ -3,3 +3,5 @@ pub mod Arrival
 pub mod Packet
 pub mod Message
 pub mod Checksum
+pub mod Bytes
+pub mod PacketGrammar

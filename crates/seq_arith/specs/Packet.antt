@@ -33,3 +33,13 @@ has_rst segment = is_flagged 4 segment.head.flags
 
 abbrev pub has_ack : Segment → Bool
 has_ack segment = is_flagged 16 segment.head.flags
+
+-- the same segment with one field changed
+abbrev pub with_seq : ℕ → Segment → Segment
+with_seq seq segment = record segment { head = record segment.head { seq = seq } }
+
+abbrev pub with_ack : ℕ → Segment → Segment
+with_ack ack segment = record segment { head = record segment.head { ack = ack } }
+
+abbrev pub with_window : ℕ → Segment → Segment
+with_window window segment = record segment { head = record segment.head { window = window } }

@@ -1,10 +1,12 @@
 //! Laws of the words in `specs`, each the clause of a function that does nothing: what a crate above may cite. Most say that a test on
 //! numbers or on offsets stays as it is where both its sides move by one number.
 
-ghost use Rattle.std.specs.Prelude.{◌≡◌, ◌<◌, ◌≤◌, ◌+◌, ◌-◌, ◌*◌, ◌/◌, ◌%◌, ◌^◌, ℕ, ℤ, pos, ◌+ℤ◌, ◌-ℤ◌, ◌≤ℤ◌, Bool, false, List, ◌∷◌, ◌++◌, length};
+ghost use Rattle.std.specs.Prelude.{◌≡◌, ◌<◌, ◌≤◌, ◌+◌, ◌-◌, ◌*◌, ◌/◌, ◌%◌, ◌^◌, ℕ, ℤ, pos, ◌+ℤ◌, ◌-ℤ◌, ◌≤ℤ◌, Bool, false, List, ◌∷◌, ◌++◌, length, Ok};
 ghost use Rattle.seq_arith.specs.Number.{gap, number_at, offset_of};
 ghost use Rattle.seq_arith.specs.Arrival.{is_acceptable, below, is_new_ack, is_beyond, una_after, updates_window};
 ghost use Rattle.seq_arith.specs.Checksum.{word_sum, odd_after, check_of, Summed, with_bytes};
+ghost use Rattle.seq_arith.specs.Packet.{Segment};
+ghost use Rattle.seq_arith.specs.PacketGrammar.{IsSpellable, reading, spelling};
 
 /// A gap stays where both its ends move by one number.
 pub fn gap_shifts()
@@ -81,4 +83,9 @@ pub fn checksum_fits_in_place()
 pub fn word_replaced()
     ensures { (front rest : List ℕ) (x y z w : ℕ) → odd_after false front ≡ false
         → word_sum false (front ++ z ∷ w ∷ rest) ≡ word_sum false (front ++ x ∷ y ∷ rest) - (256 * x + y) + (256 * z + w) }
+{}
+
+/// The spelling of a segment says that segment.
+pub fn spelling_is_read()
+    ensures { (segment : Segment) → IsSpellable segment → reading (spelling segment) ≡ Ok segment }
 {}

@@ -10,6 +10,33 @@ pub use checksum::{Sum16, patch16};
 mod checksum;
 pub mod laws;
 
+/// Why a string of bytes is no packet: the first test of the packet grammar that it fails, in this order.
+#[derive(Clone, Copy, Debug, PartialEq, Eq)]
+pub enum BadPacket {
+    /// There are fewer than 40 bytes.
+    Short,
+    /// The IP version isn't 4.
+    Version,
+    /// The IP header isn't 20 bytes long.
+    HeaderLength,
+    /// The total length isn't the count of bytes.
+    TotalLength,
+    /// It is a fragment.
+    Fragment,
+    /// It isn't TCP.
+    Protocol,
+    /// The IP header doesn't sum to its checksum.
+    IpChecksum,
+    /// The TCP header is below 20 bytes, or runs past the packet.
+    DataOffset,
+    /// An option has no length, or one below 2, or runs past the header.
+    OptionLength,
+    /// The addresses, the TCP header and the payload don't sum to their checksum.
+    TcpChecksum,
+    /// There are more than 1,500 bytes.
+    TooLong,
+}
+
 /// A sequence number of TCP, modulo 2^32 (RFC 9293, 3.4).
 #[derive(Clone, Copy, Debug, PartialEq, Eq)]
 pub struct Seq(pub u32);
