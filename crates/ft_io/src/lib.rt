@@ -1,12 +1,28 @@
 //! The outside of FT-TCP as traits: addresses, sources of bytes and sinks for bytes. Each trait has a form in memory, whose
-//! content contracts can tell, and a real one over std, which tells only how many of its calls failed.
+//! content contracts can tell, and a real one over std, which tells only how many of its calls failed. Beside the traits
+//! stand what every program does with them: it reads an input to its end under a limit, and writes a text whole.
 #![tactic(auto)]
 
+pub use mem_sink::MemSink;
+pub use mem_source::MemSource;
 pub use memory::NoMemory;
 pub use octets::Octets;
+pub use reading::{ReadEnd, read_to_limit};
+pub use sink::Sink;
+pub use source::Source;
+pub use streams::{ReadSource, WriteSink};
+pub use writing::write_all;
 
+mod mem_sink;
+mod mem_source;
 mod memory;
+mod numbered;
 mod octets;
+mod reading;
+mod sink;
+mod source;
+mod streams;
+mod writing;
 
 /// An IPv4 address and a port, of a server or a logger.
 #[derive(Clone, Copy, Debug, PartialEq, Eq, PartialOrd, Ord, Hash)]

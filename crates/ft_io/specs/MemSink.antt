@@ -1,0 +1,18 @@
+-- A sink in memory.
+use Rattle.std.specs.Prelude.{ℕ, List, []}
+use Rattle.ft_io.specs.NumberedCalls.{Calls, no_call}
+
+-- what a sink in memory is to its callers
+pub record SinkState : Type 0 where
+  -- all bytes that it took
+  pub taken : List ℕ
+  -- its writes
+  pub calls : Calls
+  -- how many of them failed
+  pub faults : ℕ
+  -- how many of them failed for want of memory
+  pub starved : ℕ
+
+-- an empty sink before the first write
+abbrev pub fresh_sink : List ℕ → SinkState
+fresh_sink fails = record { taken = []; calls = no_call fails; faults = 0; starved = 0 }

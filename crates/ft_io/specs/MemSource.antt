@@ -1,0 +1,16 @@
+-- A source in memory.
+use Rattle.std.specs.Prelude.{ℕ, List}
+use Rattle.ft_io.specs.NumberedCalls.{Calls, no_call}
+
+-- what a source in memory is to its callers
+pub record SourceState : Type 0 where
+  -- the bytes that it has still to give
+  pub left : List ℕ
+  -- its reads
+  pub calls : Calls
+  -- how many of them failed
+  pub faults : ℕ
+
+-- a source of these bytes before the first read
+abbrev pub fresh_source : List ℕ → List ℕ → SourceState
+fresh_source bytes fails = record { left = bytes; calls = no_call fails; faults = 0 }

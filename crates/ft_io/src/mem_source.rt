@@ -1,0 +1,153 @@
+//! A source over bytes in memory, for tests and for schedules. It tells what it has left, and fails where it is told to.
+
+ghost use Rattle.std.specs.Prelude.{◌≡◌, ◌≤◌, ◌<◌, ◌↔◌, length, min, take, Some, IfOk, OnOk, OnErr, IsErr};
+ghost use Rattle.std.specs.Io.KnownBytes.{ReadConsumes, IsAtEnd};
+ghost use Rattle.ft_io.specs.Faults.{Rose, raised};
+ghost use Rattle.ft_io.specs.NumberedCalls.{after_call, IsNextListed};
+ghost use Rattle.ft_io.specs.MemSource.{fresh_source};
+
+use crate::numbered::NumberedCalls;
+use crate::{Failed, Source};
+use std::marker::Model;
+
+/// Bytes to be read, some of whose reads fail.
+#[derive(Debug, Drop)]
+pub struct MemSource {
+    bytes: Vec<u8>,
+    at: usize,
+    calls: NumberedCalls,
+    faults: u64,
+}
+
+impl Model for MemSource {
+    ghost use Rattle.std.specs.Prelude.{◌≤◌, drop, vec_len};
+    ghost use Rattle.ft_io.specs.MemSource.{SourceState};
+
+    ghost Value = { SourceState };
+
+    ghost view = { λ s. record {
+      left = drop s.at s.bytes.items;
+      calls = s.calls;
+      faults = s.faults;
+    } };
+
+    ghost invariant = { λ s. s.at ≤ vec_len s.bytes };
+}
+
+impl MemSource {
+    /// A source of `bytes`. The reads fail whose numbers, from 1, stand in `fails`.
+    pub fn new(bytes: Vec<u8>, fails: Vec<u32>) -> MemSource
+        ensures { result ≡ fresh_source bytes.items fails.items }
+    {
+        MemSource {
+            bytes,
+            at: 0,
+            calls: NumberedCalls::new(fails),
+            faults: 0,
+        }
+    }
+
+    /// The bytes that are left.
+    pub fn rest(&self) -> &[u8]
+        ensures { result.now ≡ self.now.left }
+    {
+        &self.bytes[self.at..]
+    }
+}
+
+impl Source for MemSource {
+    ghost left = { λ s. Some s.left };
+
+    ghost fault_count = { λ s. s.faults };
+
+    fn faults(&self) -> u64 {
+        self.faults
+    }
+
+    /// Moves as many bytes as are left and fit.
+    fn read(&mut self, buf: &mut [u8]) -> Result<usize, Failed>
+        requires { 0 < length buf.old }
+
+        // It fails exactly where its call is listed so, and moves all that is left and fits.
+        ensures fails { IsErr result ↔ IsNextListed self.old.calls }
+        ensures moved { IfOk result (λ n. n ≡ min (length self.old.left) (length buf.new)) }
+        ensures calls { self.new.calls ≡ after_call self.old.calls }
+        ensures fault { OnErr result (self.new.faults ≡ raised self.old.faults) }
+        ensures no_fault { OnOk result (self.new.faults ≡ self.old.faults) }
+
+        // What every source promises.
+        ensures within { IfOk result (λ n. n ≤ length buf.new) }
+        ensures bytes { ReadConsumes (Some self.old.left) (Some self.new.left) result buf.new }
+        ensures end { IfOk result (λ n. n ≡ 0 → IsAtEnd (Some self.old.left)) }
+        ensures cause { OnErr result (Rose self.old.faults self.new.faults) }
+        ensures never_falls { self.old.faults ≤ self.new.faults }
+    {
+        if self.calls.next_fails() {
+            self.faults = self.faults.saturating_add(1);
+            return Err(Failed);
+        }
+        let n = copy_front(self.rest(), buf);
+        self.at += n;
+        Ok(n)
+    }
+}
+
+/// Copies as much of the front of `bytes` as fits into `buf`, and answers how much.
+fn copy_front(bytes: &[u8], buf: &mut [u8]) -> usize
+    ensures count { result ≡ min (length bytes.now) (length buf.new) }
+    ensures copied { take result buf.new ≡ take result bytes.now }
+{
+    let n = bytes.len().min(buf.len());
+    buf[..n].copy_from_slice(&bytes[..n]);
+    n
+}
+
+#[cfg(test)]
+mod tests {
+    use super::*;
+    use std::test::Fail;
+
+    /// Five reads of at most two bytes: what they gave, and `!` for each that failed.
+    fn five_reads(rt: &HostRuntime, source: &mut MemSource) -> Result<Vec<u8>, Fail> {
+        let mut given = Vec::new(rt.alloc());
+        for _ in 0..5 {
+            let mut buf = [0u8; 2];
+            match source.read(&mut buf) {
+                Ok(n) => given.extend_from_slice(&buf[..n])?,
+                Err(Failed) => given.push(b'!')?,
+            }
+        }
+        Ok(given)
+    }
+
+    #[test]
+    fn a_listed_read_fails_and_takes_nothing(rt: HostRuntime) -> Result<(), Fail> {
+        let alloc = rt.alloc();
+        let rows: [(&[u32], &[u8], u64); 6] = [
+            (&[], b"hello", 0),
+            (&[1], b"!hello", 1),
+            (&[2], b"he!llo", 1),
+            (&[3], b"hell!o", 1),
+            (&[4, 0, 6], b"hello!", 1),
+            (&[5, 1], b"!hello!", 2),
+        ];
+        for (fails, want, faults) in rows {
+            let mut source = MemSource::new(b"hello".to_vec(alloc)?, fails.to_vec(alloc)?);
+            let given = five_reads(&rt, &mut source)?;
+            assert_eq!(rt; given.as_slice(), want, "at {fails:?}");
+            assert_eq!(rt; source.faults(), faults, "at {fails:?}");
+        }
+        Ok(())
+    }
+
+    #[test]
+    fn the_rest_is_what_was_not_read(rt: HostRuntime) -> Result<(), Fail> {
+        let mut source = MemSource::new(b"hello".to_vec(rt.alloc())?, Vec::new(rt.alloc()));
+        assert_eq!(rt; source.rest(), b"hello".as_slice());
+        let mut buf = [b'.'; 3];
+        assert_eq!(rt; source.read(&mut buf), Ok(3));
+        assert_eq!(rt; buf.as_slice(), b"hel".as_slice());
+        assert_eq!(rt; source.rest(), b"lo".as_slice());
+        Ok(())
+    }
+}

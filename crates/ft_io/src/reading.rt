@@ -1,0 +1,150 @@
+//! Reading a source to its end, under a limit on how much is kept.
+
+ghost use Rattle.std.specs.Prelude.{◌≡◌, ◌≤◌, ◌<◌, ◌+◌, ◌++◌, take, length, vec_len, IfOk, OnOk, IfSome, IsErrOf};
+ghost use Rattle.std.specs.Io.KnownBytes.{Consumes, IsAtEnd};
+ghost use Rattle.ft_io.specs.declared.reading.ReadEnd.TheVariants.{NoMemory, Fault};
+ghost use Rattle.ft_io.specs.Faults.{Rose};
+ghost use Rattle.ft_io.specs.Source.{ConsumesAtMost};
+
+use crate::{Failed, Source};
+use std::alloc::{AllocError, Global};
+
+/// Bytes that one read may move.
+const CHUNK: usize = 4096;
+
+/// Why a reading ended before the source's end.
+#[derive(Clone, Copy, Debug, PartialEq, Eq)]
+pub enum ReadEnd {
+    /// Memory ran out.
+    NoMemory,
+    /// A read failed.
+    Fault,
+    /// The source had more bytes than the limit.
+    TooLong,
+}
+
+impl From<AllocError> for ReadEnd {
+    ghost from_gives = { λ _ end. end ≡ NoMemory };
+
+    fn from(_error: AllocError) -> ReadEnd {
+        ReadEnd::NoMemory
+    }
+}
+
+impl From<Failed> for ReadEnd {
+    ghost from_gives = { λ _ end. end ≡ Fault };
+
+    fn from(_failed: Failed) -> ReadEnd {
+        ReadEnd::Fault
+    }
+}
+
+/// Reads the source to its end, at most `limit` bytes. It takes at most one byte past the limit, to see that there is one.
+/// After an error the bytes that were taken are lost.
+pub fn read_to_limit<I: Source>(
+    alloc: Global,
+    input: &mut I,
+    limit: usize,
+) -> Result<Vec<u8>, ReadEnd>
+    ensures whole { IfOk result (λ bytes. IfSome (I.left input.old) (λ left. bytes.items ≡ left)) }
+    ensures end { OnOk result (IsAtEnd (I.left input.new)) }
+    ensures within { IfOk result (λ bytes. vec_len bytes ≤ limit) }
+
+    ensures too_long { IsErrOf result ReadEnd.TooLong →
+        IfSome (I.left input.old) (λ left. limit < length left) }
+    ensures fault { IsErrOf result ReadEnd.Fault →
+        Rose (I.fault_count input.old) (I.fault_count input.new) }
+
+    ensures taken { ConsumesAtMost (limit + 1) (I.left input.old) (I.left input.new) }
+    ensures never_falls { I.fault_count input.old ≤ I.fault_count input.new }
+{
+    let mut bytes = Vec::new(alloc);
+    let mut chunk = [0u8; CHUNK];
+    while bytes.len() <= limit {
+        let room = (limit - bytes.len()).saturating_add(1);
+        if read_more(input, room, &mut chunk, &mut bytes)? == 0 {
+            return Ok(bytes);
+        }
+    }
+    Err(ReadEnd::TooLong)
+}
+
+/// One read of at most `room` bytes, which goes by `chunk` and ends behind `bytes`. It answers how many they were.
+fn read_more<I: Source>(
+    input: &mut I,
+    room: usize,
+    chunk: &mut [u8],
+    bytes: &mut Vec<u8>,
+) -> Result<usize, ReadEnd>
+    requires some_room { 0 < room }
+    requires some_chunk { 0 < length chunk.old }
+    ensures kept { IfOk result (λ n. bytes.new.items ≡ bytes.old.items ++ take n chunk.new) }
+    ensures within { IfOk result (λ n. (n ≤ room) × (n ≤ length chunk.new)) }
+    ensures moved { IfOk result (λ n.
+        Consumes (I.left input.old) (I.left input.new) (take n chunk.new)) }
+    ensures end { IfOk result (λ n. n ≡ 0 → IsAtEnd (I.left input.new)) }
+    ensures taken { ConsumesAtMost room (I.left input.old) (I.left input.new) }
+    ensures fault { IsErrOf result ReadEnd.Fault →
+        Rose (I.fault_count input.old) (I.fault_count input.new) }
+    ensures no_limit { IsErrOf result ReadEnd.TooLong → ⊥ }
+    ensures never_falls { I.fault_count input.old ≤ I.fault_count input.new }
+{
+    let most = room.min(chunk.len());
+    let n = input.read(&mut chunk[..most])?;
+    bytes.extend_from_slice(&chunk[..n])?;
+    Ok(n)
+}
+
+#[cfg(test)]
+mod tests {
+    use super::*;
+    use crate::MemSource;
+    use std::test::Fail;
+
+    #[test]
+    fn reads_to_the_end_or_says_why_not(rt: HostRuntime) -> Result<(), Fail> {
+        let alloc = rt.alloc();
+        let rows: [(&[u8], usize, u32, Result<usize, ReadEnd>, &[u8]); 9] = [
+            (b"hello", 5, 0, Ok(5), b""),
+            (b"hello", usize::MAX, 0, Ok(5), b""),
+            (b"", 0, 0, Ok(0), b""),
+            (b"hello", 4, 0, Err(ReadEnd::TooLong), b""),
+            (b"hello", 2, 0, Err(ReadEnd::TooLong), b"lo"),
+            (b"hello", 0, 0, Err(ReadEnd::TooLong), b"ello"),
+            (b"hello", 5, 1, Err(ReadEnd::Fault), b"hello"),
+            (b"hello", 5, 2, Err(ReadEnd::Fault), b""),
+            (b"hello", 4, 2, Err(ReadEnd::TooLong), b""),
+        ];
+        for (text, limit, fails, want, rest) in rows {
+            let mut source = MemSource::new(text.to_vec(alloc)?, vec![in alloc; fails]?);
+            let got = read_to_limit(alloc, &mut source, limit);
+            assert_eq!(rt;
+                got.map(|bytes| bytes.len()),
+                want,
+                "at {limit} and {fails}"
+            );
+            assert_eq!(rt; source.rest(), rest, "at {limit} and {fails}");
+        }
+        Ok(())
+    }
+
+    #[test]
+    fn reads_a_long_text_in_chunks(rt: HostRuntime) -> Result<(), Fail> {
+        let alloc = rt.alloc();
+        let mut text = Vec::new(alloc);
+        for n in 0..10_000u32 {
+            text.push((n % 251) as u8)?;
+        }
+        for fails in 1..5 {
+            let mut source = MemSource::new(text.clone()?, vec![in alloc; fails]?);
+            let got = read_to_limit(alloc, &mut source, 10_000);
+            assert!(rt; matches!(got, Err(ReadEnd::Fault)), "at {fails}");
+        }
+        let mut source = MemSource::new(text.clone()?, vec![in alloc; 5]?);
+        match read_to_limit(alloc, &mut source, 10_000) {
+            Ok(bytes) => assert_eq!(rt; bytes.as_slice(), text.as_slice()),
+            Err(end) => assert_eq!(rt; end, ReadEnd::NoMemory),
+        }
+        Ok(())
+    }
+}

@@ -1,0 +1,30 @@
+//! Where bytes go. A sink counts its failed calls, so that a caller's contract can say that an error had a cause.
+
+ghost use Rattle.std.specs.Prelude.{◌≡◌, ◌≤◌, ◌<◌, ℕ, List, length, IfOk, OnErr};
+ghost use Rattle.std.specs.declared.option.Option.{Option};
+ghost use Rattle.std.specs.Io.KnownBytes.{WriteAppends};
+ghost use Rattle.ft_io.specs.Faults.{Rose};
+
+use crate::Failed;
+
+/// A sink for bytes: a file, standard output, or memory.
+pub trait Sink {
+    /// All bytes that it took, or `None` where it doesn't tell.
+    ghost taken: { Self → Option (List ℕ) };
+
+    /// What `faults` answers.
+    ghost fault_count: { Self → ℕ };
+
+    /// How many calls have failed. The count never falls, and stops at `u64::MAX`.
+    fn faults(&self) -> u64
+        ensures { result ≡ fault_count self.now };
+
+    /// Takes a front of `buf`, and answers its length. To take nothing of a nonempty `buf` is a fault. After `Failed` nothing
+    /// was taken, and the call may be tried again.
+    fn write(&mut self, buf: &[u8]) -> Result<usize, Failed>
+        ensures within { IfOk result (λ n. n ≤ length buf.now) }
+        ensures some { IfOk result (λ n. 0 < length buf.now → 0 < n) }
+        ensures bytes { WriteAppends (taken self.old) (taken self.new) result buf.now }
+        ensures cause { OnErr result (Rose (fault_count self.old) (fault_count self.new)) }
+        ensures never_falls { fault_count self.old ≤ fault_count self.new };
+}

@@ -1,0 +1,31 @@
+//! Where bytes come from. A source counts its failed calls, so that a caller's contract can say that an error had a cause.
+
+ghost use Rattle.std.specs.Prelude.{◌≡◌, ◌≤◌, ◌<◌, ℕ, List, length, IfOk, OnErr};
+ghost use Rattle.std.specs.declared.option.Option.{Option};
+ghost use Rattle.std.specs.Io.KnownBytes.{ReadConsumes, IsAtEnd};
+ghost use Rattle.ft_io.specs.Faults.{Rose};
+
+use crate::Failed;
+
+/// A source of bytes: a file, standard input, or bytes in memory.
+pub trait Source {
+    /// The bytes that it has still to give, or `None` where it doesn't tell.
+    ghost left: { Self → Option (List ℕ) };
+
+    /// What `faults` answers.
+    ghost fault_count: { Self → ℕ };
+
+    /// How many calls have failed. The count never falls, and stops at `u64::MAX`.
+    fn faults(&self) -> u64
+        ensures { result ≡ fault_count self.now };
+
+    /// Moves the next bytes to the front of `buf`, and answers how many: 0 only at the end. What stands behind them in `buf`
+    /// is left open. After `Failed` nothing was taken, and the call may be tried again.
+    fn read(&mut self, buf: &mut [u8]) -> Result<usize, Failed>
+        requires { 0 < length buf.old }
+        ensures within { IfOk result (λ n. n ≤ length buf.new) }
+        ensures bytes { ReadConsumes (left self.old) (left self.new) result buf.new }
+        ensures end { IfOk result (λ n. n ≡ 0 → IsAtEnd (left self.old)) }
+        ensures cause { OnErr result (Rose (fault_count self.old) (fault_count self.new)) }
+        ensures never_falls { fault_count self.old ≤ fault_count self.new };
+}
