@@ -88,13 +88,13 @@ flip_line (packet ∷ bit ∷ []) = do
   Ok (event.Flip p b)
 flip_line _ = Err why.Count
 
--- a line with a client and a window
-unfoldable pub window_line : (ℕ → ℕ → Event) → List (List ℕ) → Result Event LineWhy
-window_line move (client ∷ room ∷ []) = do
+-- a client and a window
+unfoldable pub client_and_window : List (List ℕ) → Result (ℕ × ℕ) LineWhy
+client_and_window (client ∷ room ∷ []) = do
   c ← client_number client
   w ← window room
-  Ok (move c w)
-window_line move _ = Err why.Count
+  Ok (c, w)
+client_and_window _ = Err why.Count
 
 unfoldable pub send_line : List (List ℕ) → Result Event LineWhy
 send_line (client ∷ from ∷ len ∷ []) = do
@@ -104,12 +104,10 @@ send_line (client ∷ from ∷ len ∷ []) = do
   Ok (event.Send c f l)
 send_line _ = Err why.Count
 
--- a line with a client alone
-unfoldable pub client_move_line : (ℕ → Event) → List (List ℕ) → Result Event LineWhy
-client_move_line move (client ∷ []) = do
-  c ← client_number client
-  Ok (move c)
-client_move_line move _ = Err why.Count
+-- a client alone
+unfoldable pub client_alone : List (List ℕ) → Result ℕ LineWhy
+client_alone (client ∷ []) = client_number client
+client_alone _ = Err why.Count
 
 abbrev pub event_line : Verb → List (List ℕ) → Result Event LineWhy
 event_line verb.Boot words = boot_line words
@@ -117,11 +115,11 @@ event_line verb.Crash words = bare_line event.Crash words
 event_line verb.Tick words = bare_line event.Tick words
 event_line verb.Deliver words = deliver_line words
 event_line verb.Flip words = flip_line words
-event_line verb.Open words = window_line event.Begin words
+event_line verb.Open words = client_and_window words >>= λ m. Ok (event.Begin m.0 m.1)
 event_line verb.Send words = send_line words
-event_line verb.Fin words = client_move_line event.Fin words
-event_line verb.Ack words = window_line event.Ack words
-event_line verb.Reset words = client_move_line event.Reset words
+event_line verb.Fin words = client_alone words >>= λ c. Ok (event.Fin c)
+event_line verb.Ack words = client_and_window words >>= λ m. Ok (event.Ack m.0 m.1)
+event_line verb.Reset words = client_alone words >>= λ c. Ok (event.Reset c)
 
 -- The lines before the events, likewise.
 unfoldable pub service_line : List (List ℕ) → Result ServiceKind LineWhy

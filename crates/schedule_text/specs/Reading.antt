@@ -1,0 +1,22 @@
+-- What reading returns, beside what the grammar gives.
+use Rattle.std.specs.Prelude.{◌≡◌, Result, Ok, Err}
+use Rattle.ft_model.specs.Grammar.{Refusal}
+use Rattle.ft_model.specs.Grammar.Refusal.{BadLine, TooLong}
+use Rattle.ft_model.specs.declared.schedule.LineWhy.{LineWhy}
+use Rattle.schedule_text.specs.declared.end.LineEnd.{LineEnd}
+use Rattle.schedule_text.specs.declared.end.LineEnd.TheVariants as line_end
+use Rattle.schedule_text.specs.declared.end.ScheduleEnd.{ScheduleEnd}
+use Rattle.schedule_text.specs.declared.end.ScheduleEnd.TheVariants as end
+
+-- a line's outcome is the grammar's, unless memory ran out
+abbrev pub GivesLine : {X : Type 0} → Result X LineEnd → Result X LineWhy → Type 0
+GivesLine (Ok x) read = read ≡ Ok x
+GivesLine (Err line_end.NoMemory) read = Unit {0}
+GivesLine (Err (line_end.Refused why)) read = read ≡ Err why
+
+-- the outcome of a text, or of lines of it, is the grammar's, unless memory ran out
+abbrev pub Gives : {X : Type 0} → Result X ScheduleEnd → Result X Refusal → Type 0
+Gives (Ok x) read = read ≡ Ok x
+Gives (Err end.NoMemory) read = Unit {0}
+Gives (Err (end.BadLine line why)) read = read ≡ Err (BadLine line why)
+Gives (Err (end.TooLong what)) read = read ≡ Err (TooLong what)

@@ -1,0 +1,45 @@
+//! How reading ends without a schedule.
+
+ghost use Rattle.std.specs.Prelude.{◌≡◌};
+ghost use Rattle.schedule_text.specs.declared.end.LineEnd.TheVariants.{NoMemory, Refused};
+
+use ft_io::NoMemory;
+use ft_model::{Limit, LineWhy};
+use thiserror::Error;
+
+/// Why a text gave no schedule.
+#[derive(Clone, Copy, Debug, PartialEq, Eq, Error)]
+pub enum ScheduleEnd {
+    /// Memory ran out.
+    #[error("no memory")]
+    NoMemory,
+    /// The first line that is refused, counted from 1, and why.
+    #[error("line {line} is refused")]
+    BadLine { line: u32, why: LineWhy },
+    /// The text passes a limit.
+    #[error("too long")]
+    TooLong { what: Limit },
+}
+
+/// Why a line gave nothing.
+#[derive(Clone, Copy, Debug, PartialEq, Eq)]
+pub(crate) enum LineEnd {
+    NoMemory,
+    Refused(LineWhy),
+}
+
+impl From<NoMemory> for LineEnd {
+    ghost from_gives = { λ _ e. e ≡ NoMemory };
+
+    fn from(_error: NoMemory) -> LineEnd {
+        LineEnd::NoMemory
+    }
+}
+
+impl From<LineWhy> for LineEnd {
+    ghost from_gives = { λ why e. e ≡ Refused why };
+
+    fn from(why: LineWhy) -> LineEnd {
+        LineEnd::Refused(why)
+    }
+}

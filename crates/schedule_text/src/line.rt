@@ -1,0 +1,357 @@
+//! One line of a schedule: its tests in their order, and what it says. The order is that of `LineWhy`.
+
+ghost use Rattle.std.specs.Prelude.{◌≡◌, ◌==◌, ◌&&◌, ◌||◌, ◌<◌, nat_le};
+ghost use Rattle.std.specs.List.{list_any};
+ghost use Rattle.ft_model.specs.Words.{words_of};
+ghost use Rattle.ft_model.specs.Grammar.{service_line, server_line, is_taken, free_address, client_line, line_from, verb_of, keyword_of, names_no_service, is_next, has_next_number, may_join, may_stand, is_echo, is_fill, is_boot, has_client, has_boot, event_asks_for_more, asks_for_more, is_printable, built, line_behind, line_of, begins_event};
+ghost use Rattle.schedule_text.specs.Reading.{GivesLine};
+
+use crate::end::LineEnd;
+use crate::event_line::{end_of, read_client_number, read_event, read_long_number, word_of};
+use crate::spelling::{read_addr, read_numeral, read_script, read_service};
+use crate::words::next_word;
+use ft_io::{Addr, Key};
+use ft_model::{
+    ClientLine, Draft, Event, Keyword, Line, LineWhy, Schedule, Script, ServiceKind, Verb,
+};
+use std::alloc::Global;
+
+/// The most clients of a schedule.
+const CLIENT_LIMIT: usize = 16;
+
+/// The most digits of a number.
+const NUMBER_DIGITS: usize = 20;
+
+#[tactic(auto, unfolding(ft_model::specs::Grammar::service_line))]
+fn read_service_line(words: &[u8]) -> Result<ServiceKind, LineWhy>
+    ensures { result ≡ service_line (words_of words.now) }
+{
+    let (name, rest) = word_of(words)?;
+    end_of(rest)?;
+    read_service(name).ok_or(LineWhy::Word)
+}
+
+#[tactic(auto, unfolding(ft_model::specs::Grammar::server_line))]
+fn read_server_line(words: &[u8]) -> Result<Addr, LineWhy>
+    ensures { result ≡ server_line (words_of words.now) }
+{
+    let (address, rest) = word_of(words)?;
+    end_of(rest)?;
+    read_addr(address).ok_or(LineWhy::Address)
+}
+
+/// Whether a client has this address.
+fn has_address(clients: &[ClientLine], addr: Addr) -> bool
+    ensures { result ≡ list_any (λ client. client.key.ip == addr.ip && client.key.port == addr.port) clients.now }
+{
+    clients
+        .iter()
+        .any(|client| client.key.ip == addr.ip && client.key.port == addr.port)
+}
+
+/// Whether the server or a client has this address.
+#[tactic(auto, unfolding(ft_model::specs::Grammar::is_taken))]
+fn takes_address(draft: &Draft, addr: Addr) -> bool
+    ensures { result ≡ is_taken draft.now addr }
+{
+    match draft {
+        Draft::Begun(schedule) => {
+            if schedule.server.ip == addr.ip && schedule.server.port == addr.port {
+                return true;
+            }
+            has_address(schedule.clients.as_slice(), addr)
+        }
+        _ => false,
+    }
+}
+
+#[tactic(auto, unfolding(ft_model::specs::Grammar::free_address))]
+fn read_free_address(draft: &Draft, word: &[u8]) -> Result<Addr, LineWhy>
+    ensures { result ≡ free_address draft.now word.now }
+{
+    let addr = read_addr(word).ok_or(LineWhy::Address)?;
+    if takes_address(draft, addr) {
+        return Err(LineWhy::Address);
+    }
+    Ok(addr)
+}
+
+#[tactic(auto, unfolding(ft_model::specs::Grammar::client_line))]
+fn read_client_line(alloc: Global, draft: &Draft, words: &[u8]) -> Result<ClientLine, LineEnd>
+    ensures { GivesLine result (client_line draft.now (words_of words.now)) }
+{
+    let (client, rest) = word_of(words)?;
+    let (address, rest) = word_of(rest)?;
+    let (isn, rest) = word_of(rest)?;
+    let (script, rest) = word_of(rest)?;
+    end_of(rest)?;
+    let _ = read_client_number(client)?;
+    let isn = read_long_number(isn)?;
+    let addr = read_free_address(draft, address)?;
+    let script = read_script(alloc, script)?.ok_or(LineWhy::Script)?;
+    let key = Key {
+        ip: addr.ip,
+        port: addr.port,
+    };
+    Ok(ClientLine { key, isn, script })
+}
+
+/// Reads what a line says, from the words behind its keyword.
+fn read_words(
+    alloc: Global,
+    draft: &Draft,
+    keyword: Keyword,
+    words: &[u8],
+) -> Result<Line, LineEnd>
+    ensures { GivesLine result (line_from draft.now keyword (words_of words.now)) }
+{
+    match keyword {
+        Keyword::Service => Ok(Line::Service(read_service_line(words)?)),
+        Keyword::Server => Ok(Line::Server(read_server_line(words)?)),
+        Keyword::Client => Ok(Line::Client(read_client_line(alloc, draft, words)?)),
+        Keyword::Event(verb) => Ok(Line::Event(read_event(verb, words)?)),
+    }
+}
+
+/// The event that a word announces.
+#[tactic(auto, unfolding(ft_model::specs::Grammar::verb_of))]
+fn read_verb(word: &[u8]) -> Option<Verb>
+    ensures { result ≡ verb_of word.now }
+{
+    if word == b"boot".as_slice() {
+        Some(Verb::Boot)
+    } else if word == b"crash".as_slice() {
+        Some(Verb::Crash)
+    } else if word == b"tick".as_slice() {
+        Some(Verb::Tick)
+    } else if word == b"deliver".as_slice() {
+        Some(Verb::Deliver)
+    } else if word == b"flip".as_slice() {
+        Some(Verb::Flip)
+    } else if word == b"open".as_slice() {
+        Some(Verb::Open)
+    } else if word == b"send".as_slice() {
+        Some(Verb::Send)
+    } else if word == b"fin".as_slice() {
+        Some(Verb::Fin)
+    } else if word == b"ack".as_slice() {
+        Some(Verb::Ack)
+    } else if word == b"reset".as_slice() {
+        Some(Verb::Reset)
+    } else {
+        None
+    }
+}
+
+/// What a word announces.
+#[tactic(auto, unfolding(ft_model::specs::Grammar::keyword_of))]
+fn read_keyword(word: &[u8]) -> Option<Keyword>
+    ensures { result ≡ keyword_of word.now }
+{
+    if word == b"service".as_slice() {
+        Some(Keyword::Service)
+    } else if word == b"server".as_slice() {
+        Some(Keyword::Server)
+    } else if word == b"client".as_slice() {
+        Some(Keyword::Client)
+    } else {
+        Some(Keyword::Event(read_verb(word)?))
+    }
+}
+
+/// Whether a service line has a name that no service has.
+#[tactic(auto, unfolding(ft_model::specs::Grammar::names_no_service))]
+fn has_unknown_name(keyword: Keyword, words: &[u8]) -> bool
+    ensures { result ≡ names_no_service keyword (words_of words.now) }
+{
+    match keyword {
+        Keyword::Service => match next_word(words) {
+            Some((name, _)) => read_service(name).is_none(),
+            None => false,
+        },
+        _ => false,
+    }
+}
+
+/// Whether the line's number is the next one, or left to a later test.
+#[tactic(auto, unfolding(ft_model::specs::Grammar::has_next_number, ft_model::specs::Grammar::is_next))]
+fn fits_number(count: usize, words: &[u8]) -> bool
+    requires { count < 16 }
+    ensures { result ≡ has_next_number count (words_of words.now) }
+{
+    match next_word(words) {
+        Some((client, _)) => match read_numeral(NUMBER_DIGITS, client) {
+            Some(n) => n == count as u128 + 1,
+            None => true,
+        },
+        None => true,
+    }
+}
+
+/// Whether another client line may stand behind these lines.
+#[tactic(auto, unfolding(ft_model::specs::Grammar::may_join))]
+fn takes_client(schedule: &Schedule, words: &[u8]) -> bool
+    ensures { result ≡ may_join schedule.now (words_of words.now) }
+{
+    if schedule.events.as_slice().len() != 0 {
+        return false;
+    }
+    let count = schedule.clients.as_slice().len();
+    if count >= CLIENT_LIMIT {
+        return false;
+    }
+    fits_number(count, words)
+}
+
+fn takes_line(draft: &Draft, keyword: Keyword, words: &[u8]) -> bool
+    ensures { result ≡ may_stand draft.now keyword (words_of words.now) }
+{
+    match (draft, keyword) {
+        (Draft::Empty, Keyword::Service) => true,
+        (Draft::Named(_), Keyword::Server) => true,
+        (Draft::Begun(schedule), Keyword::Client) => takes_client(schedule, words),
+        (Draft::Begun(_), Keyword::Event(_)) => true,
+        _ => false,
+    }
+}
+
+fn is_boot_event(event: &Event) -> bool
+    ensures { result ≡ is_boot event.now }
+{
+    match event {
+        Event::Boot { .. } => true,
+        _ => false,
+    }
+}
+
+fn any_boot(events: &[Event]) -> bool
+    ensures { result ≡ list_any is_boot events.now }
+{
+    events.iter().any(|event| is_boot_event(event))
+}
+
+#[tactic(auto, unfolding(ft_model::specs::Grammar::has_boot))]
+fn holds_boot(draft: &Draft) -> bool
+    ensures { result ≡ has_boot draft.now }
+{
+    match draft {
+        Draft::Begun(schedule) => any_boot(schedule.events.as_slice()),
+        _ => false,
+    }
+}
+
+#[tactic(auto, unfolding(ft_model::specs::Grammar::has_client))]
+fn holds_client(draft: &Draft) -> bool
+    ensures { result ≡ has_client draft.now }
+{
+    match draft {
+        Draft::Begun(schedule) => 0 < schedule.clients.as_slice().len(),
+        _ => false,
+    }
+}
+
+/// Whether an event needs what isn't built yet.
+#[tactic(auto, unfolding(ft_model::specs::Grammar::event_asks_for_more))]
+fn event_needs_more(draft: &Draft, event: &Event) -> bool
+    ensures { result ≡ event_asks_for_more draft.now event.now }
+{
+    match event {
+        Event::Boot { .. } => holds_boot(draft),
+        Event::Crash => true,
+        Event::Tick => true,
+        Event::Flip { .. } => true,
+        Event::Fin { .. } => true,
+        Event::Reset { .. } => true,
+        _ => false,
+    }
+}
+
+/// Whether a client needs what isn't built yet.
+fn client_needs_more(draft: &Draft, script: &Script) -> bool
+    ensures { result ≡ (has_client draft.now || is_fill script.now) }
+{
+    if holds_client(draft) {
+        return true;
+    }
+    match script {
+        Script::Fill { .. } => true,
+        Script::Bytes(_) => false,
+    }
+}
+
+/// Whether a line needs what isn't built yet.
+#[tactic(auto, unfolding(ft_model::specs::Grammar::asks_for_more))]
+fn needs_more(draft: &Draft, line: &Line) -> bool
+    ensures { result ≡ asks_for_more draft.now line.now }
+{
+    match line {
+        Line::Service(ServiceKind::Echo) => false,
+        Line::Service(_) => true,
+        Line::Server(_) => false,
+        Line::Client(client) => client_needs_more(draft, &client.script),
+        Line::Event(event) => event_needs_more(draft, event),
+    }
+}
+
+/// Reads a line from the words behind its keyword: the name of a service, the place, what the line says, and whether it is built.
+#[tactic(auto, unfolding(ft_model::specs::Grammar::line_behind, ft_model::specs::Grammar::built))]
+fn read_behind(
+    alloc: Global,
+    draft: &Draft,
+    keyword: Keyword,
+    words: &[u8],
+) -> Result<Line, LineEnd>
+    ensures { GivesLine result (line_behind draft.now keyword (words_of words.now)) }
+{
+    if has_unknown_name(keyword, words) {
+        return Err(LineEnd::Refused(LineWhy::Word));
+    }
+    if !takes_line(draft, keyword, words) {
+        return Err(LineEnd::Refused(LineWhy::Place));
+    }
+    let line = read_words(alloc, draft, keyword, words)?;
+    if needs_more(draft, &line) {
+        return Err(LineEnd::Refused(LineWhy::Built));
+    }
+    Ok(line)
+}
+
+fn is_plain(byte: u8) -> bool
+    ensures { result ≡ (nat_le 32 byte && nat_le byte 126) }
+{
+    32 <= byte && byte <= 126
+}
+
+#[tactic(auto, unfolding(ft_model::specs::Grammar::is_printable))]
+fn is_plain_text(text: &[u8]) -> bool
+    ensures { result ≡ is_printable text.now }
+{
+    text.iter().all(|byte| is_plain(*byte))
+}
+
+/// Reads a line behind the lines read so far, by its tests in their order.
+#[tactic(auto, unfolding(ft_model::specs::Grammar::line_of))]
+pub(crate) fn read_line(alloc: Global, draft: &Draft, text: &[u8]) -> Result<Line, LineEnd>
+    ensures { GivesLine result (line_of draft.now text.now) }
+{
+    if !is_plain_text(text) {
+        return Err(LineEnd::Refused(LineWhy::Character));
+    }
+    let Some((word, words)) = next_word(text) else {
+        return Err(LineEnd::Refused(LineWhy::Word));
+    };
+    let Some(keyword) = read_keyword(word) else {
+        return Err(LineEnd::Refused(LineWhy::Word));
+    };
+    read_behind(alloc, draft, keyword, words)
+}
+
+/// Whether the first word is an event's.
+pub(crate) fn begins_with_event(text: &[u8]) -> bool
+    ensures { result ≡ begins_event (words_of text.now) }
+{
+    match next_word(text) {
+        Some((word, _)) => read_verb(word).is_some(),
+        None => false,
+    }
+}

@@ -1,0 +1,144 @@
+//! The reading of a whole text, line after line.
+
+ghost use Rattle.std.specs.Prelude.{◌≡◌, IfOk, length};
+ghost use Rattle.ft_model.specs.Grammar.{with_line, is_comment, is_passed_over, is_full, is_too_much, after_line, schedule_of, read_text};
+ghost use Rattle.schedule_text.specs.Reading.{Gives};
+
+use crate::end::{LineEnd, ScheduleEnd};
+use crate::line::{begins_with_event, read_line};
+use crate::words::{next_line, next_word};
+use ft_io::NoMemory;
+use ft_model::{ClientLines, Draft, Events, Limit, Line, LineWhy, Schedule};
+use std::alloc::Global;
+
+/// The most bytes of a text.
+const TEXT_LIMIT: usize = 8_388_608;
+
+/// The most event lines of a text.
+const EVENT_LIMIT: usize = 100_000;
+
+fn starts_comment(text: &[u8]) -> bool
+    ensures { result ≡ is_comment text.now }
+{
+    match text.split_first() {
+        Some((byte, _)) => *byte == b'#',
+        None => false,
+    }
+}
+
+/// Whether a line is a comment or has no word.
+#[tactic(auto, unfolding(ft_model::specs::Grammar::is_passed_over))]
+fn says_nothing(text: &[u8]) -> bool
+    ensures { result ≡ is_passed_over text.now }
+{
+    if starts_comment(text) {
+        return true;
+    }
+    next_word(text).is_none()
+}
+
+/// Whether no further event may follow.
+fn has_all_events(draft: &Draft) -> bool
+    ensures { result ≡ is_full draft.now }
+{
+    match draft {
+        Draft::Begun(schedule) => EVENT_LIMIT <= schedule.events.as_slice().len(),
+        _ => false,
+    }
+}
+
+#[tactic(auto, unfolding(ft_model::specs::Grammar::is_too_much))]
+fn passes_limit(draft: &Draft, text: &[u8]) -> bool
+    ensures { result ≡ is_too_much draft.now text.now }
+{
+    if !has_all_events(draft) {
+        return false;
+    }
+    begins_with_event(text)
+}
+
+/// Adds a line to those before it.
+fn add_line(alloc: Global, draft: Draft, line: Line) -> Result<Draft, NoMemory>
+    ensures { IfOk result (λ later. later ≡ with_line draft line) }
+{
+    match (draft, line) {
+        (Draft::Empty, Line::Service(kind)) => Ok(Draft::Named(kind)),
+        (Draft::Named(service), Line::Server(server)) => Ok(Draft::Begun(Schedule {
+            service,
+            server,
+            clients: ClientLines::new(Vec::new(alloc)),
+            events: Events::new(Vec::new(alloc)),
+        })),
+        (Draft::Begun(mut schedule), Line::Client(client)) => {
+            schedule.clients.push(client)?;
+            Ok(Draft::Begun(schedule))
+        }
+        (Draft::Begun(mut schedule), Line::Event(event)) => {
+            schedule.events.push(event)?;
+            Ok(Draft::Begun(schedule))
+        }
+        (draft, _) => Ok(draft),
+    }
+}
+
+/// Reads line `number` of a text behind the lines before it.
+#[tactic(auto, unfolding(ft_model::specs::Grammar::after_line))]
+fn take_line(
+    alloc: Global,
+    number: u32,
+    draft: Draft,
+    text: &[u8],
+) -> Result<Draft, ScheduleEnd>
+    ensures { Gives result (after_line number draft text.now) }
+{
+    if says_nothing(text) {
+        return Ok(draft);
+    }
+    if passes_limit(&draft, text) {
+        return Err(ScheduleEnd::TooLong {
+            what: Limit::Events,
+        });
+    }
+    match read_line(alloc, &draft, text) {
+        Ok(line) => match add_line(alloc, draft, line) {
+            Ok(later) => Ok(later),
+            Err(NoMemory) => Err(ScheduleEnd::NoMemory),
+        },
+        Err(LineEnd::NoMemory) => Err(ScheduleEnd::NoMemory),
+        Err(LineEnd::Refused(why)) => Err(ScheduleEnd::BadLine { line: number, why }),
+    }
+}
+
+/// The schedule at the end of a text, whose next line would be `number`.
+fn finish(number: u32, draft: Draft) -> Result<Schedule, ScheduleEnd>
+    ensures { Gives result (schedule_of number draft) }
+{
+    match draft {
+        Draft::Begun(schedule) => Ok(schedule),
+        _ => Err(ScheduleEnd::BadLine {
+            line: number,
+            why: LineWhy::Place,
+        }),
+    }
+}
+
+/// Reads a schedule from its text. Unless memory runs out, it returns the schedule that the text spells; or the first line that is
+/// refused and why, or the limit that is passed.
+#[tactic(auto, using(crate::proofs::Reading::goes_on, crate::proofs::Reading::stops, crate::proofs::Reading::ends), unfolding(ft_model::specs::Grammar::read_text))]
+pub fn read_schedule(alloc: Global, text: &[u8]) -> Result<Schedule, ScheduleEnd>
+    ensures { Gives result (read_text text.now) }
+{
+    if text.len() > TEXT_LIMIT {
+        return Err(ScheduleEnd::TooLong { what: Limit::Text });
+    }
+    let mut draft = Draft::Empty;
+    let mut number = 1;
+    let mut rest = text;
+    while !rest.is_empty() {
+        let (line, behind) = next_line(rest);
+        draft = take_line(alloc, number, draft, line)?;
+        number += 1;
+        rest = behind;
+    }
+    finish(number, draft)
+}
