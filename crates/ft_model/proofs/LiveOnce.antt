@@ -12,31 +12,7 @@ use Rattle.ft_model.specs.Timer.{interval_after, rest_after, must_run}
 use Rattle.ft_model.specs.Sending.{counted_after, acknowledged_after, edge_after, wl1_after, wl2_after, sent_at_once, sent_after}
 use Rattle.ft_model.specs.Ending.{end_ticks_after}
 use Rattle.ft_model.specs.Connection.{LiveTurn, sent_by}
-
--- the point after the news are noted, with these lengths and with what is settled at the end of the turn left open
-abbrev noted : News → Point → List ℕ → (sent interval rest end_ticks : ℕ) → Point
-noted news p lengths sent interval rest end_ticks = record {
-  key = p.key;
-  cisn = p.cisn;
-  sisn = p.sisn;
-  mss = p.mss;
-  fetched = p.fetched;
-  taken = taken_after news p;
-  fin = fin_after news p;
-  answered = answered_after news p;
-  lengths = lengths;
-  reads_answered = reads_answered_after news p;
-  una = acknowledged_after news p;
-  sent = sent;
-  edge = edge_after news p;
-  wl1 = wl1_after news p;
-  wl2 = wl2_after news p;
-  counted = counted_after news p;
-  interval = interval;
-  rest = rest;
-  end_ticks = end_ticks;
-  reset = false;
-}
+use Rattle.ft_model.proofs.Settled.{noted, settled, makes_alike}
 
 noted_is : {State : Type 0} (service : Machine State) (server : Addr) (boot : ℕ) (news : News) (p q : Point) (sent : List Packet)
     → LiveTurn service server boot news p q sent → q ≡ noted news p q.lengths q.sent q.interval q.rest q.end_ticks
@@ -45,13 +21,6 @@ noted_is service server boot news p q sent t =
         ≡ noted news p q.lengths q.sent q.interval q.rest q.end_ticks =
         cc (t.same.key, t.same.cisn, t.same.sisn, t.same.mss, t.same.fetched, t.taken, t.fin, t.answered, t.reads_answered, t.una, t.edge, t.wl1, t.wl2, t.counted, t.reset)
     in e
-
--- which reads are made doesn't hang on what is settled at the end
-plain_makes : {State : Type 0} (service : Machine State) (news : News) (p : Point) (ns lengths : List ℕ) (sent interval rest end_ticks : ℕ)
-    → Makes service (noted news p lengths sent interval rest end_ticks) ns → Makes service (noted news p lengths 0 0 0 0) ns
-unfolding next_length may_read
-plain_makes service news p [] lengths sent interval rest end_ticks m = m
-plain_makes service news p (n ∷ ns) lengths sent interval rest end_ticks m = (m.0, plain_makes service news p ns (lengths ++ n ∷ []) sent interval rest end_ticks m.1)
 
 -- none, and some: never both
 none_or_some : {P : Type 0} (o : Option ℕ) (n : ℕ) → o ≡ None → o ≡ Some n → P
@@ -68,13 +37,6 @@ makes_once service p (n ∷ ns) (m ∷ ms) a b =
     let same : n ≡ m = same_value (next_read service p) n m a.0 b.0 in
     let more : ns ≡ ms = makes_once service (with_read m p) ns ms (subst (λ k. Makes service (with_read k p) ns) same a.1) b.1 in
     ap₂ ◌∷◌ same more
-
--- the point after a turn, as far as it hangs on the lengths of all reads alone
-abbrev settled : {State : Type 0} → Machine State → News → Point → List ℕ → Point
-settled service news p lengths =
-    let plain : Point = noted news p lengths 0 0 0 0 in
-    let sent : ℕ = sent_after service news p plain in
-    noted news p lengths sent (interval_after news p plain) (rest_after service news p (noted news p lengths sent 0 0 0)) (end_ticks_after service news p plain)
 
 settled_is : {State : Type 0} (service : Machine State) (server : Addr) (boot : ℕ) (news : News) (p q : Point) (sent : List Packet)
     → LiveTurn service server boot news p q sent → q ≡ settled service news p q.lengths
@@ -94,7 +56,7 @@ settled_is service server boot news p q sent t =
 plain_reads : {State : Type 0} (service : Machine State) (server : Addr) (boot : ℕ) (news : News) (p q : Point) (sent : List Packet)
     → (t : LiveTurn service server boot news p q sent) → Makes service (noted news p p.lengths 0 0 0 0) t.reads.news
 plain_reads service server boot news p q sent t =
-    plain_makes service news p t.reads.news p.lengths q.sent q.interval q.rest q.end_ticks
+    makes_alike service news p t.reads.news p.lengths q.sent q.interval q.rest q.end_ticks 0 0 0 0
     (subst (λ x. Makes service (record x { lengths = p.lengths }) t.reads.news) (noted_is service server boot news p q sent t) t.reads.makes)
 
 pub live_once : {State : Type 0} (service : Machine State) (server : Addr) (boot : ℕ) (news : News) (p q r : Point) (sent other : List Packet)
