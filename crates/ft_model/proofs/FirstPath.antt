@@ -19,7 +19,7 @@ use Rattle.ft_model.specs.Client.Move.{Syn, Text, Acknowledge}
 use Rattle.ft_model.specs.World.{Joint, Happens, IsStart}
 use Rattle.ft_model.specs.Rows.Common.{echo, server, numbers, hello_text, client_with}
 use Rattle.ft_model.specs.Rows.FirstPath as row
-use Rattle.ft_model.proofs.Turns.{laws, alone, segment_in, message_in, kept_in}
+use Rattle.ft_model.proofs.Turns.{laws, alone, goes, segment_in, message_in, kept_in}
 
 starts : IsStart row.start
 unfolding IsLe
@@ -39,117 +39,27 @@ Goes news before after sent = ConnectionTurn echo server 1 news before after sen
 -- the SYN-ACK leaves
 begins : Goes Begins (point_opened numbers) row.begun_point row.moment_7.sent
 unfolding laws
-begins = record {
-  same = record { key = refl; cisn = refl; sisn = refl; mss = refl; fetched = refl };
-  taken = refl;
-  fin = refl;
-  answered = refl;
-  reads_answered = refl;
-  reads = record { news = []; lengths = refl; makes = refl };
-  counted = refl;
-  una = refl;
-  edge = refl;
-  wl1 = refl;
-  wl2 = refl;
-  sent_units = refl;
-  interval = refl;
-  rest = refl;
-  end_ticks = refl;
-  reset = refl;
-  packets = refl;
-}
+begins = goes echo server 1 Begins (point_opened numbers) row.begun_point row.moment_7.sent refl refl refl refl
 
 -- the SYN is acknowledged
 opens : Goes (Comes (segment_in row.packet_7)) row.begun_point row.open_point row.moment_10.sent
 unfolding laws
-opens = record {
-  same = record { key = refl; cisn = refl; sisn = refl; mss = refl; fetched = refl };
-  taken = refl;
-  fin = refl;
-  answered = refl;
-  reads_answered = refl;
-  reads = record { news = []; lengths = refl; makes = refl };
-  counted = refl;
-  una = refl;
-  edge = refl;
-  wl1 = refl;
-  wl2 = refl;
-  sent_units = refl;
-  interval = refl;
-  rest = refl;
-  end_ticks = refl;
-  reset = refl;
-  packets = refl;
-}
+opens = goes echo server 1 (Comes (segment_in row.packet_7)) row.begun_point row.open_point row.moment_10.sent refl refl refl refl
 
 -- the text is taken and read
 takes : Goes (Comes (segment_in row.packet_8)) row.open_point row.taken_point row.moment_12.sent
 unfolding laws
-takes = record {
-  same = record { key = refl; cisn = refl; sisn = refl; mss = refl; fetched = refl };
-  taken = refl;
-  fin = refl;
-  answered = refl;
-  reads_answered = refl;
-  reads = record { news = 5 ∷ []; lengths = refl; makes = (refl, refl) };
-  counted = refl;
-  una = refl;
-  edge = refl;
-  wl1 = refl;
-  wl2 = refl;
-  sent_units = refl;
-  interval = refl;
-  rest = refl;
-  end_ticks = refl;
-  reset = refl;
-  packets = refl;
-}
+takes = goes echo server 1 (Comes (segment_in row.packet_8)) row.open_point row.taken_point row.moment_12.sent refl refl refl refl
 
 -- the text is logged
 hears : Goes (Logged (kept_in row.packet_12)) row.taken_point row.logged_point row.moment_14.sent
 unfolding laws
-hears = record {
-  same = record { key = refl; cisn = refl; sisn = refl; mss = refl; fetched = refl };
-  taken = refl;
-  fin = refl;
-  answered = refl;
-  reads_answered = refl;
-  reads = record { news = []; lengths = refl; makes = refl };
-  counted = refl;
-  una = refl;
-  edge = refl;
-  wl1 = refl;
-  wl2 = refl;
-  sent_units = refl;
-  interval = refl;
-  rest = refl;
-  end_ticks = refl;
-  reset = refl;
-  packets = refl;
-}
+hears = goes echo server 1 (Logged (kept_in row.packet_12)) row.taken_point row.logged_point row.moment_14.sent refl refl refl refl
 
 -- the read is logged
 releases : Goes (Logged (kept_in row.packet_14)) row.logged_point row.released_point row.moment_16.sent
 unfolding laws
-releases = record {
-  same = record { key = refl; cisn = refl; sisn = refl; mss = refl; fetched = refl };
-  taken = refl;
-  fin = refl;
-  answered = refl;
-  reads_answered = refl;
-  reads = record { news = []; lengths = refl; makes = refl };
-  counted = refl;
-  una = refl;
-  edge = refl;
-  wl1 = refl;
-  wl2 = refl;
-  sent_units = refl;
-  interval = refl;
-  rest = refl;
-  end_ticks = refl;
-  reset = refl;
-  packets = refl;
-}
+releases = goes echo server 1 (Logged (kept_in row.packet_14)) row.logged_point row.released_point row.moment_16.sent refl refl refl refl
 
 -- the server's turns
 turn_3 : LawfulTurn echo (booted server 1 5000) (Message_comes (message_in row.packet_2)) [] (row.node_at (Serving 0 []))

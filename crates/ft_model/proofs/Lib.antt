@@ -1,6 +1,9 @@
-pub mod Turns
-pub mod FirstPath
 pub mod Settled
 pub mod LiveOnce
 pub mod LiveTurns
 pub mod TurnOnce
+pub mod Turns
+pub mod FirstPath
+pub mod CrashAfterLogged
+pub mod Closing
+pub mod ZeroWindow
