@@ -1,5 +1,5 @@
 -- Each turn of both incarnations is lawful: each equation computes.
-use Rattle.std.proofs.Common.{◌≡◌, ℕ, true, false, refl, Some, None, List, [], ◌∷◌}
+use Rattle.std.proofs.Common.{true, refl, [], ◌∷◌}
 use Rattle.ft_model.specs.News.News.{Comes, Logged, Ticks, Begins}
 use Rattle.ft_model.specs.Opening.{point_opened}
 use Rattle.ft_model.specs.Restart.{point_of, entry_in}
@@ -7,7 +7,7 @@ use Rattle.ft_model.specs.Node.{Node, booted}
 use Rattle.ft_model.specs.Node.Place.{Opens, Lives}
 use Rattle.ft_model.specs.Lawful.{LawfulTurn, Lawful, Revives, Turn, hello}
 use Rattle.ft_model.specs.Serving.{PlaceTurn}
-use Rattle.ft_model.specs.Rows.Common.{echo, server, numbers, kept_with, fetched_with, idle, opening_at, serving_at}
+use Rattle.ft_model.specs.Rows.Common.{echo, server, numbers, kept_with, fetched_with}
 use Rattle.ft_model.specs.Rows.Closing as row
 use Rattle.ft_model.proofs.Turns.{laws, alone, goes, serves}
 
@@ -30,14 +30,18 @@ first_3 = record {
   boot = refl;
   isn = refl;
   live = refl;
-  stage = (Lives row.begun ∷ [], refl, record {
-    gone = Lives row.begun ∷ [];
-    by_places = row.first_3.sent;
-    all_go = alone (PlaceTurn echo row.first_2.node row.first_3.input) (Opens numbers) (Lives row.begun ∷ []) row.first_3.sent
-    (row.begun, refl, goes echo server 1 Begins (point_opened numbers) row.begun row.first_3.sent refl refl refl refl);
-    places = refl;
-    packets = refl;
-  });
+  stage = (
+    Lives row.begun ∷ [],
+    refl,
+    record {
+      gone = Lives row.begun ∷ [];
+      by_places = row.first_3.sent;
+      all_go = alone (PlaceTurn echo row.first_2.node row.first_3.input) (Opens numbers) (Lives row.begun ∷ []) row.first_3.sent
+          (row.begun, refl, goes echo server 1 Begins (point_opened numbers) row.begun row.first_3.sent refl refl refl refl);
+      places = refl;
+      packets = refl;
+    },
+  );
 }
 
 first_4 : Happens row.first_3.node row.first_4
@@ -78,8 +82,12 @@ second_3 = record {
   boot = refl;
   isn = refl;
   live = refl;
-  stage = (Lives row.restarted ∷ [], refl, alone (Revives echo row.second_2.node) (Lives (point_of echo (entry_in (fetched_with row.head [] (0 ∷ []))))) (Lives row.restarted ∷ []) row.second_3.sent
-  (row.restarted, refl, goes echo server 2 Begins (point_of echo (entry_in (fetched_with row.head [] (0 ∷ [])))) row.restarted row.second_3.sent refl refl refl refl));
+  stage = (
+    Lives row.restarted ∷ [],
+    refl,
+    alone (Revives echo row.second_2.node) (Lives (point_of echo (entry_in (fetched_with row.head [] (0 ∷ []))))) (Lives row.restarted ∷ []) row.second_3.sent
+        (row.restarted, refl, goes echo server 2 Begins (point_of echo (entry_in (fetched_with row.head [] (0 ∷ [])))) row.restarted row.second_3.sent refl refl refl refl),
+  );
 }
 
 second_4 : Happens row.second_3.node row.second_4
@@ -108,4 +116,3 @@ second_9 = serves echo 2 900000 row.second_9.input (row.ticked 3) (row.ticked 4)
 
 pub second_is_lawful : Lawful echo server 2 900000 (hello (booted server 2 900000)) row.second_turns
 second_is_lawful = (refl, (((((((((tt, second_1), second_2), second_3), second_4), second_5), second_6), second_7), second_8), second_9))
-

@@ -1,13 +1,11 @@
 -- Each turn of the second incarnation is lawful: each equation computes.
-use Rattle.std.proofs.Common.{◌≡◌, ℕ, true, false, refl, Some, None, List, [], ◌∷◌}
-use Rattle.ft_model.specs.News.News.{Comes, Logged, Ticks, Begins}
-use Rattle.ft_model.specs.Opening.{point_opened}
+use Rattle.std.proofs.Common.{refl, [], ◌∷◌}
+use Rattle.ft_model.specs.News.News.{Comes, Begins}
 use Rattle.ft_model.specs.Restart.{point_of, entry_in}
 use Rattle.ft_model.specs.Node.{Node, booted}
-use Rattle.ft_model.specs.Node.Place.{Opens, Lives}
+use Rattle.ft_model.specs.Node.Place.{Lives}
 use Rattle.ft_model.specs.Lawful.{LawfulTurn, Lawful, Revives, Turn, hello}
-use Rattle.ft_model.specs.Serving.{PlaceTurn}
-use Rattle.ft_model.specs.Rows.Common.{echo, server, numbers, kept_with, fetched_with, idle, opening_at, serving_at}
+use Rattle.ft_model.specs.Rows.Common.{echo, server}
 use Rattle.ft_model.specs.Rows.CrashAfterLogged as row
 use Rattle.ft_model.proofs.Turns.{laws, alone, goes, serves}
 
@@ -34,8 +32,12 @@ restart_4 = record {
   boot = refl;
   isn = refl;
   live = refl;
-  stage = (Lives row.restarted ∷ [], refl, alone (Revives echo row.restart_3.node) (Lives (point_of echo (entry_in (record row.filled_entry { lengths = 5 ∷ [] })))) (Lives row.restarted ∷ []) row.restart_4.sent
-  (row.restarted, refl, goes echo server 2 Begins (point_of echo (entry_in (record row.filled_entry { lengths = 5 ∷ [] }))) row.restarted row.restart_4.sent refl refl refl refl));
+  stage = (
+    Lives row.restarted ∷ [],
+    refl,
+    alone (Revives echo row.restart_3.node) (Lives (point_of echo (entry_in (record row.filled_entry { lengths = 5 ∷ [] })))) (Lives row.restarted ∷ []) row.restart_4.sent
+        (row.restarted, refl, goes echo server 2 Begins (point_of echo (entry_in (record row.filled_entry { lengths = 5 ∷ [] }))) row.restarted row.restart_4.sent refl refl refl refl),
+  );
 }
 
 restart_5 : Happens row.restart_4.node row.restart_5
@@ -44,4 +46,3 @@ restart_5 = serves echo 2 900000 row.restart_5.input row.restarted row.resumed r
 
 pub restart_is_lawful : Lawful echo server 2 900000 (hello (booted server 2 900000)) row.restart_turns
 restart_is_lawful = (refl, (((((tt, restart_1), restart_2), restart_3), restart_4), restart_5))
-

@@ -4,6 +4,7 @@ pub mod LiveTurns
 pub mod TurnOnce
 pub mod Turns
 pub mod FirstPath
+pub mod WrongTurns
 pub mod CrashAfterLogged
 pub mod Closing
 pub mod ZeroWindow

@@ -1,15 +1,13 @@
 -- A turn of one live connection is determined by its point and its news.
-use Rattle.std.proofs.Common.{◌≡◌, ℕ, ℤ, Bool, true, false, refl, sym, ap, ap₂, ◌∙◌, subst, true≢false, Option, Some, None, is_none, unwrap_or, List, [], ◌∷◌, ◌++◌}
+use Rattle.std.proofs.Common.{◌≡◌, ℕ, refl, sym, ap, ap₂, ◌∙◌, subst, true≢false, Option, Some, None, is_none, unwrap_or, List, [], ◌∷◌, ◌++◌}
 use Rattle.ft_io.specs.declared.Addr.{Addr}
 use Rattle.server_trait.specs.Service.{Machine}
 use Rattle.ft_model.specs.Network.{Packet}
 use Rattle.ft_model.specs.News.{News}
 use Rattle.ft_model.specs.Point.{Point}
-use Rattle.ft_model.specs.Taken.{taken_after, fin_after}
-use Rattle.ft_model.specs.Answered.{answered_after, reads_answered_after}
-use Rattle.ft_model.specs.Reads.{Makes, MakesReads, next_read, next_length, may_read, with_read}
+use Rattle.ft_model.specs.Reads.{Makes, next_read, with_read}
 use Rattle.ft_model.specs.Timer.{interval_after, rest_after, must_run}
-use Rattle.ft_model.specs.Sending.{counted_after, acknowledged_after, edge_after, wl1_after, wl2_after, sent_at_once, sent_after}
+use Rattle.ft_model.specs.Sending.{sent_at_once, sent_after}
 use Rattle.ft_model.specs.Ending.{end_ticks_after}
 use Rattle.ft_model.specs.Connection.{LiveTurn, sent_by}
 use Rattle.ft_model.proofs.Settled.{noted, settled, makes_alike}
@@ -18,8 +16,8 @@ noted_is : {State : Type 0} (service : Machine State) (server : Addr) (boot : �
     → LiveTurn service server boot news p q sent → q ≡ noted news p q.lengths q.sent q.interval q.rest q.end_ticks
 noted_is service server boot news p q sent t =
     let e : record { key = q.key; cisn = q.cisn; sisn = q.sisn; mss = q.mss; fetched = q.fetched; taken = q.taken; fin = q.fin; answered = q.answered; lengths = q.lengths; reads_answered = q.reads_answered; una = q.una; sent = q.sent; edge = q.edge; wl1 = q.wl1; wl2 = q.wl2; counted = q.counted; interval = q.interval; rest = q.rest; end_ticks = q.end_ticks; reset = q.reset }
-        ≡ noted news p q.lengths q.sent q.interval q.rest q.end_ticks =
-        cc (t.same.key, t.same.cisn, t.same.sisn, t.same.mss, t.same.fetched, t.taken, t.fin, t.answered, t.reads_answered, t.una, t.edge, t.wl1, t.wl2, t.counted, t.reset)
+    ≡ noted news p q.lengths q.sent q.interval q.rest q.end_ticks =
+    cc (t.same.key, t.same.cisn, t.same.sisn, t.same.mss, t.same.fetched, t.taken, t.fin, t.answered, t.reads_answered, t.una, t.edge, t.wl1, t.wl2, t.counted, t.reset)
     in e
 
 -- none, and some: never both
@@ -49,7 +47,7 @@ settled_is service server boot news p q sent t =
     let ticks_are : q.end_ticks ≡ end_ticks_after service news p plain = t.end_ticks ∙ ap (end_ticks_after service news p) e in
     let rest_then : q.rest ≡ rest_after service news p (noted news p q.lengths q.sent 0 0 0) = t.rest ∙ ap (rest_after service news p) e in
     let rest_is : q.rest ≡ rest_after service news p (noted news p q.lengths (sent_after service news p plain) 0 0 0) =
-        rest_then ∙ ap (λ n. rest_after service news p (noted news p q.lengths n 0 0 0)) sent_is in
+    rest_then ∙ ap (λ n. rest_after service news p (noted news p q.lengths n 0 0 0)) sent_is in
     e ∙ cc (sent_is, interval_is, ticks_are, rest_is)
 
 -- the reads of a turn, made from the noted point
@@ -63,10 +61,10 @@ pub live_once : {State : Type 0} (service : Machine State) (server : Addr) (boot
     → LiveTurn service server boot news p q sent → LiveTurn service server boot news p r other → (q ≡ r) × (sent ≡ other)
 live_once service server boot news p q r sent other t u =
     let reads : t.reads.news ≡ u.reads.news =
-        makes_once service (noted news p p.lengths 0 0 0 0) t.reads.news u.reads.news (plain_reads service server boot news p q sent t)
-        (plain_reads service server boot news p r other u) in
+    makes_once service (noted news p p.lengths 0 0 0 0) t.reads.news u.reads.news (plain_reads service server boot news p q sent t)
+    (plain_reads service server boot news p r other u) in
     let lengths : q.lengths ≡ r.lengths = t.reads.lengths ∙ (ap (λ ns. p.lengths ++ ns) reads ∙ sym u.reads.lengths) in
     let same : q ≡ r =
-        settled_is service server boot news p q sent t
-        ∙ (ap (settled service news p) lengths ∙ sym (settled_is service server boot news p r other u)) in
+    settled_is service server boot news p q sent t
+    ∙ (ap (settled service news p) lengths ∙ sym (settled_is service server boot news p r other u)) in
     (same, t.packets ∙ (ap (sent_by service server boot news p) same ∙ sym u.packets))

@@ -1,5 +1,5 @@
 -- The point after a turn, put together from its laws: first what the news change, then the reads, then what is settled at the end.
-use Rattle.std.proofs.Common.{◌≡◌, ℕ, false, List, [], ◌∷◌, ◌++◌}
+use Rattle.std.proofs.Common.{ℕ, false, List, [], ◌∷◌, ◌++◌}
 use Rattle.server_trait.specs.Service.{Machine}
 use Rattle.ft_model.specs.News.{News}
 use Rattle.ft_model.specs.Point.{Point}

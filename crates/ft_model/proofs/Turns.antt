@@ -1,5 +1,5 @@
 -- Shapes of turns that the worked rows share: with them each equation of a row computes.
-use Rattle.std.proofs.Common.{◌≡◌, ℕ, ◌≤◌, Bool, true, false, nat_le, MatchBool, Option, None, List, [], ◌∷◌, ◌++◌, length, flat_map, refl, sym, ap, ◌∙◌, subst, append-nil, ◌+◌, true≢false, arith}
+use Rattle.std.proofs.Common.{◌≡◌, ℕ, Bool, true, false, nat_le, MatchBool, None, List, [], ◌∷◌, ◌++◌, length, refl, sym, ap, ◌∙◌, subst, append-nil, ◌+◌, true≢false, arith}
 use Rattle.ft_io.specs.declared.Addr.{Addr}
 use Rattle.seq_arith.specs.Number.{offset_of}
 use Rattle.server_trait.specs.Service.{Machine, reference}
@@ -21,10 +21,10 @@ use Rattle.ft_model.specs.Network.Packet.{To_server, To_client, To_logger, From_
 use Rattle.ft_model.specs.News.{News}
 use Rattle.ft_model.specs.Point.{Point}
 use Rattle.ft_model.specs.Connection.{ConnectionTurn, ResetTurn, LiveTurn, sent_by}
-use Rattle.ft_model.specs.Node.{Node, Place, Stage, Input}
+use Rattle.ft_model.specs.Node.{Node, Place, Input}
 use Rattle.ft_model.specs.Node.Place.{Lives}
 use Rattle.ft_model.specs.Node.Stage.{Serving}
-use Rattle.ft_model.specs.Serving.{AllGo, PlaceTurn, newcomers, refusals, opens_at}
+use Rattle.ft_model.specs.Serving.{AllGo, PlaceTurn, newcomers, refusals}
 use Rattle.ft_model.specs.Lawful.{LawfulTurn, NodeTurn, fence}
 use Rattle.ft_model.specs.Rows.Common.{serving_at}
 use Rattle.ft_model.proofs.LiveTurns.{turned, live_turn}
@@ -90,12 +90,15 @@ serves service boot isn input p q sent unfenced none_new none_refused turn =
       boot = refl;
       isn = refl;
       live = refl;
-      stage = subst (λ o. NodeTurn service node input o (Serving 1 (Lives q ∷ [])) sent) (sym unfenced)
-      (Lives q ∷ [], ap (λ n. Serving n (Lives q ∷ [])) (sym count), record {
-        gone = Lives q ∷ [];
-        by_places = sent;
-        all_go = alone (PlaceTurn service node input) (Lives p) (Lives q ∷ []) sent turn;
-        places = places;
-        packets = others;
-      });
+      stage = subst (λ o. NodeTurn service node input o (Serving 1 (Lives q ∷ [])) sent) (sym unfenced) (
+        Lives q ∷ [],
+        ap (λ n. Serving n (Lives q ∷ [])) (sym count),
+        record {
+          gone = Lives q ∷ [];
+          by_places = sent;
+          all_go = alone (PlaceTurn service node input) (Lives p) (Lives q ∷ []) sent turn;
+          places = places;
+          packets = others;
+        },
+      );
     }

@@ -1,13 +1,12 @@
 -- Each turn is lawful: each equation computes.
-use Rattle.std.proofs.Common.{◌≡◌, ℕ, true, false, refl, Some, None, List, [], ◌∷◌}
+use Rattle.std.proofs.Common.{false, refl, [], ◌∷◌}
 use Rattle.ft_model.specs.News.News.{Comes, Logged, Ticks, Begins}
 use Rattle.ft_model.specs.Opening.{point_opened}
-use Rattle.ft_model.specs.Restart.{point_of, entry_in}
 use Rattle.ft_model.specs.Node.{Node, booted}
 use Rattle.ft_model.specs.Node.Place.{Opens, Lives}
-use Rattle.ft_model.specs.Lawful.{LawfulTurn, Lawful, Revives, Turn, hello}
+use Rattle.ft_model.specs.Lawful.{LawfulTurn, Lawful, Turn, hello}
 use Rattle.ft_model.specs.Serving.{PlaceTurn}
-use Rattle.ft_model.specs.Rows.Common.{echo, server, numbers, kept_with, fetched_with, idle, opening_at, serving_at}
+use Rattle.ft_model.specs.Rows.Common.{echo, server, numbers, kept_with}
 use Rattle.ft_model.specs.Rows.ZeroWindow as row
 use Rattle.ft_model.proofs.Turns.{laws, alone, goes, serves}
 
@@ -30,14 +29,18 @@ probe_3 = record {
   boot = refl;
   isn = refl;
   live = refl;
-  stage = (Lives row.begun ∷ [], refl, record {
-    gone = Lives row.begun ∷ [];
-    by_places = row.probe_3.sent;
-    all_go = alone (PlaceTurn echo row.probe_2.node row.probe_3.input) (Opens numbers) (Lives row.begun ∷ []) row.probe_3.sent
-    (row.begun, refl, goes echo server 1 Begins (point_opened numbers) row.begun row.probe_3.sent refl refl refl refl);
-    places = refl;
-    packets = refl;
-  });
+  stage = (
+    Lives row.begun ∷ [],
+    refl,
+    record {
+      gone = Lives row.begun ∷ [];
+      by_places = row.probe_3.sent;
+      all_go = alone (PlaceTurn echo row.probe_2.node row.probe_3.input) (Opens numbers) (Lives row.begun ∷ []) row.probe_3.sent
+          (row.begun, refl, goes echo server 1 Begins (point_opened numbers) row.begun row.probe_3.sent refl refl refl refl);
+      places = refl;
+      packets = refl;
+    },
+  );
 }
 
 probe_4 : Happens row.probe_3.node row.probe_4
@@ -90,4 +93,3 @@ probe_15 = serves echo 1 5000 row.probe_15.input (row.given 4 1) (row.given 8 8)
 
 pub probe_is_lawful : Lawful echo server 1 5000 (hello (booted server 1 5000)) row.probe_turns
 probe_is_lawful = (refl, (((((((((((((((tt, probe_1), probe_2), probe_3), probe_4), probe_5), probe_6), probe_7), probe_8), probe_9), probe_10), probe_11), probe_12), probe_13), probe_14), probe_15))
-

@@ -19,12 +19,10 @@ pub fn turns_are_determined<S: Service>()
         → LawfulTurn (machine (S.started kind) S.after) before input sent after
         → LawfulTurn (machine (S.started kind) S.after) before input also other
         → (after ≡ other) × (sent ≡ also) }
-{
-}
+{}
 
 /// Each turn can be made: from a point whose logged reads were made, at any news, a connection that is not reset has a lawful turn.
 pub fn live_turns_exist<S: Service>()
     ensures { (kind boot : ℕ) (server : Addr) (news : News) (before : Point) → before.reads_answered ≤ length before.lengths
         → (after : Point) × (sent : List Packet) × LiveTurn (machine (S.started kind) S.after) server boot news before after sent }
-{
-}
+{}

@@ -3,13 +3,12 @@
 use Rattle.std.specs.Prelude.{ℕ, pos, true, false, Some, None, List, [], ◌∷◌}
 use Rattle.seq_arith.specs.Packet.{Segment}
 use Rattle.seq_arith.specs.Message.{EntryHead}
-use Rattle.seq_arith.specs.Message.Body.{HelloMsg, SummaryMsg, ListMsg, EntryMsg, BytesMsg, PartMsg, CutsMsg, LensMsg, OpenMsg, OpenedMsg, DataMsg, StableMsg, ReadMsg, ReadsMsg, DoneMsg}
-use Rattle.ft_model.specs.Network.{Packet}
+use Rattle.seq_arith.specs.Message.Body.{SummaryMsg, ListMsg, EntryMsg, CutsMsg, LensMsg, OpenMsg, OpenedMsg, DataMsg, StableMsg, ReadMsg, ReadsMsg, DoneMsg}
 use Rattle.ft_model.specs.Point.{Point}
 use Rattle.ft_model.specs.Opening.{point_opened}
 use Rattle.ft_model.specs.Restart.{Fetched}
 use Rattle.ft_model.specs.Lawful.{Turn}
-use Rattle.ft_model.specs.Rows.Common.{key, hello_text, client_segment, to_client, to_log, numbers, kept_with, part_with, on_message, on_segment, on_tick, serving_at, idle, opening_at, fetching, head_with, fetched_with}
+use Rattle.ft_model.specs.Rows.Common.{key, client_segment, to_client, to_log, numbers, kept_with, part_with, on_message, on_segment, on_tick, serving_at, idle, opening_at, fetching, head_with, fetched_with}
 
 -- the client's segments
 abbrev pub syn : Segment

@@ -1,9 +1,9 @@
 -- What the worked rows share: the addresses, the service, and the packets of client 1 and of its server.
-use Rattle.std.specs.Prelude.{ℕ, Bool, true, false, ◌==◌, Option, Some, None, List, [], ◌∷◌, length}
+use Rattle.std.specs.Prelude.{ℕ, Bool, false, ◌==◌, Option, None, List, [], ◌∷◌, length}
 use Rattle.ft_io.specs.declared.Addr.{Addr}
 use Rattle.ft_io.specs.declared.Key.{Key}
 use Rattle.seq_arith.specs.Packet.{Segment}
-use Rattle.seq_arith.specs.Message.{Numbers, Kept, EntryHead, Part, Body, Message}
+use Rattle.seq_arith.specs.Message.{Numbers, Kept, EntryHead, Part, Body}
 use Rattle.server_trait.specs.Service.{Served, Machine}
 use Rattle.ft_model.specs.Client.{Client, new_client}
 use Rattle.ft_model.specs.Log.{empty_log}
@@ -15,7 +15,7 @@ use Rattle.ft_model.specs.Node.{Node, Input}
 use Rattle.ft_model.specs.Node.Place.{Opens, Lives}
 use Rattle.ft_model.specs.Node.Stage.{Fetching, Serving}
 use Rattle.ft_model.specs.Node.Input.{Packet_comes, Message_comes, Tick_comes}
-use Rattle.ft_model.specs.Lawful.{Turn}
+use Rattle.ft_model.specs.Lawful.{Turn, LawfulTurn}
 use Rattle.ft_model.specs.World.{World}
 
 -- 192.0.2.100:7
@@ -109,3 +109,7 @@ head_with len fin reads acked = record { key = key; cisn = 1000; sisn = 5000; ms
 
 abbrev pub fetched_with : EntryHead → List ℕ → List ℕ → Fetched
 fetched_with head bytes lengths = record { head = head; bytes = bytes; lengths = lengths }
+
+-- no lawful turn from there, by this input, sends this
+abbrev pub IsRefused : Node → Input → List Packet → Type 0
+IsRefused before input sent = (after : Node) → LawfulTurn echo before input sent after → ⊥

@@ -1,15 +1,13 @@
 -- A crash after the text and its read are logged, and before the client hears of it: the second incarnation fetches both, stands where
 -- the first one stood, and sends the output.
-use Rattle.std.specs.Prelude.{ℕ, pos, true, false, Some, None, List, [], ◌∷◌}
+use Rattle.std.specs.Prelude.{pos, true, false, None, List, [], ◌∷◌}
 use Rattle.seq_arith.specs.Packet.{Segment}
 use Rattle.seq_arith.specs.Message.{EntryHead}
-use Rattle.seq_arith.specs.Message.Body.{HelloMsg, SummaryMsg, ListMsg, EntryMsg, BytesMsg, PartMsg, CutsMsg, LensMsg, OpenMsg, OpenedMsg, DataMsg, StableMsg, ReadMsg, ReadsMsg, DoneMsg}
-use Rattle.ft_model.specs.Network.{Packet}
+use Rattle.seq_arith.specs.Message.Body.{SummaryMsg, ListMsg, EntryMsg, BytesMsg, PartMsg, CutsMsg, LensMsg}
 use Rattle.ft_model.specs.Point.{Point}
-use Rattle.ft_model.specs.Opening.{point_opened}
 use Rattle.ft_model.specs.Restart.{Fetched}
 use Rattle.ft_model.specs.Lawful.{Turn}
-use Rattle.ft_model.specs.Rows.Common.{key, hello_text, client_segment, to_client, to_log, numbers, kept_with, part_with, on_message, on_segment, on_tick, serving_at, idle, opening_at, fetching, head_with, fetched_with}
+use Rattle.ft_model.specs.Rows.Common.{key, hello_text, client_segment, to_client, to_log, on_message, on_segment, serving_at, fetching, head_with, fetched_with}
 
 -- the entry that the log has
 abbrev pub head : EntryHead

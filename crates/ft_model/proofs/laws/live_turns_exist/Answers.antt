@@ -1,4 +1,3 @@
-use Rattle.std.proofs.Common.{◌≡◌}
 use Rattle.server_trait.specs.Service.{machine}
 use Rattle.ft_model.specs.Connection.{sent_by}
 use Rattle.ft_model.proofs.laws.live_turns_exist.Goals as goal
