@@ -2,6 +2,7 @@ pub mod Settled
 pub mod LiveOnce
 pub mod LiveTurns
 pub mod TurnOnce
+pub mod TurnTells
 pub mod Turns
 pub mod FirstPath
 pub mod WrongTurns
