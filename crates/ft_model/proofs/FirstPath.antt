@@ -1,14 +1,12 @@
 -- Every moment of the first path happens: each equation computes.
-use Rattle.std.proofs.Common.{◌≡◌, ℕ, ◌^◌, true, false, refl, Some, None, List, [], ◌∷◌}
+use Rattle.std.proofs.Common.{◌^◌, refl, None, List, [], ◌∷◌}
 use native.Mathlib.Bridge.{le_by_compare, IsLe}
-use Rattle.seq_arith.specs.Packet.{Segment}
 use Rattle.ft_model.specs.News.{News}
 use Rattle.ft_model.specs.News.News.{Comes, Logged, Begins}
 use Rattle.ft_model.specs.Point.{Point}
 use Rattle.ft_model.specs.Connection.{ConnectionTurn}
 use Rattle.ft_model.specs.Opening.{point_opened}
 use Rattle.ft_model.specs.Network.{Packet}
-use Rattle.ft_model.specs.Node.{Node, Input}
 use Rattle.ft_model.specs.Node.Input.{Packet_comes, Message_comes}
 use Rattle.ft_model.specs.Node.{booted}
 use Rattle.ft_model.specs.Node.Stage.{Serving}
@@ -19,7 +17,7 @@ use Rattle.ft_model.specs.Client.Move.{Syn, Text, Acknowledge}
 use Rattle.ft_model.specs.World.{Joint, Happens, IsStart}
 use Rattle.ft_model.specs.Rows.Common.{echo, server, numbers, hello_text, client_with}
 use Rattle.ft_model.specs.Rows.FirstPath as row
-use Rattle.ft_model.proofs.Turns.{laws, alone, segment_in, message_in, kept_in}
+use Rattle.ft_model.proofs.Turns.{laws, alone, goes, segment_in, message_in, kept_in}
 
 starts : IsStart row.start
 unfolding IsLe
@@ -39,124 +37,34 @@ Goes news before after sent = ConnectionTurn echo server 1 news before after sen
 -- the SYN-ACK leaves
 begins : Goes Begins (point_opened numbers) row.begun_point row.moment_7.sent
 unfolding laws
-begins = record {
-  same = record { key = refl; cisn = refl; sisn = refl; mss = refl; fetched = refl };
-  taken = refl;
-  fin = refl;
-  answered = refl;
-  reads_answered = refl;
-  reads = record { news = []; lengths = refl; makes = refl };
-  counted = refl;
-  una = refl;
-  edge = refl;
-  wl1 = refl;
-  wl2 = refl;
-  sent_units = refl;
-  interval = refl;
-  rest = refl;
-  end_ticks = refl;
-  reset = refl;
-  packets = refl;
-}
+begins = goes echo server 1 Begins (point_opened numbers) row.begun_point row.moment_7.sent refl refl refl refl
 
 -- the SYN is acknowledged
 opens : Goes (Comes (segment_in row.packet_7)) row.begun_point row.open_point row.moment_10.sent
 unfolding laws
-opens = record {
-  same = record { key = refl; cisn = refl; sisn = refl; mss = refl; fetched = refl };
-  taken = refl;
-  fin = refl;
-  answered = refl;
-  reads_answered = refl;
-  reads = record { news = []; lengths = refl; makes = refl };
-  counted = refl;
-  una = refl;
-  edge = refl;
-  wl1 = refl;
-  wl2 = refl;
-  sent_units = refl;
-  interval = refl;
-  rest = refl;
-  end_ticks = refl;
-  reset = refl;
-  packets = refl;
-}
+opens = goes echo server 1 (Comes (segment_in row.packet_7)) row.begun_point row.open_point row.moment_10.sent refl refl refl refl
 
 -- the text is taken and read
 takes : Goes (Comes (segment_in row.packet_8)) row.open_point row.taken_point row.moment_12.sent
 unfolding laws
-takes = record {
-  same = record { key = refl; cisn = refl; sisn = refl; mss = refl; fetched = refl };
-  taken = refl;
-  fin = refl;
-  answered = refl;
-  reads_answered = refl;
-  reads = record { news = 5 ∷ []; lengths = refl; makes = (refl, refl) };
-  counted = refl;
-  una = refl;
-  edge = refl;
-  wl1 = refl;
-  wl2 = refl;
-  sent_units = refl;
-  interval = refl;
-  rest = refl;
-  end_ticks = refl;
-  reset = refl;
-  packets = refl;
-}
+takes = goes echo server 1 (Comes (segment_in row.packet_8)) row.open_point row.taken_point row.moment_12.sent refl refl refl refl
 
 -- the text is logged
 hears : Goes (Logged (kept_in row.packet_12)) row.taken_point row.logged_point row.moment_14.sent
 unfolding laws
-hears = record {
-  same = record { key = refl; cisn = refl; sisn = refl; mss = refl; fetched = refl };
-  taken = refl;
-  fin = refl;
-  answered = refl;
-  reads_answered = refl;
-  reads = record { news = []; lengths = refl; makes = refl };
-  counted = refl;
-  una = refl;
-  edge = refl;
-  wl1 = refl;
-  wl2 = refl;
-  sent_units = refl;
-  interval = refl;
-  rest = refl;
-  end_ticks = refl;
-  reset = refl;
-  packets = refl;
-}
+hears = goes echo server 1 (Logged (kept_in row.packet_12)) row.taken_point row.logged_point row.moment_14.sent refl refl refl refl
 
 -- the read is logged
 releases : Goes (Logged (kept_in row.packet_14)) row.logged_point row.released_point row.moment_16.sent
 unfolding laws
-releases = record {
-  same = record { key = refl; cisn = refl; sisn = refl; mss = refl; fetched = refl };
-  taken = refl;
-  fin = refl;
-  answered = refl;
-  reads_answered = refl;
-  reads = record { news = []; lengths = refl; makes = refl };
-  counted = refl;
-  una = refl;
-  edge = refl;
-  wl1 = refl;
-  wl2 = refl;
-  sent_units = refl;
-  interval = refl;
-  rest = refl;
-  end_ticks = refl;
-  reset = refl;
-  packets = refl;
-}
+releases = goes echo server 1 (Logged (kept_in row.packet_14)) row.logged_point row.released_point row.moment_16.sent refl refl refl refl
 
 -- the server's turns
 turn_3 : LawfulTurn echo (booted server 1 5000) (Message_comes (message_in row.packet_2)) [] (row.node_at (Serving 0 []))
 unfolding laws
 turn_3 = record { server = refl; boot = refl; isn = refl; live = refl; stage = ([], refl, (refl, refl)) }
 
-turn_5 : LawfulTurn echo (row.node_at (Serving 0 [])) (Packet_comes (segment_in row.packet_3)) row.moment_5.sent (row.node_at (Serving 1 (Opens numbers ∷ [])))
+pub turn_5 : LawfulTurn echo (row.node_at (Serving 0 [])) (Packet_comes (segment_in row.packet_3)) row.moment_5.sent (row.node_at (Serving 1 (Opens numbers ∷ [])))
 unfolding laws
 turn_5 = record { server = refl; boot = refl; isn = refl; live = refl; stage = (Opens numbers ∷ [], refl, record { gone = []; by_places = []; all_go = (refl, refl); places = refl; packets = refl }) }
 
@@ -168,11 +76,11 @@ turn_10 : LawfulTurn echo (row.node_live row.begun_point) (Packet_comes (segment
 unfolding laws
 turn_10 = record { server = refl; boot = refl; isn = refl; live = refl; stage = (Lives row.open_point ∷ [], refl, record { gone = Lives row.open_point ∷ []; by_places = row.moment_10.sent; all_go = alone (PlaceTurn echo (row.node_live row.begun_point) (Packet_comes (segment_in row.packet_7))) (Lives row.begun_point) (Lives row.open_point ∷ []) row.moment_10.sent (row.open_point, refl, opens); places = refl; packets = refl }) }
 
-turn_12 : LawfulTurn echo (row.node_live row.open_point) (Packet_comes (segment_in row.packet_8)) row.moment_12.sent (row.node_live row.taken_point)
+pub turn_12 : LawfulTurn echo (row.node_live row.open_point) (Packet_comes (segment_in row.packet_8)) row.moment_12.sent (row.node_live row.taken_point)
 unfolding laws
 turn_12 = record { server = refl; boot = refl; isn = refl; live = refl; stage = (Lives row.taken_point ∷ [], refl, record { gone = Lives row.taken_point ∷ []; by_places = row.moment_12.sent; all_go = alone (PlaceTurn echo (row.node_live row.open_point) (Packet_comes (segment_in row.packet_8))) (Lives row.open_point) (Lives row.taken_point ∷ []) row.moment_12.sent (row.taken_point, refl, takes); places = refl; packets = refl }) }
 
-turn_14 : LawfulTurn echo (row.node_live row.taken_point) (Message_comes (message_in row.packet_12)) row.moment_14.sent (row.node_live row.logged_point)
+pub turn_14 : LawfulTurn echo (row.node_live row.taken_point) (Message_comes (message_in row.packet_12)) row.moment_14.sent (row.node_live row.logged_point)
 unfolding laws
 turn_14 = record { server = refl; boot = refl; isn = refl; live = refl; stage = (Lives row.logged_point ∷ [], refl, record { gone = Lives row.logged_point ∷ []; by_places = row.moment_14.sent; all_go = alone (PlaceTurn echo (row.node_live row.taken_point) (Message_comes (message_in row.packet_12))) (Lives row.taken_point) (Lives row.logged_point ∷ []) row.moment_14.sent (row.logged_point, refl, hears); places = refl; packets = refl }) }
 

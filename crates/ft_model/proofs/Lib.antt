@@ -1,5 +1,14 @@
+pub mod Settled
+pub mod LiveOnce
+pub mod LiveTurns
+pub mod TurnOnce
+pub mod TurnTells
 pub mod Turns
 pub mod FirstPath
 pub mod LiveOnce
 pub mod TurnOnce
 pub mod ReportOnLiterals
+pub mod WrongTurns
+pub mod CrashAfterLogged
+pub mod Closing
+pub mod ZeroWindow

@@ -1,57 +1,24 @@
 -- A turn of one live connection is determined by its point and its news.
-use Rattle.std.proofs.Common.{◌≡◌, ℕ, ℤ, Bool, true, false, refl, sym, ap, ap₂, ◌∙◌, subst, true≢false, Option, Some, None, is_none, unwrap_or, List, [], ◌∷◌, ◌++◌}
+use Rattle.std.proofs.Common.{◌≡◌, ℕ, refl, sym, ap, ap₂, ◌∙◌, subst, true≢false, Option, Some, None, is_none, unwrap_or, List, [], ◌∷◌, ◌++◌}
 use Rattle.ft_io.specs.declared.Addr.{Addr}
 use Rattle.server_trait.specs.Service.{Machine}
 use Rattle.ft_model.specs.Network.{Packet}
 use Rattle.ft_model.specs.News.{News}
 use Rattle.ft_model.specs.Point.{Point}
-use Rattle.ft_model.specs.Taken.{taken_after, fin_after}
-use Rattle.ft_model.specs.Answered.{answered_after, reads_answered_after}
-use Rattle.ft_model.specs.Reads.{Makes, MakesReads, next_read, next_length, may_read, with_read}
+use Rattle.ft_model.specs.Reads.{Makes, next_read, with_read}
 use Rattle.ft_model.specs.Timer.{interval_after, rest_after, must_run}
-use Rattle.ft_model.specs.Sending.{counted_after, acknowledged_after, edge_after, wl1_after, wl2_after, sent_at_once, sent_after}
+use Rattle.ft_model.specs.Sending.{sent_at_once, sent_after}
 use Rattle.ft_model.specs.Ending.{end_ticks_after}
 use Rattle.ft_model.specs.Connection.{LiveTurn, sent_by}
-
--- the point after the news are noted, with these lengths and with what is settled at the end of the turn left open
-abbrev noted : News → Point → List ℕ → (sent interval rest end_ticks : ℕ) → Point
-noted news p lengths sent interval rest end_ticks = record {
-  key = p.key;
-  cisn = p.cisn;
-  sisn = p.sisn;
-  mss = p.mss;
-  fetched = p.fetched;
-  taken = taken_after news p;
-  fin = fin_after news p;
-  answered = answered_after news p;
-  lengths = lengths;
-  reads_answered = reads_answered_after news p;
-  una = acknowledged_after news p;
-  sent = sent;
-  edge = edge_after news p;
-  wl1 = wl1_after news p;
-  wl2 = wl2_after news p;
-  counted = counted_after news p;
-  interval = interval;
-  rest = rest;
-  end_ticks = end_ticks;
-  reset = false;
-}
+use Rattle.ft_model.proofs.Settled.{noted, settled, makes_alike}
 
 noted_is : {State : Type 0} (service : Machine State) (server : Addr) (boot : ℕ) (news : News) (p q : Point) (sent : List Packet)
     → LiveTurn service server boot news p q sent → q ≡ noted news p q.lengths q.sent q.interval q.rest q.end_ticks
 noted_is service server boot news p q sent t =
     let e : record { key = q.key; cisn = q.cisn; sisn = q.sisn; mss = q.mss; fetched = q.fetched; taken = q.taken; fin = q.fin; answered = q.answered; lengths = q.lengths; reads_answered = q.reads_answered; una = q.una; sent = q.sent; edge = q.edge; wl1 = q.wl1; wl2 = q.wl2; counted = q.counted; interval = q.interval; rest = q.rest; end_ticks = q.end_ticks; reset = q.reset }
-        ≡ noted news p q.lengths q.sent q.interval q.rest q.end_ticks =
-        cc (t.same.key, t.same.cisn, t.same.sisn, t.same.mss, t.same.fetched, t.taken, t.fin, t.answered, t.reads_answered, t.una, t.edge, t.wl1, t.wl2, t.counted, t.reset)
+    ≡ noted news p q.lengths q.sent q.interval q.rest q.end_ticks =
+    cc (t.same.key, t.same.cisn, t.same.sisn, t.same.mss, t.same.fetched, t.taken, t.fin, t.answered, t.reads_answered, t.una, t.edge, t.wl1, t.wl2, t.counted, t.reset)
     in e
-
--- which reads are made doesn't hang on what is settled at the end
-plain_makes : {State : Type 0} (service : Machine State) (news : News) (p : Point) (ns lengths : List ℕ) (sent interval rest end_ticks : ℕ)
-    → Makes service (noted news p lengths sent interval rest end_ticks) ns → Makes service (noted news p lengths 0 0 0 0) ns
-unfolding next_length may_read
-plain_makes service news p [] lengths sent interval rest end_ticks m = m
-plain_makes service news p (n ∷ ns) lengths sent interval rest end_ticks m = (m.0, plain_makes service news p ns (lengths ++ n ∷ []) sent interval rest end_ticks m.1)
 
 -- none, and some: never both
 none_or_some : {P : Type 0} (o : Option ℕ) (n : ℕ) → o ≡ None → o ≡ Some n → P
@@ -69,13 +36,6 @@ makes_once service p (n ∷ ns) (m ∷ ms) a b =
     let more : ns ≡ ms = makes_once service (with_read m p) ns ms (subst (λ k. Makes service (with_read k p) ns) same a.1) b.1 in
     ap₂ ◌∷◌ same more
 
--- the point after a turn, as far as it hangs on the lengths of all reads alone
-abbrev settled : {State : Type 0} → Machine State → News → Point → List ℕ → Point
-settled service news p lengths =
-    let plain : Point = noted news p lengths 0 0 0 0 in
-    let sent : ℕ = sent_after service news p plain in
-    noted news p lengths sent (interval_after news p plain) (rest_after service news p (noted news p lengths sent 0 0 0)) (end_ticks_after service news p plain)
-
 settled_is : {State : Type 0} (service : Machine State) (server : Addr) (boot : ℕ) (news : News) (p q : Point) (sent : List Packet)
     → LiveTurn service server boot news p q sent → q ≡ settled service news p q.lengths
 unfolding sent_after sent_at_once interval_after rest_after must_run end_ticks_after
@@ -87,24 +47,24 @@ settled_is service server boot news p q sent t =
     let ticks_are : q.end_ticks ≡ end_ticks_after service news p plain = t.end_ticks ∙ ap (end_ticks_after service news p) e in
     let rest_then : q.rest ≡ rest_after service news p (noted news p q.lengths q.sent 0 0 0) = t.rest ∙ ap (rest_after service news p) e in
     let rest_is : q.rest ≡ rest_after service news p (noted news p q.lengths (sent_after service news p plain) 0 0 0) =
-        rest_then ∙ ap (λ n. rest_after service news p (noted news p q.lengths n 0 0 0)) sent_is in
+    rest_then ∙ ap (λ n. rest_after service news p (noted news p q.lengths n 0 0 0)) sent_is in
     e ∙ cc (sent_is, interval_is, ticks_are, rest_is)
 
 -- the reads of a turn, made from the noted point
 plain_reads : {State : Type 0} (service : Machine State) (server : Addr) (boot : ℕ) (news : News) (p q : Point) (sent : List Packet)
     → (t : LiveTurn service server boot news p q sent) → Makes service (noted news p p.lengths 0 0 0 0) t.reads.news
 plain_reads service server boot news p q sent t =
-    plain_makes service news p t.reads.news p.lengths q.sent q.interval q.rest q.end_ticks
+    makes_alike service news p t.reads.news p.lengths q.sent q.interval q.rest q.end_ticks 0 0 0 0
     (subst (λ x. Makes service (record x { lengths = p.lengths }) t.reads.news) (noted_is service server boot news p q sent t) t.reads.makes)
 
 pub live_once : {State : Type 0} (service : Machine State) (server : Addr) (boot : ℕ) (news : News) (p q r : Point) (sent other : List Packet)
     → LiveTurn service server boot news p q sent → LiveTurn service server boot news p r other → (q ≡ r) × (sent ≡ other)
 live_once service server boot news p q r sent other t u =
     let reads : t.reads.news ≡ u.reads.news =
-        makes_once service (noted news p p.lengths 0 0 0 0) t.reads.news u.reads.news (plain_reads service server boot news p q sent t)
-        (plain_reads service server boot news p r other u) in
+    makes_once service (noted news p p.lengths 0 0 0 0) t.reads.news u.reads.news (plain_reads service server boot news p q sent t)
+    (plain_reads service server boot news p r other u) in
     let lengths : q.lengths ≡ r.lengths = t.reads.lengths ∙ (ap (λ ns. p.lengths ++ ns) reads ∙ sym u.reads.lengths) in
     let same : q ≡ r =
-        settled_is service server boot news p q sent t
-        ∙ (ap (settled service news p) lengths ∙ sym (settled_is service server boot news p r other u)) in
+    settled_is service server boot news p q sent t
+    ∙ (ap (settled service news p) lengths ∙ sym (settled_is service server boot news p r other u)) in
     (same, t.packets ∙ (ap (sent_by service server boot news p) same ∙ sym u.packets))

@@ -1,7 +1,7 @@
 -- A turn of a server is determined by where it stands and by what comes: place by place, and in each stage.
-use Rattle.std.proofs.Common.{◌≡◌, ℕ, Bool, true, false, refl, sym, ap, ap₂, ◌∙◌, subst, MatchBool, Option, Some, None, List, [], ◌∷◌, ◌++◌, map, length, flat_map, if◌then◌else◌, ◌==◌, ◌+◌}
+use Rattle.std.proofs.Common.{◌≡◌, ℕ, Bool, true, false, sym, ap, ap₂, ◌∙◌, MatchBool, Option, Some, None, List, [], ◌∷◌, ◌++◌, map, length, flat_map, if◌then◌else◌, ◌==◌, ◌+◌}
 use Rattle.ft_io.specs.declared.Addr.{Addr}
-use Rattle.seq_arith.specs.Message.{Numbers, Body, Message}
+use Rattle.seq_arith.specs.Message.{Numbers, Body}
 use Rattle.seq_arith.specs.Message.Body.{OpenedMsg, StableMsg, ReadsMsg, EndedMsg, FullMsg}
 use Rattle.server_trait.specs.Service.{Machine}
 use Rattle.ft_model.specs.Network.{Packet}
@@ -10,14 +10,14 @@ use Rattle.ft_model.specs.News.News.{Comes, Logged, Ticks, Begins}
 use Rattle.ft_model.specs.Point.{Point}
 use Rattle.ft_model.specs.Ending.{reset_after, dones}
 use Rattle.ft_model.specs.Opening.{point_opened}
-use Rattle.ft_model.specs.Connection.{ConnectionTurn, ResetTurn, LiveTurn, told_by}
+use Rattle.ft_model.specs.Connection.{ResetTurn, LiveTurn, told_by}
 use Rattle.ft_model.specs.Restart.{Fetched, Wanted, wanted, fetched_after}
 use Rattle.ft_model.specs.Node.{Node, Place, Stage, Input, key_of}
-use Rattle.ft_model.specs.Node.Place.{Opens, Lives, Ended}
+use Rattle.ft_model.specs.Node.Place.{Opens, Lives}
 use Rattle.ft_model.specs.Node.Stage.{Asking, Fetching, Serving, Fenced}
-use Rattle.ft_model.specs.Node.Input.{Packet_comes, Message_comes, Noise_comes, Tick_comes}
-use Rattle.ft_model.specs.Serving.{Stays, LivesOn, IsOpened, Hears, Meets, PlaceTurn, concerns, AllGo, newcomers, refusals, opens_at, ServingTurn}
-use Rattle.ft_model.specs.Lawful.{Revives, Continues, Fetches, AskingTurn, FetchingTurn, StageTurn, NodeTurn, LawfulTurn, all_restored, restored_count, fence, count_told}
+use Rattle.ft_model.specs.Node.Input.{Packet_comes, Message_comes, Tick_comes}
+use Rattle.ft_model.specs.Serving.{Stays, LivesOn, Hears, Meets, PlaceTurn, concerns, AllGo, newcomers, refusals, opens_at, ServingTurn}
+use Rattle.ft_model.specs.Lawful.{Revives, Continues, AskingTurn, FetchingTurn, StageTurn, NodeTurn, LawfulTurn, all_restored, restored_count, fence, count_told}
 use Rattle.ft_model.proofs.LiveOnce.{live_once}
 
 -- two pairs that meet the same two equations
@@ -40,7 +40,7 @@ lives_once : {State : Type 0} (service : Machine State) (node : Node) (news : Ne
     → LivesOn service node news p now sent → LivesOn service node news p later other → (now ≡ later) × (sent ≡ other)
 lives_once service node news p now later sent other s t =
     let once : (s.0 ≡ t.0) × (sent ≡ other) =
-        by_reset service node.server node.boot news (reset_after news p) p s.0 t.0 sent other s.2 t.2 in
+    by_reset service node.server node.boot news (reset_after news p) p s.0 t.0 sent other s.2 t.2 in
     (s.1 ∙ (ap (λ q. Lives q ∷ []) once.0 ∙ sym t.1), once.1)
 
 opened_once : {State : Type 0} (service : Machine State) (node : Node) (b : Bool) (kept : Numbers) (now later : List Place) (sent other : List Packet)
@@ -96,10 +96,10 @@ serving_once : {State : Type 0} (service : Machine State) (node : Node) (input :
     → ServingTurn service node input opened before after sent → ServingTurn service node input opened before also other → (after ≡ also) × (sent ≡ other)
 serving_once service node input opened before after also sent other s t =
     let once : (s.gone ≡ t.gone) × (s.by_places ≡ t.by_places) =
-        all_once (PlaceTurn service node input) (place_once service node input) before s.gone t.gone s.by_places t.by_places s.all_go t.all_go in
+    all_once (PlaceTurn service node input) (place_once service node input) before s.gone t.gone s.by_places t.by_places s.all_go t.all_go in
     let places : after ≡ also = s.places ∙ (ap (λ xs. xs ++ newcomers node input opened before) once.0 ∙ sym t.places) in
     let packets : s.by_places ++ (refusals node input before ++ flat_map (opens_at node input) after) ≡ t.by_places ++ (refusals node input before ++ flat_map (opens_at node input) also) =
-        ap₂ (λ xs ys. xs ++ (refusals node input before ++ flat_map (opens_at node input) ys)) once.1 places in
+    ap₂ (λ xs ys. xs ++ (refusals node input before ++ flat_map (opens_at node input) ys)) once.1 places in
     (places, s.packets ∙ (packets ∙ sym t.packets))
 
 -- the stages
@@ -108,7 +108,7 @@ continues_once : {State : Type 0} (service : Machine State) (node : Node) (count
 continues_once service node count fetched (Some w) after also sent other s t = (s.0 ∙ sym t.0, s.1 ∙ sym t.1)
 continues_once service node count fetched None after also sent other s t =
     let once : (s.0 ≡ t.0) × (sent ≡ other) =
-        all_once (Revives service node) (revives_once service node) (all_restored service fetched) s.0 t.0 sent other s.2 t.2 in
+    all_once (Revives service node) (revives_once service node) (all_restored service fetched) s.0 t.0 sent other s.2 t.2 in
     (s.1 ∙ (ap (Serving (restored_count fetched)) once.0 ∙ sym t.1), once.1)
 
 asking_once : {State : Type 0} (service : Machine State) (node : Node) (count : Option ℕ) (after also : Stage) (sent other : List Packet)
@@ -143,12 +143,12 @@ by_fence service node input None after also sent other s t = stage_once service 
 same_node : (after other : Node) → after.server ≡ other.server → after.boot ≡ other.boot → after.isn ≡ other.isn → after.stage ≡ other.stage → after ≡ other
 same_node after other server boot isn stage =
     let same : record { server = after.server; boot = after.boot; isn = after.isn; stage = after.stage } ≡ record { server = other.server; boot = other.boot; isn = other.isn; stage = other.stage } =
-        cc (server, boot, isn, stage) in
+    cc (server, boot, isn, stage) in
     same
 
 pub turn_once : {State : Type 0} (service : Machine State) (before after other : Node) (input : Input) (sent also : List Packet)
     → LawfulTurn service before input sent after → LawfulTurn service before input also other → (after ≡ other) × (sent ≡ also)
 turn_once service before after other input sent also s t =
     let once : (after.stage ≡ other.stage) × (sent ≡ also) =
-        by_fence service before input (fence before input) after.stage other.stage sent also s.stage t.stage in
+    by_fence service before input (fence before input) after.stage other.stage sent also s.stage t.stage in
     (same_node after other (s.server ∙ sym t.server) (s.boot ∙ sym t.boot) (s.isn ∙ sym t.isn) once.0, once.1)

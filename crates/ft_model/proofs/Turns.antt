@@ -1,7 +1,8 @@
--- Shapes of turns that the worked rows share.
-use Rattle.std.proofs.Common.{◌≡◌, ℕ, true, false, None, List, [], ◌∷◌, ◌++◌, refl, sym, append-nil}
+-- Shapes of turns that the worked rows share: with them each equation of a row computes.
+use Rattle.std.proofs.Common.{◌≡◌, ℕ, Bool, true, false, nat_le, MatchBool, None, List, [], ◌∷◌, ◌++◌, length, refl, sym, ap, ◌∙◌, subst, append-nil, ◌+◌, true≢false, arith}
+use Rattle.ft_io.specs.declared.Addr.{Addr}
 use Rattle.seq_arith.specs.Number.{offset_of}
-use Rattle.server_trait.specs.Service.{reference}
+use Rattle.server_trait.specs.Service.{Machine, reference}
 use Rattle.ft_model.specs.Log.{log_after, answer_to}
 use Rattle.ft_model.specs.Taken.{accepts, counts, taken_after, fin_after}
 use Rattle.ft_model.specs.Answered.{answered_after, reads_answered_after}
@@ -17,12 +18,20 @@ use Rattle.seq_arith.specs.Message.{Kept, Body, Message}
 use Rattle.seq_arith.specs.Message.Body.{HelloMsg, StableMsg, ReadsMsg}
 use Rattle.ft_model.specs.Network.{Packet}
 use Rattle.ft_model.specs.Network.Packet.{To_server, To_client, To_logger, From_logger}
-use Rattle.ft_model.specs.Node.{Place}
-use Rattle.ft_model.specs.Serving.{AllGo}
+use Rattle.ft_model.specs.News.{News}
+use Rattle.ft_model.specs.Point.{Point}
+use Rattle.ft_model.specs.Connection.{ConnectionTurn, ResetTurn, LiveTurn, sent_by}
+use Rattle.ft_model.specs.Node.{Node, Place, Input}
+use Rattle.ft_model.specs.Node.Place.{Lives}
+use Rattle.ft_model.specs.Node.Stage.{Serving}
+use Rattle.ft_model.specs.Serving.{AllGo, PlaceTurn, newcomers, refusals}
+use Rattle.ft_model.specs.Lawful.{LawfulTurn, NodeTurn, fence}
+use Rattle.ft_model.specs.Rows.Common.{serving_at}
+use Rattle.ft_model.proofs.LiveTurns.{turned, live_turn}
 
 -- names all laws that a row computes: `unfolding laws` opens them
 unfoldable pub laws : Type 0
-unfolding reference offset_of log_after answer_to accepts counts taken_after fin_after answered_after reads_answered_after next_length may_read reads_told must_run interval_after rest_after counted_after acknowledged_after edge_after wl1_after wl2_after sent_at_once sent_after copies reset_after end_ticks_after dones owes is_owed resent new_texts new_fin full_segments segments_of
+unfolding turned reference offset_of log_after answer_to accepts counts taken_after fin_after answered_after reads_answered_after next_length may_read reads_told must_run interval_after rest_after counted_after acknowledged_after edge_after wl1_after wl2_after sent_at_once sent_after copies reset_after end_ticks_after dones owes is_owed resent new_texts new_fin full_segments segments_of
 laws = Unit {0}
 
 -- a server with one place: what it does there is the whole turn
@@ -48,3 +57,48 @@ kept_told _ = record { key = record { ip = 0; port = 0 }; length = 0; fin = fals
 
 abbrev pub kept_in : Packet → Kept
 kept_in packet = kept_told (message_in packet).body
+
+live_goes : {State : Type 0} (service : Machine State) (server : Addr) (boot : ℕ) (news : News) (p q : Point) (sent : List Packet) (reset : Bool)
+    → reset ≡ false → LiveTurn service server boot news p q sent
+    → MatchBool reset (ResetTurn boot news p q sent) (LiveTurn service server boot news p q sent)
+live_goes service server boot news p q sent true is turn = absurd (true≢false is)
+live_goes service server boot news p q sent false is turn = turn
+
+-- a connection goes on from p to q and sends this, if the laws compute so
+pub goes : {State : Type 0} (service : Machine State) (server : Addr) (boot : ℕ) (news : News) (p q : Point) (sent : List Packet)
+    → reset_after news p ≡ false → nat_le p.reads_answered (length p.lengths) ≡ true → turned service news p ≡ q
+    → sent_by service server boot news p q ≡ sent → ConnectionTurn service server boot news p q sent
+goes service server boot news p q sent live known point packets =
+    live_goes service server boot news p q sent (reset_after news p) live
+    (subst (λ x. LiveTurn service server boot news p q x) packets
+    (subst (λ x. LiveTurn service server boot news p x (sent_by service server boot news p x)) point
+    (live_turn service server boot news p (grind (arith, known)))))
+
+-- a server with the one live connection p goes on to q, if its connection does
+pub serves : {State : Type 0} (service : Machine State) (boot isn : ℕ) (input : Input) (p q : Point) (sent : List Packet)
+    → fence (serving_at boot isn p) input ≡ None → newcomers (serving_at boot isn p) input 1 (Lives p ∷ []) ≡ []
+    → refusals (serving_at boot isn p) input (Lives p ∷ []) ≡ []
+    → PlaceTurn service (serving_at boot isn p) input (Lives p) (Lives q ∷ []) sent
+    → LawfulTurn service (serving_at boot isn p) input sent (serving_at boot isn q)
+serves service boot isn input p q sent unfenced none_new none_refused turn =
+    let node : Node = serving_at boot isn p in
+    let count : 1 + length (newcomers node input 1 (Lives p ∷ [])) ≡ 1 = ap (λ xs. 1 + length xs) none_new in
+    let places : Lives q ∷ [] ≡ (Lives q ∷ []) ++ newcomers node input 1 (Lives p ∷ []) = ap (λ xs. Lives q ∷ xs) (sym none_new) in
+    let others : sent ≡ sent ++ (refusals node input (Lives p ∷ []) ++ []) = sym (append-nil sent) ∙ ap (λ xs. sent ++ (xs ++ [])) (sym none_refused) in
+    record {
+      server = refl;
+      boot = refl;
+      isn = refl;
+      live = refl;
+      stage = subst (λ o. NodeTurn service node input o (Serving 1 (Lives q ∷ [])) sent) (sym unfenced) (
+        Lives q ∷ [],
+        ap (λ n. Serving n (Lives q ∷ [])) (sym count),
+        record {
+          gone = Lives q ∷ [];
+          by_places = sent;
+          all_go = alone (PlaceTurn service node input) (Lives p) (Lives q ∷ []) sent turn;
+          places = places;
+          packets = others;
+        },
+      );
+    }

@@ -14,6 +14,7 @@ pub mod Ending
 pub mod Owed
 pub mod Opening
 pub mod Segments
+pub mod Told
 pub mod Connection
 pub mod Refusal
 pub mod Restart

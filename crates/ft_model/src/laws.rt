@@ -1,8 +1,16 @@
 //! Laws over the definitions. Nothing here runs; each function is a theorem.
 
-ghost use Rattle.std.specs.Prelude.{◌≡◌, ℕ, List};
+ghost use Rattle.std.specs.Prelude.{◌≡◌, ℕ, ◌≤◌, true, None, List, length};
+ghost use Rattle.std.specs.List.{list_any};
+ghost use Rattle.ft_io.specs.declared.Addr.{Addr};
 ghost use Rattle.server_trait.specs.Service.{machine};
 ghost use Rattle.ft_model.specs.Network.{Packet};
+ghost use Rattle.ft_model.specs.News.{News};
+ghost use Rattle.ft_model.specs.News.News.{Begins};
+ghost use Rattle.ft_model.specs.Reads.{next_read};
+ghost use Rattle.ft_model.specs.Told.{is_segment, IsTold};
+ghost use Rattle.ft_model.specs.Point.{Point};
+ghost use Rattle.ft_model.specs.Connection.{LiveTurn};
 ghost use Rattle.ft_model.specs.Node.{Node, Input};
 ghost use Rattle.ft_model.specs.Lawful.{LawfulTurn};
 
@@ -15,5 +23,30 @@ pub fn turns_are_determined<S: Service>()
         → LawfulTurn (machine (S.started kind) S.after) before input sent after
         → LawfulTurn (machine (S.started kind) S.after) before input also other
         → (after ≡ other) × (sent ≡ also) }
-{
-}
+{}
+
+/// Each turn can be made: from a point whose logged reads were made, at any news, a connection that is not reset has a lawful turn.
+pub fn live_turns_exist<S: Service>()
+    ensures { (kind boot : ℕ) (server : Addr) (news : News) (before : Point) → before.reads_answered ≤ length before.lengths
+        → (after : Point) × (sent : List Packet) × LiveTurn (machine (S.started kind) S.after) server boot news before after sent }
+{}
+
+/// After each turn the client was told last what is taken and logged: every segment acknowledges that and announces the window, and a
+/// turn without a segment changes neither.
+pub fn turns_tell_the_client<S: Service>()
+    ensures { (kind boot : ℕ) (server : Addr) (news : News) (before after : Point) (sent : List Packet)
+        → LiveTurn (machine (S.started kind) S.after) server boot news before after sent → IsTold before after sent }
+{}
+
+/// The turn in which a connection becomes live sends a segment to its client.
+pub fn live_connections_begin_with_a_segment<S: Service>()
+    ensures { (kind boot : ℕ) (server : Addr) (before after : Point) (sent : List Packet)
+        → LiveTurn (machine (S.started kind) S.after) server boot Begins before after sent → list_any is_segment sent ≡ true }
+{}
+
+/// No turn leaves a read to make.
+pub fn turns_leave_no_read<S: Service>()
+    ensures { (kind boot : ℕ) (server : Addr) (news : News) (before after : Point) (sent : List Packet)
+        → LiveTurn (machine (S.started kind) S.after) server boot news before after sent
+        → next_read (machine (S.started kind) S.after) after ≡ None }
+{}

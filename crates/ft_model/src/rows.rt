@@ -1,12 +1,54 @@
-//! Worked rows: traces written out packet by packet, and the laws that they keep or that a wrong turn in them breaks. Nothing here
-//! runs; each function is a theorem.
+//! Worked rows: traces and turns written out packet by packet, and the laws that they keep or that a wrong turn in them breaks. Nothing
+//! here runs; each function is a theorem.
 
+ghost use Rattle.std.specs.Prelude.{[], ◌∷◌};
+ghost use Rattle.ft_model.specs.Node.{booted};
+ghost use Rattle.ft_model.specs.Node.Stage.{Serving};
+ghost use Rattle.ft_model.specs.Lawful.{Lawful, hello};
 ghost use Rattle.ft_model.specs.World.{Joint};
-ghost use Rattle.ft_model.specs.Rows.Common.{echo};
+ghost use Rattle.ft_model.specs.Rows.Common.{echo, server, IsRefused};
 ghost use Rattle.ft_model.specs.Rows.FirstPath;
+ghost use Rattle.ft_model.specs.Rows.CrashAfterLogged;
+ghost use Rattle.ft_model.specs.Rows.Closing;
+ghost use Rattle.ft_model.specs.Rows.ZeroWindow;
 
-/// The first path is a joint trace.
+/// The first path, whole, is a joint trace.
 pub fn first_path_is_joint()
     ensures { Joint echo FirstPath.start FirstPath.trace }
-{
-}
+{}
+
+/// After a crash with the text and its read logged, the second incarnation is lawful, from its boot to the output that it sends.
+pub fn crash_after_logged_is_lawful()
+    ensures { Lawful echo server 2 900000 (hello (booted server 2 900000)) CrashAfterLogged.restart_turns }
+{}
+
+/// Both sides close: the turns with the FINs are lawful, before a crash and after it, up to Done.
+pub fn closing_is_lawful()
+    ensures before { Lawful echo server 1 5000 (hello (booted server 1 5000)) Closing.first_turns }
+    ensures after { Lawful echo server 2 900000 (hello (booted server 2 900000)) Closing.second_turns }
+{}
+
+/// A client without room is probed, and sent again what it doesn't acknowledge.
+pub fn zero_window_is_lawful()
+    ensures { Lawful echo server 1 5000 (hello (booted server 1 5000)) ZeroWindow.probe_turns }
+{}
+
+/// In the turn in which the text comes, the Data may not be left out, nor may its Read go first or have another index.
+pub fn wrong_copies_are_refused()
+    ensures left_out { IsRefused (FirstPath.node_live FirstPath.open_point) FirstPath.text_comes FirstPath.without_copy }
+    ensures read_first { IsRefused (FirstPath.node_live FirstPath.open_point) FirstPath.text_comes FirstPath.read_first }
+    ensures index_off { IsRefused (FirstPath.node_live FirstPath.open_point) FirstPath.text_comes FirstPath.one_index_off }
+{}
+
+/// Nothing may be acknowledged that isn't logged, not one unit, and what is logged may not be passed over in silence.
+pub fn wrong_acknowledgements_are_refused()
+    ensures one_too_high { IsRefused (FirstPath.node_live FirstPath.open_point) FirstPath.text_comes FirstPath.one_too_high }
+    ensures passed_on { IsRefused (FirstPath.node_live FirstPath.open_point) FirstPath.text_comes FirstPath.passed_on }
+    ensures silent { IsRefused (FirstPath.node_live FirstPath.taken_point) FirstPath.stable_comes [] }
+{}
+
+/// Nothing leaves before the log has what it rests on: no output before its read, and no SYN-ACK before Opened.
+pub fn early_packets_are_refused()
+    ensures output { IsRefused (FirstPath.node_live FirstPath.open_point) FirstPath.text_comes FirstPath.released_early }
+    ensures syn_ack { IsRefused (FirstPath.node_at (Serving 0 [])) FirstPath.syn_comes (FirstPath.packet_6 ∷ []) }
+{}

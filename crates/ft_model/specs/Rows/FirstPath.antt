@@ -1,11 +1,12 @@
 -- The first path: a client opens, sends five bytes, and gets them back after they are logged. Seventeen events, fifteen packets.
-use Rattle.std.specs.Prelude.{ℕ, pos, true, false, Some, None, List, [], ◌∷◌, ◌++◌}
+use Rattle.std.specs.Prelude.{true, false, Some, None, List, [], ◌∷◌, ◌++◌}
 use Rattle.seq_arith.specs.Message.Body.{HelloMsg, SummaryMsg, OpenMsg, OpenedMsg, DataMsg, StableMsg, ReadMsg, ReadsMsg}
 use Rattle.ft_model.specs.Client.{Client}
 use Rattle.ft_model.specs.Log.{Log, Entry, new_entry}
 use Rattle.ft_model.specs.Point.{Point}
 use Rattle.ft_model.specs.Opening.{point_opened}
-use Rattle.ft_model.specs.Node.{Node, Stage, booted}
+use Rattle.ft_model.specs.Node.{Node, Stage, Input, booted}
+use Rattle.ft_model.specs.Node.Input.{Packet_comes, Message_comes}
 use Rattle.ft_model.specs.Node.Place.{Opens, Lives}
 use Rattle.ft_model.specs.Node.Stage.{Serving}
 use Rattle.ft_model.specs.Network.{Packet}
@@ -13,7 +14,7 @@ use Rattle.ft_model.specs.World.{World, Moment}
 use Rattle.ft_model.specs.declared.event.Event.{Event}
 use Rattle.ft_model.specs.declared.event.Event.TheVariants.{Boot, Deliver, Begin, Send, Ack}
 use Rattle.ft_model.specs.declared.phase.Phase.TheVariants.{Opening, Established}
-use Rattle.ft_model.specs.Rows.Common.{server, key, hello_text, client_with, start_with, from_client, to_client, to_log, from_log, numbers, kept_with, part_with}
+use Rattle.ft_model.specs.Rows.Common.{server, key, hello_text, client_with, start_with, client_segment, from_client, to_client, to_log, from_log, numbers, kept_with, part_with}
 
 abbrev pub start : World
 start = start_with hello_text
@@ -175,3 +176,37 @@ abbrev pub trace : List Moment
 trace =
     moment_17 ∷ moment_16 ∷ moment_15 ∷ moment_14 ∷ moment_13 ∷ moment_12 ∷ moment_11 ∷ moment_10 ∷ moment_9 ∷ moment_8 ∷ moment_7 ∷ moment_6
     ∷ moment_5 ∷ moment_4 ∷ moment_3 ∷ moment_2 ∷ moment_1 ∷ []
+
+-- Wrong turns. In the turn of the text: the Data is left out, ..
+abbrev pub without_copy : List Packet
+without_copy = packet_9 ∷ packet_11 ∷ []
+
+-- .. one unit is acknowledged that isn't logged yet, ..
+abbrev pub one_too_high : List Packet
+one_too_high = to_client 16 5001 1002 65535 None [] ∷ packet_10 ∷ packet_11 ∷ []
+
+-- .. all that TCP took is acknowledged, ..
+abbrev pub passed_on : List Packet
+passed_on = to_client 16 5001 1006 65535 None [] ∷ packet_10 ∷ packet_11 ∷ []
+
+-- .. the Read goes before the Data, ..
+abbrev pub read_first : List Packet
+read_first = packet_9 ∷ packet_11 ∷ packet_10 ∷ []
+
+-- .. the Read has the next index, ..
+abbrev pub one_index_off : List Packet
+one_index_off = packet_9 ∷ packet_10 ∷ to_log 1 (ReadMsg key 1 5) ∷ []
+
+-- .. or the output leaves before its read is logged
+abbrev pub released_early : List Packet
+released_early = to_client 16 5001 1001 65535 None hello_text ∷ packet_10 ∷ packet_11 ∷ []
+
+-- the inputs of the SYN, of the text and of its Stable
+abbrev pub syn_comes : Input
+syn_comes = Packet_comes (client_segment 2 1000 0 65535 [])
+
+abbrev pub text_comes : Input
+text_comes = Packet_comes (client_segment 16 1001 5001 65535 hello_text)
+
+abbrev pub stable_comes : Input
+stable_comes = Message_comes (record { boot = 1; body = StableMsg (kept_with 5 false 0) })

@@ -1,0 +1,51 @@
+-- The point after a turn, put together from its laws: first what the news change, then the reads, then what is settled at the end.
+use Rattle.std.proofs.Common.{ℕ, false, List, [], ◌∷◌, ◌++◌}
+use Rattle.server_trait.specs.Service.{Machine}
+use Rattle.ft_model.specs.News.{News}
+use Rattle.ft_model.specs.Point.{Point}
+use Rattle.ft_model.specs.Taken.{taken_after, fin_after}
+use Rattle.ft_model.specs.Answered.{answered_after, reads_answered_after}
+use Rattle.ft_model.specs.Reads.{Makes, next_length, may_read}
+use Rattle.ft_model.specs.Timer.{interval_after, rest_after}
+use Rattle.ft_model.specs.Sending.{counted_after, acknowledged_after, edge_after, wl1_after, wl2_after, sent_after}
+use Rattle.ft_model.specs.Ending.{end_ticks_after}
+
+-- the point after the news are noted, with these lengths and with what is settled at the end of the turn left open
+abbrev pub noted : News → Point → List ℕ → (sent interval rest end_ticks : ℕ) → Point
+noted news p lengths sent interval rest end_ticks = record {
+  key = p.key;
+  cisn = p.cisn;
+  sisn = p.sisn;
+  mss = p.mss;
+  fetched = p.fetched;
+  taken = taken_after news p;
+  fin = fin_after news p;
+  answered = answered_after news p;
+  lengths = lengths;
+  reads_answered = reads_answered_after news p;
+  una = acknowledged_after news p;
+  sent = sent;
+  edge = edge_after news p;
+  wl1 = wl1_after news p;
+  wl2 = wl2_after news p;
+  counted = counted_after news p;
+  interval = interval;
+  rest = rest;
+  end_ticks = end_ticks;
+  reset = false;
+}
+
+-- the point after a turn, as far as it hangs on the lengths of all reads alone
+abbrev pub settled : {State : Type 0} → Machine State → News → Point → List ℕ → Point
+settled service news p lengths =
+    let plain : Point = noted news p lengths 0 0 0 0 in
+    let sent : ℕ = sent_after service news p plain in
+    noted news p lengths sent (interval_after news p plain) (rest_after service news p (noted news p lengths sent 0 0 0)) (end_ticks_after service news p plain)
+
+-- which reads are made doesn't hang on what is settled at the end
+pub makes_alike : {State : Type 0} (service : Machine State) (news : News) (p : Point) (ns lengths : List ℕ) (sent interval rest end_ticks sent' interval' rest' end_ticks' : ℕ)
+    → Makes service (noted news p lengths sent interval rest end_ticks) ns → Makes service (noted news p lengths sent' interval' rest' end_ticks') ns
+unfolding next_length may_read
+makes_alike service news p [] lengths sent interval rest end_ticks sent' interval' rest' end_ticks' m = m
+makes_alike service news p (n ∷ ns) lengths sent interval rest end_ticks sent' interval' rest' end_ticks' m =
+    (m.0, makes_alike service news p ns (lengths ++ n ∷ []) sent interval rest end_ticks sent' interval' rest' end_ticks' m.1)

@@ -1,0 +1,156 @@
+-- Every turn of a live connection tells its client what is taken and logged, or has nothing new to tell; and it leaves no read to make.
+use Rattle.std.proofs.Common.{◌≡◌, ℕ, zero, suc, ◌+◌, ◌-◌, ◌≤◌, Bool, true, false, not, nat_lt, nat_le, min, ◌==◌, ◌&&◌, ◌||◌, refl, sym, ap, ap₂, ◌∙◌, subst, true≢false, None, List, [], ◌∷◌, ◌++◌, map, arith, append-nil, append_assoc, if◌then◌else◌}
+use Rattle.std.specs.List.{AllByRecursion, list_any}
+use Rattle.ft_io.specs.declared.Addr.{Addr}
+use Rattle.seq_arith.specs.Number.{number_at}
+use Rattle.seq_arith.specs.Packet.{Segment}
+use Rattle.seq_arith.specs.Message.{Body}
+use Rattle.server_trait.specs.Service.{Machine}
+use Rattle.ft_model.specs.Network.{Packet}
+use Rattle.ft_model.specs.Network.Packet.{To_client}
+use Rattle.ft_model.specs.News.{News}
+use Rattle.ft_model.specs.News.News.{Logged, Begins}
+use Rattle.ft_model.specs.Point.{Point, taken_units, acknowledgement, announced_edge, released}
+use Rattle.ft_model.specs.Sending.{sent_at_once}
+use Rattle.ft_model.specs.Answered.{answered_after}
+use Rattle.ft_model.specs.Reads.{Makes, next_read, with_read}
+use Rattle.ft_model.specs.Owed.{is_owed, asks}
+use Rattle.ft_model.specs.Segments.{window, new_length, texts, syn_acks, syn_ack, opens_with, first_unacknowledged, probe, resent, new_texts, new_fin, full_segments, or_bare, bare_segment, segments_of, text_at, fin_segment}
+use Rattle.ft_model.specs.Copy.{copies}
+use Rattle.ft_model.specs.Reads.{reads_told}
+use Rattle.ft_model.specs.Ending.{dones}
+use Rattle.ft_model.specs.Timer.{expires}
+use Rattle.ft_model.specs.Told.{is_segment, Tells, IsTold}
+use Rattle.ft_model.specs.Connection.{LiveTurn, told_by}
+
+-- a segment tells the point
+abbrev TellsIn : Point → Segment → Type 0
+TellsIn p segment = (segment.head.ack ≡ number_at p.cisn (acknowledgement p)) × (segment.head.window ≡ window p)
+
+all_append : {A : Type 0} (P : A → Type 0) (xs ys : List A) → AllByRecursion P xs → AllByRecursion P ys → AllByRecursion P (xs ++ ys)
+all_append P [] ys a b = b
+all_append P (x ∷ xs) ys a b = (a.0, all_append P xs ys a.1 b)
+
+one_or_none : {A : Type 0} (P : A → Type 0) (b : Bool) (x : A) → P x → AllByRecursion P (if b then x ∷ [] else [])
+one_or_none P true x h = (h, tt)
+one_or_none P false x h = tt
+
+either : {A : Type 0} (P : A → Type 0) (b : Bool) (x y : A) → P x → P y → P (if b then x else y)
+either P true x y h k = h
+either P false x y h k = k
+
+texts_tell : {State : Type 0} (service : Machine State) (server : Addr) (p : Point) (k offset left : ℕ) → AllByRecursion (TellsIn p) (texts service server p k offset left)
+texts_tell service server p zero offset left = tt
+texts_tell service server p (suc k) offset left =
+    either (AllByRecursion (TellsIn p)) (nat_lt 0 left)
+    (text_at service server p offset (min left p.mss) ∷ texts service server p k (offset + min left p.mss) (left - min left p.mss)) []
+    ((refl, refl), texts_tell service server p k (offset + min left p.mss) (left - min left p.mss)) tt
+
+first_tells : {State : Type 0} (service : Machine State) (server : Addr) (before after : Point) → TellsIn after (first_unacknowledged service server before after)
+first_tells service server before after =
+    either (TellsIn after) (not after.counted) _ _ (refl, refl) (either (TellsIn after) (after.una == _) _ _ (refl, refl) (refl, refl))
+
+probe_tells : {State : Type 0} (service : Machine State) (server : Addr) (before after : Point) → TellsIn after (probe service server before after)
+probe_tells service server before after =
+    either (TellsIn after) (nat_lt before.sent (released service after)) (text_at service server after before.sent 1) (fin_segment service server after) (refl, refl) (refl, refl)
+
+or_bare_tells : (p : Point) (owed : Bool) (bare : Segment) (segments : List Segment) → TellsIn p bare → AllByRecursion (TellsIn p) segments
+    → AllByRecursion (TellsIn p) (or_bare owed bare segments)
+or_bare_tells p owed bare [] b all = one_or_none (TellsIn p) owed bare b
+or_bare_tells p owed bare (segment ∷ segments) b all = all
+
+segments_tell : {State : Type 0} (service : Machine State) (server : Addr) (news : News) (before after : Point) → AllByRecursion (TellsIn after) (segments_of service server news before after)
+unfolding segments_of full_segments resent new_texts new_fin
+segments_tell service server news before after =
+    let syns : AllByRecursion (TellsIn after) (syn_acks server news before after) = one_or_none (TellsIn after) (opens_with news before) (syn_ack server after) (refl, refl) in
+    let again : AllByRecursion (TellsIn after) (resent service server news before after) =
+    one_or_none (TellsIn after) (expires news before)
+    (if not after.counted || nat_lt after.una before.sent then first_unacknowledged service server before after else probe service server before after)
+    (either (TellsIn after) (not after.counted || nat_lt after.una before.sent) (first_unacknowledged service server before after) (probe service server before after)
+    (first_tells service server before after) (probe_tells service server before after)) in
+    let fresh : AllByRecursion (TellsIn after) (new_texts service server before after) =
+    texts_tell service server after (new_length service before after) before.sent (new_length service before after) in
+    let last : AllByRecursion (TellsIn after) (new_fin service server before after) =
+    one_or_none (TellsIn after) (nat_lt (released service after) (sent_at_once service before after) && nat_le before.sent (released service after))
+    (fin_segment service server after) (refl, refl) in
+    or_bare_tells after (is_owed service news before after) (bare_segment server after) (full_segments service server news before after) (refl, refl)
+    (all_append (TellsIn after) (syn_acks server news before after) _ syns
+    (all_append (TellsIn after) (resent service server news before after) _ again
+    (all_append (TellsIn after) (new_texts service server before after) (new_fin service server before after) fresh last)))
+
+messages_tell : (boot : ℕ) (p : Point) (bodies : List Body) → AllByRecursion (Tells p) (map (told_by boot) bodies)
+messages_tell boot p [] = tt
+messages_tell boot p (body ∷ bodies) = (tt, messages_tell boot p bodies)
+
+clients_tell : (p : Point) (segments : List Segment) → AllByRecursion (TellsIn p) segments → AllByRecursion (Tells p) (map To_client segments)
+clients_tell p [] a = tt
+clients_tell p (segment ∷ segments) a = (a.0, clients_tell p segments a.1)
+
+none_sent : (segments : List Segment) (others : List Packet) → list_any is_segment (map To_client segments ++ others) ≡ false → segments ≡ []
+none_sent [] others e = refl
+none_sent (segment ∷ segments) others e = absurd (true≢false e)
+
+none_owed : (owed : Bool) (bare : Segment) (segments : List Segment) → or_bare owed bare segments ≡ [] → owed ≡ false
+none_owed true bare [] e = ap (λ xs. list_any (λ x. true) xs) e
+none_owed false bare [] e = refl
+none_owed owed bare (segment ∷ segments) e = absurd (true≢false (ap (λ xs. list_any (λ x. true) xs) e))
+
+nothing_owed : (a b c d : Bool) → (a || b || not c || not d) ≡ false → (b ≡ false) × (c ≡ true) × (d ≡ true)
+nothing_owed false false true true e = (refl, refl, refl)
+nothing_owed true _ _ _ e = absurd (true≢false e)
+nothing_owed false true _ _ e = absurd (true≢false e)
+nothing_owed false false false _ e = absurd (true≢false e)
+nothing_owed false false true false e = absurd (true≢false e)
+
+answered_grows : (news : News) (p : Point) → p.answered ≤ answered_after news p
+unfolding answered_after
+answered_grows (Logged kept) p = omega arith
+answered_grows _ p = omega arith
+
+pub told : {State : Type 0} (service : Machine State) (server : Addr) (boot : ℕ) (news : News) (before after : Point) (sent : List Packet)
+    → LiveTurn service server boot news before after sent → IsTold before after sent
+unfolding segments_of is_owed
+told service server boot news before after sent t =
+    let bodies : List Body = copies news before after ++ (reads_told news before after ++ dones news before after) in
+    let segments : List Segment = segments_of service server news before after in
+    record {
+      all = subst (AllByRecursion (Tells after)) (sym t.packets)
+          (all_append (Tells after) (map To_client segments) (map (told_by boot) bodies)
+          (clients_tell after segments (segments_tell service server news before after)) (messages_tell boot after bodies));
+      silent = λ e.
+          let none : segments ≡ [] = none_sent segments (map (told_by boot) bodies) (sym (ap (list_any is_segment) t.packets) ∙ e) in
+          let quiet : is_owed service news before after ≡ false =
+          none_owed (is_owed service news before after) (bare_segment server after) (full_segments service server news before after) none in
+          let parts = nothing_owed (asks service news before) (nat_lt before.answered after.answered) (taken_units before == taken_units after) (announced_edge before == announced_edge after) quiet in
+          let grew : before.answered ≤ after.answered = subst (λ n. before.answered ≤ n) (sym t.answered) (answered_grows news before) in
+          let fell : after.answered ≤ before.answered = grind (arith, parts) in
+          let answered : after.answered ≡ before.answered = omega (arith, grew, fell) in
+          let units : taken_units after ≡ taken_units before = grind (arith, parts) in
+          let edge : announced_edge after ≡ announced_edge before = grind (arith, parts) in
+          let ack : acknowledgement after ≡ acknowledgement before = ap₂ min units answered in
+          (ack, ap₂ (λ x y. min 65535 (x - y)) edge ack);
+    }
+
+-- when these reads are made there is none left
+none_left : {State : Type 0} (service : Machine State) (p : Point) (ns : List ℕ) → Makes service p ns → next_read service (record p { lengths = p.lengths ++ ns }) ≡ None
+none_left service p [] m = subst (λ ns. next_read service (record p { lengths = ns }) ≡ None) (sym (append-nil p.lengths)) m
+none_left service p (n ∷ ns) m =
+    subst (λ ls. next_read service (record p { lengths = ls }) ≡ None) (append_assoc p.lengths (n ∷ []) ns) (none_left service (with_read n p) ns m.1)
+
+pub settled_reads : {State : Type 0} (service : Machine State) (server : Addr) (boot : ℕ) (news : News) (before after : Point) (sent : List Packet)
+    → LiveTurn service server boot news before after sent → next_read service after ≡ None
+settled_reads service server boot news before after sent t =
+    subst (λ ns. next_read service (record after { lengths = ns }) ≡ None) (sym t.reads.lengths)
+    (none_left service (record after { lengths = before.lengths }) t.reads.news t.reads.makes)
+
+some_sent : (bare : Segment) (segments : List Segment) (others : List Packet) → list_any is_segment (map To_client (or_bare true bare segments) ++ others) ≡ true
+some_sent bare [] others = refl
+some_sent bare (segment ∷ segments) others = refl
+
+pub begins_told : {State : Type 0} (service : Machine State) (server : Addr) (boot : ℕ) (before after : Point) (sent : List Packet)
+    → LiveTurn service server boot Begins before after sent → list_any is_segment sent ≡ true
+unfolding segments_of is_owed
+begins_told service server boot before after sent t =
+    let bodies : List Body = copies Begins before after ++ (reads_told Begins before after ++ dones Begins before after) in
+    ap (list_any is_segment) t.packets
+    ∙ some_sent (bare_segment server after) (full_segments service server Begins before after) (map (told_by boot) bodies)

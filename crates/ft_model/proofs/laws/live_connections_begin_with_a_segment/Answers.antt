@@ -1,0 +1,6 @@
+use Rattle.ft_model.proofs.laws.live_connections_begin_with_a_segment.Goals as goal
+use Rattle.server_trait.specs.Service.{machine}
+use Rattle.ft_model.proofs.TurnTells.{begins_told}
+
+pub returns : goal.returns
+returns g c = λ kind boot server before after sent t. begins_told (machine (g.S.Service.started kind) g.S.Service.after) server boot before after sent t

@@ -1,0 +1,22 @@
+-- What the laws Acknowledgement and Window promise of the packets of a turn: every segment to the client tells what is taken and logged,
+-- and a turn without a segment has nothing new to tell. So after each turn the client was told last what holds now.
+use Rattle.std.specs.Prelude.{◌≡◌, Bool, true, false, List}
+use Rattle.std.specs.List.{AllByRecursion, list_any}
+use Rattle.seq_arith.specs.Number.{number_at}
+use Rattle.ft_model.specs.Network.{Packet}
+use Rattle.ft_model.specs.Network.Packet.{To_client}
+use Rattle.ft_model.specs.Point.{Point, acknowledgement}
+use Rattle.ft_model.specs.Segments.{window}
+
+abbrev pub is_segment : Packet → Bool
+is_segment (To_client segment) = true
+is_segment _ = false
+
+-- a segment to the client acknowledges what the point does, and announces its window
+abbrev pub Tells : Point → Packet → Type 0
+Tells p (To_client segment) = (segment.head.ack ≡ number_at p.cisn (acknowledgement p)) × (segment.head.window ≡ window p)
+Tells p _ = Unit {0}
+
+pub record IsTold (before after : Point) (sent : List Packet) : Type 0 where
+  pub all : AllByRecursion (Tells after) sent
+  pub silent : list_any is_segment sent ≡ false → (acknowledgement after ≡ acknowledgement before) × (window after ≡ window before)
