@@ -1,8 +1,8 @@
 -- Sums of words: of strings one behind the other, and of one word replaced.
-use Rattle.std.proofs.Common.{◌≡◌, ℕ, suc, zero, ◌<◌, ◌+◌, ◌-◌, ◌*◌, ◌/◌, ◌%◌, Bool, true, false, not, List, [], ◌∷◌, ◌++◌, length, drop, get_or, ap, refl, sym, arith, ◌∙◌, length-append}
+use Rattle.std.proofs.Common.{◌≡◌, ℕ, suc, zero, ◌<◌, ◌+◌, ◌-◌, ◌*◌, ◌/◌, ◌%◌, Bool, true, false, not, List, [], ◌∷◌, ◌++◌, length, drop, get_or, ap, refl, sym, arith, ◌∙◌, length-append, zero-add}
 use Rattle.std.specs.Prelude.{nat_eq}
 use Rattle.std.proofs.Math.Bool.{beq}
-use Rattle.seq_arith.specs.Checksum.{word_sum, odd_after, folded, check_of, Summed, with_bytes}
+use Rattle.seq_arith.specs.Checksum.{word_sum, odd_after, folded, check_of, checksum, Summed, nothing_summed, with_bytes}
 
 pub word_sum_append : (odd : Bool) (xs ys : List ℕ) → word_sum odd (xs ++ ys) ≡ word_sum odd xs + word_sum (odd_after odd xs) ys
 word_sum_append odd [] ys = omega arith
@@ -80,3 +80,11 @@ checked_in_place front rest check even is =
 pub word_replaced : (front rest : List ℕ) (x y z w : ℕ) → odd_after false front ≡ false
     → word_sum false (front ++ z ∷ w ∷ rest) ≡ word_sum false (front ++ x ∷ y ∷ rest) - (256 * x + y) + (256 * z + w)
 word_replaced front rest x y z w even = omega (arith, word_between front rest x y even, word_between front rest z w even)
+
+-- the checksum of a string that was taken in three pieces
+pub three_pieces : (one two three : Summed) (a b c : List ℕ) → one ≡ with_bytes nothing_summed a → two ≡ with_bytes one b → three ≡ with_bytes two c
+    → check_of three.total ≡ checksum (a ++ b ++ c)
+three_pieces one two three a b c first second third =
+    let joined : three ≡ with_bytes nothing_summed (a ++ b ++ c) =
+    third ∙ ap (λ s. with_bytes s c) (second ∙ ap (λ s. with_bytes s b) first ∙ pieces_join nothing_summed a b) ∙ pieces_join nothing_summed (a ++ b) c
+    in ap (λ s. check_of s.total) joined ∙ ap check_of (zero-add (word_sum false (a ++ b ++ c)))

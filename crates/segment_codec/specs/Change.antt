@@ -1,0 +1,20 @@
+-- Bytes changed in place.
+use Rattle.std.specs.Prelude.{ℕ, List, ◌++◌, ◌+◌, length, take, drop, Result, Ok, Err}
+use Rattle.seq_arith.specs.declared.BadPacket.{BadPacket}
+use Rattle.seq_arith.specs.Bytes.{two}
+use Rattle.seq_arith.specs.Checksum.{checksum}
+use Rattle.seq_arith.specs.Packet.{Segment}
+use Rattle.seq_arith.specs.PacketGrammar.{tcp_text}
+
+-- these bytes at a place, and all others as they were
+unfoldable pub put : ℕ → List ℕ → List ℕ → List ℕ
+put at new bytes = take at bytes ++ new ++ drop (at + length new) bytes
+
+-- a packet with its TCP checksum summed anew
+unfoldable pub sealed : List ℕ → List ℕ
+sealed bytes = let blank = put 36 (two 0) bytes in put 36 (two (checksum (tcp_text blank))) blank
+
+-- a reading with the segment changed, where there is one
+abbrev pub changed : (Segment → Segment) → Result Segment BadPacket → Result Segment BadPacket
+changed change (Ok segment) = Ok (change segment)
+changed change (Err bad) = Err bad

@@ -1,0 +1,28 @@
+-- What the codec's values say, in the plain records of the packet grammar.
+use Rattle.std.specs.Prelude.{Result, Ok, Err}
+use Rattle.seq_arith.specs.declared.BadPacket.{BadPacket}
+use Rattle.seq_arith.specs.Packet.{Segment}
+use Rattle.seq_arith.specs.Packet as packet
+use Rattle.segment_codec.specs.declared.Head.{Head}
+use Rattle.segment_codec.specs.declared.PacketRef.{PacketRef}
+
+abbrev pub said : Head → packet.Head
+said head = record {
+    src = head.src;
+    dst = head.dst;
+    sport = head.sport;
+    dport = head.dport;
+    seq = head.seq.0;
+    ack = head.ack.0;
+    flags = head.flags;
+    window = head.window;
+    mss = head.mss
+  }
+
+abbrev pub segment_of : PacketRef → Segment
+segment_of packet = record { head = said packet.head; payload = packet.payload.now }
+
+-- what a reading says
+abbrev pub seen : Result PacketRef BadPacket → Result Segment BadPacket
+seen (Ok packet) = Ok (segment_of packet)
+seen (Err bad) = Err bad
