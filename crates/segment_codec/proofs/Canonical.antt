@@ -2,6 +2,8 @@
 use Rattle.std.proofs.Common.{◌≡◌, ℕ, List, ◌∷◌, ◌++◌, take, drop, refl}
 use Rattle.seq_arith.specs.Bytes.{two, four}
 use Rattle.seq_arith.specs.Checksum.{checksum}
+use Rattle.std.proofs.Common.{◌≡◌, ℕ, refl}
+use Rattle.seq_arith.specs.Bytes.{two, four}
 use Rattle.seq_arith.specs.Packet.{Segment, with_seq, with_ack, with_window}
 use Rattle.seq_arith.specs.PacketGrammar.{tcp_text, spelled, spelling}
 use Rattle.segment_codec.specs.Change.{put, sealed}

@@ -1,5 +1,6 @@
 pub mod Canonical
 pub mod Cells
 pub mod Options
+pub mod Pieces
 pub mod Placing
 pub mod Tests

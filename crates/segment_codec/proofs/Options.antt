@@ -2,6 +2,8 @@
 use Rattle.std.proofs.Common.{◌≡◌, ◌≢◌, ℕ, zero, suc, ◌<◌, ◌≤◌, ◌+◌, ◌-◌, Bool, true, false, List, [], ◌∷◌, length, drop, ap, refl, sym, arith, ◌∙◌, get_or}
 use Rattle.std.specs.Prelude.{Option, None, Some, nat_eq, nat_lt, slice_index, if◌then◌else◌, ◌&&◌, ◌||◌}
 use Rattle.std.specs.Option.{option_or}
+use Rattle.std.proofs.Common.{◌≡◌, ◌≢◌, ℕ, zero, suc, ◌<◌, ◌≤◌, ◌-◌, true, false, List, [], ◌∷◌, length, drop, ap, refl, sym, arith, ◌∙◌, get_or}
+use Rattle.std.specs.Prelude.{Some, nat_eq, ◌&&◌}
 use Rattle.std.proofs.lemmas.Bool.{ne_eqb, lt-ltb, le-ltb, cond_both}
 use Rattle.seq_arith.specs.Bytes.{word_at}
 use Rattle.seq_arith.specs.PacketGrammar.{has_bad_option, mss_in}

@@ -2,6 +2,9 @@
 use Rattle.std.proofs.Common.{◌≡◌, ℕ, Bool, true, false, List, [], ◌∷◌, ◌++◌, ap, refl, sym, ◌∙◌}
 use Rattle.std.specs.Option.{option_or}
 use Rattle.std.specs.Prelude.{Option, None, Some, if◌then◌else◌}
+use Rattle.std.proofs.Common.{◌≡◌, ℕ, Bool, true, false, List, [], ◌∷◌, ◌++◌, ap, refl, ◌∙◌}
+use Rattle.std.specs.Option.{option_or}
+use Rattle.std.specs.Prelude.{Option, Some, if◌then◌else◌}
 use Rattle.seq_arith.specs.declared.BadPacket.{BadPacket}
 use Rattle.seq_arith.specs.PacketGrammar.{ip_tests, tcp_tests, first_that_holds, refusal, segment_in, unless, reading}
 

@@ -18,6 +18,16 @@ said head = record {
     window = head.window;
     mss = head.mss
   }
+  src = head.src;
+  dst = head.dst;
+  sport = head.sport;
+  dport = head.dport;
+  seq = head.seq.0;
+  ack = head.ack.0;
+  flags = head.flags;
+  window = head.window;
+  mss = head.mss;
+}
 
 abbrev pub segment_of : PacketRef → Segment
 segment_of packet = record { head = said packet.head; payload = packet.payload.now }

@@ -41,6 +41,13 @@ pub(crate) fn put_long(bytes: &mut [u8], at: usize, n: u32)
     BigEndian::write_u32(&mut bytes[at..], n);
 }
 
+pub(crate) fn put_bytes(bytes: &mut [u8], at: usize, new: &[u8])
+    requires { at + length new.now ≤ length bytes.old }
+    ensures { bytes.new ≡ put at new.now bytes.old }
+{
+    bytes[at..at + new.len()].copy_from_slice(new);
+}
+
 /// The checksum of the IP header, with what stands in its checksum's place.
 pub(crate) fn ip_checksum(bytes: &[u8]) -> u16
     requires { 20 ≤ length bytes.now }

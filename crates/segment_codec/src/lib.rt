@@ -10,6 +10,11 @@ pub use seq_arith::BadPacket;
 pub use reading::read_packet;
 pub use setting::{set_ack, set_seq, set_window};
 use seq_arith::Seq;
+pub use reading::read_packet;
+pub use seq_arith::BadPacket;
+use seq_arith::Seq;
+pub use setting::{set_ack, set_seq, set_window};
+pub use writing::write_packet;
 
 mod fields;
 mod reading;

@@ -20,7 +20,7 @@ long_back n h = omega arith
 abbrev with_mss : Option ℕ → Segment → Segment
 with_mss mss segment = record segment { head = record segment.head { mss = mss } }
 
-size_of : (segment : Segment) (ip tcp : ℕ) → length (spelled segment ip tcp) ≡ packet_length segment
+pub size_of : (segment : Segment) (ip tcp : ℕ) → length (spelled segment ip tcp) ≡ packet_length segment
 unfolding spelled two four
 size_of segment ip tcp = omega (arith, length-append (mss_option segment.head.mss) segment.payload)
 
@@ -59,7 +59,7 @@ tcp_sums : (segment : Segment) (ip tcp : ℕ) → tcp ≡ checksum (tcp_text (sp
 unfolding spelled two four tcp_text
 tcp_sums segment ip tcp is = checked_in_place (take 28 (tcp_text (spelled segment 0 0))) (drop 30 (tcp_text (spelled segment 0 0))) tcp refl is
 
-size : (segment : Segment) → length (spelling segment) ≡ packet_length segment
+pub size : (segment : Segment) → length (spelling segment) ≡ packet_length segment
 unfolding spelling
 size segment = size_of segment (checksum (take 20 (spelled segment 0 0))) (checksum (tcp_text (spelled segment 0 0)))
 

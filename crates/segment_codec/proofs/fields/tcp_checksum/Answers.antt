@@ -15,3 +15,6 @@ returns c =
         (c.take.ensures ∙ ap (λ s. with_bytes s addresses) c.new-sum.ensures)
         (c.take-2.ensures ∙ ap (λ xs. with_bytes c.take.new.self (0 ∷ 6 ∷ (xs ++ []))) c.write_u16.ensures)
         (c.take-3.ensures ∙ ap (λ xs. with_bytes c.take-2.new.self xs) (take_rest bytes 20))
+    (c.take.ensures ∙ ap (λ s. with_bytes s addresses) c.new-sum.ensures)
+    (c.take-2.ensures ∙ ap (λ xs. with_bytes c.take.new.self (0 ∷ 6 ∷ (xs ++ []))) c.write_u16.ensures)
+    (c.take-3.ensures ∙ ap (λ xs. with_bytes c.take-2.new.self xs) (take_rest bytes 20))

@@ -8,6 +8,7 @@ abbrev pub invariant-loop-kind : goal.invariant-loop-kind
 invariant-loop-kind l = record {
   bad : has_bad_option 0 l.rest ≡ has_bad_option 0 l.options;
   offered : option_or l.mss (mss_in 0 l.rest) ≡ mss_in 0 l.options
+  offered : option_or l.mss (mss_in 0 l.rest) ≡ mss_in 0 l.options;
 }
 
 abbrev pub decreases-loop-kind : goal.decreases-loop-kind
