@@ -1,9 +1,8 @@
 -- How Transfer's requests come out of bytes in parts.
-use Rattle.std.proofs.Common.{◌≡◌, ℕ, ◌+◌, ◌%◌, ◌<◌, ◌≤◌, ◌==◌, get_or, drop, true, false, List, [], ◌∷◌, ◌++◌, length, refl, sym, ◌∙◌, ap, append_assoc, append-nil}
-use Rattle.std.specs.Prelude.{if◌then◌else◌}
+use Rattle.std.proofs.Common.{◌≡◌, ℕ, ◌+◌, ◌<◌, ◌≤◌, get_or, drop, false, List, [], ◌∷◌, ◌++◌, length, refl, sym, ◌∙◌, ap, append_assoc, append-nil, arith}
 use Rattle.std.proofs.lemmas.List.{drop_more, drop_all}
 use Rattle.sample_servers.specs.Stream.{waiting, written, and_then}
-use Rattle.sample_servers.specs.Transfer.{held_bytes, request_of, size_of, pattern, holding, request_served, requests_served, bytes_served}
+use Rattle.sample_servers.specs.Transfer.{held_bytes, request_of, holding, request_served, requests_served, bytes_served}
 use Rattle.sample_servers.specs.declared.transfer.Held.{Held}
 use Rattle.sample_servers.specs.declared.transfer.Held.TheVariants.{Nothing, One, Two, Three}
 use Rattle.sample_servers.specs.declared.transfer.Transfer.{Transfer}
@@ -39,11 +38,7 @@ bytes_served-nil place (Three a b c) = refl
 -- a request and no byte more
 pub request_alone : (place request : ℕ) → and_then (request_served place request) (λ next. holding next.place Nothing) ≡ request_served place request
 unfolding request_served
-request_alone place request =
-    elim (request == 0) as (λ b. and_then (if b then record { next = record { place = place; held = Nothing }; output = []; closed = true } else record { next = record { place = (place + size_of request) % 251; held = Nothing }; output = pattern place (size_of request); closed = false }) (λ next. holding next.place Nothing) ≡ (if b then record { next = record { place = place; held = Nothing }; output = []; closed = true } else record { next = record { place = (place + size_of request) % 251; held = Nothing }; output = pattern place (size_of request); closed = false })) [
-      | true ↦ refl
-      | false ↦ rw append-nil refl
-    ]
+request_alone place request = grind (arith, append-nil {A = ℕ})
 
 -- one byte of some, and then those behind it
 pub bytes_served_at : (s : Transfer) (bytes : List ℕ) (i : ℕ) → i < length bytes → bytes_served s (drop i bytes) ≡ and_then (bytes_served s (get_or bytes i 0 ∷ [])) (λ next. bytes_served next (drop (i + 1) bytes))
