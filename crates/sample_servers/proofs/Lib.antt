@@ -1,0 +1,4 @@
+pub mod Streams
+pub mod Patterns
+pub mod Requests
+pub mod Lines

@@ -1,0 +1,26 @@
+-- One of the four services, told by a number: 1 Echo, 2 Line, 3 Transfer, 4 Meter, and every other number Echo.
+use Rattle.std.specs.Prelude.{ℕ, List, ◌==◌, if◌then◌else◌}
+use Rattle.server_trait.specs.Service.{Served}
+use Rattle.sample_servers.specs.Echo.{echo_started, echo_after}
+use Rattle.sample_servers.specs.Line.{line_started, line_after}
+use Rattle.sample_servers.specs.Transfer.{transfer_started, transfer_after}
+use Rattle.sample_servers.specs.Meter.{meter_started, meter_after}
+use Rattle.sample_servers.specs.declared.any_service.AnyService.{AnyService}
+use Rattle.sample_servers.specs.declared.any_service.AnyService.TheVariants.{Echo, Line, Transfer, Meter}
+
+abbrev pub any_started : ℕ → AnyService
+any_started kind =
+    if kind == 2 then Line line_started
+    else (if kind == 3 then Transfer transfer_started
+    else (if kind == 4 then Meter meter_started else Echo echo_started))
+
+-- the same, with its state read as one of another type
+abbrev pub mapped : {A B : Type 0} → (A → B) → Served A → Served B
+mapped f served = record { next = f served.next; output = served.output; closed = served.closed }
+
+-- it does what the service in it does
+abbrev pub any_after : AnyService → List ℕ → Served AnyService
+any_after (Echo echo) chunk = mapped Echo (echo_after echo chunk)
+any_after (Line line) chunk = mapped Line (line_after line chunk)
+any_after (Transfer transfer) chunk = mapped Transfer (transfer_after transfer chunk)
+any_after (Meter meter) chunk = mapped Meter (meter_after meter chunk)

@@ -1,0 +1,10 @@
+-- Echo: the output of a chunk is the chunk. The empty chunk closes.
+use Rattle.std.specs.Prelude.{ℕ, List, length, ◌==◌}
+use Rattle.server_trait.specs.Service.{Served}
+use Rattle.sample_servers.specs.declared.echo.Echo.{Echo}
+
+abbrev pub echo_started : Echo
+echo_started = record {}
+
+abbrev pub echo_after : Echo → List ℕ → Served Echo
+echo_after echo chunk = record { next = echo; output = chunk; closed = length chunk == 0 }

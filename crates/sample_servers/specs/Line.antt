@@ -1,0 +1,72 @@
+-- Line: the input is split at line feeds, and each line comes back with its number. It is a fold over the bytes, so that a line may
+-- be cut over any number of chunks.
+use Rattle.std.specs.Prelude.{◌≡◌, ℕ, ◌<◌, ◌≤◌, drop, true, false, List, [], ◌∷◌, ◌++◌, ◌+◌, ◌-◌, ◌^◌, min, take, length, decimal, codes, bytes_eq, nat_lt, ◌==◌, if◌then◌else◌}
+use Rattle.server_trait.specs.Service.{Served}
+use Rattle.sample_servers.specs.Stream.{waiting, and_then, each_byte}
+use Rattle.sample_servers.specs.declared.line.Piece.{Piece}
+use Rattle.sample_servers.specs.declared.line.Piece.TheVariants.{Ends, GoesOn}
+
+-- the number of lines that are finished, and the bytes of the line that goes on
+pub record LineState : Type 0 where
+  pub finished : ℕ
+  pub held : List ℕ
+
+abbrev pub line_started : LineState
+line_started = record { finished = 0; held = [] }
+
+-- the number of the next line. At the end of 64 bits it stands still
+abbrev pub number_after : ℕ → ℕ
+number_after finished = min (finished + 1) (2 ^ 64 - 1)
+
+-- a line as it is written: its number, a space, its bytes, and a line feed. It has at most 1,024 bytes
+unfoldable pub numbered : ℕ → List ℕ → List ℕ
+numbered number line = decimal number ++ codes " " ++ take 1024 line ++ codes "\n"
+
+-- a line ends. `quit` is answered by `bye` and closes, and any other line comes back with its number
+unfoldable pub line_finished : ℕ → List ℕ → Served LineState
+line_finished finished line =
+    if bytes_eq line (codes "quit")
+    then record { next = record { finished = finished; held = [] }; output = codes "bye\n"; closed = true }
+    else record {
+      next = record { finished = number_after finished; held = [] };
+      output = numbered (number_after finished) line;
+      closed = false;
+    }
+
+-- a byte that is no line feed goes on with the line, which ends where it has 1,024 bytes
+abbrev pub line_longer : ℕ → List ℕ → Served LineState
+line_longer finished line =
+    if nat_lt (length line) 1024 then waiting (record { finished = finished; held = line }) else line_finished finished line
+
+-- what one byte does: a line feed ends the line, and another byte lengthens it
+abbrev pub line_byte : LineState → ℕ → Served LineState
+line_byte state byte =
+    if byte == 10 then line_finished state.finished state.held else line_longer state.finished (state.held ++ byte ∷ [])
+
+-- the end of input ends a line that isn't empty, and closes
+abbrev pub line_end : LineState → Served LineState
+line_end state =
+    if length state.held == 0
+    then record { next = state; output = []; closed = true }
+    else record (line_finished state.finished state.held) { closed = true }
+
+abbrev pub line_after : LineState → List ℕ → Served LineState
+line_after state chunk = if length chunk == 0 then line_end state else each_byte line_byte state chunk
+
+-- the line that is held ends with `len` bytes more, which uses up `used` bytes
+pub record EndsAt (state : LineState) (bytes : List ℕ) (len used : ℕ) : Type 0 where
+  pub fits : length state.held + len ≤ 1024
+  pub within : len ≤ used
+  pub some : 0 < used
+  pub enough : used ≤ length bytes
+  pub served : each_byte line_byte state bytes ≡ and_then (line_finished state.finished (state.held ++ take len bytes)) (λ next. each_byte line_byte next (drop used bytes))
+
+-- the line that is held goes on with all the bytes
+pub record StaysOpen (state : LineState) (bytes : List ℕ) : Type 0 where
+  pub fits : length state.held + length bytes < 1024
+  pub served : each_byte line_byte state bytes ≡ waiting (record { finished = state.finished; held = state.held ++ bytes })
+
+-- where a line ends in bytes that come behind it
+abbrev pub Splits : LineState → List ℕ → Piece → Type 0
+Splits state bytes (Ends len used) = EndsAt state bytes len used
+Splits state bytes GoesOn = StaysOpen state bytes

@@ -1,0 +1,66 @@
+-- Transfer: the input is requests of four bytes, each a number, big-endian. A request gives as many bytes as it says, at most 2,047,
+-- of the pattern whose byte i, over the whole output, is i modulo 251. Request 0 closes.
+use Rattle.std.specs.Prelude.{ℕ, zero, suc, true, false, List, [], ◌∷◌, ◌++◌, ◌+◌, ◌*◌, ◌%◌, min, length, ◌==◌, if◌then◌else◌}
+use Rattle.server_trait.specs.Service.{Served}
+use Rattle.sample_servers.specs.Stream.{waiting, and_then}
+use Rattle.sample_servers.specs.declared.transfer.Held.{Held}
+use Rattle.sample_servers.specs.declared.transfer.Held.TheVariants.{Nothing, One, Two, Three}
+use Rattle.sample_servers.specs.declared.transfer.Transfer.{Transfer}
+
+abbrev pub transfer_started : Transfer
+transfer_started = record { place = 0; held = Nothing }
+
+-- the bytes that are held, short of a request
+abbrev pub held_bytes : Held → List ℕ
+held_bytes Nothing = []
+held_bytes (One a) = a ∷ []
+held_bytes (Two a b) = a ∷ b ∷ []
+held_bytes (Three a b c) = a ∷ b ∷ c ∷ []
+
+-- the number that four bytes spell, big-endian
+abbrev pub request_of : ℕ → ℕ → ℕ → ℕ → ℕ
+request_of a b c d = ((a * 256 + b) * 256 + c) * 256 + d
+
+-- how many bytes a request is given
+abbrev pub size_of : ℕ → ℕ
+size_of request = min request 2047
+
+-- so many bytes of the pattern, from this place on
+unfoldable pub pattern : ℕ → ℕ → List ℕ
+pattern place zero = []
+pattern place (suc size) = place % 251 ∷ pattern (place + 1) size
+
+-- the place and the held bytes from which the service goes on
+abbrev pub holding : ℕ → Held → Served Transfer
+holding place held = waiting (record { place = place; held = held })
+
+-- what one request does: 0 closes, and another is given its bytes of the pattern
+unfoldable pub request_served : ℕ → ℕ → Served Transfer
+request_served place request =
+    if request == 0
+    then record { next = record { place = place; held = Nothing }; output = []; closed = true }
+    else record {
+      next = record { place = (place + size_of request) % 251; held = Nothing };
+      output = pattern place (size_of request);
+      closed = false;
+    }
+
+-- what bytes do from a place of the pattern on: request after request, and what is short of one is held
+abbrev pub requests_served : ℕ → List ℕ → Served Transfer
+requests_served place [] = holding place Nothing
+requests_served place (a ∷ []) = holding place (One a)
+requests_served place (a ∷ b ∷ []) = holding place (Two a b)
+requests_served place (a ∷ b ∷ c ∷ []) = holding place (Three a b c)
+requests_served place (a ∷ b ∷ c ∷ d ∷ bytes) =
+    and_then (request_served place (request_of a b c d)) (λ next. requests_served next.place bytes)
+
+-- what bytes do behind those that are held
+unfoldable pub bytes_served : Transfer → List ℕ → Served Transfer
+bytes_served transfer bytes = requests_served transfer.place (held_bytes transfer.held ++ bytes)
+
+-- the end of input closes, and a held rest is ignored
+abbrev pub transfer_after : Transfer → List ℕ → Served Transfer
+transfer_after transfer chunk =
+    if length chunk == 0
+    then record { next = transfer; output = []; closed = true }
+    else bytes_served transfer chunk

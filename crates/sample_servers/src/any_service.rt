@@ -1,0 +1,48 @@
+//! One service out of the four, chosen by a number.
+
+ghost use Rattle.std.specs.Prelude.{◌≡◌, ℕ, ◌^◌, ◌≤◌, List, [], length, true};
+
+use crate::{Echo, Line, Meter, Transfer};
+use ft_io::NoMemory;
+use server_trait::{Next, Service};
+use std::alloc::Global;
+
+/// One of the four services. `fresh` takes its kind as 1 for Echo, 2 for Line, 3 for Transfer and 4 for Meter, and every other kind as 1.
+#[derive(Debug, Drop)]
+pub enum AnyService {
+    Echo(Echo),
+    Line(Line),
+    Transfer(Transfer),
+    Meter(Meter),
+}
+
+impl Service for AnyService {
+    ghost use Rattle.sample_servers.specs.AnyService.{any_started, any_after};
+    ghost use Rattle.sample_servers.specs.Lengths.{closed-any_after, length-any_after-le};
+
+    ghost started = { any_started };
+
+    ghost after = { any_after };
+
+    fn fresh(alloc: Global, kind: u8) -> AnyService {
+        match kind {
+            2 => AnyService::Line(Line::fresh(alloc, kind)),
+            3 => AnyService::Transfer(Transfer::fresh(alloc, kind)),
+            4 => AnyService::Meter(Meter::fresh(alloc, kind)),
+            _ => AnyService::Echo(Echo::fresh(alloc, kind)),
+        }
+    }
+
+    fn take(&mut self, chunk: &[u8], out: &mut Vec<u8>) -> Result<Next, NoMemory> {
+        match self {
+            AnyService::Echo(echo) => echo.take(chunk, out),
+            AnyService::Line(line) => line.take(chunk, out),
+            AnyService::Transfer(transfer) => transfer.take(chunk, out),
+            AnyService::Meter(meter) => meter.take(chunk, out),
+        }
+    }
+
+    ghost closes = { closed-any_after };
+
+    ghost is_short = { length-any_after-le };
+}

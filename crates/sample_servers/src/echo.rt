@@ -1,0 +1,37 @@
+//! Echo gives each chunk back as it came.
+
+ghost use Rattle.std.specs.Prelude.{◌≡◌, ℕ, ◌^◌, ◌≤◌, List, [], length, true};
+
+use ft_io::NoMemory;
+use server_trait::{Next, Service};
+use std::alloc::Global;
+
+/// The echo service. It has no state.
+#[derive(Clone, Copy, Debug, PartialEq, Eq)]
+pub struct Echo;
+
+impl Service for Echo {
+    ghost use Rattle.std.proofs.Common.{rules};
+    ghost use Rattle.sample_servers.specs.Echo.{echo_started, echo_after};
+
+    ghost started = { λ _. echo_started };
+
+    ghost after = { echo_after };
+
+    fn fresh(_alloc: Global, _kind: u8) -> Echo {
+        Echo
+    }
+
+    fn take(&mut self, chunk: &[u8], out: &mut Vec<u8>) -> Result<Next, NoMemory> {
+        out.extend_from_slice(chunk)?;
+        Ok(if chunk.is_empty() {
+            Next::Close
+        } else {
+            Next::Go
+        })
+    }
+
+    ghost closes = { λ _. Prim.search rules };
+
+    ghost is_short = { λ _ _ short. Prim.search rules };
+}

@@ -1,0 +1,18 @@
+//! Four deterministic services, and the enum over them that a program runs. Each stresses another part of a fault-tolerant server:
+//! Echo the plain way, Line state across chunks, Transfer large output, and Meter the cuts themselves. What each does is its definition
+//! in `specs/`, and `take` does just that.
+#![tactic(auto)]
+
+pub use any_service::AnyService;
+pub use echo::Echo;
+pub use line::Line;
+pub use meter::Meter;
+pub use transfer::Transfer;
+
+mod any_service;
+mod echo;
+mod line;
+mod meter;
+#[cfg(test)]
+mod tests;
+mod transfer;

@@ -1,0 +1,203 @@
+//! Line gives each line of its input back with the line's number. A line is held until it ends, over as many chunks as it takes.
+
+ghost use Rattle.std.specs.Prelude.{◌≡◌, ℕ, ◌^◌, ◌≤◌, ◌<◌, ◌+◌, ◌-◌, List, [], ◌++◌, length, take, drop, true, codes, bytes_eq, IfOk, OnOk};
+ghost use Rattle.server_trait.specs.Service.{next_of};
+ghost use Rattle.sample_servers.specs.Stream.{waiting, and_then, each_byte};
+ghost use Rattle.sample_servers.specs.Line.{LineState, numbered, line_finished, line_end, line_byte, Splits};
+
+use ft_io::NoMemory;
+use itoa::Buffer;
+use memchr::memchr;
+use server_trait::{Next, Service};
+use std::alloc::Global;
+use std::marker::Model;
+
+/// A line ends where it has this many bytes.
+const LINE_LIMIT: usize = 1_024;
+
+/// The line service: the number of lines that are finished, and the bytes of the line that goes on, fewer than 1,024.
+#[derive(Debug, Drop)]
+pub struct Line {
+    finished: u64,
+    held: Vec<u8>,
+}
+
+impl Model for Line {
+    ghost Value = { LineState };
+
+    ghost view = { λ line. record { finished = line.finished; held = line.held.items } };
+
+    ghost invariant = { λ line. length line.held.items < 1024 };
+}
+
+/// What the bytes of a chunk do to a line that is held.
+#[derive(Clone, Copy, Debug, PartialEq, Eq)]
+enum Piece {
+    /// The line ends with so many bytes more, and so many bytes of the chunk are used up.
+    Ends { len: usize, used: usize },
+    /// The line doesn't end in them.
+    GoesOn,
+}
+
+impl Line {
+    // Takes bytes line by line, up to the one that closes, and holds what is left of them.
+    fn take_bytes(&mut self, bytes: &[u8], out: &mut Vec<u8>) -> Result<Next, NoMemory>
+        ensures state { IfOk result (λ _. self.new ≡ (each_byte line_byte self.old bytes.now).next) }
+        ensures output { IfOk result (λ _. out.new.items ≡ out.old.items ++ (each_byte line_byte self.old bytes.now).output) }
+        ensures closed { IfOk result (λ next. next ≡ next_of (each_byte line_byte self.old bytes.now).closed) }
+    {
+        let mut rest = bytes;
+        while let Piece::Ends { len, used } = self.split(rest) {
+            if self.finish(&rest[..len], out)? == Next::Close {
+                return Ok(Next::Close);
+            }
+            rest = &rest[used..];
+        }
+        self.hold(rest)?;
+        Ok(Next::Go)
+    }
+
+    // Goes on with the line that is held.
+    fn hold(&mut self, bytes: &[u8]) -> Result<(), NoMemory>
+        requires { length self.old.held + length bytes.now < 1024 }
+        ensures { OnOk result (self.new ≡ record self.old { held = self.old.held ++ bytes.now }) }
+    {
+        self.held.extend_from_slice(bytes)?;
+        Ok(())
+    }
+
+    // Ends the line that is held, with these bytes behind it.
+    #[tactic(auto, unfolding(crate::specs::Line::line_finished))]
+    fn finish(&mut self, piece: &[u8], out: &mut Vec<u8>) -> Result<Next, NoMemory>
+        requires { length self.old.held + length piece.now ≤ 1024 }
+        ensures state { IfOk result (λ _. self.new ≡ (line_finished self.old.finished (self.old.held ++ piece.now)).next) }
+        ensures output { IfOk result (λ _. out.new.items ≡ out.old.items ++ (line_finished self.old.finished (self.old.held ++ piece.now)).output) }
+        ensures closed { IfOk result (λ next. next ≡ next_of (line_finished self.old.finished (self.old.held ++ piece.now)).closed) }
+    {
+        if is_quit(&self.held, piece) {
+            out.extend_from_slice(b"bye\n")?;
+            self.held.clear();
+            return Ok(Next::Close);
+        }
+        self.finished = self.finished.saturating_add(1);
+        write_line(self.finished, &self.held, piece, out)?;
+        self.held.clear();
+        Ok(Next::Go)
+    }
+
+    // Where the line that is held ends in these bytes.
+    fn split(&self, bytes: &[u8]) -> Piece
+        ensures { Splits self.now bytes.now result }
+    {
+        let room = LINE_LIMIT - self.held.len();
+        let front = &bytes[..bytes.len().min(room)];
+        match memchr(b'\n', front) {
+            Some(len) => Piece::Ends { len, used: len + 1 },
+            None if front.len() == room => Piece::Ends {
+                len: room,
+                used: room,
+            },
+            None => Piece::GoesOn,
+        }
+    }
+
+    // Ends the input: a line that isn't empty is finished.
+    fn end(&mut self, out: &mut Vec<u8>) -> Result<Next, NoMemory>
+        ensures state { IfOk result (λ _. self.new ≡ (line_end self.old).next) }
+        ensures output { IfOk result (λ _. out.new.items ≡ out.old.items ++ (line_end self.old).output) }
+        ensures closed { IfOk result (λ next. next ≡ Next.Close) }
+    {
+        if !self.held.is_empty() {
+            self.finish(b"", out)?;
+        }
+        Ok(Next::Close)
+    }
+}
+
+// Whether a line in two parts is `quit`.
+fn is_quit(front: &[u8], back: &[u8]) -> bool
+    ensures { result ≡ bytes_eq (front.now ++ back.now) (codes "quit") }
+{
+    match b"quit".strip_prefix(front) {
+        Some(rest) => back == rest,
+        None => false,
+    }
+}
+
+// Appends a line in two parts, with its number.
+#[tactic(auto, using(crate::proofs::Lines::numbered_whole, std::proofs::Common::append_assoc))]
+fn write_line(number: u64, front: &[u8], back: &[u8], out: &mut Vec<u8>) -> Result<(), NoMemory>
+    requires { length front.now + length back.now ≤ 1024 }
+    ensures { OnOk result (out.new.items ≡ out.old.items ++ numbered number (front.now ++ back.now)) }
+{
+    let mut digits = Buffer::new();
+    let digits = digits.format(number).as_bytes();
+    out.reserve(digits.len() + front.len() + back.len() + 2)?;
+    out.extend_from_slice(digits)?;
+    out.push(b' ')?;
+    out.extend_from_slice(front)?;
+    out.extend_from_slice(back)?;
+    out.push(b'\n')?;
+    Ok(())
+}
+
+impl Service for Line {
+    ghost use Rattle.sample_servers.specs.Line.{line_started, line_after};
+    ghost use Rattle.sample_servers.specs.Lengths.{length-line_after-le, closed-line_after};
+
+    ghost started = { λ _. line_started };
+
+    ghost after = { line_after };
+
+    fn fresh(alloc: Global, _kind: u8) -> Line {
+        Line {
+            finished: 0,
+            held: Vec::new(alloc),
+        }
+    }
+
+    fn take(&mut self, chunk: &[u8], out: &mut Vec<u8>) -> Result<Next, NoMemory> {
+        if chunk.is_empty() {
+            return self.end(out);
+        }
+        self.take_bytes(chunk, out)
+    }
+
+    ghost closes = { closed-line_after };
+
+    ghost is_short = { length-line_after-le };
+}
+
+#[cfg(test)]
+mod tests {
+    use super::*;
+    use std::test::Fail;
+
+    // No run reaches these numbers, so the states are made.
+    #[test]
+    fn the_line_number_stands_still_at_the_end_of_64_bits(rt: HostRuntime) -> Result<(), Fail> {
+        for (finished, output) in [
+            (
+                u64::MAX - 2,
+                b"18446744073709551614 a\n18446744073709551615 b\n".as_slice(),
+            ),
+            (
+                u64::MAX - 1,
+                b"18446744073709551615 a\n18446744073709551615 b\n",
+            ),
+            (
+                u64::MAX,
+                b"18446744073709551615 a\n18446744073709551615 b\n",
+            ),
+        ] {
+            let mut line = Line {
+                finished,
+                held: Vec::new(rt.alloc()),
+            };
+            let mut out = Vec::new(rt.alloc());
+            assert!(rt; line.take(b"a\nb\n", &mut out).is_ok());
+            assert!(rt; out.as_slice() == output, "from {finished}");
+        }
+        Ok(())
+    }
+}

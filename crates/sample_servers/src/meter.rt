@@ -1,0 +1,40 @@
+//! Meter gives the length of each chunk, so its output tells how the input was cut.
+
+ghost use Rattle.std.specs.Prelude.{◌≡◌, ℕ, ◌^◌, ◌≤◌, List, [], length, true};
+
+use ft_io::NoMemory;
+use itoa::Buffer;
+use server_trait::{Next, Service};
+use std::alloc::Global;
+
+/// The service that measures its reads. It has no state.
+#[derive(Clone, Copy, Debug, PartialEq, Eq)]
+pub struct Meter;
+
+impl Service for Meter {
+    ghost use Rattle.std.proofs.Common.{arith, rules};
+    ghost use Rattle.sample_servers.specs.Meter.{meter_started, meter_after};
+    ghost use Rattle.sample_servers.specs.Lengths.{length-length_line-le};
+
+    ghost started = { λ _. meter_started };
+
+    ghost after = { meter_after };
+
+    fn fresh(_alloc: Global, _kind: u8) -> Meter {
+        Meter
+    }
+
+    fn take(&mut self, chunk: &[u8], out: &mut Vec<u8>) -> Result<Next, NoMemory> {
+        if chunk.is_empty() {
+            return Ok(Next::Close);
+        }
+        let mut digits = Buffer::new();
+        out.extend_from_slice(digits.format(chunk.len()).as_bytes())?;
+        out.push(b'\n')?;
+        Ok(Next::Go)
+    }
+
+    ghost closes = { λ _. Prim.search rules };
+
+    ghost is_short = { λ _ chunk short. Prim.omega (arith, length-length_line-le chunk short) };
+}

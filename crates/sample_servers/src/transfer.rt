@@ -1,0 +1,138 @@
+//! Transfer gives as many bytes as it is asked for: little input, large output.
+
+ghost use Rattle.std.specs.Prelude.{◌≡◌, ℕ, ◌^◌, ◌<◌, ◌≤◌, ◌+◌, ◌%◌, List, [], ◌∷◌, ◌++◌, length, true, IfOk, OnOk};
+ghost use Rattle.server_trait.specs.Service.{next_of};
+ghost use Rattle.sample_servers.specs.Transfer.{request_of, request_served, bytes_served, pattern};
+
+use ft_io::NoMemory;
+use server_trait::{Next, Service};
+use std::alloc::Global;
+
+/// The most bytes that one request is given.
+const SIZE_LIMIT: u32 = 2_047;
+
+/// The pattern's length, in bytes: byte i of the whole output is i modulo this.
+const PERIOD: u8 = 251;
+
+/// The bytes of a request that has not come whole.
+#[derive(Clone, Copy, Debug, PartialEq, Eq)]
+enum Held {
+    Nothing,
+    One(u8),
+    Two(u8, u8),
+    Three(u8, u8, u8),
+}
+
+/// The transfer service: where in the pattern its output stands, and the bytes that are held, short of a request.
+#[derive(Clone, Copy, Debug, PartialEq, Eq)]
+pub struct Transfer {
+    place: u8,
+    held: Held,
+}
+
+impl Transfer {
+    // Takes bytes up to the one that closes.
+    #[tactic(auto, using(crate::proofs::Requests::bytes_served_at, crate::proofs::Requests::bytes_served_end, std::proofs::Common::append_assoc))]
+    fn take_bytes(&mut self, bytes: &[u8], out: &mut Vec<u8>) -> Result<Next, NoMemory>
+        ensures state { IfOk result (λ _. self.new ≡ (bytes_served self.old bytes.now).next) }
+        ensures output { IfOk result (λ _. out.new.items ≡ out.old.items ++ (bytes_served self.old bytes.now).output) }
+        ensures closed { IfOk result (λ next. next ≡ next_of (bytes_served self.old bytes.now).closed) }
+    {
+        for byte in bytes {
+            if self.take_byte(*byte, out)? == Next::Close {
+                return Ok(Next::Close);
+            }
+        }
+        Ok(Next::Go)
+    }
+
+    // Takes one byte, and serves the request that it completes.
+    #[tactic(auto, using(crate::proofs::Requests::request_alone), unfolding(crate::specs::Transfer::bytes_served))]
+    fn take_byte(&mut self, byte: u8, out: &mut Vec<u8>) -> Result<Next, NoMemory>
+        ensures state { IfOk result (λ _. self.new ≡ (bytes_served self.old (byte ∷ [])).next) }
+        ensures output { IfOk result (λ _. out.new.items ≡ out.old.items ++ (bytes_served self.old (byte ∷ [])).output) }
+        ensures closed { IfOk result (λ next. next ≡ next_of (bytes_served self.old (byte ∷ [])).closed) }
+    {
+        match self.held {
+            Held::Nothing => self.held = Held::One(byte),
+            Held::One(a) => self.held = Held::Two(a, byte),
+            Held::Two(a, b) => self.held = Held::Three(a, b, byte),
+            Held::Three(a, b, c) => return self.serve(number(a, b, c, byte), out),
+        }
+        Ok(Next::Go)
+    }
+
+    // Serves one request, after which nothing is held.
+    #[tactic(auto, unfolding(crate::specs::Transfer::request_served))]
+    fn serve(&mut self, request: u32, out: &mut Vec<u8>) -> Result<Next, NoMemory>
+        ensures state { IfOk result (λ _. self.new ≡ (request_served self.old.place request).next) }
+        ensures output { IfOk result (λ _. out.new.items ≡ out.old.items ++ (request_served self.old.place request).output) }
+        ensures closed { IfOk result (λ next. next ≡ next_of (request_served self.old.place request).closed) }
+    {
+        self.held = Held::Nothing;
+        if request == 0 {
+            return Ok(Next::Close);
+        }
+        let size = request.min(SIZE_LIMIT);
+        write_pattern(self.place, size, out)?;
+        self.place = ((u32::from(self.place) + size) % u32::from(PERIOD)) as u8;
+        Ok(Next::Go)
+    }
+}
+
+// The number that four bytes spell.
+fn number(a: u8, b: u8, c: u8, d: u8) -> u32
+    ensures { result ≡ request_of a b c d }
+{
+    ((u32::from(a) * 256 + u32::from(b)) * 256 + u32::from(c)) * 256 + u32::from(d)
+}
+
+// Appends so many bytes of the pattern, from this place on.
+#[tactic(auto, using(crate::proofs::Patterns::pattern_push), unfolding(crate::specs::Transfer::pattern))]
+fn write_pattern(place: u8, size: u32, out: &mut Vec<u8>) -> Result<(), NoMemory>
+    ensures { OnOk result (out.new.items ≡ out.old.items ++ pattern place size) }
+{
+    out.reserve(size as usize)?;
+    let mut next = place % PERIOD;
+    for i in 0..size {
+        out.push(next)?;
+        next = following(next);
+    }
+    Ok(())
+}
+
+// The byte of the pattern behind this one.
+fn following(byte: u8) -> u8
+    requires { byte < 251 }
+    ensures { result ≡ (byte + 1) % 251 }
+{
+    if byte == PERIOD - 1 { 0 } else { byte + 1 }
+}
+
+impl Service for Transfer {
+    ghost use Rattle.std.proofs.Common.{rules};
+    ghost use Rattle.sample_servers.specs.Transfer.{transfer_started, transfer_after};
+    ghost use Rattle.sample_servers.specs.Lengths.{length-transfer_after-le};
+
+    ghost started = { λ _. transfer_started };
+
+    ghost after = { transfer_after };
+
+    fn fresh(_alloc: Global, _kind: u8) -> Transfer {
+        Transfer {
+            place: 0,
+            held: Held::Nothing,
+        }
+    }
+
+    fn take(&mut self, chunk: &[u8], out: &mut Vec<u8>) -> Result<Next, NoMemory> {
+        if chunk.is_empty() {
+            return Ok(Next::Close);
+        }
+        self.take_bytes(chunk, out)
+    }
+
+    ghost closes = { λ _. Prim.search rules };
+
+    ghost is_short = { length-transfer_after-le };
+}
