@@ -1,7 +1,4 @@
 -- A spelling with a field changed and its checksum summed anew is the spelling of the changed segment.
-use Rattle.std.proofs.Common.{◌≡◌, ℕ, List, ◌∷◌, ◌++◌, take, drop, refl}
-use Rattle.seq_arith.specs.Bytes.{two, four}
-use Rattle.seq_arith.specs.Checksum.{checksum}
 use Rattle.std.proofs.Common.{◌≡◌, ℕ, refl}
 use Rattle.seq_arith.specs.Bytes.{two, four}
 use Rattle.seq_arith.specs.Packet.{Segment, with_seq, with_ack, with_window}

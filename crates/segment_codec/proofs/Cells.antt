@@ -1,7 +1,5 @@
 -- A packet by its cells: with its first forty bytes written out, every field and every test computes, so a change of some fields leaves the
 -- tests as they were, and the checksum summed anew makes up for the rest.
-use Rattle.std.proofs.Common.{◌≡◌, ℕ, zero, suc, ◌<◌, ◌≤◌, ◌+◌, ◌-◌, ◌*◌, ◌/◌, ◌%◌, ◌^◌, Bool, true, false, not, List, [], ◌∷◌, ◌++◌, length, take, drop, get_or, ap, refl, sym, subst, arith, ◌∙◌}
-use Rattle.std.specs.Prelude.{Ok, ◌||◌, IsOk, nat_eq, nat_lt, slice_index}
 use Rattle.std.proofs.Common.{◌≡◌, ℕ, zero, suc, ◌<◌, ◌≤◌, ◌+◌, ◌-◌, ◌*◌, ◌/◌, ◌%◌, ◌^◌, Bool, true, false, List, [], ◌∷◌, ◌++◌, length, take, drop, get_or, ap, refl, sym, subst, arith, ◌∙◌}
 use Rattle.std.specs.Prelude.{Ok, ◌||◌, IsOk, nat_lt, slice_index}
 use Rattle.std.proofs.lemmas.List.{drop-drop}
@@ -16,11 +14,6 @@ use Rattle.seq_arith.proofs.Spelling.{word_back, long_back}
 use Rattle.segment_codec.specs.Change.{put, sealed, changed}
 
 -- the first n bytes written out
-abbrev front : ℕ → List ℕ → List ℕ
-front zero bytes = bytes
-front (suc n) bytes = get_or bytes 0 0 ∷ front n (drop 1 bytes)
-
-front_is : (n : ℕ) (bytes : List ℕ) → n ≤ length bytes → front n bytes ≡ bytes
 abbrev pub front : ℕ → List ℕ → List ℕ
 front zero bytes = bytes
 front (suc n) bytes = get_or bytes 0 0 ∷ front n (drop 1 bytes)
@@ -49,10 +42,6 @@ tests_fail : (bytes : List ℕ) (s t u v a b c d w x y z : ℕ) → AllFail (ip_
     → AllFail (ip_tests (edited bytes s t u v a b c d w x y z) ++ tcp_tests (edited bytes s t u v a b c d w x y z))
 unfolding ip_tests tcp_tests payload_at options_in word_at
 tests_fail bytes s t u v a b c d w x y z fail sum = (
-    fail.0, (fail.1.0, (fail.1.1.0, (fail.1.1.1.0, (fail.1.1.1.1.0, (fail.1.1.1.1.1.0, (fail.1.1.1.1.1.1.0, (
-    fail.1.1.1.1.1.1.1.0, (fail.1.1.1.1.1.1.1.1.0, (
-    no_difference (checksum (tcp_text (edited bytes s t u v a b c d w x y z))) 0 sum, (
-    fail.1.1.1.1.1.1.1.1.1.1.0, tt)))))))))))
   fail.0,
   (
     fail.1.0,
@@ -101,7 +90,6 @@ same_payload bytes s t u v a b c d w x y z far =
 
 edited_says : (bytes : List ℕ) (s t u v a b c d w x y z : ℕ) → 40 ≤ payload_at (cells bytes)
     → segment_in (edited bytes s t u v a b c d w x y z)
-        ≡ with_seq (16777216 * s + 65536 * t + 256 * u + v) (with_ack (16777216 * a + 65536 * b + 256 * c + d) (with_window (256 * w + x) (segment_in (cells bytes))))
     ≡ with_seq (16777216 * s + 65536 * t + 256 * u + v) (with_ack (16777216 * a + 65536 * b + 256 * c + d) (with_window (256 * w + x) (segment_in (cells bytes))))
 unfolding segment_in head_in payload_at options_in word_at long_at
 edited_says bytes s t u v a b c d w x y z far =
@@ -120,10 +108,6 @@ behind_header bytes fail = ltb-false (payload_at bytes) 40 (or_left (nat_lt (pay
 edited_reads : (bytes : List ℕ) (s t u v a b c d w x check : ℕ) → AllFail (ip_tests (cells bytes) ++ tcp_tests (cells bytes))
     → check ≡ checksum (tcp_text (edited bytes s t u v a b c d w x 0 0))
     → reading (edited bytes s t u v a b c d w x (check / 256 % 256) (check % 256))
-        ≡ Ok (with_seq (16777216 * s + 65536 * t + 256 * u + v) (with_ack (16777216 * a + 65536 * b + 256 * c + d) (with_window (256 * w + x) (segment_in (cells bytes)))))
-edited_reads bytes s t u v a b c d w x check fail is =
-    passes (edited bytes s t u v a b c d w x (check / 256 % 256) (check % 256))
-        (tests_fail bytes s t u v a b c d w x (check / 256 % 256) (check % 256) fail (sum_is_right bytes s t u v a b c d w x check is))
     ≡ Ok (with_seq (16777216 * s + 65536 * t + 256 * u + v) (with_ack (16777216 * a + 65536 * b + 256 * c + d) (with_window (256 * w + x) (segment_in (cells bytes)))))
 edited_reads bytes s t u v a b c d w x check fail is =
     passes (edited bytes s t u v a b c d w x (check / 256 % 256) (check % 256))
@@ -139,7 +123,6 @@ seq_cells : (bytes : List ℕ) (seq : ℕ) → seq < 2 ^ 32 → AllFail (ip_test
 unfolding sealed put two four segment_in head_in long_at word_at
 seq_cells bytes seq small fail =
     edited_reads bytes (seq / 16777216 % 256) (seq / 65536 % 256) (seq / 256 % 256) (seq % 256) (at 28 bytes) (at 29 bytes) (at 30 bytes) (at 31 bytes) (at 34 bytes) (at 35 bytes)
-        (checksum (tcp_text (put 36 (two 0) (put 24 (four seq) (cells bytes))))) fail refl
     (checksum (tcp_text (put 36 (two 0) (put 24 (four seq) (cells bytes))))) fail refl
     ∙ ap (λ n. Ok (with_seq n (segment_in (cells bytes)))) (long_back seq small)
 
@@ -148,7 +131,6 @@ ack_cells : (bytes : List ℕ) (ack : ℕ) → ack < 2 ^ 32 → AllFail (ip_test
 unfolding sealed put two four segment_in head_in long_at word_at
 ack_cells bytes ack small fail =
     edited_reads bytes (at 24 bytes) (at 25 bytes) (at 26 bytes) (at 27 bytes) (ack / 16777216 % 256) (ack / 65536 % 256) (ack / 256 % 256) (ack % 256) (at 34 bytes) (at 35 bytes)
-        (checksum (tcp_text (put 36 (two 0) (put 28 (four ack) (cells bytes))))) fail refl
     (checksum (tcp_text (put 36 (two 0) (put 28 (four ack) (cells bytes))))) fail refl
     ∙ ap (λ n. Ok (with_ack n (segment_in (cells bytes)))) (long_back ack small)
 
@@ -157,7 +139,6 @@ window_cells : (bytes : List ℕ) (window : ℕ) → window < 2 ^ 16 → AllFail
 unfolding sealed put two segment_in head_in long_at word_at
 window_cells bytes window small fail =
     edited_reads bytes (at 24 bytes) (at 25 bytes) (at 26 bytes) (at 27 bytes) (at 28 bytes) (at 29 bytes) (at 30 bytes) (at 31 bytes) (window / 256 % 256) (window % 256)
-        (checksum (tcp_text (put 36 (two 0) (put 34 (two window) (cells bytes))))) fail refl
     (checksum (tcp_text (put 36 (two 0) (put 34 (two window) (cells bytes))))) fail refl
     ∙ ap (λ n. Ok (with_window n (segment_in (cells bytes)))) (word_back window small)
 

@@ -1,7 +1,4 @@
 -- A walk over options, one option at a time.
-use Rattle.std.proofs.Common.{◌≡◌, ◌≢◌, ℕ, zero, suc, ◌<◌, ◌≤◌, ◌+◌, ◌-◌, Bool, true, false, List, [], ◌∷◌, length, drop, ap, refl, sym, arith, ◌∙◌, get_or}
-use Rattle.std.specs.Prelude.{Option, None, Some, nat_eq, nat_lt, slice_index, if◌then◌else◌, ◌&&◌, ◌||◌}
-use Rattle.std.specs.Option.{option_or}
 use Rattle.std.proofs.Common.{◌≡◌, ◌≢◌, ℕ, zero, suc, ◌<◌, ◌≤◌, ◌-◌, true, false, List, [], ◌∷◌, length, drop, ap, refl, sym, arith, ◌∙◌, get_or}
 use Rattle.std.specs.Prelude.{Some, nat_eq, ◌&&◌}
 use Rattle.std.proofs.lemmas.Bool.{ne_eqb, lt-ltb, le-ltb, cond_both}

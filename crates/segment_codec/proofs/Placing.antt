@@ -1,5 +1,4 @@
 -- What a write into the middle of a slice leaves.
-use Rattle.std.proofs.Common.{◌≡◌, ℕ, ◌<◌, ◌≤◌, ◌+◌, ◌-◌, List, [], ◌++◌, length, take, drop, ap, refl, sym, arith, append_assoc, append-nil, ◌∙◌}
 use Rattle.std.proofs.Common.{◌≡◌, ℕ, ◌≤◌, ◌+◌, ◌-◌, List, [], ◌++◌, length, take, drop, ap, sym, arith, append_assoc, append-nil, ◌∙◌}
 use Rattle.std.proofs.lemmas.List.{take_rest, drop-drop, drop_all}
 use borrow.Rule.Slice.PartMut.{put_mid, post_of}
@@ -12,8 +11,6 @@ unfolding put
 placed at bytes new part within is =
     let rest : part ≡ new ++ drop (at + length new) bytes = is ∙ ap (λ xs. new ++ drop (length new) xs) (take_rest bytes at) ∙ ap (λ xs. new ++ xs) (drop-drop (length new) at bytes)
     in let gone : post_of at (length bytes - at) bytes ≡ [] =
-        drop-drop (length bytes - at) at bytes ∙ drop_all (at + (length bytes - at)) bytes (omega arith)
-    in ap (λ xs. take at bytes ++ xs) (ap (λ xs. part ++ xs) gone ∙ append-nil part ∙ rest) ∙ sym (append_assoc (take at bytes) new (drop (at + length new) bytes))
     drop-drop (length bytes - at) at bytes ∙ drop_all (at + (length bytes - at)) bytes (omega arith)
     in ap (λ xs. take at bytes ++ xs) (ap (λ xs. part ++ xs) gone ∙ append-nil part ∙ rest) ∙ sym (append_assoc (take at bytes) new (drop (at + length new) bytes))
 

@@ -8,16 +8,6 @@ use Rattle.segment_codec.specs.declared.PacketRef.{PacketRef}
 
 abbrev pub said : Head → packet.Head
 said head = record {
-    src = head.src;
-    dst = head.dst;
-    sport = head.sport;
-    dport = head.dport;
-    seq = head.seq.0;
-    ack = head.ack.0;
-    flags = head.flags;
-    window = head.window;
-    mss = head.mss
-  }
   src = head.src;
   dst = head.dst;
   sport = head.sport;

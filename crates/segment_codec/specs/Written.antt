@@ -1,9 +1,3 @@
--- The parts of a packet's first forty bytes, before its checksums are summed.
-use Rattle.std.specs.Prelude.{ℕ, List, [], ◌∷◌, ◌++◌, ◌+◌, ◌*◌, ◌/◌, length}
-use Rattle.seq_arith.specs.Bytes.{two, four}
-use Rattle.seq_arith.specs.Packet.{Segment}
-use Rattle.seq_arith.specs.PacketGrammar.{mss_option}
-use Rattle.segment_codec.specs.declared.Head.{Head}
 -- The parts of a packet as they are written, before and with its checksums.
 use Rattle.std.specs.Prelude.{◌<◌, ◌^◌, ℕ, List, [], ◌∷◌, ◌++◌, ◌+◌, ◌*◌, ◌/◌, length, take}
 use Rattle.seq_arith.specs.Bytes.{two, four}

@@ -2,14 +2,6 @@
 //! says, and which refusal it gets, is the packet grammar of `seq_arith`. Nothing here takes memory.
 #![tactic(auto)]
 
-
-pub use seq_arith::BadPacket;
-
-
-
-pub use reading::read_packet;
-pub use setting::{set_ack, set_seq, set_window};
-use seq_arith::Seq;
 pub use reading::read_packet;
 pub use seq_arith::BadPacket;
 use seq_arith::Seq;

@@ -86,6 +86,5 @@ pub three_pieces : (one two three : Summed) (a b c : List ℕ) → one ≡ with_
     → check_of three.total ≡ checksum (a ++ b ++ c)
 three_pieces one two three a b c first second third =
     let joined : three ≡ with_bytes nothing_summed (a ++ b ++ c) =
-        third ∙ ap (λ s. with_bytes s c) (second ∙ ap (λ s. with_bytes s b) first ∙ pieces_join nothing_summed a b) ∙ pieces_join nothing_summed (a ++ b) c
     third ∙ ap (λ s. with_bytes s c) (second ∙ ap (λ s. with_bytes s b) first ∙ pieces_join nothing_summed a b) ∙ pieces_join nothing_summed (a ++ b) c
     in ap (λ s. check_of s.total) joined ∙ ap check_of (zero-add (word_sum false (a ++ b ++ c)))

@@ -7,7 +7,6 @@ use Rattle.segment_codec.proofs.reading.offered_mss.Given as goal
 abbrev pub invariant-loop-kind : goal.invariant-loop-kind
 invariant-loop-kind l = record {
   bad : has_bad_option 0 l.rest ≡ has_bad_option 0 l.options;
-  offered : option_or l.mss (mss_in 0 l.rest) ≡ mss_in 0 l.options
   offered : option_or l.mss (mss_in 0 l.rest) ≡ mss_in 0 l.options;
 }
 

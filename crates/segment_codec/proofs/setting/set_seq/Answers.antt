@@ -1,4 +1,3 @@
-use Rattle.std.proofs.Common.{◌≡◌, ap, arith, ◌∙◌}
 use Rattle.std.proofs.Common.{ap, arith, ◌∙◌}
 use Rattle.seq_arith.specs.Bytes.{four}
 use Rattle.segment_codec.specs.Change.{put, sealed}
