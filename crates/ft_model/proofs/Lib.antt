@@ -5,8 +5,6 @@ pub mod TurnOnce
 pub mod TurnTells
 pub mod Turns
 pub mod FirstPath
-pub mod LiveOnce
-pub mod TurnOnce
 pub mod ReportOnLiterals
 pub mod WrongTurns
 pub mod CrashAfterLogged
