@@ -1,10 +1,18 @@
 //! The world of a schedule: clients that follow the script, a network that delivers what the schedule names, a logger and a server.
 #![tactic(auto)]
 
+pub use end::StepEnd;
+pub use plain_entry::PlainEntry;
+pub use plain_log::PlainLog;
 pub use scripted_client::ScriptedClient;
+pub use world::{StepOut, World};
 
 mod arrival;
 mod client_move;
+mod connection;
+mod end;
 mod plain_entry;
 mod plain_log;
+mod plain_server;
 mod scripted_client;
+mod world;

@@ -48,7 +48,7 @@ pub fn write_client_line(
 }
 
 /// The word for a phase.
-#[tactic(auto, unfolding(ft_model::specs::Spelling::phase_text))]
+#[tactic(auto, unfolding(ft_model::specs::Texts::phase_text))]
 fn phase_word(phase: Phase) -> &'static [u8]
     ensures { result.now ≡ phase_text phase }
 {

@@ -27,7 +27,7 @@ pub fn write_header(alloc: Global, s: &Schedule, out: &mut Vec<u8>) -> Result<()
 }
 
 /// The name of a service.
-#[tactic(auto, unfolding(ft_model::specs::Spelling::service_text))]
+#[tactic(auto, unfolding(ft_model::specs::Texts::service_text))]
 fn service_word(kind: ServiceKind) -> &'static [u8]
     ensures { result.now ≡ service_text kind }
 {
@@ -70,7 +70,7 @@ fn put_client(
 }
 
 /// A space, and what a client has to say.
-#[tactic(auto, using(std::proofs::Common::append_assoc), unfolding(ft_model::specs::Spelling::script_text))]
+#[tactic(auto, using(std::proofs::Common::append_assoc), unfolding(ft_model::specs::Texts::script_text))]
 fn put_script(alloc: Global, script: &Script, text: &mut Vec<u8>) -> Result<(), NoMemory>
     ensures { OnOk result (text.new.items ≡ text.old.items ++ 32 ∷ script_text script.now) }
 {

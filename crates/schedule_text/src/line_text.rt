@@ -46,7 +46,7 @@ pub(crate) fn put_field(name: &[u8], n: u64, line: &mut Vec<u8>) -> Result<(), N
 }
 
 /// A field's name and 1 or 0, each behind a space.
-#[tactic(auto, using(std::proofs::Common::append_assoc), unfolding(ft_model::specs::Spelling::bit_text))]
+#[tactic(auto, using(std::proofs::Common::append_assoc), unfolding(ft_model::specs::Texts::bit_text))]
 pub(crate) fn put_bit(name: &[u8], bit: bool, line: &mut Vec<u8>) -> Result<(), NoMemory>
     ensures { OnOk result (line.new.items ≡ line.old.items ++ 32 ∷ (name.now ++ 32 ∷ bit_text bit)) }
 {
@@ -66,7 +66,7 @@ fn text_or_dash(text: &[u8]) -> &[u8]
 }
 
 /// A space, and bytes in hexadecimal.
-#[tactic(auto, unfolding(ft_model::specs::Spelling::hex_text))]
+#[tactic(auto, unfolding(ft_model::specs::Texts::hex_text))]
 pub(crate) fn put_hex(alloc: Global, bytes: &[u8], line: &mut Vec<u8>) -> Result<(), NoMemory>
     ensures { OnOk result (line.new.items ≡ line.old.items ++ 32 ∷ hex_text bytes.now) }
 {
@@ -75,7 +75,7 @@ pub(crate) fn put_hex(alloc: Global, bytes: &[u8], line: &mut Vec<u8>) -> Result
 }
 
 /// A space, and numbers joined by commas.
-#[tactic(auto, unfolding(ft_model::specs::Spelling::list_text))]
+#[tactic(auto, unfolding(ft_model::specs::Texts::list_text))]
 pub(crate) fn put_list(alloc: Global, numbers: &[u16], line: &mut Vec<u8>) -> Result<(), NoMemory>
     ensures { OnOk result (line.new.items ≡ line.old.items ++ 32 ∷ list_text numbers.now) }
 {
@@ -110,7 +110,7 @@ fn put_others(numbers: &[u16], text: &mut Vec<u8>) -> Result<(), NoMemory>
 }
 
 /// A space, and an IPv4 address with a port.
-#[tactic(auto, using(std::proofs::Common::append_assoc), unfolding(ft_model::specs::Spelling::address_text))]
+#[tactic(auto, using(std::proofs::Common::append_assoc), unfolding(ft_model::specs::Texts::address_text))]
 pub(crate) fn put_address(ip: u32, port: u16, line: &mut Vec<u8>) -> Result<(), NoMemory>
     ensures { OnOk result (line.new.items ≡ line.old.items ++ 32 ∷ address_text ip port) }
 {
@@ -133,7 +133,7 @@ fn put_part(n: u32, mark: u8, line: &mut Vec<u8>) -> Result<(), NoMemory>
 }
 
 /// A space, and the letters of the flags that are set.
-#[tactic(auto, unfolding(ft_model::specs::Spelling::flags_text))]
+#[tactic(auto, unfolding(ft_model::specs::Texts::flags_text))]
 pub(crate) fn put_flags(alloc: Global, flags: u8, line: &mut Vec<u8>) -> Result<(), NoMemory>
     ensures { OnOk result (line.new.items ≡ line.old.items ++ 32 ∷ flags_text flags) }
 {
@@ -170,7 +170,7 @@ fn put_letter(flags: u8, flag: u8, letter: u8, letters: &mut Vec<u8>) -> Result<
 }
 
 /// The name of the MSS option and its value, each behind a space.
-#[tactic(auto, using(std::proofs::Common::append_assoc), unfolding(ft_model::specs::Spelling::mss_text))]
+#[tactic(auto, using(std::proofs::Common::append_assoc), unfolding(ft_model::specs::Texts::mss_text))]
 pub(crate) fn put_mss(mss: Option<u16>, line: &mut Vec<u8>) -> Result<(), NoMemory>
     ensures { OnOk result (line.new.items ≡ line.old.items ++ 32 ∷ (codes "mss" ++ 32 ∷ mss_text mss)) }
 {
@@ -184,7 +184,7 @@ pub(crate) fn put_mss(mss: Option<u16>, line: &mut Vec<u8>) -> Result<(), NoMemo
 }
 
 /// A space, and a packet's way.
-#[tactic(auto, using(std::proofs::Common::append_assoc), unfolding(ft_model::specs::Spelling::way_text))]
+#[tactic(auto, using(std::proofs::Common::append_assoc), unfolding(ft_model::specs::Texts::way_text))]
 pub(crate) fn put_way(way: Way, line: &mut Vec<u8>) -> Result<(), NoMemory>
     ensures { OnOk result (line.new.items ≡ line.old.items ++ 32 ∷ way_text way) }
 {

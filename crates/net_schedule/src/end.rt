@@ -1,0 +1,30 @@
+//! How a step of the world ends without being done.
+
+ghost use Rattle.std.specs.Prelude.{◌≡◌};
+ghost use Rattle.net_schedule.specs.declared.end.StepEnd.TheVariants.{NoMemory, BadEvent};
+
+use ft_io::NoMemory;
+use ft_model::EventWhy;
+use thiserror::Error;
+
+/// Why an event was not done.
+#[derive(Clone, Copy, Debug, PartialEq, Eq, Error)]
+pub enum StepEnd {
+    /// Memory ran out. The world may only be dropped.
+    #[error("no memory")]
+    NoMemory,
+    /// Its actor may not do it. The world is as before.
+    #[error("the event is not allowed")]
+    BadEvent(EventWhy),
+    /// The packets would pass their limit. The world may only be dropped.
+    #[error("too many packets")]
+    PacketLimit,
+}
+
+impl From<NoMemory> for StepEnd {
+    ghost from_gives = { λ _ e. e ≡ NoMemory };
+
+    fn from(_error: NoMemory) -> StepEnd {
+        StepEnd::NoMemory
+    }
+}
