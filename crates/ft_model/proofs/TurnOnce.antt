@@ -17,7 +17,7 @@ use Rattle.ft_model.specs.Node.Place.{Opens, Lives}
 use Rattle.ft_model.specs.Node.Stage.{Asking, Fetching, Serving, Fenced}
 use Rattle.ft_model.specs.Node.Input.{Packet_comes, Message_comes, Tick_comes}
 use Rattle.ft_model.specs.Serving.{Stays, LivesOn, Hears, Meets, PlaceTurn, concerns, AllGo, newcomers, refusals, opens_at, ServingTurn}
-use Rattle.ft_model.specs.Lawful.{Revives, Continues, AskingTurn, FetchingTurn, StageTurn, NodeTurn, LawfulTurn, all_restored, restored_count, fence, count_told}
+use Rattle.ft_model.specs.Lawful.{Revives, Continues, AskingTurn, FetchingTurn, StageTurn, NodeTurn, LawfulTurn, all_restored, restored_count, fence, count_told, fetched_then}
 use Rattle.ft_model.proofs.LiveOnce.{live_once}
 
 -- two pairs that meet the same two equations
@@ -128,7 +128,7 @@ stage_once service node Asking (Message_comes message) after also sent other s t
     asking_once service node (if message.boot == node.boot then count_told message.body else None) after also sent other s t
 stage_once service node Asking _ after also sent other s t = (s.0 ∙ sym t.0, s.1 ∙ sym t.1)
 stage_once service node (Fetching count fetched) (Message_comes message) after also sent other s t =
-    fetching_once service node count fetched (if message.boot == node.boot then fetched_after (wanted count fetched) message.body fetched else None) after also sent other s t
+    fetching_once service node count fetched (fetched_then node message count fetched) after also sent other s t
 stage_once service node (Fetching count fetched) _ after also sent other s t = (s.0 ∙ sym t.0, s.1 ∙ sym t.1)
 stage_once service node (Serving opened places) input after also sent other s t =
     let once : (s.0 ≡ t.0) × (sent ≡ other) = serving_once service node input opened places s.0 t.0 sent other s.2 t.2 in
