@@ -9,3 +9,6 @@ pub mod WrongTurns
 pub mod CrashAfterLogged
 pub mod Closing
 pub mod ZeroWindow
+pub mod SegmentWhileRestarting
+pub mod ClientKnowsMore
+pub mod CrashBeforeSynAck

@@ -11,7 +11,7 @@ use Rattle.ft_model.specs.Point.{Point}
 use Rattle.ft_model.specs.Ending.{reset_after, dones}
 use Rattle.ft_model.specs.Opening.{point_opened}
 use Rattle.ft_model.specs.Connection.{ResetTurn, LiveTurn, told_by}
-use Rattle.ft_model.specs.Restart.{Fetched, Wanted, wanted, fetched_after}
+use Rattle.ft_model.specs.Restart.{Fetched, Wanted, wanted}
 use Rattle.ft_model.specs.Node.{Node, Place, Stage, Input, key_of}
 use Rattle.ft_model.specs.Node.Place.{Opens, Lives}
 use Rattle.ft_model.specs.Node.Stage.{Asking, Fetching, Serving, Fenced}
