@@ -3,6 +3,7 @@ pub mod LiveOnce
 pub mod LiveTurns
 pub mod TurnOnce
 pub mod TurnTells
+pub mod TurnExists
 pub mod Turns
 pub mod FirstPath
 pub mod WrongTurns
