@@ -151,7 +151,7 @@ stage_turn service node (Serving opened places) input live counts =
     let later : List Place = r.0 ++ newcomers node input opened places in (
       Serving (opened + length (newcomers node input opened places)) later,
       r.1 ++ (refusals node input places ++ flat_map (opens_at node input) later),
-      (later, refl, record { gone = r.0; by_places = r.1; all_go = r.2; places = refl; packets = refl }),
+      (later, refl, record { went = r.0; by_places = r.1; all_go = r.2; places = refl; packets = refl }),
       all_append CountsReads r.0 (newcomers node input opened places) r.3 (new_count node input opened places),
     )
 stage_turn service node (Fenced newer) input live counts = absurd (true≢false live)

@@ -95,8 +95,8 @@ all_once Goes once (place ∷ places) after also sent other s t =
 serving_once : {State : Type 0} (service : Machine State) (node : Node) (input : Input) (opened : ℕ) (before after also : List Place) (sent other : List Packet)
     → ServingTurn service node input opened before after sent → ServingTurn service node input opened before also other → (after ≡ also) × (sent ≡ other)
 serving_once service node input opened before after also sent other s t =
-    let once : (s.gone ≡ t.gone) × (s.by_places ≡ t.by_places) =
-    all_once (PlaceTurn service node input) (place_once service node input) before s.gone t.gone s.by_places t.by_places s.all_go t.all_go in
+    let once : (s.went ≡ t.went) × (s.by_places ≡ t.by_places) =
+    all_once (PlaceTurn service node input) (place_once service node input) before s.went t.went s.by_places t.by_places s.all_go t.all_go in
     let places : after ≡ also = s.places ∙ (ap (λ xs. xs ++ newcomers node input opened before) once.0 ∙ sym t.places) in
     let packets : s.by_places ++ (refusals node input before ++ flat_map (opens_at node input) after) ≡ t.by_places ++ (refusals node input before ++ flat_map (opens_at node input) also) =
     ap₂ (λ xs ys. xs ++ (refusals node input before ++ flat_map (opens_at node input) ys)) once.1 places in
