@@ -21,7 +21,7 @@ first_1 = record { server = refl; boot = refl; isn = refl; live = refl; stage = 
 
 first_2 : Happens row.first_1.node row.first_2
 unfolding laws
-first_2 = record { server = refl; boot = refl; isn = refl; live = refl; stage = (Opens numbers ∷ [], refl, record { gone = []; by_places = []; all_go = (refl, refl); places = refl; packets = refl }) }
+first_2 = record { server = refl; boot = refl; isn = refl; live = refl; stage = (Opens numbers ∷ [], refl, record { went = []; by_places = []; all_go = (refl, refl); places = refl; packets = refl }) }
 
 first_3 : Happens row.first_2.node row.first_3
 unfolding laws
@@ -34,7 +34,7 @@ first_3 = record {
     Lives row.begun ∷ [],
     refl,
     record {
-      gone = Lives row.begun ∷ [];
+      went = Lives row.begun ∷ [];
       by_places = row.first_3.sent;
       all_go = alone (PlaceTurn echo row.first_2.node row.first_3.input) (Opens numbers) (Lives row.begun ∷ []) row.first_3.sent
           (row.begun, refl, goes echo server 1 Begins (point_opened numbers) row.begun row.first_3.sent refl refl refl refl);

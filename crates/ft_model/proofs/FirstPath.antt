@@ -66,27 +66,27 @@ turn_3 = record { server = refl; boot = refl; isn = refl; live = refl; stage = (
 
 pub turn_5 : LawfulTurn echo (row.node_at (Serving 0 [])) (Packet_comes (segment_in row.packet_3)) row.moment_5.sent (row.node_at (Serving 1 (Opens numbers ∷ [])))
 unfolding laws
-turn_5 = record { server = refl; boot = refl; isn = refl; live = refl; stage = (Opens numbers ∷ [], refl, record { gone = []; by_places = []; all_go = (refl, refl); places = refl; packets = refl }) }
+turn_5 = record { server = refl; boot = refl; isn = refl; live = refl; stage = (Opens numbers ∷ [], refl, record { went = []; by_places = []; all_go = (refl, refl); places = refl; packets = refl }) }
 
 turn_7 : LawfulTurn echo (row.node_at (Serving 1 (Opens numbers ∷ []))) (Message_comes (message_in row.packet_5)) row.moment_7.sent (row.node_live row.begun_point)
 unfolding laws
-turn_7 = record { server = refl; boot = refl; isn = refl; live = refl; stage = (Lives row.begun_point ∷ [], refl, record { gone = Lives row.begun_point ∷ []; by_places = row.moment_7.sent; all_go = alone (PlaceTurn echo (row.node_at (Serving 1 (Opens numbers ∷ []))) (Message_comes (message_in row.packet_5))) (Opens numbers) (Lives row.begun_point ∷ []) row.moment_7.sent (row.begun_point, refl, begins); places = refl; packets = refl }) }
+turn_7 = record { server = refl; boot = refl; isn = refl; live = refl; stage = (Lives row.begun_point ∷ [], refl, record { went = Lives row.begun_point ∷ []; by_places = row.moment_7.sent; all_go = alone (PlaceTurn echo (row.node_at (Serving 1 (Opens numbers ∷ []))) (Message_comes (message_in row.packet_5))) (Opens numbers) (Lives row.begun_point ∷ []) row.moment_7.sent (row.begun_point, refl, begins); places = refl; packets = refl }) }
 
 turn_10 : LawfulTurn echo (row.node_live row.begun_point) (Packet_comes (segment_in row.packet_7)) row.moment_10.sent (row.node_live row.open_point)
 unfolding laws
-turn_10 = record { server = refl; boot = refl; isn = refl; live = refl; stage = (Lives row.open_point ∷ [], refl, record { gone = Lives row.open_point ∷ []; by_places = row.moment_10.sent; all_go = alone (PlaceTurn echo (row.node_live row.begun_point) (Packet_comes (segment_in row.packet_7))) (Lives row.begun_point) (Lives row.open_point ∷ []) row.moment_10.sent (row.open_point, refl, opens); places = refl; packets = refl }) }
+turn_10 = record { server = refl; boot = refl; isn = refl; live = refl; stage = (Lives row.open_point ∷ [], refl, record { went = Lives row.open_point ∷ []; by_places = row.moment_10.sent; all_go = alone (PlaceTurn echo (row.node_live row.begun_point) (Packet_comes (segment_in row.packet_7))) (Lives row.begun_point) (Lives row.open_point ∷ []) row.moment_10.sent (row.open_point, refl, opens); places = refl; packets = refl }) }
 
 pub turn_12 : LawfulTurn echo (row.node_live row.open_point) (Packet_comes (segment_in row.packet_8)) row.moment_12.sent (row.node_live row.taken_point)
 unfolding laws
-turn_12 = record { server = refl; boot = refl; isn = refl; live = refl; stage = (Lives row.taken_point ∷ [], refl, record { gone = Lives row.taken_point ∷ []; by_places = row.moment_12.sent; all_go = alone (PlaceTurn echo (row.node_live row.open_point) (Packet_comes (segment_in row.packet_8))) (Lives row.open_point) (Lives row.taken_point ∷ []) row.moment_12.sent (row.taken_point, refl, takes); places = refl; packets = refl }) }
+turn_12 = record { server = refl; boot = refl; isn = refl; live = refl; stage = (Lives row.taken_point ∷ [], refl, record { went = Lives row.taken_point ∷ []; by_places = row.moment_12.sent; all_go = alone (PlaceTurn echo (row.node_live row.open_point) (Packet_comes (segment_in row.packet_8))) (Lives row.open_point) (Lives row.taken_point ∷ []) row.moment_12.sent (row.taken_point, refl, takes); places = refl; packets = refl }) }
 
 pub turn_14 : LawfulTurn echo (row.node_live row.taken_point) (Message_comes (message_in row.packet_12)) row.moment_14.sent (row.node_live row.logged_point)
 unfolding laws
-turn_14 = record { server = refl; boot = refl; isn = refl; live = refl; stage = (Lives row.logged_point ∷ [], refl, record { gone = Lives row.logged_point ∷ []; by_places = row.moment_14.sent; all_go = alone (PlaceTurn echo (row.node_live row.taken_point) (Message_comes (message_in row.packet_12))) (Lives row.taken_point) (Lives row.logged_point ∷ []) row.moment_14.sent (row.logged_point, refl, hears); places = refl; packets = refl }) }
+turn_14 = record { server = refl; boot = refl; isn = refl; live = refl; stage = (Lives row.logged_point ∷ [], refl, record { went = Lives row.logged_point ∷ []; by_places = row.moment_14.sent; all_go = alone (PlaceTurn echo (row.node_live row.taken_point) (Message_comes (message_in row.packet_12))) (Lives row.taken_point) (Lives row.logged_point ∷ []) row.moment_14.sent (row.logged_point, refl, hears); places = refl; packets = refl }) }
 
 turn_16 : LawfulTurn echo (row.node_live row.logged_point) (Message_comes (message_in row.packet_14)) row.moment_16.sent (row.node_live row.released_point)
 unfolding laws
-turn_16 = record { server = refl; boot = refl; isn = refl; live = refl; stage = (Lives row.released_point ∷ [], refl, record { gone = Lives row.released_point ∷ []; by_places = row.moment_16.sent; all_go = alone (PlaceTurn echo (row.node_live row.logged_point) (Message_comes (message_in row.packet_14))) (Lives row.logged_point) (Lives row.released_point ∷ []) row.moment_16.sent (row.released_point, refl, releases); places = refl; packets = refl }) }
+turn_16 = record { server = refl; boot = refl; isn = refl; live = refl; stage = (Lives row.released_point ∷ [], refl, record { went = Lives row.released_point ∷ []; by_places = row.moment_16.sent; all_go = alone (PlaceTurn echo (row.node_live row.logged_point) (Message_comes (message_in row.packet_14))) (Lives row.logged_point) (Lives row.released_point ∷ []) row.moment_16.sent (row.released_point, refl, releases); places = refl; packets = refl }) }
 
 -- what happens in each moment
 happens_1 : Happens echo row.start row.moment_1.event row.moment_1.sent row.moment_1.world

@@ -3,6 +3,7 @@ pub mod LiveOnce
 pub mod LiveTurns
 pub mod TurnOnce
 pub mod TurnTells
+pub mod TurnExists
 pub mod Turns
 pub mod FirstPath
 pub mod ReportOnLiterals
@@ -10,3 +11,6 @@ pub mod WrongTurns
 pub mod CrashAfterLogged
 pub mod Closing
 pub mod ZeroWindow
+pub mod SegmentWhileRestarting
+pub mod ClientKnowsMore
+pub mod CrashBeforeSynAck

@@ -50,7 +50,7 @@ reads_make service (suc k) p known many =
     (next_read service p) refl
 
 -- the counts of logged reads stay within the reads made
-counts_within : (news : News) (p : Point) → p.reads_answered ≤ length p.lengths → reads_answered_after news p ≤ length p.lengths
+pub counts_within : (news : News) (p : Point) → p.reads_answered ≤ length p.lengths → reads_answered_after news p ≤ length p.lengths
 unfolding reads_answered_after
 counts_within (Logged kept) p known = omega (arith, known)
 counts_within _ p known = known

@@ -11,13 +11,13 @@ use Rattle.ft_model.specs.Point.{Point}
 use Rattle.ft_model.specs.Ending.{reset_after, dones}
 use Rattle.ft_model.specs.Opening.{point_opened}
 use Rattle.ft_model.specs.Connection.{ResetTurn, LiveTurn, told_by}
-use Rattle.ft_model.specs.Restart.{Fetched, Wanted, wanted, fetched_after}
+use Rattle.ft_model.specs.Restart.{Fetched, Wanted, wanted}
 use Rattle.ft_model.specs.Node.{Node, Place, Stage, Input, key_of}
 use Rattle.ft_model.specs.Node.Place.{Opens, Lives}
 use Rattle.ft_model.specs.Node.Stage.{Asking, Fetching, Serving, Fenced}
 use Rattle.ft_model.specs.Node.Input.{Packet_comes, Message_comes, Tick_comes}
 use Rattle.ft_model.specs.Serving.{Stays, LivesOn, Hears, Meets, PlaceTurn, concerns, AllGo, newcomers, refusals, opens_at, ServingTurn}
-use Rattle.ft_model.specs.Lawful.{Revives, Continues, AskingTurn, FetchingTurn, StageTurn, NodeTurn, LawfulTurn, all_restored, restored_count, fence, count_told}
+use Rattle.ft_model.specs.Lawful.{Revives, Continues, AskingTurn, FetchingTurn, StageTurn, NodeTurn, LawfulTurn, all_restored, restored_count, fence, count_told, fetched_then}
 use Rattle.ft_model.proofs.LiveOnce.{live_once}
 
 -- two pairs that meet the same two equations
@@ -95,8 +95,8 @@ all_once Goes once (place ∷ places) after also sent other s t =
 serving_once : {State : Type 0} (service : Machine State) (node : Node) (input : Input) (opened : ℕ) (before after also : List Place) (sent other : List Packet)
     → ServingTurn service node input opened before after sent → ServingTurn service node input opened before also other → (after ≡ also) × (sent ≡ other)
 serving_once service node input opened before after also sent other s t =
-    let once : (s.gone ≡ t.gone) × (s.by_places ≡ t.by_places) =
-    all_once (PlaceTurn service node input) (place_once service node input) before s.gone t.gone s.by_places t.by_places s.all_go t.all_go in
+    let once : (s.went ≡ t.went) × (s.by_places ≡ t.by_places) =
+    all_once (PlaceTurn service node input) (place_once service node input) before s.went t.went s.by_places t.by_places s.all_go t.all_go in
     let places : after ≡ also = s.places ∙ (ap (λ xs. xs ++ newcomers node input opened before) once.0 ∙ sym t.places) in
     let packets : s.by_places ++ (refusals node input before ++ flat_map (opens_at node input) after) ≡ t.by_places ++ (refusals node input before ++ flat_map (opens_at node input) also) =
     ap₂ (λ xs ys. xs ++ (refusals node input before ++ flat_map (opens_at node input) ys)) once.1 places in
@@ -128,7 +128,7 @@ stage_once service node Asking (Message_comes message) after also sent other s t
     asking_once service node (if message.boot == node.boot then count_told message.body else None) after also sent other s t
 stage_once service node Asking _ after also sent other s t = (s.0 ∙ sym t.0, s.1 ∙ sym t.1)
 stage_once service node (Fetching count fetched) (Message_comes message) after also sent other s t =
-    fetching_once service node count fetched (if message.boot == node.boot then fetched_after (wanted count fetched) message.body fetched else None) after also sent other s t
+    fetching_once service node count fetched (fetched_then node message count fetched) after also sent other s t
 stage_once service node (Fetching count fetched) _ after also sent other s t = (s.0 ∙ sym t.0, s.1 ∙ sym t.1)
 stage_once service node (Serving opened places) input after also sent other s t =
     let once : (s.0 ≡ t.0) × (sent ≡ other) = serving_once service node input opened places s.0 t.0 sent other s.2 t.2 in

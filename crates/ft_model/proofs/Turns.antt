@@ -94,7 +94,7 @@ serves service boot isn input p q sent unfenced none_new none_refused turn =
         Lives q ∷ [],
         ap (λ n. Serving n (Lives q ∷ [])) (sym count),
         record {
-          gone = Lives q ∷ [];
+          went = Lives q ∷ [];
           by_places = sent;
           all_go = alone (PlaceTurn service node input) (Lives p) (Lives q ∷ []) sent turn;
           places = places;

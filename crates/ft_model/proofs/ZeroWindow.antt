@@ -20,7 +20,7 @@ probe_1 = record { server = refl; boot = refl; isn = refl; live = refl; stage = 
 
 probe_2 : Happens row.probe_1.node row.probe_2
 unfolding laws
-probe_2 = record { server = refl; boot = refl; isn = refl; live = refl; stage = (Opens numbers ∷ [], refl, record { gone = []; by_places = []; all_go = (refl, refl); places = refl; packets = refl }) }
+probe_2 = record { server = refl; boot = refl; isn = refl; live = refl; stage = (Opens numbers ∷ [], refl, record { went = []; by_places = []; all_go = (refl, refl); places = refl; packets = refl }) }
 
 probe_3 : Happens row.probe_2.node row.probe_3
 unfolding laws
@@ -33,7 +33,7 @@ probe_3 = record {
     Lives row.begun ∷ [],
     refl,
     record {
-      gone = Lives row.begun ∷ [];
+      went = Lives row.begun ∷ [];
       by_places = row.probe_3.sent;
       all_go = alone (PlaceTurn echo row.probe_2.node row.probe_3.input) (Opens numbers) (Lives row.begun ∷ []) row.probe_3.sent
           (row.begun, refl, goes echo server 1 Begins (point_opened numbers) row.begun row.probe_3.sent refl refl refl refl);

@@ -1,11 +1,11 @@
 -- A lawful incarnation: it boots, fetches the log, and serves. Each of its turns is determined by where it stands and what comes.
-use Rattle.std.specs.Prelude.{◌≡◌, ℕ, Bool, true, false, ◌+◌, ◌==◌, ◌&&◌, not, nat_lt, map, filter, Option, Some, None, List, [], ◌∷◌, ◌++◌, length, if◌then◌else◌}
+use Rattle.std.specs.Prelude.{◌≡◌, IfSome, ℕ, Bool, true, false, ◌+◌, ◌==◌, ◌&&◌, not, nat_lt, map, filter, Option, Some, None, List, [], ◌∷◌, ◌++◌, length, if◌then◌else◌}
 use Rattle.std.specs.List.{AllByRecursion}
 use Rattle.std.specs.Option.{option_to_list}
 use Rattle.ft_io.specs.declared.Addr.{Addr}
 use Rattle.ft_io.specs.Key.{key_eq}
 use Rattle.seq_arith.specs.Packet.{Segment, has_rst}
-use Rattle.seq_arith.specs.Message.{Body}
+use Rattle.seq_arith.specs.Message.{Body, Message}
 use Rattle.seq_arith.specs.Message.Body.{HelloMsg, SummaryMsg, StaleMsg}
 use Rattle.server_trait.specs.Service.{Machine}
 use Rattle.ft_model.specs.Offset.{IsNear}
@@ -75,6 +75,10 @@ abbrev pub FetchingTurn : {State : Type 0} → Machine State → Node → (count
 FetchingTurn service node count fetched (Some more) after sent = Fetches service node count more after sent
 FetchingTurn service node count fetched None after sent = Rests (Fetching count fetched) after sent
 
+-- what is fetched after a message, if it is an answer of this boot that fits
+abbrev pub fetched_then : Node → Message → (count : ℕ) → List Fetched → Option (List Fetched)
+fetched_then node message count fetched = if message.boot == node.boot then fetched_after (wanted count fetched) message.body fetched else None
+
 -- what a client gets while the server fetches: nothing, until its entry has come, nor if that is done, nor for a RST
 abbrev pub held : Node → List Fetched → Segment → List Packet
 held node fetched segment =
@@ -90,7 +94,7 @@ StageTurn service node Asking (Message_comes message) after sent =
 StageTurn service node Asking _ after sent = Rests Asking after sent
 StageTurn service node (Fetching count fetched) Tick_comes after sent = (after ≡ Fetching count fetched) × (sent ≡ asked node (wanted count fetched))
 StageTurn service node (Fetching count fetched) (Message_comes message) after sent =
-    FetchingTurn service node count fetched (if message.boot == node.boot then fetched_after (wanted count fetched) message.body fetched else None) after sent
+    FetchingTurn service node count fetched (fetched_then node message count fetched) after sent
 StageTurn service node (Fetching count fetched) (Packet_comes segment) after sent = (after ≡ Fetching count fetched) × (sent ≡ held node fetched segment)
 StageTurn service node (Fetching count fetched) Noise_comes after sent = Rests (Fetching count fetched) after sent
 StageTurn service node (Serving opened places) input after sent =
@@ -155,6 +159,9 @@ IsNearInput (Packet_comes segment) stage = AreNear segment stage
 IsNearInput _ stage = Unit {0}
 
 -- .. and the entries that it fetches are sound
-abbrev pub AreSound : {State : Type 0} → Machine State → Stage → Type 0
-AreSound service (Fetching count fetched) = AllByRecursion (λ f. IsSound service (entry_in f)) fetched
-AreSound service _ = Unit {0}
+abbrev pub AreSound : {State : Type 0} → Machine State → List Fetched → Type 0
+AreSound service fetched = AllByRecursion (λ f. IsSound service (entry_in f)) fetched
+
+abbrev pub IsSoundInput : {State : Type 0} → Machine State → Node → Input → Stage → Type 0
+IsSoundInput service node (Message_comes message) (Fetching count fetched) = IfSome (fetched_then node message count fetched) (AreSound service)
+IsSoundInput service node _ _ = Unit {0}

@@ -21,9 +21,3 @@ source_of segment = record { ip = segment.head.src; port = segment.head.sport }
 
 abbrev pub destination_of : Segment → Key
 destination_of segment = record { ip = segment.head.dst; port = segment.head.dport }
-
--- what only a server sends
-abbrev pub is_of_server : Packet → Bool
-is_of_server (To_client segment) = true
-is_of_server (To_logger message) = true
-is_of_server _ = false

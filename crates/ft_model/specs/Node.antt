@@ -1,5 +1,6 @@
 -- One incarnation of the server, from its boot to its crash: what it is, and what comes to it in a turn.
-use Rattle.std.specs.Prelude.{ℕ, Bool, true, false, ◌==◌, ◌&&◌, find, filter, Option, is_some, List, [], ◌∷◌, length}
+use Rattle.std.specs.Prelude.{ℕ, Bool, true, false, ◌==◌, ◌&&◌, find, filter, Option, is_some, List, [], ◌∷◌, length, ◌≤◌}
+use Rattle.std.specs.List.{AllByRecursion}
 use Rattle.ft_io.specs.declared.Addr.{Addr}
 use Rattle.ft_io.specs.declared.Key.{Key}
 use Rattle.ft_io.specs.Key.{key_eq}
@@ -69,3 +70,12 @@ points_in (_ ∷ places) = points_in places
 abbrev pub points_at : Stage → List Point
 points_at (Serving opened places) = points_in places
 points_at _ = []
+
+-- no more reads of a connection are known to be logged than were made
+abbrev pub CountsReads : Place → Type 0
+CountsReads (Lives p) = p.reads_answered ≤ length p.lengths
+CountsReads _ = Unit {0}
+
+abbrev pub AllCount : Stage → Type 0
+AllCount (Serving opened places) = AllByRecursion CountsReads places
+AllCount _ = Unit {0}

@@ -4,3 +4,6 @@ pub mod FirstPath
 pub mod CrashAfterLogged
 pub mod Closing
 pub mod ZeroWindow
+pub mod SegmentWhileRestarting
+pub mod ClientKnowsMore
+pub mod CrashBeforeSynAck

@@ -111,8 +111,8 @@ opens_at node input _ = []
 -- A turn of a server that serves. First comes what the known connections send, in order, then the pending Opens in the same order. A
 -- packet of an unknown key that is refused meets no place, so its RST stands alone
 pub record ServingTurn {State : Type 0} (service : Machine State) (node : Node) (input : Input) (opened : ℕ) (before after : List Place) (sent : List Packet) : Type 0 where
-  pub gone : List Place
+  pub went : List Place
   pub by_places : List Packet
-  pub all_go : AllGo (PlaceTurn service node input) before gone by_places
-  pub places : after ≡ gone ++ newcomers node input opened before
+  pub all_go : AllGo (PlaceTurn service node input) before went by_places
+  pub places : after ≡ went ++ newcomers node input opened before
   pub packets : sent ≡ by_places ++ (refusals node input before ++ flat_map (opens_at node input) after)

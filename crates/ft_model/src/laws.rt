@@ -1,6 +1,6 @@
 //! Laws over the definitions. Nothing here runs; each function is a theorem.
 
-ghost use Rattle.std.specs.Prelude.{◌≡◌, ℕ, ◌≤◌, true, None, List, length};
+ghost use Rattle.std.specs.Prelude.{◌≡◌, ℕ, true, false, None, List};
 ghost use Rattle.std.specs.List.{list_any};
 ghost use Rattle.ft_io.specs.declared.Addr.{Addr};
 ghost use Rattle.server_trait.specs.Service.{machine};
@@ -11,8 +11,8 @@ ghost use Rattle.ft_model.specs.Reads.{next_read};
 ghost use Rattle.ft_model.specs.Told.{is_segment, IsTold};
 ghost use Rattle.ft_model.specs.Point.{Point};
 ghost use Rattle.ft_model.specs.Connection.{LiveTurn};
-ghost use Rattle.ft_model.specs.Node.{Node, Input};
-ghost use Rattle.ft_model.specs.Lawful.{LawfulTurn};
+ghost use Rattle.ft_model.specs.Node.{Node, Input, AllCount};
+ghost use Rattle.ft_model.specs.Lawful.{LawfulTurn, is_fenced};
 
 use server_trait::Service;
 
@@ -25,10 +25,11 @@ pub fn turns_are_determined<S: Service>()
         → (after ≡ other) × (sent ≡ also) }
 {}
 
-/// Each turn can be made: from a point whose logged reads were made, at any news, a connection that is not reset has a lawful turn.
-pub fn live_turns_exist<S: Service>()
-    ensures { (kind boot : ℕ) (server : Addr) (news : News) (before : Point) → before.reads_answered ≤ length before.lengths
-        → (after : Point) × (sent : List Packet) × LiveTurn (machine (S.started kind) S.after) server boot news before after sent }
+/// Each turn can be made: from each stand at which no more reads are known to be logged than were made, each input has a lawful turn, and it
+/// leads to such a stand again. Only one that is fenced has no turn any more. The laws never contradict one another.
+pub fn turns_exist<S: Service>()
+    ensures { (kind : ℕ) (before : Node) (input : Input) → is_fenced before.stage ≡ false → AllCount before.stage
+        → (after : Node) × (sent : List Packet) × LawfulTurn (machine (S.started kind) S.after) before input sent after × AllCount after.stage }
 {}
 
 /// After each turn the client was told last what is taken and logged: every segment acknowledges that and announces the window, and a

@@ -11,6 +11,9 @@ ghost use Rattle.ft_model.specs.Rows.FirstPath;
 ghost use Rattle.ft_model.specs.Rows.CrashAfterLogged;
 ghost use Rattle.ft_model.specs.Rows.Closing;
 ghost use Rattle.ft_model.specs.Rows.ZeroWindow;
+ghost use Rattle.ft_model.specs.Rows.CrashBeforeSynAck;
+ghost use Rattle.ft_model.specs.Rows.ClientKnowsMore;
+ghost use Rattle.ft_model.specs.Rows.SegmentWhileRestarting;
 
 /// The first path, whole, is a joint trace.
 pub fn first_path_is_joint()
@@ -31,6 +34,21 @@ pub fn closing_is_lawful()
 /// A client without room is probed, and sent again what it doesn't acknowledge.
 pub fn zero_window_is_lawful()
     ensures { Lawful echo server 1 5000 (hello (booted server 1 5000)) ZeroWindow.probe_turns }
+{}
+
+/// A segment that comes during a restart is held off with window 0, and taken afterwards.
+pub fn segment_while_restarting_is_lawful()
+    ensures { Lawful echo server 2 900000 (hello (booted server 2 900000)) SegmentWhileRestarting.restart_turns }
+{}
+
+/// An acknowledgement of more than was sent in this incarnation counts as one of all that was.
+pub fn client_knows_more_is_lawful()
+    ensures { Lawful echo server 2 900000 (hello (booted server 2 900000)) ClientKnowsMore.restart_turns }
+{}
+
+/// A restarted connection answers its client's SYN with the kept SYN-ACK.
+pub fn crash_before_syn_ack_is_lawful()
+    ensures { Lawful echo server 2 900000 (hello (booted server 2 900000)) CrashBeforeSynAck.restart_turns }
 {}
 
 /// In the turn in which the text comes, the Data may not be left out, nor may its Read go first or have another index.
