@@ -170,3 +170,9 @@ ack_set bytes ack small ok = changes (with_ack ack) (λ b. sealed (put 28 (four 
 pub window_set : (bytes : List ℕ) (window : ℕ) → window < 2 ^ 16 → IsOk (reading bytes)
     → reading (sealed (put 34 (two window) bytes)) ≡ changed (with_window window) (reading bytes)
 window_set bytes window small ok = changes (with_window window) (λ b. sealed (put 34 (two window) b)) bytes ok (window_cells bytes window small)
+
+pub still_accepted : (change : Segment → Segment) (old new : List ℕ) → IsOk (reading old) → reading new ≡ changed change (reading old) → IsOk (reading new)
+still_accepted change old new ok is =
+    let said : reading old ≡ Ok (segment_in old) = passes old (passed old ok)
+    in let now : reading new ≡ Ok (change (segment_in old)) = is ∙ ap (changed change) said
+    in rw now refl

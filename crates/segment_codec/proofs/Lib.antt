@@ -3,4 +3,4 @@ pub mod Cells
 pub mod Options
 pub mod Pieces
 pub mod Placing
-pub mod Tests
+pub mod Refusals

@@ -11,6 +11,8 @@ pub use writing::write_packet;
 mod fields;
 mod reading;
 mod setting;
+#[cfg(test)]
+mod tests;
 mod writing;
 
 /// The fields of the two headers that are kept. A packet has no options but the segment size where `mss` is given, in bytes.

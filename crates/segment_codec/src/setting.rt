@@ -15,6 +15,7 @@ pub fn set_seq(bytes: &mut [u8], seq: Seq)
     // It is read as before, with that field changed.
     ensures read { reading bytes.new ≡ changed (with_seq seq.0) (reading bytes.old) }
     // All other bytes but the checksum stay.
+    ensures accepted { IsOk (reading bytes.new) }
     ensures bytes { bytes.new ≡ sealed (put 24 (four seq.0) bytes.old) }
     // The spelling of a segment becomes the spelling of the changed one.
     ensures canonical { (segment : Segment) → bytes.old ≡ spelling segment → bytes.new ≡ spelling (with_seq seq.0 segment) }
@@ -27,6 +28,7 @@ pub fn set_seq(bytes: &mut [u8], seq: Seq)
 pub fn set_ack(bytes: &mut [u8], ack: Seq)
     requires { IsOk (reading bytes.old) }
     ensures read { reading bytes.new ≡ changed (with_ack ack.0) (reading bytes.old) }
+    ensures accepted { IsOk (reading bytes.new) }
     ensures bytes { bytes.new ≡ sealed (put 28 (four ack.0) bytes.old) }
     ensures canonical { (segment : Segment) → bytes.old ≡ spelling segment → bytes.new ≡ spelling (with_ack ack.0 segment) }
 {
@@ -38,6 +40,7 @@ pub fn set_ack(bytes: &mut [u8], ack: Seq)
 pub fn set_window(bytes: &mut [u8], window: u16)
     requires { IsOk (reading bytes.old) }
     ensures read { reading bytes.new ≡ changed (with_window window) (reading bytes.old) }
+    ensures accepted { IsOk (reading bytes.new) }
     ensures bytes { bytes.new ≡ sealed (put 34 (two window) bytes.old) }
     ensures canonical { (segment : Segment) → bytes.old ≡ spelling segment → bytes.new ≡ spelling (with_window window segment) }
 {

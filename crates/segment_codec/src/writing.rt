@@ -32,7 +32,6 @@ pub fn write_packet(head: &Head, payload: &[u8], out: &mut [u8]) -> usize
 }
 
 /// Where the payload stands behind the options.
-#[tactic(auto, unfolding(seq_arith::specs::Bytes::two))]
 fn payload_start(mss: Option<u16>) -> usize
     ensures { result ≡ 40 + length (mss_option mss) }
 {
@@ -43,7 +42,6 @@ fn payload_start(mss: Option<u16>) -> usize
 }
 
 /// How many words of four bytes the TCP header has.
-#[tactic(auto, unfolding(seq_arith::specs::Bytes::two))]
 fn header_words(mss: Option<u16>) -> u16
     ensures words { result ≡ 5 + length (mss_option mss) / 4 }
     ensures bound { result ≤ 6 }

@@ -38,7 +38,8 @@ mss_in zero (kind ∷ bytes) =
 unfoldable pub tcp_text : List ℕ → List ℕ
 tcp_text bytes = take 8 (drop 12 bytes) ++ (0 ∷ 6 ∷ two (length bytes - 20)) ++ drop 20 bytes
 
--- The tests, each with its refusal: of the IPv4 header
+-- The tests, each with its refusal: of the IPv4 header. A fragment has the flag "more fragments" or an offset, the low 14 bits of its
+-- word. A string that holds its checksum has the checksum 0 where its words sum to FFFF
 unfoldable pub ip_tests : List ℕ → List (Bool × BadPacket)
 ip_tests bytes =
     (nat_lt (length bytes) 40, Short)
@@ -93,7 +94,7 @@ reading bytes = unless (refusal bytes) (segment_in bytes)
 
 abbrev pub mss_option : Option ℕ → List ℕ
 mss_option None = []
-mss_option (Some mss) = 2 ∷ 4 ∷ two mss
+mss_option (Some mss) = 2 ∷ 4 ∷ mss / 256 % 256 ∷ mss % 256 ∷ []
 
 abbrev pub packet_length : Segment → ℕ
 packet_length segment = 40 + length (mss_option segment.head.mss) + length segment.payload

@@ -9,6 +9,8 @@ pub use checksum::{Sum16, patch16};
 
 mod checksum;
 pub mod laws;
+#[cfg(test)]
+mod tests;
 
 /// Why a string of bytes is no packet: the first test of the packet grammar that it fails, in this order.
 #[derive(Clone, Copy, Debug, PartialEq, Eq)]

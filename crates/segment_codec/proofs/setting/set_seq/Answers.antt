@@ -2,7 +2,8 @@ use Rattle.std.proofs.Common.{ap, arith, ◌∙◌}
 use Rattle.seq_arith.specs.Bytes.{four}
 use Rattle.segment_codec.specs.Change.{put, sealed}
 use Rattle.segment_codec.proofs.Canonical.{seq_spelled}
-use Rattle.segment_codec.proofs.Cells.{seq_set, long_enough, short_enough}
+use Rattle.segment_codec.proofs.Cells.{seq_set, long_enough, short_enough, still_accepted}
+use Rattle.seq_arith.specs.Packet.{with_seq}
 use Rattle.seq_arith.specs.PacketGrammar.{reading}
 use Rattle.segment_codec.proofs.setting.set_seq.Goals as goal
 
@@ -22,3 +23,6 @@ returns-clause-read c =
 pub returns-clause-canonical : goal.returns-clause-canonical
 returns-clause-canonical c segment is =
     c.seal.ensures ∙ ap sealed (c.put_long.ensures ∙ ap (put 24 (four c.args.seq.0)) is) ∙ seq_spelled segment c.args.seq.0
+
+pub returns-clause-accepted : goal.returns-clause-accepted
+returns-clause-accepted c = still_accepted (with_seq c.args.seq.0) c.args.bytes.now c.seal.new.bytes c.requires (returns-clause-read c)
