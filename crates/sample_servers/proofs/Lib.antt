@@ -2,3 +2,5 @@ pub mod Streams
 pub mod Patterns
 pub mod Requests
 pub mod Lines
+pub mod Cuts
+pub mod Whole

@@ -8,6 +8,7 @@ use Rattle.sample_servers.specs.Meter.{meter_started, meter_after}
 use Rattle.sample_servers.specs.declared.any_service.AnyService.{AnyService}
 use Rattle.sample_servers.specs.declared.any_service.AnyService.TheVariants.{Echo, Line, Transfer, Meter}
 
+-- the service that a number tells, in its first state
 abbrev pub any_started : ℕ → AnyService
 any_started kind =
     if kind == 2 then Line line_started

@@ -5,3 +5,4 @@ pub mod Transfer
 pub mod Meter
 pub mod AnyService
 pub mod Lengths
+pub mod Cuts

@@ -1,7 +1,7 @@
 -- Line: the input is split at line feeds, and each line comes back with its number. It is a fold over the bytes, so that a line may
 -- be cut over any number of chunks.
 use Rattle.std.specs.Prelude.{◌≡◌, ℕ, ◌<◌, ◌≤◌, drop, true, false, List, [], ◌∷◌, ◌++◌, ◌+◌, ◌-◌, ◌^◌, min, take, length, decimal, codes, bytes_eq, nat_lt, ◌==◌, if◌then◌else◌}
-use Rattle.server_trait.specs.Service.{Served}
+use Rattle.server_trait.specs.Service.{Served, Machine, machine}
 use Rattle.sample_servers.specs.Stream.{waiting, and_then, each_byte}
 use Rattle.sample_servers.specs.declared.line.Piece.{Piece}
 use Rattle.sample_servers.specs.declared.line.Piece.TheVariants.{Ends, GoesOn}
@@ -11,6 +11,7 @@ pub record LineState : Type 0 where
   pub finished : ℕ
   pub held : List ℕ
 
+-- no line yet
 abbrev pub line_started : LineState
 line_started = record { finished = 0; held = [] }
 
@@ -18,7 +19,8 @@ line_started = record { finished = 0; held = [] }
 abbrev pub number_after : ℕ → ℕ
 number_after finished = min (finished + 1) (2 ^ 64 - 1)
 
--- a line as it is written: its number, a space, its bytes, and a line feed. It has at most 1,024 bytes
+-- a line as it is written: its number, a space, its bytes, and a line feed. It has at most 1,024 bytes, also from a state that no
+-- run reaches
 unfoldable pub numbered : ℕ → List ℕ → List ℕ
 numbered number line = decimal number ++ codes " " ++ take 1024 line ++ codes "\n"
 
@@ -50,8 +52,13 @@ line_end state =
     then record { next = state; output = []; closed = true }
     else record (line_finished state.finished state.held) { closed = true }
 
+-- what a chunk does. An empty one is the end of input
 abbrev pub line_after : LineState → List ℕ → Served LineState
 line_after state chunk = if length chunk == 0 then line_end state else each_byte line_byte state chunk
+
+-- the service as runs see it
+abbrev pub line_machine : Machine LineState
+line_machine = machine line_started line_after
 
 -- the line that is held ends with `len` bytes more, which uses up `used` bytes
 pub record EndsAt (state : LineState) (bytes : List ℕ) (len used : ℕ) : Type 0 where

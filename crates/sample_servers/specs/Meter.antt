@@ -3,6 +3,7 @@ use Rattle.std.specs.Prelude.{ℕ, List, [], ◌++◌, length, decimal, codes, �
 use Rattle.server_trait.specs.Service.{Served}
 use Rattle.sample_servers.specs.declared.meter.Meter.{Meter}
 
+-- its only state
 abbrev pub meter_started : Meter
 meter_started = record {}
 
@@ -10,5 +11,6 @@ meter_started = record {}
 abbrev pub length_line : List ℕ → List ℕ
 length_line chunk = if length chunk == 0 then [] else decimal (length chunk) ++ codes "\n"
 
+-- what a chunk does
 abbrev pub meter_after : Meter → List ℕ → Served Meter
 meter_after meter chunk = record { next = meter; output = length_line chunk; closed = length chunk == 0 }

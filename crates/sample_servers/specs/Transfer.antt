@@ -1,12 +1,14 @@
 -- Transfer: the input is requests of four bytes, each a number, big-endian. A request gives as many bytes as it says, at most 2,047,
 -- of the pattern whose byte i, over the whole output, is i modulo 251. Request 0 closes.
-use Rattle.std.specs.Prelude.{ℕ, zero, suc, true, false, List, [], ◌∷◌, ◌++◌, ◌+◌, ◌*◌, ◌%◌, min, length, ◌==◌, if◌then◌else◌}
-use Rattle.server_trait.specs.Service.{Served}
+use Rattle.std.specs.Prelude.{sum_by, ℕ, zero, suc, true, false, List, [], ◌∷◌, ◌++◌, ◌+◌, ◌*◌, ◌%◌, min, length, ◌==◌, if◌then◌else◌}
+use Rattle.std.specs.List.{before_first}
+use Rattle.server_trait.specs.Service.{Served, Machine, machine}
 use Rattle.sample_servers.specs.Stream.{waiting, and_then}
 use Rattle.sample_servers.specs.declared.transfer.Held.{Held}
 use Rattle.sample_servers.specs.declared.transfer.Held.TheVariants.{Nothing, One, Two, Three}
 use Rattle.sample_servers.specs.declared.transfer.Transfer.{Transfer}
 
+-- nothing is written or held yet
 abbrev pub transfer_started : Transfer
 transfer_started = record { place = 0; held = Nothing }
 
@@ -58,9 +60,25 @@ requests_served place (a ∷ b ∷ c ∷ d ∷ bytes) =
 unfoldable pub bytes_served : Transfer → List ℕ → Served Transfer
 bytes_served transfer bytes = requests_served transfer.place (held_bytes transfer.held ++ bytes)
 
--- the end of input closes, and a held rest is ignored
+-- what a chunk does. An empty one is the end of input, which closes, and a held rest is ignored
 abbrev pub transfer_after : Transfer → List ℕ → Served Transfer
 transfer_after transfer chunk =
     if length chunk == 0
     then record { next = transfer; output = []; closed = true }
     else bytes_served transfer chunk
+
+-- the service as runs see it
+abbrev pub transfer_machine : Machine Transfer
+transfer_machine = machine transfer_started transfer_after
+
+-- the requests that these bytes spell, without what is short of one
+abbrev pub requests : List ℕ → List ℕ
+requests [] = []
+requests (a ∷ []) = []
+requests (a ∷ b ∷ []) = []
+requests (a ∷ b ∷ c ∷ []) = []
+requests (a ∷ b ∷ c ∷ d ∷ bytes) = request_of a b c d ∷ requests bytes
+
+-- how many bytes they are given in all: each its own, up to the first request 0
+abbrev pub total_size : List ℕ → ℕ
+total_size bytes = sum_by size_of (before_first (λ request. request == 0) (requests bytes))

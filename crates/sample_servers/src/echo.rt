@@ -6,7 +6,7 @@ use ft_io::NoMemory;
 use server_trait::{Next, Service};
 use std::alloc::Global;
 
-/// The echo service. It has no state.
+/// The echo service. The output of a chunk is the chunk. It has no state.
 #[derive(Clone, Copy, Debug, PartialEq, Eq)]
 pub struct Echo;
 

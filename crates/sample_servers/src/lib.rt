@@ -11,6 +11,7 @@ pub use transfer::Transfer;
 
 mod any_service;
 mod echo;
+pub mod laws;
 mod line;
 mod meter;
 #[cfg(test)]

@@ -15,10 +15,14 @@ use std::marker::Model;
 /// A line ends where it has this many bytes.
 const LINE_LIMIT: usize = 1_024;
 
-/// The line service: the number of lines that are finished, and the bytes of the line that goes on, fewer than 1,024.
+/// The line service. Its input is split at line feeds, and a line that reaches 1,024 bytes without one ends there. Each line comes back as
+/// its number from 1, a space, its bytes and a line feed; at 2^64 - 1 the number stands still. A line that is just `quit` is answered by
+/// `bye` and closes. The end of input ends a line that isn't empty.
 #[derive(Debug, Drop)]
 pub struct Line {
+    // The number of the last line that is finished.
     finished: u64,
+    // The bytes of the line that goes on, fewer than 1,024.
     held: Vec<u8>,
 }
 

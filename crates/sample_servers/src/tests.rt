@@ -75,11 +75,17 @@ fn each_service_writes_what_its_text_says(rt: HostRuntime) {
         (TRANSFER, b"\0\0\0\x01\0\0\0|", b"\0", true),
         (TRANSFER, b"\0\0\0\0\0\0\0\x05", b"", true),
         (METER, b"ab|c|", b"2\n1\n", true),
-        (METER, b"abc|", b"3\n", true),
-        (METER, b"abc", b"3\n", false),
     ] {
         expect::<AnyService>(&rt, kind, input, output, closed);
     }
+}
+
+// Meter is the one service that does not ignore how its input is cut.
+#[test]
+fn meter_tells_the_cuts_of_the_same_input(rt: HostRuntime) {
+    expect::<Meter>(&rt, METER, b"abc", b"3\n", false);
+    expect::<Meter>(&rt, METER, b"ab|c", b"2\n1\n", false);
+    expect::<Meter>(&rt, METER, b"a|bc", b"1\n2\n", false);
 }
 
 #[test]

@@ -23,10 +23,14 @@ enum Held {
     Three(u8, u8, u8),
 }
 
-/// The transfer service: where in the pattern its output stands, and the bytes that are held, short of a request.
+/// The transfer service. Its input is requests of four bytes, a big-endian number each, and a request gives as many bytes as it says, at
+/// most 2,047: byte i of the whole output is i modulo 251. Request 0 closes. Bytes short of a request are held, and ignored at the end of
+/// input.
 #[derive(Clone, Copy, Debug, PartialEq, Eq)]
 pub struct Transfer {
+    // How many bytes are written, modulo 251.
     place: u8,
+    // The bytes that are held, short of a request.
     held: Held,
 }
 
