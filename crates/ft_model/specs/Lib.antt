@@ -23,6 +23,8 @@ pub mod Serving
 pub mod Lawful
 pub mod World
 pub mod Schedule
+pub mod Growth
+pub mod Masked
 pub mod Legal
 pub mod Rows
 pub mod Texts
@@ -31,3 +33,6 @@ pub mod FirstPath
 pub mod Words
 pub mod Spelling
 pub mod Grammar
+pub mod Accepted
+pub mod Playable
+pub mod Readable

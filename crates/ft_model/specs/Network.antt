@@ -1,6 +1,6 @@
 -- The network: the list of all packets ever sent, numbered from 1. A delivery names any of them, any number of times and in any order;
 -- a packet that is never named is lost. The network forges nothing.
-use Rattle.std.specs.Prelude.{ℕ, Bool, true, false, zero, suc, Option, None, List, slice_get}
+use Rattle.std.specs.Prelude.{ℕ, zero, suc, Option, None, List, slice_get}
 use Rattle.ft_io.specs.declared.Key.{Key}
 use Rattle.seq_arith.specs.Packet.{Segment}
 use Rattle.seq_arith.specs.Message.{Message}

@@ -35,6 +35,10 @@ hex_text bytes = or_dash (encode_lower bytes)
 unfoldable pub list_text : List ℕ → List ℕ
 list_text numbers = or_dash (join_with_byte 44 (map decimal numbers))
 
+-- numbers in decimal, each behind a comma
+abbrev pub behind_commas : List ℕ → List ℕ
+behind_commas numbers = flat_map (λ n. codes "," ++ decimal n) numbers
+
 -- the four octets of an IPv4 address (RFC 791, 3.2)
 abbrev pub octets : ℕ → List ℕ
 octets ip = (ip / 2 ^ 24) ∷ (ip / 2 ^ 16 % 256) ∷ (ip / 2 ^ 8 % 256) ∷ (ip % 256) ∷ []

@@ -5,17 +5,19 @@
 pub use event::{Event, EventWhy};
 pub use line::{Draft, Keyword, Line, Verb};
 pub use phase::Phase;
-pub use report::worked_lines;
+pub use report::{packets_of_lines, values_of_spellings, words_of_a_line, worked_lines};
 pub use schedule::{
     ClientLine, ClientLines, Events, Limit, LineWhy, Schedule, Script, ServiceKind,
 };
 pub use way::Way;
 
 mod event;
+pub mod grammar;
+pub mod headline;
 pub mod laws;
 mod line;
 mod phase;
-pub mod rows;
 mod report;
+pub mod rows;
 mod schedule;
 mod way;

@@ -1,9 +1,17 @@
 //! The report of a run is a definition alone, `specs/Report.antt`. Here are lines of it that were worked out by hand, for a run in which
 //! a client says hello to an echo.
 
-ghost use Rattle.std.specs.Prelude.{◌≡◌, [], ◌∷◌, codes, None, Some, false};
+ghost use Rattle.std.specs.Prelude.{◌≡◌, ◌<◌, ◌^◌, ℕ, Bool, Option, decimal, List, [], ◌∷◌, codes, None, Some, false};
+ghost use Rattle.std.specs.List.{AllByRecursion};
+ghost use Rattle.hex.specs.Hex.{IsBytes};
+ghost use Rattle.ft_model.specs.Readable.{IsReadable, IsWord, Fits, FitsOption, FitsWay};
+ghost use Rattle.ft_model.specs.Texts.{line, hex_text, list_text, mss_text, bit_text, address_text, flags_text, way_text};
+ghost use Rattle.ft_io.specs.declared.Addr.{Addr};
+ghost use Rattle.ft_model.specs.Client.{Client};
+ghost use Rattle.ft_model.specs.Network.{Packet};
 ghost use Rattle.ft_model.specs.FirstPath.{client_key, from_client, from_server, hello, opening, bytes_to_log, read, stable, reads, entry, part, cuts, lens};
-ghost use Rattle.ft_model.specs.Report.{event_line, packet_line, phase_line, entry_line, end_line};
+ghost use Rattle.ft_model.specs.Report.{event_line, packet_line, way_of, phase_line, entry_line, end_line};
+ghost use Rattle.ft_model.specs.declared.way.Way.{Way};
 ghost use Rattle.ft_model.specs.declared.way.Way.TheVariants.{ClientToServer, ServerToClient, ServerToLogger, LoggerToServer};
 ghost use Rattle.ft_model.specs.declared.event.Event.TheVariants.{Begin, Boot, Deliver, Send};
 ghost use Rattle.ft_model.specs.declared.phase.Phase.TheVariants.{Established};
@@ -46,4 +54,30 @@ pub fn worked_lines()
     ensures log { entry_line client_key 5 false 0 false (5 ∷ [])
         ≡ codes "log 192.0.2.1:40000 length 5 fin 0 acked 0 done 0 reads 5\n" }
     ensures end { end_line 17 ≡ codes "end 17\n" }
+{}
+
+/// A line tells its words.
+pub fn words_of_a_line()
+    ensures { (first : List ℕ) (ws vs : List (List ℕ)) → AllByRecursion IsWord ws → AllByRecursion IsWord vs
+        → line first ws ≡ line first vs → ws ≡ vs }
+{}
+
+/// A spelling tells its value: no two values of a kind are spelled alike.
+pub fn values_of_spellings()
+    ensures number { (m n : ℕ) → Fits m → Fits n → decimal m ≡ decimal n → m ≡ n }
+    ensures bytes { (xs ys : List ℕ) → IsBytes xs → IsBytes ys → hex_text xs ≡ hex_text ys → xs ≡ ys }
+    ensures list { (xs ys : List ℕ) → AllByRecursion Fits xs → AllByRecursion Fits ys → list_text xs ≡ list_text ys → xs ≡ ys }
+    ensures mss { (m n : Option ℕ) → FitsOption m → FitsOption n → mss_text m ≡ mss_text n → m ≡ n }
+    ensures bit { (b c : Bool) → bit_text b ≡ bit_text c → b ≡ c }
+    ensures address { (ip other port door : ℕ) → ip < 2 ^ 32 → other < 2 ^ 32 → port < 2 ^ 16 → door < 2 ^ 16
+        → address_text ip port ≡ address_text other door → (ip ≡ other) × (port ≡ door) }
+    ensures flags { (m n : ℕ) → m < 256 → n < 256 → flags_text m ≡ flags_text n → m ≡ n }
+    ensures way { (v w : Way) → FitsWay v → FitsWay w → way_text v ≡ way_text w → v ≡ w }
+{}
+
+/// A packet's line tells its number and the packet, for segments between a client of the schedule and the server, and for messages.
+pub fn packets_of_lines()
+    ensures { (server : Addr) (clients : List Client) (m n : ℕ) (p q : Packet) → Fits m → Fits n
+        → IsReadable server clients p → IsReadable server clients q
+        → packet_line m (way_of clients p) p ≡ packet_line n (way_of clients q) q → (m ≡ n) × (p ≡ q) }
 {}

@@ -1,0 +1,279 @@
+-- A text is accepted line by line, and each accepted line keeps what every accepted schedule keeps.
+use Rattle.std.proofs.Common.{◌≡◌, ℕ, zero, suc, ◌+◌, ◌-◌, ◌*◌, ◌<◌, ◌≤◌, ◌^◌, List, [], ◌∷◌, ◌++◌, length, drop, refl, ◌∙◌, arith, append_assoc, length-append, Bool, true, false}
+use Rattle.std.specs.Prelude.{cond, Option, Some, None, option_map, Result, Ok, Err, nat_le, ◌&&◌}
+use Rattle.std.specs.Option.{ok_or, option_and_then}
+use Rattle.std.specs.List.{AllByRecursion}
+use Rattle.std.proofs.lemmas.Bool.{ltb-true, leb-true, leb-false}
+use Rattle.std.proofs.lemmas.List.{append-nil}
+use Rattle.std.proofs.lemmas.Option.{cond_some}
+use Rattle.ft_io.specs.declared.Addr.{Addr}
+use Rattle.ft_model.specs.Words.{words_of, lines_of}
+use Rattle.ft_model.specs.Spelling.{numeral, number_of, within, addr_of, is_hex, hex_bytes, script_of}
+use Rattle.ft_model.specs.Grammar.Refusal.{TooLong}
+use Rattle.ft_model.specs.Grammar.{◌>>=◌, line_of, line_of_words, line_behind, line_from, built, may_stand, may_join, keyword_of, verb_of, names_no_service, asks_for_more, is_printable, client_line, free_address, is_taken, service_line, server_line, event_line, client_number, long_number, after_line, read_lines, read_text, with_line, is_passed_over, is_too_much, at_line}
+use Rattle.ft_model.specs.Accepted.{AreApart, IsAccepted}
+use Rattle.ft_model.specs.Schedule.{bytes_of, letters}
+use Rattle.ft_model.specs.declared.event.Event.{Event}
+use Rattle.ft_model.specs.declared.line.Draft.{Draft}
+use Rattle.ft_model.specs.declared.line.Draft.TheVariants.{Empty, Named, Begun}
+use Rattle.ft_model.specs.declared.line.Keyword.{Keyword}
+use Rattle.ft_model.specs.declared.line.Keyword.TheVariants as keyword
+use Rattle.ft_model.specs.declared.line.Line.{Line}
+use Rattle.ft_model.specs.declared.line.Line.TheVariants as line
+use Rattle.ft_model.specs.declared.line.Verb.{Verb}
+use Rattle.ft_model.specs.declared.schedule.ClientLine.{ClientLine}
+use Rattle.ft_model.specs.declared.schedule.Limit.TheVariants as limit
+use Rattle.ft_model.specs.declared.schedule.LineWhy.{LineWhy}
+use Rattle.ft_model.specs.declared.schedule.LineWhy.TheVariants as why
+use Rattle.ft_model.specs.declared.schedule.Schedule.{Schedule}
+use Rattle.ft_model.specs.declared.schedule.Script.{Script}
+use Rattle.ft_model.specs.declared.schedule.Script.TheVariants.{Bytes, Fill}
+
+-- What an outcome that isn't a refusal says of the tests that gave it.
+bind_ok : {A B E : Type 0} (r : Result A E) (f : A → Result B E) (y : B) → (r >>= f) ≡ Ok y → (x : A) × (r ≡ Ok x) × (f x ≡ Ok y)
+bind_ok (Ok x) f y e = (x, refl, e)
+bind_ok (Err d) f y e = absurd (cc)
+
+ok_or_ok : {A E : Type 0} (o : Option A) (d : E) (x : A) → ok_or o d ≡ Ok x → o ≡ Some x
+ok_or_ok (Some y) d x e = cc
+ok_or_ok None d x e = absurd (cc)
+
+unless : {A E : Type 0} (b : Bool) (d : E) (r : Result A E) (x : A) → cond b (Err d) r ≡ Ok x → (b ≡ false) × (r ≡ Ok x)
+unless true d r x e = absurd (cc)
+unless false d r x e = (refl, e)
+
+provided : {A E : Type 0} (b : Bool) (d : E) (r : Result A E) (x : A) → cond b r (Err d) ≡ Ok x → (b ≡ true) × (r ≡ Ok x)
+provided true d r x e = (refl, e)
+provided false d r x e = absurd (cc)
+
+-- what an accepted line passed
+pub record Passes (draft : Draft) (text : List ℕ) (l : Line) : Type 0 where
+  pub word : List ℕ
+  pub words : List (List ℕ)
+  pub k : Keyword
+  pub words_are : words_of text ≡ word ∷ words
+  pub announces : keyword_of word ≡ Some k
+  pub stands : may_stand draft k words ≡ true
+  pub says : line_from draft k words ≡ Ok l
+  pub is_built : asks_for_more draft l ≡ false
+
+passes_words : (draft : Draft) (text : List ℕ) (ws : List (List ℕ)) (l : Line) → words_of text ≡ ws → line_of_words draft ws ≡ Ok l → Passes draft text l
+unfolding line_behind built
+passes_words draft text [] l e f = absurd (cc)
+passes_words draft text (word ∷ words) l e f =
+    let at = bind_ok (ok_or (keyword_of word) why.Word) (λ k. line_behind draft k words) l f in
+    let named = unless (names_no_service at.0 words) why.Word (cond (may_stand draft at.0 words) (line_from draft at.0 words >>= built draft) (Err why.Place)) l at.2 in
+    let placed = provided (may_stand draft at.0 words) why.Place (line_from draft at.0 words >>= built draft) l named.1 in
+    let said = bind_ok (line_from draft at.0 words) (built draft) l placed.1 in
+    let asks = unless (asks_for_more draft said.0) why.Built (Ok said.0) l said.2 in
+    let is : said.0 ≡ l = cc asks.1 in
+    record {
+      word = word;
+      words = words;
+      k = at.0;
+      words_are = e;
+      announces = ok_or_ok (keyword_of word) why.Word at.0 at.1;
+      stands = placed.0;
+      says = said.1 ∙ asks.1;
+      is_built = rw (← is) asks.0;
+    }
+
+passes : (draft : Draft) (text : List ℕ) (l : Line) → line_of draft text ≡ Ok l → Passes draft text l
+unfolding line_of
+passes draft text l e = passes_words draft text (words_of text) l refl (provided (is_printable text) why.Character (line_of_words draft (words_of text)) l e).1
+
+-- an event is announced by a verb, and a client by its keyword
+says_event : (draft : Draft) (k : Keyword) (words : List (List ℕ)) (e : Event) → line_from draft k words ≡ Ok (line.Event e) → (v : Verb) × (k ≡ keyword.Event v)
+says_event draft keyword.Service words e h = let b = bind_ok (service_line words) (λ kind. Ok (line.Service kind)) (line.Event e) h in absurd (cc b.2)
+says_event draft keyword.Server words e h = let b = bind_ok (server_line words) (λ addr. Ok (line.Server addr)) (line.Event e) h in absurd (cc b.2)
+says_event draft keyword.Client words e h = let b = bind_ok (client_line draft words) (λ client. Ok (line.Client client)) (line.Event e) h in absurd (cc b.2)
+says_event draft (keyword.Event v) words e h = (v, refl)
+
+pub says_client : (draft : Draft) (k : Keyword) (words : List (List ℕ)) (c : ClientLine) → line_from draft k words ≡ Ok (line.Client c) → (k ≡ keyword.Client) × (client_line draft words ≡ Ok c)
+says_client draft keyword.Service words c h = let b = bind_ok (service_line words) (λ kind. Ok (line.Service kind)) (line.Client c) h in absurd (cc b.2)
+says_client draft keyword.Server words c h = let b = bind_ok (server_line words) (λ addr. Ok (line.Server addr)) (line.Client c) h in absurd (cc b.2)
+says_client draft keyword.Client words c h = let b = bind_ok (client_line draft words) (λ client. Ok (line.Client client)) (line.Client c) h in (refl, (cc (b.1, b.2)))
+says_client draft (keyword.Event v) words c h = let b = bind_ok (event_line v words) (λ e. Ok (line.Event e)) (line.Client c) h in absurd (cc b.2)
+
+another : (b : Bool) (x y : Keyword) (o : Option Keyword) → (x ≡ y → ⊥) → cond b (Some x) o ≡ Some y → o ≡ Some y
+another true x y o n e = absurd (n (cc))
+another false x y o n e = e
+
+verb_in : (o : Option Verb) (v : Verb) → option_map keyword.Event o ≡ Some (keyword.Event v) → o ≡ Some v
+verb_in (Some w) v e = cc
+verb_in None v e = absurd (cc)
+
+verb_behind : (word : List ℕ) (v : Verb) → keyword_of word ≡ Some (keyword.Event v) → verb_of word ≡ Some v
+unfolding keyword_of
+verb_behind word v e = verb_in (verb_of word) v (another _ keyword.Client (keyword.Event v) _ (λ h. cc) (another _ keyword.Server (keyword.Event v) _ (λ h. cc) (another _ keyword.Service (keyword.Event v) _ (λ h. cc) e)))
+
+-- A script has at most 2^24 bytes.
+half : (digits : List ℕ) → 2 * length (hex_bytes digits) ≤ length digits
+unfolding hex_bytes
+half [] = omega arith
+half (high ∷ []) = omega arith
+half (high ∷ low ∷ more) = omega (arith, half more)
+
+length_letters : (n : ℕ) → length (letters n) ≡ n
+unfolding letters
+length_letters zero = refl
+length_letters (suc n) = omega (arith, length-append {A = ℕ}, length_letters n)
+
+-- What the four tests of a client line gave.
+tested : (rn ri : Result ℕ LineWhy) (ra : Result Addr LineWhy) (rs : Result Script LineWhy) (make : ℕ → Addr → Script → ClientLine) (c : ClientLine) → (rn >>= λ n. ri >>= λ i. ra >>= λ a. rs >>= λ s. Ok (make i a s)) ≡ Ok c → (i : ℕ) × (a : Addr) × (s : Script) × (ri ≡ Ok i) × (ra ≡ Ok a) × (rs ≡ Ok s) × (make i a s ≡ c)
+tested (Ok n) (Ok i) (Ok a) (Ok s) make c e = (i, a, s, refl, refl, refl, (cc))
+tested (Err d) ri ra rs make c e = absurd (cc)
+tested (Ok n) (Err d) ra rs make c e = absurd (cc)
+tested (Ok n) (Ok i) (Err d) rs make c e = absurd (cc)
+tested (Ok n) (Ok i) (Ok a) (Err d) make c e = absurd (cc)
+
+both_left : (a b : Bool) → (a && b) ≡ true → a ≡ true
+both_left true b e = refl
+both_left false b e = absurd (cc)
+
+both_right : (a b : Bool) → (a && b) ≡ true → b ≡ true
+both_right true b e = e
+both_right false b e = absurd (cc)
+
+not_both : (a b : Bool) → (a && b) ≡ false → b ≡ true → a ≡ false
+not_both true b e f = absurd (cc)
+not_both false b e f = refl
+
+hex_limit : (digits : List ℕ) → is_hex digits ≡ true → length digits ≤ 2 * 2 ^ 24
+unfolding is_hex
+hex_limit digits e = leb-true _ _ (both_right _ _ e)
+
+hex_bound : (digits : List ℕ) (b : Bool) (s : Script) → is_hex digits ≡ b → cond b (Some (Bytes (hex_bytes digits))) None ≡ Some s → length (bytes_of s) ≤ 2 ^ 24
+hex_bound digits true s h e = let is : Bytes (hex_bytes digits) ≡ s = cc in rw (← is) (omega (arith, half digits, hex_limit digits h))
+hex_bound digits false s h e = absurd (cc)
+
+within_bound : (least most : ℕ) (o : Option ℕ) (n : ℕ) → option_and_then (within least most) o ≡ Some n → n ≤ most
+within_bound least most (Some m) n e = let is = cond_some (nat_le least m && nat_le m most) m n e in rw (← is.1) (leb-true _ _ (both_right _ _ is.0))
+within_bound least most None n e = absurd (cc)
+
+number_bound : (least most : ℕ) (word : List ℕ) (n : ℕ) → number_of least most word ≡ Some n → n ≤ most
+unfolding number_of
+number_bound least most word n e = within_bound least most (numeral 20 word) n e
+
+script_cases : (dash hex fill : Bool) (digits : List ℕ) (o : Option ℕ) (s : Script) → ((n : ℕ) → o ≡ Some n → n ≤ 2 ^ 24) → cond dash (Some (Bytes [])) (cond hex (cond (is_hex digits) (Some (Bytes (hex_bytes digits))) None) (cond fill (option_map Fill o) None)) ≡ Some s → length (bytes_of s) ≤ 2 ^ 24
+script_cases true hex fill digits o s f e = let is : Bytes [] ≡ s = cc in rw (← is) (omega arith)
+script_cases false true fill digits o s f e = hex_bound digits (is_hex digits) s refl e
+script_cases false false true digits (Some n) s f e = let is : Fill n ≡ s = cc in rw (← is) (rw length_letters (f n refl))
+script_cases false false true digits None s f e = absurd (cc)
+script_cases false false false digits o s f e = absurd (cc)
+
+script_bound : (word : List ℕ) (s : Script) → script_of word ≡ Some s → length (bytes_of s) ≤ 2 ^ 24
+unfolding script_of
+script_bound word s e = script_cases _ _ _ (drop 4 word) (number_of 1 (2 ^ 24) (drop 5 word)) s (λ n is. number_bound 1 (2 ^ 24) (drop 5 word) n is) e
+
+free : (draft : Draft) (word : List ℕ) (a : Addr) → free_address draft word ≡ Ok a → is_taken draft a ≡ false
+unfolding free_address
+free draft word a e =
+    let f = bind_ok (ok_or (addr_of word) why.Address) (λ addr. cond (is_taken draft addr) (Err why.Address) (Ok addr)) a e in
+    let u = unless (is_taken draft f.0) why.Address (Ok f.0) a f.2 in
+    let is : f.0 ≡ a = cc u.1 in
+    rw (← is) u.0
+
+-- a client that passed has an address of its own, a script within its limit, and a number modulo 2^32
+pub client_kept : (draft : Draft) (words : List (List ℕ)) (c : ClientLine) → client_line draft words ≡ Ok c → (is_taken draft (record { ip = c.key.ip; port = c.key.port }) ≡ false) × (length (bytes_of c.script) ≤ 2 ^ 24) × (c.isn < 2 ^ 32)
+unfolding client_line
+client_kept draft (n ∷ address ∷ isn ∷ script ∷ []) c h =
+    let t = tested (client_number n) (long_number isn) (free_address draft address) (ok_or (script_of script) why.Script) (λ i addr s. record { key = record { ip = addr.ip; port = addr.port }; isn = i; script = s }) c h in
+    let number = number_bound 0 (2 ^ 32 - 1) isn t.0 (ok_or_ok (number_of 0 (2 ^ 32 - 1) isn) why.Number t.0 t.3) in
+    rw (← t.6) (free draft address t.1 t.4, script_bound script t.2 (ok_or_ok (script_of script) why.Script t.2 t.5), omega (arith, number))
+client_kept draft [] c h = absurd (cc)
+client_kept draft (n ∷ []) c h = absurd (cc)
+client_kept draft (n ∷ address ∷ []) c h = absurd (cc)
+client_kept draft (n ∷ address ∷ isn ∷ []) c h = absurd (cc)
+client_kept draft (n ∷ address ∷ isn ∷ script ∷ word ∷ more) c h = absurd (cc)
+
+apart_push : (s : Schedule) (before more : List ClientLine) (c : ClientLine) → AreApart s before more → is_taken (Begun (record s { clients = before ++ more })) (record { ip = c.key.ip; port = c.key.port }) ≡ false → AreApart s before (more ++ c ∷ [])
+apart_push s before [] c h f = (rw append-nil at f, tt)
+apart_push s before (x ∷ xs) c h f = (h.0, apart_push s (before ++ x ∷ []) xs c h.1 (rw append_assoc f))
+
+pub all_push : {A : Type 0} (P : A → Type 0) (xs : List A) (x : A) → AllByRecursion P xs → P x → AllByRecursion P (xs ++ x ∷ [])
+all_push P [] x h p = (p, tt)
+all_push P (y ∷ ys) x h p = (h.0, all_push P ys x h.1 p)
+
+with_client : (s : Schedule) (c : ClientLine) → IsAccepted s → length s.clients < 16 → is_taken (Begun s) (record { ip = c.key.ip; port = c.key.port }) ≡ false → length (bytes_of c.script) ≤ 2 ^ 24 → IsAccepted (record s { clients = s.clients ++ c ∷ [] })
+with_client s c h room apart script = record {
+  clients = omega (arith, length-append {A = ClientLine});
+  addresses = apart_push s [] s.clients c h.addresses apart;
+  scripts = all_push (λ client. length (bytes_of client.script) ≤ 2 ^ 24) s.clients c h.scripts script;
+  events = h.events;
+}
+
+with_event : (s : Schedule) (e : Event) → IsAccepted s → length s.events < 100000 → IsAccepted (record s { events = s.events ++ e ∷ [] })
+unfolding is_taken
+with_event s e h room = record {
+  clients = h.clients;
+  addresses = h.addresses;
+  scripts = h.scripts;
+  events = omega (arith, length-append {A = Event});
+}
+
+abbrev Kept : Draft → Type 0
+Kept Empty = Unit {0}
+Kept (Named kind) = Unit {0}
+Kept (Begun s) = IsAccepted s
+
+room_for_client : (s : Schedule) (words : List (List ℕ)) → may_join s words ≡ true → length s.clients < 16
+unfolding may_join
+room_for_client s words e = ltb-true _ _ (both_right _ _ (both_left _ _ e))
+
+room_for_event : (s : Schedule) (text word : List ℕ) (words : List (List ℕ)) (v : Verb) → words_of text ≡ word ∷ words → verb_of word ≡ Some v → is_too_much (Begun s) text ≡ false → length s.events < 100000
+unfolding is_too_much
+room_for_event s text word words v e f h = leb-false _ _ (not_both _ _ h (rw (e, f) refl))
+
+line_kept : (draft : Draft) (text : List ℕ) (l : Line) → Kept draft → is_too_much draft text ≡ false → Passes draft text l → Kept (with_line draft l)
+line_kept Empty text (line.Service kind) h few p = tt
+line_kept Empty text (line.Server addr) h few p = tt
+line_kept Empty text (line.Client c) h few p = tt
+line_kept Empty text (line.Event e) h few p = tt
+line_kept (Named kind) text (line.Service name) h few p = tt
+line_kept (Named kind) text (line.Server addr) h few p = record { clients = omega arith; addresses = tt; scripts = tt; events = omega arith }
+line_kept (Named kind) text (line.Client c) h few p = tt
+line_kept (Named kind) text (line.Event e) h few p = tt
+line_kept (Begun s) text (line.Service kind) h few p = h
+line_kept (Begun s) text (line.Server addr) h few p = h
+line_kept (Begun s) text (line.Client c) h few p =
+    let said = says_client (Begun s) p.k p.words c p.says in
+    let kept = client_kept (Begun s) p.words c said.1 in
+    with_client s c h (room_for_client s p.words (rw said.0 at p.stands)) kept.0 kept.1
+line_kept (Begun s) text (line.Event e) h few p =
+    let said = says_event (Begun s) p.k p.words e p.says in
+    with_event s e h (room_for_event s text p.word p.words said.0 p.words_are (verb_behind p.word said.0 (rw said.1 at p.announces)) few)
+
+at_line_ok : (n : ℕ) (r : Result Draft LineWhy) (later : Draft) → at_line n r ≡ Ok later → r ≡ Ok later
+at_line_ok n (Ok draft) later e = cc
+at_line_ok n (Err d) later e = absurd (cc)
+
+-- What each line that passes keeps holds of the schedule that the lines spell.
+module _ (Keeps : Draft → Type 0) (step : (draft : Draft) (text : List ℕ) (l : Line) → Keeps draft → is_too_much draft text ≡ false → Passes draft text l → Keeps (with_line draft l)) where
+  after_by : (n : ℕ) (draft later : Draft) (text : List ℕ) (over : Bool) → Keeps draft → cond over (Ok draft) (cond (is_too_much draft text) (Err (TooLong limit.Events)) (at_line n (line_of draft text >>= λ l. Ok (with_line draft l)))) ≡ Ok later → Keeps later
+  after_by n draft later text true h e = let is : draft ≡ later = cc in rw (← is) h
+  after_by n draft later text false h e =
+      let u = unless (is_too_much draft text) (TooLong limit.Events) (at_line n (line_of draft text >>= λ l. Ok (with_line draft l))) later e in
+      let b = bind_ok (line_of draft text) (λ l. Ok (with_line draft l)) later (at_line_ok n (line_of draft text >>= λ l. Ok (with_line draft l)) later u.1) in
+      let is : with_line draft b.0 ≡ later = cc b.2 in
+      rw (← is) (step draft text b.0 h u.0 (passes draft text b.0 b.1))
+
+  after_kept : (n : ℕ) (draft later : Draft) (text : List ℕ) → Keeps draft → after_line n draft text ≡ Ok later → Keeps later
+  unfolding after_line
+  after_kept n draft later text h e = after_by n draft later text (is_passed_over text) h e
+
+  lines_keep : (n : ℕ) (draft : Draft) (texts : List (List ℕ)) (s : Schedule) → Keeps draft → read_lines n draft texts ≡ Ok s → Keeps (Begun s)
+  unfolding read_lines
+  lines_keep n Empty [] s h e = absurd (cc)
+  lines_keep n (Named kind) [] s h e = absurd (cc)
+  lines_keep n (Begun t) [] s h e = let is : t ≡ s = cc in rw (← is) h
+  lines_keep n draft (text ∷ more) s h e =
+      let b = bind_ok (after_line n draft text) (λ later. read_lines (n + 1) later more) s e in
+      lines_keep (n + 1) b.0 more s (after_kept n draft b.0 text h b.1) b.2
+
+  pub text_keeps : (text : List ℕ) (s : Schedule) → Keeps Empty → read_text text ≡ Ok s → Keeps (Begun s)
+  unfolding read_text
+  text_keeps text s h e = lines_keep 1 Empty (lines_of text) s h (provided (nat_le (length text) 8388608) (TooLong limit.Text) (read_lines 1 Empty (lines_of text)) s e).1
+
+pub accepted : (text : List ℕ) (s : Schedule) → read_text text ≡ Ok s → IsAccepted s
+accepted text s e = text_keeps Kept line_kept text s tt e

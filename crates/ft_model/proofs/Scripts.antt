@@ -1,0 +1,222 @@
+-- Every byte of a client that is under way, logged or taken is its script's at that offset, and a FIN stands only at the script's end.
+use Rattle.std.proofs.Common.{◌≡◌, ℕ, ◌+◌, ◌-◌, ◌≤◌, ◌^◌, pos, ◌+ℤ◌, nat_abs, int_le, Bool, true, false, ◌==◌, ◌&&◌, ◌||◌, not, nat_lt, nat_le, min, refl, sym, ap, ◌∙◌, subst, true≢false, inl, inr, ◌⊎◌, ⊎_elim, List, [], ◌∷◌, ◌++◌, length, take, drop, arith, append-nil, length-take, length-drop, leb-true, ltb-false, eqb-true, if◌then◌else◌}
+use Rattle.std.specs.List.{AllByRecursion}
+use Rattle.ft_io.specs.declared.Key.{Key}
+use Rattle.seq_arith.specs.Arrival.{int_eq, below}
+use Rattle.seq_arith.specs.Packet.{Segment, has_syn}
+use Rattle.seq_arith.specs.Message.{Part, Body}
+use Rattle.seq_arith.specs.Message.Body.{DataMsg}
+use Rattle.seq_arith.proofs.Shifts.{offset_of_number}
+use Rattle.ft_model.specs.Offset.{first_of, text_of, fin_of}
+use Rattle.ft_model.specs.Client.{Client, Move, IsMove, may_move, suits_phase, suits_range, segment_of}
+use Rattle.ft_model.specs.Client.Move.{Syn, Text, Fin, Acknowledge, Rst, Refuse}
+use Rattle.ft_model.specs.Log.{Entry, with_part, with_bytes, with_its_fin}
+use Rattle.ft_model.specs.Point.{Point, receive_edge}
+use Rattle.ft_model.specs.News.{News}
+use Rattle.ft_model.specs.News.News.{Comes, Logged, Ticks, Begins}
+use Rattle.ft_model.specs.Taken.{counts, continues, end_of, taken_after, takes_fin, fin_after}
+use Rattle.ft_model.specs.Copy.{copy_start, copied_text, copies_fin, una_part, copied_part, copies}
+use Rattle.ft_model.specs.Growth.{IsPrefix}
+use Rattle.ft_model.proofs.Lists.{of_choice, both, neither}
+use Rattle.ft_model.proofs.Stands.{nothing_first, take_first, part_stands, goes_on, goes_on_all, take_nothing}
+
+-- a segment carries a part of its client's script, or nothing
+abbrev pub Carries : List ℕ → ℕ → Segment → Type 0
+Carries script isn segment =
+    (offset : ℕ) × (first_of isn segment ≡ pos offset) × IsPrefix (text_of segment) (drop offset script)
+    × (fin_of segment ≡ true → offset + length (text_of segment) ≡ length script)
+
+abbrev pub IsBare : Segment → Type 0
+IsBare segment = (text_of segment ≡ []) × (fin_of segment ≡ false)
+
+pub record FitsScript (script : List ℕ) (isn : ℕ) (segment : Segment) : Type 0 where
+  pub syn : has_syn segment ≡ true → segment.head.seq ≡ isn
+  pub text : Carries script isn segment ⊎ IsBare segment
+
+-- what is taken of a client is a front of its script
+pub record HasTaken (script : List ℕ) (isn : ℕ) (p : Point) : Type 0 where
+  pub front : IsPrefix p.taken script
+  pub fin : p.fin ≡ true → length p.taken ≡ length script
+  pub cisn : p.cisn ≡ isn
+
+pub record PartFits (script : List ℕ) (part : Part) : Type 0 where
+  pub stands : IsPrefix part.bytes (drop part.offset script)
+  pub fin : part.fin ≡ true → part.offset + length part.bytes ≡ length script
+
+pub record EntryFits (script : List ℕ) (isn : ℕ) (e : Entry) : Type 0 where
+  pub front : IsPrefix e.bytes script
+  pub fin : e.fin ≡ true → length e.bytes ≡ length script
+  pub cisn : e.cisn ≡ isn
+
+abbrev pub NewsFits : List ℕ → ℕ → News → Type 0
+NewsFits script isn (Comes segment) = FitsScript script isn segment
+NewsFits script isn _ = Unit {0}
+
+last_of_three : (a b c : Bool) → (a && b && c) ≡ true → c ≡ true
+last_of_three true true c e = e
+last_of_three true false c e = absurd (true≢false (sym e))
+last_of_three false true c e = absurd (true≢false (sym e))
+last_of_three false false c e = absurd (true≢false (sym e))
+
+-- the law Taken, in one sentence: each byte taken is the script's byte at its offset
+taken_stands : (script : List ℕ) (isn : ℕ) (segment : Segment) (p : Point) → FitsScript script isn segment → HasTaken script isn p
+    → IsPrefix (taken_after (Comes segment) p) script
+unfolding taken_after
+taken_stands script isn segment p f h =
+    of_choice (λ l. IsPrefix l script) (continues p segment) _ p.taken
+    (λ t. let within : int_le (first_of p.cisn segment) (pos (length p.taken)) ≡ true = last_of_three (counts p segment) (not p.fin) _ t in
+    ⊎_elim
+    (λ c. let at : first_of p.cisn segment ≡ pos c.0 = subst (λ n. first_of n segment ≡ pos c.0) (sym h.cisn) c.1 in
+    let low : c.0 ≤ length p.taken = leb-true _ _ (subst (λ z. int_le z (pos (length p.taken)) ≡ true) at within) in
+    subst (λ z. IsPrefix (p.taken ++ take (receive_edge p - length p.taken) (drop (below (length p.taken) z) (text_of segment))) script) (sym at)
+    (goes_on (receive_edge p - length p.taken) c.0 p.taken (text_of segment) script h.front c.2 low))
+    (λ c. subst (λ x. IsPrefix (p.taken ++ take (receive_edge p - length p.taken) (drop (below (length p.taken) (first_of p.cisn segment)) x)) script) (sym c.0)
+    (subst (λ x. IsPrefix (p.taken ++ x) script) (sym (take_nothing (receive_edge p - length p.taken) (below (length p.taken) (first_of p.cisn segment))))
+    (subst (λ x. IsPrefix x script) (sym (append-nil p.taken)) h.front))) f.text)
+    (λ t. h.front)
+
+and_false : (a b c : Bool) → b ≡ false → (a && b && c) ≡ false
+and_false true false c e = refl
+and_false false false c e = refl
+and_false a true c e = absurd (true≢false e)
+
+or_cases : (a b : Bool) → (a || b) ≡ true → (a ≡ true) ⊎ (b ≡ true)
+or_cases true b e = inl refl
+or_cases false b e = inr e
+
+-- behind a FIN nothing is taken
+ended_taken : (segment : Segment) (p : Point) → p.fin ≡ true → taken_after (Comes segment) p ≡ p.taken
+unfolding taken_after
+ended_taken segment p e =
+    ap (λ b. if b then p.taken ++ take (receive_edge p - length p.taken) (drop (below (length p.taken) (first_of p.cisn segment)) (text_of segment)) else p.taken)
+    (and_false (counts p segment) (not p.fin) (int_le (first_of p.cisn segment) (pos (length p.taken))) (ap not e))
+
+int_same : (m n : ℕ) → int_eq (pos m) (pos n) ≡ true → m ≡ n
+int_same m n e =
+    let parts = both (int_le (pos m) (pos n)) (int_le (pos n) (pos m)) e in
+    let low : m ≤ n = leb-true _ _ parts.0 in
+    let high : n ≤ m = leb-true _ _ parts.1 in
+    omega (arith, low, high)
+
+-- .. and a FIN is taken only at the script's end
+fin_stands : (script : List ℕ) (isn : ℕ) (segment : Segment) (p : Point) → FitsScript script isn segment → HasTaken script isn p
+    → fin_after (Comes segment) p ≡ true → length (taken_after (Comes segment) p) ≡ length script
+unfolding fin_after
+fin_stands script isn segment p f h e =
+    ⊎_elim (λ was. ap length (ended_taken segment p was) ∙ h.fin was)
+    (λ takes.
+    let L : ℕ = length (taken_after (Comes segment) p) in
+    let one = both (continues p segment && fin_of segment && int_eq (end_of p segment) (pos L)) (nat_lt L (receive_edge p)) takes in
+    let three = both (continues p segment && fin_of segment) (int_eq (end_of p segment) (pos L)) one.0 in
+    let two = both (continues p segment) (fin_of segment) three.0 in
+    ⊎_elim
+    (λ c. let at : first_of p.cisn segment ≡ pos c.0 = subst (λ n. first_of n segment ≡ pos c.0) (sym h.cisn) c.1 in
+    let same : c.0 + length (text_of segment) ≡ L = int_same (c.0 + length (text_of segment)) L (subst (λ z. int_eq (z +ℤ pos (length (text_of segment))) (pos L) ≡ true) at three.1) in
+    sym same ∙ c.3 two.1)
+    (λ c. absurd (true≢false (sym two.1 ∙ c.1))) f.text)
+    (or_cases p.fin (takes_fin p segment) e)
+
+-- the law Taken: what is taken after any news is a front of the script still
+pub taken_fits : (script : List ℕ) (isn : ℕ) (news : News) (p q : Point) → NewsFits script isn news → HasTaken script isn p
+    → q.taken ≡ taken_after news p → q.fin ≡ fin_after news p → q.cisn ≡ p.cisn → HasTaken script isn q
+unfolding taken_after fin_after
+taken_fits script isn (Comes segment) p q f h t e c = record {
+  front = subst (λ l. IsPrefix l script) (sym t) (taken_stands script isn segment p f h);
+  fin = λ k. ap length t ∙ fin_stands script isn segment p f h (sym e ∙ k);
+  cisn = c ∙ h.cisn;
+}
+taken_fits script isn news p q f h t e c = record {
+  front = subst (λ l. IsPrefix l script) (sym t) h.front;
+  fin = λ k. ap length t ∙ h.fin (sym e ∙ k);
+  cisn = c ∙ h.cisn;
+}
+
+-- a body says of a client's stream only what its script has
+abbrev pub DataFits : (Key → List ℕ) → Body → Type 0
+DataFits script (DataMsg part) = PartFits (script part.key) part
+DataFits script _ = ⊥
+
+copied_fits : (script : List ℕ) (isn : ℕ) (segment : Segment) (p : Point) → FitsScript script isn segment → HasTaken script isn p → PartFits script (copied_part p segment)
+copied_fits script isn segment p f h =
+    ⊎_elim
+    (λ c. let o : ℕ = c.0 in
+    let text : List ℕ = text_of segment in
+    let at : first_of p.cisn segment ≡ pos o = subst (λ n. first_of n segment ≡ pos o) (sym h.cisn) c.1 in
+    let start : copy_start p segment ≡ o + (p.answered - o) = ap (λ z. nat_abs (z +ℤ pos (below p.answered z))) at in
+    let text_is : copied_text p segment ≡ take (length p.taken - (o + (p.answered - o))) (drop (p.answered - o) text) =
+    ap (λ z. take (length p.taken - nat_abs (z +ℤ pos (below p.answered z))) (drop (below p.answered z) text)) at in
+    record {
+      stands = subst (λ l. IsPrefix l (drop (copy_start p segment) script)) (sym text_is)
+          (subst (λ k. IsPrefix (take (length p.taken - (o + (p.answered - o))) (drop (p.answered - o) text)) (drop k script)) (sym start)
+          (part_stands (length p.taken - (o + (p.answered - o))) (p.answered - o) o text script c.2));
+      fin = λ k.
+          let one = both (fin_of segment && p.fin && int_eq (end_of p segment) (pos (length p.taken))) (nat_le p.answered (length p.taken)) k in
+          let three = both (fin_of segment && p.fin) (int_eq (end_of p segment) (pos (length p.taken))) one.0 in
+          let two = both (fin_of segment) p.fin three.0 in
+          let same : o + length text ≡ length p.taken = int_same (o + length text) (length p.taken) (subst (λ z. int_eq (z +ℤ pos (length text)) (pos (length p.taken)) ≡ true) at three.1) in
+          let low : p.answered ≤ length p.taken = leb-true _ _ one.1 in
+          let all : o + length text ≡ length script = c.3 two.0 in
+          let dropped : length (drop (p.answered - o) text) ≡ length text - (p.answered - o) = length-drop (p.answered - o) text in
+          let size : length (copied_text p segment) ≡ min (length p.taken - (o + (p.answered - o))) (length (drop (p.answered - o) text)) =
+          ap length text_is ∙ length-take (length p.taken - (o + (p.answered - o))) (drop (p.answered - o) text) in
+          omega (arith, start, same, low, all, dropped, size);
+    })
+    (λ c. record {
+      stands = subst (λ x. IsPrefix (take (length p.taken - copy_start p segment) (drop (below p.answered (first_of p.cisn segment)) x)) (drop (copy_start p segment) script)) (sym c.0)
+          (subst (λ x. IsPrefix x (drop (copy_start p segment) script)) (sym (take_nothing (length p.taken - copy_start p segment) (below p.answered (first_of p.cisn segment))))
+          (nothing_first (drop (copy_start p segment) script)));
+      fin = λ k. absurd (true≢false (sym (both (fin_of segment) p.fin (both (fin_of segment && p.fin) (int_eq (end_of p segment) (pos (length p.taken))) (both (fin_of segment && p.fin && int_eq (end_of p segment) (pos (length p.taken))) (nat_le p.answered (length p.taken)) k).0).0).0 ∙ c.1));
+    }) f.text
+
+-- the law Copy: a Data carries the script's bytes at its offset, and a FIN only at the script's end
+pub copies_fit : (script : Key → List ℕ) (isn : ℕ) (news : News) (before p : Point) → NewsFits (script p.key) isn news → HasTaken (script p.key) isn p
+    → AllByRecursion (DataFits script) (copies news before p)
+unfolding copies
+copies_fit script isn (Comes segment) before p f h =
+    of_choice (AllByRecursion (DataFits script)) (nat_lt 0 (length (copied_text p segment)) || copies_fin p segment) (DataMsg (copied_part p segment) ∷ []) _
+    (λ t. (copied_fits (script p.key) isn segment p f h, tt))
+    (λ t. of_choice (AllByRecursion (DataFits script)) (nat_lt before.una p.una) (DataMsg (una_part p) ∷ []) []
+    (λ s. (record { stands = nothing_first (drop (una_part p).offset (script p.key)); fin = λ k. absurd (true≢false (sym k)) }, tt)) (λ s. tt))
+copies_fit script isn (Logged kept) before p f h = tt
+copies_fit script isn Ticks before p f h = tt
+copies_fit script isn Begins before p f h = tt
+
+by_move : (c : Client) (move : Move) (window : ℕ) → length c.script ≤ 2 ^ 24 → may_move c move ≡ true → FitsScript c.script c.isn (segment_of c move window)
+by_move c (Syn mss) window short may = record { syn = λ e. refl; text = inr (refl, refl) }
+by_move c (Text from len) window short may =
+    let range = (both (suits_phase c (Text from len)) (suits_range c (Text from len)) may).1 in
+    let four = (both (nat_le c.acknowledged from && nat_le from c.sent && nat_le 1 len && nat_le len 1460) (nat_le (from + len) (length c.script)) range).1 in
+    let within : from + len ≤ length c.script = leb-true _ _ four in
+    record {
+      syn = λ e. absurd (true≢false (sym e));
+      text = inl (from, offset_of_number c.isn from (omega (arith, within, short)), take_first len (drop from c.script), λ e. absurd (true≢false (sym e)));
+    }
+by_move c Fin window short may = record {
+  syn = λ e. absurd (true≢false (sym e));
+  text = inl (length c.script, offset_of_number c.isn (length c.script) (omega (arith, short)), nothing_first (drop (length c.script) c.script), λ e. omega arith);
+}
+by_move c Acknowledge window short may = record { syn = λ e. absurd (true≢false (sym e)); text = inr (refl, refl) }
+by_move c Rst window short may = record { syn = λ e. absurd (true≢false (sym e)); text = inr (refl, refl) }
+by_move c (Refuse number) window short may = record { syn = λ e. absurd (true≢false (sym e)); text = inr (refl, refl) }
+
+-- a client's move carries its script
+pub move_fits : (c later : Client) (segment : Segment) → length c.script ≤ 2 ^ 24 → IsMove c segment later → FitsScript c.script c.isn segment
+move_fits c later segment short m = subst (FitsScript c.script c.isn) (sym m.segment_is) (by_move c m.move m.window short m.may)
+
+-- an entry that hears a part
+pub entry_fits : (script : List ℕ) (isn : ℕ) (part : Part) (e : Entry) → PartFits script part → EntryFits script isn e → EntryFits script isn (with_part part e)
+entry_fits script isn part e p f =
+    let bytes : EntryFits script isn (with_bytes part e) =
+    of_choice (EntryFits script isn) (e.fin || nat_lt (length e.bytes) part.offset) e _ (λ t. f)
+    (λ t. let parts = neither e.fin (nat_lt (length e.bytes) part.offset) t in
+    record {
+      front = goes_on_all part.offset e.bytes part.bytes script f.front p.stands (ltb-false _ _ parts.1);
+      fin = λ k. absurd (true≢false (sym k ∙ parts.0));
+      cisn = f.cisn;
+    }) in
+    let x : Entry = with_bytes part e in
+    let fin : EntryFits script isn (with_its_fin part x) =
+    of_choice (EntryFits script isn) (part.fin && part.offset + length part.bytes == length x.bytes) _ x
+    (λ t. let parts = both part.fin (part.offset + length part.bytes == length x.bytes) t in
+    record { front = bytes.front; fin = λ k. sym (eqb-true _ _ parts.1) ∙ p.fin parts.0; cisn = bytes.cisn }) (λ t. bytes) in
+    record { front = fin.front; fin = fin.fin; cisn = fin.cisn }

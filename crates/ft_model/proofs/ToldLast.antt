@@ -1,0 +1,297 @@
+-- After each turn the last acknowledgement sent to a live client is what is both taken and known to be logged.
+use Rattle.std.proofs.Common.{◌≡◌, ℕ, Bool, true, false, ◌&&◌, ◌||◌, not, refl, sym, ap, ap₂, ◌∙◌, subst, subst₂, true≢false, MatchBool, inl, inr, ◌⊎◌, ⊎_elim, Option, Some, None, List, [], ◌∷◌, ◌++◌, map, if◌then◌else◌}
+use Rattle.std.specs.List.{AllByRecursion, list_any}
+use Rattle.ft_io.specs.declared.Addr.{Addr}
+use Rattle.ft_io.specs.declared.Key.{Key}
+use Rattle.ft_io.specs.Key.{key_eq}
+use Rattle.seq_arith.specs.Number.{number_at}
+use Rattle.seq_arith.specs.Packet.{Segment, has_rst, has_ack}
+use Rattle.seq_arith.specs.Message.{Body}
+use Rattle.server_trait.specs.Service.{Machine}
+use Rattle.ft_model.specs.Network.{Packet, destination_of}
+use Rattle.ft_model.specs.Network.Packet.{To_server, To_client, To_logger, From_logger}
+use Rattle.ft_model.specs.News.{News}
+use Rattle.ft_model.specs.News.News.{Comes, Logged, Ticks, Begins}
+use Rattle.ft_model.specs.Point.{Point, acknowledgement}
+use Rattle.ft_model.specs.Told.{is_segment}
+use Rattle.ft_model.specs.Ending.{dones, reset_after}
+use Rattle.ft_model.specs.Copy.{copies}
+use Rattle.ft_model.specs.Reads.{reads_told}
+use Rattle.ft_model.specs.Segments.{segments_of}
+use Rattle.ft_model.specs.Connection.{ResetTurn, LiveTurn, ConnectionTurn, told_by as message_by}
+use Rattle.ft_model.specs.Opening.{point_opened}
+use Rattle.ft_model.specs.Refusal.{as_closed, rst_at_ack, rst_behind, full_rst}
+use Rattle.ft_model.specs.Node.{Node, Place, Input, key_of}
+use Rattle.ft_model.specs.Node.Place.{Opens, Lives, Ended}
+use Rattle.ft_model.specs.Serving.{AllGo}
+use Rattle.ft_model.specs.Masked.{told_by, or_before, last_told, IsToldLast}
+use Rattle.ft_model.proofs.Lists.{of_choice, neither, all_both, all_weaker, all_append, key_is}
+use Rattle.ft_model.proofs.Keys.{AreDistinct, has_key, key_eq_turns}
+use Rattle.ft_model.proofs.PlaceTurns.{PlaceWent}
+use Rattle.ft_model.proofs.PlaceTurns.PlaceWent.{stayed, went_on, began, dropped, ended, refused}
+use Rattle.ft_model.proofs.Spoken.{Spoken, segments_spoken, IsHeaded, headed}
+use Rattle.ft_model.proofs.TurnTells.{told, begins_told}
+use Rattle.ft_model.proofs.Distinct.{KeepsKey, or_false}
+
+pub or_none : (o : Option ℕ) → o ≡ or_before o None
+or_none (Some a) = refl
+or_none None = refl
+
+or_assoc : (a b c : Option ℕ) → or_before (or_before a b) c ≡ or_before a (or_before b c)
+or_assoc (Some x) b c = refl
+or_assoc None b c = refl
+
+pub last_append : (key : Key) (xs ys : List Packet) → last_told key (xs ++ ys) ≡ or_before (last_told key ys) (last_told key xs)
+last_append key [] ys = or_none (last_told key ys)
+last_append key (x ∷ xs) ys = ap (λ o. or_before o (told_by key x)) (last_append key xs ys) ∙ or_assoc (last_told key ys) (last_told key xs) (told_by key x)
+
+-- nothing is told to this key
+abbrev pub IsSilentTo : Key → List Packet → Type 0
+IsSilentTo key packets = last_told key packets ≡ None
+
+-- packets of a connection are silent to every other key
+abbrev pub TellsOnly : Key → List Packet → Type 0
+TellsOnly key packets = (other : Key) → key_eq key other ≡ false → IsSilentTo other packets
+
+-- what one place's turn tells its client
+abbrev pub TellsNow : List Packet → List Packet → Place → Type 0
+TellsNow packets sent (Lives q) = q.reset ≡ false → or_before (last_told q.key sent) (last_told q.key packets) ≡ Some (number_at q.cisn (acknowledgement q))
+TellsNow packets sent _ = Unit {0}
+
+-- what was told before
+abbrev pub WasTold : List Packet → Place → Type 0
+WasTold packets (Lives p) = IsToldLast packets p
+WasTold packets _ = Unit {0}
+
+pub silent_append : (key : Key) (xs ys : List Packet) → IsSilentTo key xs → IsSilentTo key ys → IsSilentTo key (xs ++ ys)
+silent_append key xs ys a b = last_append key xs ys ∙ ap₂ or_before b a
+
+pub messages_silent : (key : Key) (boot : ℕ) (bodies : List Body) → IsSilentTo key (map (message_by boot) bodies)
+messages_silent key boot [] = refl
+messages_silent key boot (body ∷ bodies) = ap (λ o. or_before o None) (messages_silent key boot bodies)
+
+false_and : (a b c : Bool) → a ≡ false → (a && b && c) ≡ false
+false_and false b c e = refl
+false_and true b c e = absurd (true≢false e)
+
+other_silent : (key other : Key) (segment : Segment) → destination_of segment ≡ key → key_eq key other ≡ false → told_by other (To_client segment) ≡ None
+other_silent key other segment d e =
+    ap (λ b. if b then Some segment.head.ack else None) (false_and (key_eq (destination_of segment) other) (has_ack segment) (not (has_rst segment)) (ap (λ k. key_eq k other) d ∙ e))
+
+last_false : (a b : Bool) → b ≡ false → (a && b) ≡ false
+last_false true b e = e
+last_false false b e = refl
+
+pub rst_silent : (other : Key) (segment : Segment) → has_rst segment ≡ true → told_by other (To_client segment) ≡ None
+rst_silent other segment r =
+    ap (λ b. if b then Some segment.head.ack else None) (last_false (key_eq (destination_of segment) other && has_ack segment) (not (has_rst segment)) (ap not r))
+
+segments_only : (q : Point) (segments : List Segment) → AllByRecursion (IsHeaded q) segments → TellsOnly q.key (map To_client segments)
+segments_only q [] a other e = refl
+segments_only q (segment ∷ segments) a other e =
+    ap₂ or_before (segments_only q segments a.1 other e) (other_silent q.key other segment a.0.destination e)
+
+all_true : (a b c : Bool) → a ≡ true → b ≡ true → c ≡ false → (a && b && not c) ≡ true
+all_true true true false a b c = refl
+all_true false b c e f g = absurd (true≢false (sym e))
+all_true true false c e f g = absurd (true≢false (sym f))
+all_true true true true e f g = absurd (true≢false g)
+
+headed_told : (q : Point) (segment : Segment) → IsHeaded q segment → told_by q.key (To_client segment) ≡ Some (number_at q.cisn (acknowledgement q))
+headed_told q segment h =
+    ap (λ b. if b then Some segment.head.ack else None)
+    (all_true (key_eq (destination_of segment) q.key) (has_ack segment) (has_rst segment) (ap (λ k. key_eq k q.key) h.destination ∙ key_is q.key) h.has_ack_flag h.no_rst)
+    ∙ ap Some h.ack
+
+-- the last of some segments tells it
+segments_tell : (q : Point) (segments : List Segment) → AllByRecursion (IsHeaded q) segments
+    → (segments ≡ []) ⊎ (last_told q.key (map To_client segments) ≡ Some (number_at q.cisn (acknowledgement q)))
+segments_tell q [] a = inl refl
+segments_tell q (segment ∷ segments) a =
+    inr (⊎_elim (λ n. ap (λ l. or_before (last_told q.key (map To_client l)) (told_by q.key (To_client segment))) n ∙ headed_told q segment a.0)
+    (λ n. ap (λ o. or_before o (told_by q.key (To_client segment))) n) (segments_tell q segments a.1))
+
+no_messages : (boot : ℕ) (bodies : List Body) → list_any is_segment (map (message_by boot) bodies) ≡ false
+no_messages boot [] = refl
+no_messages boot (body ∷ bodies) = no_messages boot bodies
+
+live_only : {State : Type 0} (service : Machine State) (server : Addr) (boot : ℕ) (news : News) (p q : Point) (sent : List Packet)
+    → LiveTurn service server boot news p q sent → TellsOnly q.key sent
+live_only service server boot news p q sent t other e =
+    let bodies : List Body = copies news p q ++ (reads_told news p q ++ dones news p q) in
+    let heads : AllByRecursion (IsHeaded q) (segments_of service server news p q) =
+    all_weaker (Spoken service server news p q) (IsHeaded q) (segments_of service server news p q) (headed service server news p q) (segments_spoken service server boot news p q t.una t.counted) in
+    ap (last_told other) t.packets
+    ∙ silent_append other (map To_client (segments_of service server news p q)) (map (message_by boot) bodies) (segments_only q (segments_of service server news p q) heads other e)
+    (messages_silent other boot bodies)
+
+-- a live turn tells, or has nothing new to tell
+live_tells : {State : Type 0} (service : Machine State) (server : Addr) (boot : ℕ) (news : News) (p q : Point) (sent : List Packet)
+    → LiveTurn service server boot news p q sent
+    → ((list_any is_segment sent ≡ false) × (acknowledgement q ≡ acknowledgement p)) ⊎ (last_told q.key sent ≡ Some (number_at q.cisn (acknowledgement q)))
+live_tells service server boot news p q sent t =
+    let segments : List Segment = segments_of service server news p q in
+    let bodies : List Body = copies news p q ++ (reads_told news p q ++ dones news p q) in
+    let heads : AllByRecursion (IsHeaded q) segments =
+    all_weaker (Spoken service server news p q) (IsHeaded q) segments (headed service server news p q) (segments_spoken service server boot news p q t.una t.counted) in
+    ⊎_elim
+    (λ n. let quiet : list_any is_segment sent ≡ false =
+    ap (list_any is_segment) (t.packets ∙ ap (λ l. map To_client l ++ map (message_by boot) bodies) n) ∙ no_messages boot bodies in
+    inl (quiet, ((told service server boot news p q sent t).silent quiet).0))
+    (λ n. inr (ap (last_told q.key) t.packets ∙ (last_append q.key (map To_client segments) (map (message_by boot) bodies)
+    ∙ (ap (λ o. or_before o (last_told q.key (map To_client segments))) (messages_silent q.key boot bodies) ∙ n)))) (segments_tell q segments heads)
+
+silent_or_told : (o packets : Option ℕ) (a : ℕ) → o ≡ None → packets ≡ Some a → or_before o packets ≡ Some a
+silent_or_told o packets a e f = ap (λ x. or_before x packets) e ∙ f
+
+pub told_or : (o packets : Option ℕ) (a : ℕ) → o ≡ Some a → or_before o packets ≡ Some a
+told_or o packets a e = ap (λ x. or_before x packets) e
+
+pub by_reset : {State : Type 0} {X : Type 0} (service : Machine State) (server : Addr) (boot : ℕ) (news : News) (p q : Point) (sent : List Packet) (b : Bool) → reset_after news p ≡ b
+    → (ResetTurn boot news p q sent → X) → (reset_after news p ≡ false → LiveTurn service server boot news p q sent → X)
+    → MatchBool b (ResetTurn boot news p q sent) (LiveTurn service server boot news p q sent) → X
+by_reset service server boot news p q sent true e f g t = f t
+by_reset service server boot news p q sent false e f g t = g e t
+
+or_first : (a b : Bool) → (a || b) ≡ false → a ≡ false
+or_first false b e = refl
+or_first true b e = e
+
+pub was_not_reset : (news : News) (p : Point) → reset_after news p ≡ false → p.reset ≡ false
+unfolding reset_after
+was_not_reset (Comes segment) p e = or_first p.reset _ e
+was_not_reset (Logged kept) p e = e
+was_not_reset Ticks p e = e
+was_not_reset Begins p e = e
+
+reset_only : (boot : ℕ) (news : News) (p q : Point) (sent : List Packet) → ResetTurn boot news p q sent → (key : Key) → IsSilentTo key sent
+reset_only boot news p q sent t key = ap (last_told key) t.packets ∙ messages_silent key boot (dones news p q)
+
+is_reset : (boot : ℕ) (news : News) (p q : Point) (sent packets : List Packet) → ResetTurn boot news p q sent → TellsNow packets sent (Lives q)
+is_reset boot news p q sent packets t = λ r. absurd (true≢false (sym (ap (λ x. x.reset) t.point) ∙ r))
+
+silent_segments : (key : Key) (sent : List Packet) → list_any is_segment sent ≡ false → IsSilentTo key sent
+silent_segments key [] e = refl
+silent_segments key (To_client segment ∷ sent) e = absurd (true≢false e)
+silent_segments key (To_server segment ∷ sent) e = ap (λ o. or_before o None) (silent_segments key sent e)
+silent_segments key (To_logger message ∷ sent) e = ap (λ o. or_before o None) (silent_segments key sent e)
+silent_segments key (From_logger message ∷ sent) e = ap (λ o. or_before o None) (silent_segments key sent e)
+
+told_quietly : (q p : Point) (sent packets : List Packet) → IsSilentTo q.key sent → q.key ≡ p.key → q.cisn ≡ p.cisn → acknowledgement q ≡ acknowledgement p
+    → last_told p.key packets ≡ Some (number_at p.cisn (acknowledgement p)) → or_before (last_told q.key sent) (last_told q.key packets) ≡ Some (number_at q.cisn (acknowledgement q))
+told_quietly q p sent packets s k c a before =
+    silent_or_told (last_told q.key sent) (last_told q.key packets) (number_at q.cisn (acknowledgement q)) s
+    (ap (λ x. last_told x packets) k ∙ (before ∙ ap Some (ap₂ number_at (sym c) (sym a))))
+
+-- what one turn of a connection tells
+connection_tells : {State : Type 0} (service : Machine State) (server : Addr) (boot : ℕ) (news : News) (p q : Point) (sent packets : List Packet)
+    → IsToldLast packets p → ConnectionTurn service server boot news p q sent → TellsNow packets sent (Lives q) × TellsOnly p.key sent
+connection_tells service server boot news p q sent packets was =
+    by_reset service server boot news p q sent (reset_after news p) refl
+    (λ t. (is_reset boot news p q sent packets t, λ other e. reset_only boot news p q sent t other))
+    (λ live t.
+    let before : last_told p.key packets ≡ Some (number_at p.cisn (acknowledgement p)) = was (was_not_reset news p live) in (
+      λ r. ⊎_elim
+          (λ n. told_quietly q p sent packets (silent_segments q.key sent n.0) t.same.key t.same.cisn n.1 before)
+          (λ n. told_or (last_told q.key sent) (last_told q.key packets) (number_at q.cisn (acknowledgement q)) n) (live_tells service server boot news p q sent t),
+      subst (λ k. TellsOnly k sent) t.same.key (live_only service server boot news p q sent t),
+    ))
+
+-- .. and the turn in which it becomes live
+pub beginning_tells : {State : Type 0} (service : Machine State) (server : Addr) (boot : ℕ) (p q : Point) (sent packets : List Packet)
+    → ConnectionTurn service server boot Begins p q sent → TellsNow packets sent (Lives q) × TellsOnly p.key sent
+beginning_tells service server boot p q sent packets =
+    by_reset service server boot Begins p q sent (reset_after Begins p) refl
+    (λ t. (is_reset boot Begins p q sent packets t, λ other e. reset_only boot Begins p q sent t other))
+    (λ live t. (
+      λ r. ⊎_elim
+          (λ n. absurd (true≢false (sym (begins_told service server boot p q sent t) ∙ n.0)))
+          (λ n. told_or (last_told q.key sent) (last_told q.key packets) (number_at q.cisn (acknowledgement q)) n) (live_tells service server boot Begins p q sent t),
+      subst (λ k. TellsOnly k sent) t.same.key (live_only service server boot Begins p q sent t),
+    ))
+
+pub nothing_said : (key : Key) (sent : List Packet) → sent ≡ [] → IsSilentTo key sent
+nothing_said key sent e = ap (last_told key) e
+
+closed_silent : (key : Key) (server : Addr) (segment : Segment) → IsSilentTo key (map To_client (as_closed server segment))
+closed_silent key server segment =
+    of_choice (λ x. IsSilentTo key (map To_client x)) (has_rst segment) [] (if has_ack segment then rst_at_ack server segment ∷ [] else rst_behind server segment ∷ []) (λ t. refl)
+    (λ t. of_choice (λ x. IsSilentTo key (map To_client x)) (has_ack segment) (rst_at_ack server segment ∷ []) (rst_behind server segment ∷ [])
+    (λ s. ap (λ o. or_before None o) (rst_silent key (rst_at_ack server segment) refl)) (λ s. ap (λ o. or_before None o) (rst_silent key (rst_behind server segment) refl)))
+
+still_told : (packets : List Packet) (place : Place) → WasTold packets place → TellsNow packets [] place
+still_told packets (Lives p) w = w
+still_told packets (Opens n) w = tt
+still_told packets (Ended k) w = tt
+
+pub place_tells : {State : Type 0} (service : Machine State) (node : Node) (input : Input) (packets : List Packet) (place : Place) (now : List Place) (sent : List Packet)
+    → WasTold packets place → PlaceWent service node input place now sent → AllByRecursion (TellsNow packets sent) now × TellsOnly (key_of place) sent
+place_tells service node input packets place now sent w (stayed n s) =
+    (subst (AllByRecursion (TellsNow packets sent)) (sym n) (subst (λ l. TellsNow packets l place) (sym s) (still_told packets place w), tt), λ other e. nothing_said other sent s)
+place_tells service node input packets place now sent w (went_on news p after e i n t) =
+    let c = connection_tells service node.server node.boot news p after sent packets (subst (WasTold packets) e w) t in
+    (subst (AllByRecursion (TellsNow packets sent)) (sym n) (c.0, tt), subst (λ k. TellsOnly k sent) (sym (ap key_of e)) c.1)
+place_tells service node input packets place now sent w (began asked kept after e h n t) =
+    let c = beginning_tells service node.server node.boot (point_opened kept) after sent packets t in
+    (subst (AllByRecursion (TellsNow packets sent)) (sym n) (c.0, tt), subst (λ k. TellsOnly k sent) (h.key ∙ sym (ap key_of e)) c.1)
+place_tells service node input packets place now sent w (dropped asked e n s) = (
+  subst (AllByRecursion (TellsNow packets sent)) (sym n) tt,
+  λ other x. ⊎_elim (λ y. nothing_said other sent y) (λ y. ap (last_told other) y ∙ ap (λ o. or_before None o) (rst_silent other (full_rst node.server asked) refl)) s,
+)
+place_tells service node input packets place now sent w (ended p e n s) =
+    (subst (AllByRecursion (TellsNow packets sent)) (sym n) (tt, tt), λ other x. nothing_said other sent s)
+place_tells service node input packets place now sent w (refused key segment e c k n s) =
+    (subst (AllByRecursion (TellsNow packets sent)) (sym n) (tt, tt), λ other x. ap (last_told other) s ∙ closed_silent other node.server segment)
+
+pub tells_here : (packets first others : List Packet) (x : Place) → IsSilentTo (key_of x) others → TellsNow packets first x → TellsNow packets (first ++ others) x
+tells_here packets first others (Lives q) s t = λ r.
+    ap (λ o. or_before o (last_told q.key packets)) (last_append q.key first others ∙ ap (λ o. or_before o (last_told q.key first)) s) ∙ t r
+tells_here packets first others (Opens n) s t = tt
+tells_here packets first others (Ended k) s t = tt
+
+tells_there : (packets first others : List Packet) (x : Place) → IsSilentTo (key_of x) first → TellsNow packets others x → TellsNow packets (first ++ others) x
+tells_there packets first others (Lives q) s t = λ r.
+    ap (λ o. or_before o (last_told q.key packets)) (last_append q.key first others ∙ (ap (λ o. or_before (last_told q.key others) o) s ∙ sym (or_none (last_told q.key others)))) ∙ t r
+tells_there packets first others (Opens n) s t = tt
+tells_there packets first others (Ended k) s t = tt
+
+no_key_all : (key : Key) (places : List Place) → has_key key (map key_of places) ≡ false → AllByRecursion (λ x. key_eq (key_of x) key ≡ false) places
+no_key_all key [] e = tt
+no_key_all key (place ∷ places) e =
+    let parts = neither (key_eq (key_of place) key) (has_key key (map key_of places)) e in (parts.0, no_key_all key places parts.1)
+
+no_key_later : (Goes : Place → List Place → List Packet → Type 0) (Q : Place → Type 0) → ((place : Place) (now : List Place) (sent : List Packet) → Q place → Goes place now sent → KeepsKey place now)
+    → (key : Key) (before after : List Place) (sent : List Packet) → AllByRecursion Q before → AllGo Goes before after sent → has_key key (map key_of before) ≡ false
+    → has_key key (map key_of after) ≡ false
+no_key_later Goes Q keeps key [] after sent q t h = ap (λ l. has_key key (map key_of l)) t.0
+no_key_later Goes Q keeps key (place ∷ places) after sent q (now, later, first, others, places_are, sent_is, goes, rest) h =
+    let parts = neither (key_eq (key_of place) key) (has_key key (map key_of places)) h in
+    let there : has_key key (map key_of later) ≡ false = no_key_later Goes Q keeps key places later others q.1 rest parts.1 in
+    ⊎_elim (λ n. ap (λ l. has_key key (map key_of l)) (places_are ∙ ap (λ l. l ++ later) n) ∙ there)
+    (λ n. ap (λ l. has_key key (map key_of l)) (places_are ∙ ap (λ l. l ++ later) n.1)
+    ∙ or_false (key_eq (key_of n.0) key) (has_key key (map key_of later)) (ap (λ k. key_eq k key) n.2 ∙ parts.0) there) (keeps place now first q.0 goes)
+
+-- a whole list of places
+pub all_tell : (Goes : Place → List Place → List Packet → Type 0) (Q : Place → Type 0) (packets : List Packet)
+    → ((place : Place) (now : List Place) (sent : List Packet) → Q place → Goes place now sent → AllByRecursion (TellsNow packets sent) now × TellsOnly (key_of place) sent × KeepsKey place now)
+    → (before after : List Place) (sent : List Packet) → AreDistinct (map key_of before) → AllByRecursion Q before → AllGo Goes before after sent
+    → AllByRecursion (TellsNow packets sent) after × ((other : Key) → has_key other (map key_of before) ≡ false → IsSilentTo other sent)
+all_tell Goes Q packets step [] after sent d q t =
+    (subst (AllByRecursion (TellsNow packets sent)) (sym t.0) tt, λ other e. nothing_said other sent t.1)
+all_tell Goes Q packets step (place ∷ places) after sent d q (now, later, first, others, places_are, sent_is, goes, rest) =
+    let here = step place now first q.0 goes in
+    let there = all_tell Goes Q packets step places later others d.1 q.1 rest in
+    let keeps : (place : Place) (now : List Place) (sent : List Packet) → Q place → Goes place now sent → KeepsKey place now = λ place now sent h g. (step place now sent h g).2 in
+    let others_silent : IsSilentTo (key_of place) others = there.1 (key_of place) d.0 in
+    let apart : has_key (key_of place) (map key_of later) ≡ false = no_key_later Goes Q keeps (key_of place) places later others q.1 rest d.0 in
+    let now_tells : AllByRecursion (TellsNow packets (first ++ others)) now =
+    ⊎_elim (λ n. subst (AllByRecursion (TellsNow packets (first ++ others))) (sym n) tt)
+    (λ n. subst (AllByRecursion (TellsNow packets (first ++ others))) (sym n.1)
+    (tells_here packets first others n.0 (subst (λ k. IsSilentTo k others) (sym n.2) others_silent) (subst (AllByRecursion (TellsNow packets first)) n.1 here.0).0, tt)) here.2 in
+    let later_tells : AllByRecursion (TellsNow packets (first ++ others)) later =
+    all_both (λ x. key_eq (key_of x) (key_of place) ≡ false) (TellsNow packets others) (TellsNow packets (first ++ others)) later
+    (λ x k tells. tells_there packets first others x (here.1 (key_of x) (key_eq_turns (key_of x) (key_of place) k)) tells) (no_key_all (key_of place) later apart) there.0 in (
+      subst₂ (λ a s. AllByRecursion (TellsNow packets s) a) (sym places_are) (sym sent_is) (all_append (TellsNow packets (first ++ others)) now later now_tells later_tells),
+      λ other e. let parts = neither (key_eq (key_of place) other) (has_key other (map key_of places)) e in
+          ap (last_told other) sent_is ∙ silent_append other first others (here.1 other parts.0) (there.1 other parts.1),
+    )

@@ -1,0 +1,15 @@
+-- Each text computes.
+use Rattle.std.proofs.Common.{refl}
+use Rattle.ft_model.proofs.GrammarOnLiterals.{grammar_on_literals}
+use Rattle.ft_model.proofs.grammar.worked_texts.Goals as goal
+
+pub returns : goal.returns
+unfolding grammar_on_literals
+returns c = record {
+  empty = refl;
+  first_path = refl;
+  nothing = refl;
+  comment = refl;
+  few_words = refl;
+  not_built = refl;
+}

@@ -1,0 +1,6 @@
+use Rattle.ft_model.proofs.headline.acknowledged_output_was_made.Goals as goal
+use Rattle.server_trait.specs.Service.{machine}
+use Rattle.ft_model.proofs.JointMasked.{backed_entries}
+
+pub returns : goal.returns
+returns g c = λ kind start trace joint. backed_entries (machine (g.S.Service.started kind) g.S.Service.after) g.met.S.Service.is_short start trace joint

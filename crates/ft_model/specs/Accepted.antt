@@ -1,0 +1,21 @@
+-- What every schedule keeps that a text spells.
+use Rattle.std.specs.Prelude.{◌≡◌, false, ◌^◌, ◌≤◌, List, [], ◌∷◌, ◌++◌, length}
+use Rattle.std.specs.List.{AllByRecursion}
+use Rattle.ft_model.specs.Grammar.{is_taken}
+use Rattle.ft_model.specs.Schedule.{bytes_of}
+use Rattle.ft_model.specs.declared.line.Draft.TheVariants.{Begun}
+use Rattle.ft_model.specs.declared.schedule.ClientLine.{ClientLine}
+use Rattle.ft_model.specs.declared.schedule.Schedule.{Schedule}
+
+-- each client's address is neither the server's nor that of a client before it
+abbrev pub AreApart : Schedule → List ClientLine → List ClientLine → Type 0
+AreApart schedule before [] = Unit {0}
+AreApart schedule before (client ∷ more) =
+    (is_taken (Begun (record schedule { clients = before })) (record { ip = client.key.ip; port = client.key.port }) ≡ false)
+    × AreApart schedule (before ++ client ∷ []) more
+
+pub record IsAccepted (schedule : Schedule) : Type 0 where
+  pub clients : length schedule.clients ≤ 16
+  pub addresses : AreApart schedule [] schedule.clients
+  pub scripts : AllByRecursion (λ client. length (bytes_of client.script) ≤ 2 ^ 24) schedule.clients
+  pub events : length schedule.events ≤ 100000

@@ -1,0 +1,51 @@
+//! The grammar of a schedule's text is a definition alone, `specs/Grammar.antt`. Here are laws over it, and
+//! texts that were worked out by hand. Nothing here runs; each function is a theorem.
+
+ghost use Rattle.std.specs.Prelude.{◌≡◌, ℕ, List, [], ◌∷◌, codes, Ok, Err};
+ghost use Rattle.ft_model.specs.Accepted.{IsAccepted};
+ghost use Rattle.ft_model.specs.Grammar.{read_text};
+ghost use Rattle.ft_model.specs.Grammar.Refusal.{BadLine};
+ghost use Rattle.ft_model.specs.Legal.{start_of};
+ghost use Rattle.ft_model.specs.Playable.{IsPlayable};
+ghost use Rattle.ft_model.specs.World.{IsStart};
+ghost use Rattle.ft_model.specs.declared.event.Event.TheVariants.{Boot, Deliver, Begin, Ack, Send};
+ghost use Rattle.ft_model.specs.declared.schedule.LineWhy.TheVariants as why;
+ghost use Rattle.ft_model.specs.declared.schedule.Schedule.{Schedule};
+ghost use Rattle.ft_model.specs.declared.schedule.Script.TheVariants.{Bytes};
+ghost use Rattle.ft_model.specs.declared.schedule.ServiceKind.TheVariants.{Echo};
+
+/// Texts and what they spell: a schedule without clients and events, one in which a client says hello to an echo, and refused lines.
+pub fn worked_texts()
+    ensures empty { read_text (codes "service echo\nserver 192.0.2.100:7\n")
+        ≡ Ok (record { service = Echo; server = record { ip = 3221226084; port = 7 }; clients = []; events = [] }) }
+    ensures first_path { read_text (codes "service echo\nserver 192.0.2.100:7\nclient 1 192.0.2.1:40000 1000 hex:68656c6c6f\nboot 1 5000\ndeliver 1\ndeliver 2\nopen 1 65535\ndeliver 3\ndeliver 4\ndeliver 5\ndeliver 6\nack 1 65535\ndeliver 7\nsend 1 0 5\ndeliver 8\ndeliver 10\ndeliver 12\ndeliver 11\ndeliver 14\ndeliver 15\n")
+        ≡ Ok (record {
+          service = Echo;
+          server = record { ip = 3221226084; port = 7 };
+          clients = record { key = record { ip = 3221225985; port = 40000 }; isn = 1000; script = Bytes (codes "hello") } ∷ [];
+          events = Boot 1 5000 ∷ Deliver 1 ∷ Deliver 2 ∷ Begin 1 65535 ∷ Deliver 3 ∷ Deliver 4 ∷ Deliver 5 ∷ Deliver 6 ∷ Ack 1 65535
+              ∷ Deliver 7 ∷ Send 1 0 5 ∷ Deliver 8 ∷ Deliver 10 ∷ Deliver 12 ∷ Deliver 11 ∷ Deliver 14 ∷ Deliver 15 ∷ [];
+        }) }
+    ensures nothing { read_text [] ≡ Err (BadLine 1 why.Place) }
+    ensures comment { read_text (codes "# a comment\n\nservice echo\n # none") ≡ Err (BadLine 4 why.Word) }
+    ensures few_words { read_text (codes "service echo\nserver 192.0.2.100:7\nclient 1 192.0.2.1:40000 1000 hex:68656c6c6f\nsend x\n") ≡ Err (BadLine 4 why.Count) }
+    ensures not_built { read_text (codes "service echo\nserver 192.0.2.100:7\nboot 1 5000\ncrash\n") ≡ Err (BadLine 4 why.Built) }
+{}
+
+/// A schedule that a text spells has at most 16 clients and 100,000 events, its scripts have at most 2^24 bytes, and no two of its
+/// machines have one address.
+pub fn accepted_schedules_keep_the_limits()
+    ensures { (text : List ℕ) (schedule : Schedule) → read_text text ≡ Ok schedule → IsAccepted schedule }
+{}
+
+/// A schedule that a text spells can be played: it has the echo service, at most one client, whose address isn't the server's, and only
+/// boots, deliveries, and the client's SYNs, texts and acknowledgements. The client's initial number is modulo 2^32, and its script has
+/// at most 2^24 bytes.
+pub fn accepted_schedules_can_be_played()
+    ensures { (text : List ℕ) (schedule : Schedule) → read_text text ≡ Ok schedule → IsPlayable schedule }
+{}
+
+/// A trace can start where such a schedule does: no client has moved, nothing is logged, nothing was sent, and the server is down.
+pub fn playable_schedules_start()
+    ensures { (schedule : Schedule) → IsPlayable schedule → IsStart (start_of schedule) }
+{}

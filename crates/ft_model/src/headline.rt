@@ -1,0 +1,75 @@
+//! The headline: crashes and restarts of the server can't be seen from outside. Nothing here runs; each function is a theorem.
+
+ghost use Rattle.std.specs.Prelude.{◌≡◌, ℕ, ◌+◌, ◌<◌, ◌≤◌, true, List, ◌∷◌, ◌++◌, length};
+ghost use Rattle.server_trait.specs.Service.{machine};
+ghost use Rattle.seq_arith.specs.Message.{Message};
+ghost use Rattle.ft_model.specs.Offset.{one_if};
+ghost use Rattle.ft_model.specs.Restart.{run_of};
+ghost use Rattle.ft_model.specs.Log.{Log, is_hello, log_after};
+ghost use Rattle.ft_model.specs.Growth.{IsPrefix, LogGrows};
+ghost use Rattle.ft_model.specs.Masked.{SeesFront, AcknowledgesLogged, RestartIsExact, AllAreTold, Masked};
+ghost use Rattle.std.specs.List.{AllByRecursion};
+ghost use Rattle.ft_io.specs.Key.{key_eq};
+ghost use Rattle.ft_model.specs.World.{World, Moment, Joint, world_after};
+
+use server_trait::Service;
+
+/// The headline: every joint trace is masked, whatever is delivered, lost, repeated and reordered, and whenever the server crashes and restarts.
+pub fn every_joint_trace_is_masked<S: Service>()
+    ensures { (kind : ℕ) (start : World) (trace : List Moment) → Joint (machine (S.started kind) S.after) start trace
+        → Masked (machine (S.started kind) S.after) start trace }
+{}
+
+/// What each client has accepted is the front of the uncrashed server's output on its script, in the reads that are logged, and all of it
+/// where the server's FIN has ended the stream.
+pub fn clients_see_an_unfailing_server<S: Service>()
+    ensures { (kind : ℕ) (start : World) (trace : List Moment) → Joint (machine (S.started kind) S.after) start trace
+        → AllByRecursion (SeesFront (machine (S.started kind) S.after) (world_after start trace).log) (world_after start trace).clients }
+{}
+
+/// The log only grows over a trace: entries keep their places and numbers, bytes, FIN, reads, acknowledgement and end are never taken back,
+/// and the boot number never falls.
+pub fn the_log_only_grows<S: Service>()
+    ensures { (kind : ℕ) (start : World) (later earlier : List Moment) → Joint (machine (S.started kind) S.after) start (later ++ earlier)
+        → LogGrows (world_after start earlier).log (world_after start (later ++ earlier)).log }
+{}
+
+/// What is kept of a client is the front of its script, and all of it where its FIN is kept.
+pub fn logged_bytes_are_the_clients<S: Service>()
+    ensures { (kind : ℕ) (start : World) (trace : List Moment) → Joint (machine (S.started kind) S.after) start trace
+        → AllByRecursion (λ c. AllByRecursion (λ e. key_eq e.key c.key ≡ true → IsPrefix e.bytes c.script × (e.fin ≡ true → e.bytes ≡ c.script)) (world_after start trace).log.entries) (world_after start trace).clients }
+{}
+
+/// No byte of a client is acknowledged before it is logged: each segment with ACK and without RST that a server sends acknowledges at most
+/// the units that the client's entry has at that moment.
+pub fn no_byte_is_acknowledged_before_it_is_logged<S: Service>()
+    ensures { (kind : ℕ) (start : World) (moment : Moment) (earlier : List Moment) → Joint (machine (S.started kind) S.after) start (moment ∷ earlier)
+        → AllByRecursion (AcknowledgesLogged moment.world.log moment.world.clients) moment.sent }
+{}
+
+/// Fence: after a Hello no message of an older boot changes the log, however far it has grown since.
+pub fn older_boots_are_fenced()
+    ensures { (log later : Log) (hello message : Message) → is_hello hello.body ≡ true → LogGrows (log_after log hello) later → message.boot < hello.boot
+        → log_after later message ≡ later }
+{}
+
+/// In the turn that ends a restart, every entry of the log that isn't done has its connection again: it stood at the entry's point, with all that
+/// is logged taken and read as before, and went on from there by the law of every turn.
+pub fn restarts_are_exact<S: Service>()
+    ensures { (kind : ℕ) (start : World) (moment : Moment) (earlier : List Moment) → Joint (machine (S.started kind) S.after) start (moment ∷ earlier)
+        → RestartIsExact (machine (S.started kind) S.after) moment.world.log (world_after start earlier).node moment.world.node }
+{}
+
+/// After each moment, the last acknowledgement sent to each live client that hasn't reset its connection is the smaller of what is taken and what
+/// is known to be logged.
+pub fn clients_are_told_what_is_logged<S: Service>()
+    ensures { (kind : ℕ) (start : World) (trace : List Moment) → Joint (machine (S.started kind) S.after) start trace
+        → AllAreTold (world_after start trace).packets (world_after start trace).node }
+{}
+
+/// What the log says a client has acknowledged is at most the uncrashed server's output over the logged reads, and one more where that has
+/// closed.
+pub fn acknowledged_output_was_made<S: Service>()
+    ensures { (kind : ℕ) (start : World) (trace : List Moment) → Joint (machine (S.started kind) S.after) start trace
+        → AllByRecursion (λ e. e.acknowledged ≤ length (run_of (machine (S.started kind) S.after) e).output + one_if (run_of (machine (S.started kind) S.after) e).closed) (world_after start trace).log.entries }
+{}
