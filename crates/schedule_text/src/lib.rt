@@ -21,6 +21,8 @@ mod line_text;
 mod packet;
 mod packet_text;
 mod read;
+#[cfg(test)]
+mod reading_tests;
 mod spelling;
 mod words;
 #[cfg(test)]

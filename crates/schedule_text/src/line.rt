@@ -8,7 +8,7 @@ ghost use Rattle.schedule_text.specs.Reading.{GivesLine};
 
 use crate::end::LineEnd;
 use crate::event_line::{end_of, read_client_number, read_event, read_long_number, word_of};
-use crate::spelling::{read_addr, read_numeral, read_script, read_service};
+use crate::spelling::{NUMBER_DIGITS, read_addr, read_numeral, read_script, read_service};
 use crate::words::next_word;
 use ft_io::{Addr, Key};
 use ft_model::{
@@ -18,9 +18,6 @@ use std::alloc::Global;
 
 /// The most clients of a schedule.
 const CLIENT_LIMIT: usize = 16;
-
-/// The most digits of a number.
-const NUMBER_DIGITS: usize = 20;
 
 #[tactic(auto, unfolding(ft_model::specs::Grammar::service_line))]
 fn read_service_line(words: &[u8]) -> Result<ServiceKind, LineWhy>
@@ -44,9 +41,7 @@ fn read_server_line(words: &[u8]) -> Result<Addr, LineWhy>
 fn has_address(clients: &[ClientLine], addr: Addr) -> bool
     ensures { result ≡ list_any (λ client. client.key.ip == addr.ip && client.key.port == addr.port) clients.now }
 {
-    clients
-        .iter()
-        .any(|client| client.key.ip == addr.ip && client.key.port == addr.port)
+    clients.iter().any(|client| client.key.ip == addr.ip && client.key.port == addr.port)
 }
 
 /// Whether the server or a client has this address.
@@ -97,12 +92,7 @@ fn read_client_line(alloc: Global, draft: &Draft, words: &[u8]) -> Result<Client
 }
 
 /// Reads what a line says, from the words behind its keyword.
-fn read_words(
-    alloc: Global,
-    draft: &Draft,
-    keyword: Keyword,
-    words: &[u8],
-) -> Result<Line, LineEnd>
+fn read_words(alloc: Global, draft: &Draft, keyword: Keyword, words: &[u8]) -> Result<Line, LineEnd>
     ensures { GivesLine result (line_from draft.now keyword (words_of words.now)) }
 {
     match keyword {

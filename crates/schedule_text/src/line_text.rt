@@ -3,8 +3,7 @@
 
 ghost use Rattle.std.specs.Prelude.{◌≡◌, ◌+◌, ◌<◌, ◌∷◌, [], ◌++◌, codes, decimal, length, map, OnOk, IfOk};
 ghost use Rattle.std.specs.List.{join_with_byte};
-ghost use Rattle.schedule_text.specs.Line.{behind_commas};
-ghost use Rattle.ft_model.specs.Texts.{or_dash, hex_text, list_text, address_text, letter_if, flag_letters, flags_text, mss_text, bit_text, way_text};
+ghost use Rattle.ft_model.specs.Texts.{or_dash, behind_commas, hex_text, list_text, address_text, letter_if, flag_letters, flags_text, mss_text, bit_text, way_text};
 
 use ft_io::NoMemory;
 use ft_model::Way;
@@ -84,7 +83,7 @@ pub(crate) fn put_list(alloc: Global, numbers: &[u16], line: &mut Vec<u8>) -> Re
 }
 
 /// Numbers in decimal, joined by commas.
-#[tactic(auto, using(crate::proofs::LineLemmas::joined_behind))]
+#[tactic(auto, using(ft_model::proofs::ReportParts::joined_behind))]
 fn joined(alloc: Global, numbers: &[u16]) -> Result<Vec<u8>, NoMemory>
     ensures { IfOk result (λ text. text.items ≡ join_with_byte 44 (map decimal numbers.now)) }
 {

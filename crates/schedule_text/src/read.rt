@@ -83,12 +83,7 @@ fn add_line(alloc: Global, draft: Draft, line: Line) -> Result<Draft, NoMemory>
 
 /// Reads line `number` of a text behind the lines before it.
 #[tactic(auto, unfolding(ft_model::specs::Grammar::after_line))]
-fn take_line(
-    alloc: Global,
-    number: u32,
-    draft: Draft,
-    text: &[u8],
-) -> Result<Draft, ScheduleEnd>
+fn take_line(alloc: Global, number: u32, draft: Draft, text: &[u8]) -> Result<Draft, ScheduleEnd>
     ensures { Gives result (after_line number draft text.now) }
 {
     if says_nothing(text) {

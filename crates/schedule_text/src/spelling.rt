@@ -13,7 +13,7 @@ use ft_model::{Script, ServiceKind};
 use std::alloc::Global;
 
 /// The most digits of a number.
-const NUMBER_DIGITS: usize = 20;
+pub(crate) const NUMBER_DIGITS: usize = 20;
 
 /// The most digits of a number in an address.
 const ADDRESS_DIGITS: usize = 5;

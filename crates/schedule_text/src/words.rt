@@ -21,14 +21,7 @@ fn position_of(bytes: &[u8], mark: u8) -> usize
 }
 
 /// The piece before a mark and what stands behind the mark, or nothing where there is no mark.
-#[tactic(
-    auto,
-    using(
-        crate::proofs::Pieces::slice_split_whole,
-        crate::proofs::Pieces::slice_split_at_mark,
-        std::proofs::lemmas::List::take_rest
-    )
-)]
+#[tactic(auto, using(crate::proofs::Pieces::slice_split_whole, crate::proofs::Pieces::slice_split_at_mark, std::proofs::lemmas::List::take_rest))]
 pub(crate) fn next_piece(bytes: &[u8], mark: u8) -> Option<(&[u8], &[u8])>
     ensures pieces { MatchOption result (slice_split (is mark) bytes.now ≡ bytes.now ∷ []) (λ p. slice_split (is mark) bytes.now ≡ p.0.now ∷ slice_split (is mark) p.1.now) }
     ensures shorter { IfSome result (λ p. length p.1.now < length bytes.now) }

@@ -1,5 +1,5 @@
 use Rattle.std.proofs.Common.{◌≡◌, ◌++◌, take}
-use Rattle.schedule_text.specs.Line.{behind_commas}
+use Rattle.ft_model.specs.Texts.{behind_commas}
 use Rattle.schedule_text.proofs.line_text.put_others.Given as goal
 
 abbrev pub invariant-loop-number : goal.invariant-loop-number
