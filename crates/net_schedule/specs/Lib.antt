@@ -2,3 +2,12 @@ pub mod ClientMove
 pub mod Moving
 pub mod Mapped
 pub mod Keeping
+pub mod Server
+pub mod Standing
+pub mod Kind
+pub mod Sending
+pub mod Played
+pub mod AtNumber
+pub mod Live
+pub mod Sent
+pub mod Reaction

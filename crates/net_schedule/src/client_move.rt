@@ -26,7 +26,11 @@ pub fn of_event(event: &Event) -> Option<Move>
         Event::Fin { .. } => Some(Move::Fin),
         Event::Ack { .. } => Some(Move::Acknowledge),
         Event::Reset { .. } => Some(Move::Rst),
-        Event::Boot { .. } | Event::Crash | Event::Tick | Event::Deliver { .. } | Event::Flip { .. } => None,
+        Event::Boot { .. }
+        | Event::Crash
+        | Event::Tick
+        | Event::Deliver { .. }
+        | Event::Flip { .. } => None,
     }
 }
 

@@ -5,6 +5,7 @@ ghost use Rattle.net_schedule.specs.declared.end.StepEnd.TheVariants.{NoMemory, 
 
 use ft_io::NoMemory;
 use ft_model::EventWhy;
+use std::alloc::{AllocError, AllocFailed};
 use thiserror::Error;
 
 /// Why an event was not done.
@@ -25,6 +26,22 @@ impl From<NoMemory> for StepEnd {
     ghost from_gives = { λ _ e. e ≡ NoMemory };
 
     fn from(_error: NoMemory) -> StepEnd {
+        StepEnd::NoMemory
+    }
+}
+
+impl From<AllocError> for StepEnd {
+    ghost from_gives = { λ _ e. e ≡ NoMemory };
+
+    fn from(_error: AllocError) -> StepEnd {
+        StepEnd::NoMemory
+    }
+}
+
+impl<T: Drop> From<AllocFailed<T>> for StepEnd {
+    ghost from_gives = { λ _ e. e ≡ NoMemory };
+
+    fn from(_error: AllocFailed<T>) -> StepEnd {
         StepEnd::NoMemory
     }
 }

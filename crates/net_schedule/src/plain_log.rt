@@ -37,7 +37,9 @@ fn offer(entry: &mut PlainEntry, body: &Body) -> Result<(), NoMemory>
 {
     match body {
         Body::DataMsg(part) if entry.key() == part.key => entry.take_part(part),
-        Body::ReadMsg { key, index, length } if entry.key() == *key => entry.take_read(*index, *length),
+        Body::ReadMsg { key, index, length } if entry.key() == *key => entry.take_read(
+            *index, *length,
+        ),
         _ => Ok(()),
     }
 }
@@ -190,7 +192,10 @@ impl PlainLog {
             return Ok(None);
         }
         if boot < self.boot {
-            return Ok(Some(Message { boot, body: Body::StaleMsg { newer: self.boot } }));
+            return Ok(Some(Message {
+                boot,
+                body: Body::StaleMsg { newer: self.boot },
+            }));
         }
         if message.body.is_hello() {
             self.boot = boot;

@@ -6,8 +6,9 @@ ghost use Rattle.seq_arith.specs.Packet.{Segment as Spelled};
 ghost use Rattle.schedule_text.specs.Packet.{segment_of as value_of};
 ghost use Rattle.net_schedule.specs.ClientMove.{move_value};
 
-use crate::client_move::{Move, flags, of_event};
 use crate::arrival::{is_acceptable, is_at, number_of, offset_of, part, skipped};
+use crate::client_move::{Move, flags, of_event};
+use crate::end::StepEnd;
 use ft_io::{Addr, Key, NoMemory, Octets};
 use ft_model::{Event, EventWhy, Phase};
 use schedule_text::{Head, Segment};
@@ -20,6 +21,20 @@ pub enum MoveEnd {
     NoMemory,
     /// Its state does not allow the move.
     Refused(EventWhy),
+}
+
+impl From<MoveEnd> for StepEnd {
+    ghost use Rattle.std.specs.Prelude.{◌≡◌};
+    ghost use Rattle.net_schedule.specs.Moving.{step_end};
+
+    ghost from_gives = { λ end e. e ≡ step_end end };
+
+    fn from(end: MoveEnd) -> StepEnd {
+        match end {
+            MoveEnd::NoMemory => StepEnd::NoMemory,
+            MoveEnd::Refused(why) => StepEnd::BadEvent(why),
+        }
+    }
 }
 
 /// A client whose moves are written down. Offsets are in units: bytes, and one more for a FIN.
@@ -331,7 +346,9 @@ impl ScriptedClient {
             Move::Rst => self.phase = Phase::Reset,
             Move::Acknowledge => {}
         }
-        self.edge = self.edge.max(self.accepted.len() as u64 + u64::from(window));
+        self.edge = self
+            .edge
+            .max(self.accepted.len() as u64 + u64::from(window));
     }
 
     /// Makes the move that an event asks for. A refused move leaves the client as it was.

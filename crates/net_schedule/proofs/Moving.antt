@@ -1,0 +1,204 @@
+-- A client's move is what may happen in the world of the definitions.
+use Rattle.std.proofs.Common.{◌≡◌, ◌∙◌, sym, ap, subst, ℕ, ◌+◌, ◌-◌, ◌<◌, ◌≤◌, ◌^◌, Bool, true, false, ◌&&◌, cond, Option, None, Some, List, [], ◌∷◌, ◌++◌, map, length, refl, arith, zero, suc, slice_get, get_or, Result, Ok, Err, sub-one}
+use Rattle.std.proofs.Math.ListN.{set, length-set}
+use Rattle.std.specs.List.{AllByRecursion}
+use Rattle.ft_io.specs.declared.Addr.{Addr}
+use Rattle.ft_io.specs.declared.Key.{Key}
+use Rattle.ft_io.specs.Key.{key_eq}
+use Rattle.server_trait.specs.Service.{Machine}
+use Rattle.seq_arith.specs.Packet.{Segment}
+use Rattle.ft_model.specs.Client.{Client, Move, move_of, window_of, refusal_of_move, suits_phase, suits_range, may_move, segment_of, moved, IsMove}
+use Rattle.ft_model.specs.Client.Move.{Syn, Text, Acknowledge}
+use Rattle.ft_model.specs.Network.{Packet}
+use Rattle.ft_model.specs.Network.Packet.{To_server}
+use Rattle.ft_model.specs.World.{World as Seen, with_client, client_at, Moves, Happens}
+use Rattle.ft_model.specs.Legal.{refusal, refusal_of_client, mover_of, IsScripted}
+use Rattle.net_schedule.specs.Played.{is_move}
+use Rattle.ft_model.specs.declared.event.Event.{Event}
+use Rattle.ft_model.specs.declared.event.Event.TheVariants.{Boot, Crash, Tick, Deliver, Flip, Begin, Send, Fin, Ack, Reset}
+use Rattle.ft_model.specs.declared.event.EventWhy.{EventWhy}
+use Rattle.net_schedule.specs.Moving.{Makes, IsRefusal, step_end}
+use Rattle.net_schedule.specs.declared.scripted_client.MoveEnd.{MoveEnd}
+use Rattle.net_schedule.specs.declared.scripted_client.MoveEnd.TheVariants.{NoMemory, Refused}
+use Rattle.net_schedule.specs.declared.end.StepEnd.{StepEnd}
+use Rattle.ft_model.specs.declared.event.EventWhy.TheVariants as why
+use Rattle.std.specs.Prelude.{IsErrAnd, IfErr}
+use Rattle.net_schedule.specs.Server.{IsOfStage}
+use Rattle.net_schedule.specs.Standing.{Kept, NodeStands, IsSentInStage, IsClientOfStage, WorldStands, Advances, EndsStep}
+use Rattle.net_schedule.proofs.Stepping.{all_append}
+
+key_eq_same : (k : Key) → key_eq k k ≡ true
+key_eq_same k = grind arith
+
+-- the one client that there is moves
+pub alone_moves : (clients : List Client) (n : ℕ) (c later : Client) → length clients ≤ 1 → client_at clients n ≡ Some c → set clients (n - 1) later ≡ with_client c.key (λ _. later) clients
+alone_moves [] zero c later h e = cc
+alone_moves [] (suc n) c later h e = cc
+alone_moves (x ∷ []) zero c later h e = cc
+alone_moves (x ∷ []) (suc zero) c later h e =
+    let same : x ≡ c = cc in
+    ap (λ b. cond b later x ∷ []) (sym (subst (λ y. key_eq y.key c.key ≡ true) (sym same) (key_eq_same c.key)))
+alone_moves (x ∷ []) (suc (suc n)) c later h e = cc
+alone_moves (x ∷ y ∷ clients) n c later h e = absurd (omega arith)
+
+-- what is refused for no cause is a move
+may : (client : Client) (move : Move) → refusal_of_move client move ≡ None → may_move client move ≡ true
+may client move e = grind arith
+
+-- keys that compare equal are equal
+is_same : (a b : Key) → key_eq a b ≡ true → a ≡ b
+is_same a b e =
+    let i : a.ip ≡ b.ip = grind arith in
+    let p : a.port ≡ b.port = grind arith in
+    ap (λ n. record { ip = n; port = a.port }) i ∙ ap (λ n. record { ip = b.ip; port = n }) p
+
+head_key : (key : Key) (later c : Client) → later.key ≡ key → (cond (key_eq c.key key) later c).key ≡ c.key
+head_key key later c e = on_test (key_eq c.key key) (λ h. e ∙ sym (is_same c.key key h))
+  where
+    on_test : (b : Bool) → (b ≡ true → later.key ≡ c.key) → (cond b later c).key ≡ c.key
+    on_test true h = h refl
+    on_test false h = refl
+
+module _ {State : Type 0} (service : Machine State) where
+  -- the packet of a move in this stage, from the one client that there is
+  of_stage : (server : Addr) (key : Key) (client : Client) (event : Event) (move : Move) → is_move event ≡ true → move_of event ≡ Some move
+      → IsClientOfStage server key client → IsOfStage server key (segment_of client move (window_of client event))
+  of_stage server key client (Begin n window) move i e p =
+      let m : Syn None ≡ move = cc in
+      subst (λ x. IsOfStage server key (segment_of client x (window_of client (Begin n window)))) m
+      (record { source = p.key_is; ip = ap (λ a. a.ip) p.server_is; port = ap (λ a. a.port) p.server_is; fin = refl; rst = refl })
+  of_stage server key client (Send n from len) move i e p =
+      let m : Text from len ≡ move = cc in
+      subst (λ x. IsOfStage server key (segment_of client x (window_of client (Send n from len)))) m
+      (record { source = p.key_is; ip = ap (λ a. a.ip) p.server_is; port = ap (λ a. a.port) p.server_is; fin = refl; rst = refl })
+  of_stage server key client (Ack n window) move i e p =
+      let m : Acknowledge ≡ move = cc in
+      subst (λ x. IsOfStage server key (segment_of client x (window_of client (Ack n window)))) m
+      (record { source = p.key_is; ip = ap (λ a. a.ip) p.server_is; port = ap (λ a. a.port) p.server_is; fin = refl; rst = refl })
+  of_stage server key client (Boot boot isn) move i e p = cc
+  of_stage server key client Crash move i e p = cc
+  of_stage server key client Tick move i e p = cc
+  of_stage server key client (Deliver n) move i e p = cc
+  of_stage server key client (Flip n bit) move i e p = cc
+  of_stage server key client (Fin n) move i e p = cc
+  of_stage server key client (Reset n) move i e p = cc
+
+  happen : (v after : Seen) (event : Event) (sent : List Packet) → is_move event ≡ true → Moves v (mover_of event) sent after → Happens service v event sent after
+  happen v after (Begin n window) sent i m = m
+  happen v after (Send n from len) sent i m = m
+  happen v after (Ack n window) sent i m = m
+  happen v after (Boot boot isn) sent i m = cc
+  happen v after Crash sent i m = cc
+  happen v after Tick sent i m = cc
+  happen v after (Deliver n) sent i m = cc
+  happen v after (Flip n bit) sent i m = cc
+  happen v after (Fin n) sent i m = cc
+  happen v after (Reset n) sent i m = cc
+
+  pub refusal_is : (v : Seen) (event : Event) → is_move event ≡ true → refusal v event ≡ refusal_of_client (client_at v.clients (mover_of event)) (move_of event)
+  refusal_is v (Begin n window) i = refl
+  refusal_is v (Send n from len) i = refl
+  refusal_is v (Ack n window) i = refl
+  refusal_is v (Boot boot isn) i = cc
+  refusal_is v Crash i = cc
+  refusal_is v Tick i = cc
+  refusal_is v (Deliver n) i = cc
+  refusal_is v (Flip n bit) i = cc
+  refusal_is v (Fin n) i = cc
+  refusal_is v (Reset n) i = cc
+
+  all_replaced : (P : Client → Type 0) (key : Key) (later : Client) (clients : List Client) → P later → AllByRecursion P clients → AllByRecursion P (with_client key (λ _. later) clients)
+  all_replaced P key later [] p a = tt
+  all_replaced P key later (c ∷ clients) p a = (elim (key_eq c.key key) as (λ b. P (cond b later c)) [ true ↦ p | false ↦ a.0 ], all_replaced P key later clients p a.1)
+
+  at_of : (P : Client → Type 0) (clients : List Client) (n : ℕ) (c : Client) → AllByRecursion P clients → client_at clients n ≡ Some c → P c
+  at_of P clients zero c a e = cc
+  at_of P [] (suc n) c a e = cc
+  at_of P (x ∷ clients) (suc zero) c a e = let same : x ≡ c = cc in subst P same a.0
+  at_of P (x ∷ clients) (suc (suc n)) c a e = at_of P clients (suc n) c a.1 e
+
+  -- the keys are as they were, where the one that moved has its own
+  moved_keys : (key : Key) (later : Client) (clients : List Client) → later.key ≡ key → map (λ c. c.key) (with_client key (λ _. later) clients) ≡ map (λ c. c.key) clients
+  moved_keys key later [] e = refl
+  moved_keys key later (c ∷ clients) e =
+      let same : (cond (key_eq c.key key) later c).key ≡ c.key = head_key key later c e in
+      ap (λ k. k ∷ map (λ d. d.key) (with_client key (λ _. later) clients)) same ∙ ap (λ ks. c.key ∷ ks) (moved_keys key later clients e)
+
+  pub client_moves : (w w' : Kept State) (v : Seen) (event : Event) (client later : Client) (segment : Segment) → WorldStands service w v → is_move event ≡ true
+      → client_at w.clients (mover_of event) ≡ Some client → Makes client event segment later
+      → w' ≡ record w { clients = set w.clients (mover_of event - 1) later; packets = w.packets ++ To_server segment ∷ [] } → Advances service v event w'
+  client_moves w w' v event client later segment st i e m e' =
+      let ce : client_at v.clients (mover_of event) ≡ Some client = subst (λ cs. client_at cs (mover_of event) ≡ Some client) st.clients e in
+      let p : IsClientOfStage v.server st.key client = at_of (IsClientOfStage v.server st.key) v.clients (mover_of event) client st.of_stage ce in
+      let replaced : set v.clients (mover_of event - 1) later ≡ with_client client.key (λ _. later) v.clients = alone_moves v.clients (mover_of event) client later st.alone ce in
+      let asked : refusal_of_client (client_at v.clients (mover_of event)) (move_of event) ≡ None = rw (ce, m.asked) m.allowed in
+      let q : IsClientOfStage v.server st.key later = subst (IsClientOfStage v.server st.key) (sym m.after_is) (record { key_is = p.key_is; server_is = p.server_is }) in
+      let fit : IsOfStage v.server st.key segment = subst (IsOfStage v.server st.key) (sym m.segment_is) (of_stage v.server st.key client event m.move i m.asked p) in
+      let world : Seen = record v { clients = with_client client.key (λ _. later) v.clients; packets = v.packets ++ To_server segment ∷ [] } in
+      record {
+        sent = To_server segment ∷ [];
+        world = world;
+        allowed = refusal_is v event i ∙ asked;
+        scripted = λ c move h k.
+            let same : client ≡ c = cc in
+            let made : m.move ≡ move = cc in
+            subst (λ x. To_server segment ∷ [] ≡ To_server (segment_of x move (window_of x event)) ∷ []) same
+            (subst (λ x. To_server segment ∷ [] ≡ To_server (segment_of client x (window_of client event)) ∷ []) made (ap (λ x. To_server x ∷ []) m.segment_is));
+        happens = happen v world event (To_server segment ∷ []) i
+            (record {
+              client = client;
+              segment = segment;
+              later = later;
+              is_there = ce;
+              move = record { move = m.move; window = window_of client event; may = may client m.move m.allowed; fits = m.fits; segment_is = m.segment_is; after_is = m.after_is };
+              sent_is = refl;
+              after_is = refl;
+            });
+        stands = record {
+          key = st.key;
+          server = ap (λ x. x.server) e' ∙ st.server;
+          clients = ap (λ x. x.clients) e' ∙ ap (λ cs. set cs (mover_of event - 1) later) st.clients ∙ replaced;
+          log = ap (λ x. x.log) e' ∙ st.log;
+          packets = ap (λ x. x.packets) e' ∙ ap (λ ps. ps ++ To_server segment ∷ []) st.packets;
+          boot = ap (λ x. x.boot) e' ∙ st.boot;
+          node = subst (λ o. NodeStands service st.key o v.node) (sym (ap (λ x. x.node) e')) st.node;
+          local = st.local;
+          sent = all_append (IsSentInStage v.server st.key) v.packets (To_server segment ∷ []) st.sent (fit, tt);
+          of_stage = all_replaced (IsClientOfStage v.server st.key) client.key later v.clients q st.of_stage;
+          alone = subst (λ cs. length cs ≤ 1) replaced (omega (arith, length-set {A = Client}, st.alone));
+          kinds = λ s k. st.kinds s (sym (ap (λ x. x.node) e') ∙ k) ∙ sym (ap (λ x. x.kind) e');
+          closes_at_end = st.closes_at_end;
+        };
+        grew = refl;
+        keys = moved_keys client.key later v.clients (q.key_is ∙ sym p.key_is);
+      }
+
+  -- what the client machine refuses, the events' tests refuse
+  pub refuses : (w w' : Kept State) (v : Seen) (event : Event) (client : Client) (end : MoveEnd) → WorldStands service w v → is_move event ≡ true
+      → client_at w.clients (mover_of event) ≡ Some client → IsRefusal client event end → EndsStep service v event w' (step_end end)
+  refuses w w' v event client NoMemory st i e r = tt
+  refuses w w' v event client (Refused why) st i e r =
+      let ce : client_at v.clients (mover_of event) ≡ Some client = subst (λ cs. client_at cs (mover_of event) ≡ Some client) st.clients e in
+      refusal_is v event i ∙ rw (ce, r.1) r.2
+
+  -- there is no such client
+  pub no_client : (w w' : Kept State) (v : Seen) (event : Event) → WorldStands service w v → is_move event ≡ true → client_at w.clients (mover_of event) ≡ None
+      → refusal v event ≡ Some why.Client
+  no_client w w' v event st i e =
+      let ce : client_at v.clients (mover_of event) ≡ None = subst (λ cs. client_at cs (mover_of event) ≡ None) st.clients e in
+      refusal_is v event i ∙ rw ce refl
+
+there : {X : Type 0} (xs : List X) (m : ℕ) (d : X) → m < length xs → slice_get xs m ≡ Some (get_or xs m d)
+there [] m d h = absurd (omega arith)
+there (x ∷ xs) zero d h = refl
+there (x ∷ xs) (suc m) d h = there xs m d (omega arith)
+
+-- a client by its number, as the code finds it
+pub client_there : (clients : List Client) (n : ℕ) (c : Client) → 0 < n → n ≤ length clients → c ≡ get_or clients (n - 1) c → client_at clients n ≡ Some c
+client_there clients zero c p h e = absurd (omega arith)
+client_there clients (suc m) c p h e = there clients m c (omega arith) ∙ ap (λ x. Some x) (sym (rw sub-one at e))
+
+-- the error that a conversion gives
+pub converted : (r : Result (Unit {0}) StepEnd) (end : MoveEnd) (Q : StepEnd → Type 0) → IsErrAnd r (λ e. e ≡ step_end end) → Q (step_end end) → IfErr r Q
+converted (Ok x) end Q h q = tt
+converted (Err e) end Q h q = subst Q (sym h) q
