@@ -1,0 +1,42 @@
+-- The ends of the parts of a run as ends of the run.
+use Rattle.std.specs.Prelude.{ℕ, Bool, ◌==◌, ◌&&◌, ◌||◌, nat_le}
+use Rattle.ft_io.specs.declared.reading.ReadEnd.{ReadEnd}
+use Rattle.ft_io.specs.declared.reading.ReadEnd.TheVariants as reads
+use Rattle.ft_model.specs.declared.schedule.Limit.TheVariants as limits
+use Rattle.schedule_text.specs.declared.end.ScheduleEnd.{ScheduleEnd}
+use Rattle.schedule_text.specs.declared.end.ScheduleEnd.TheVariants as schedules
+use Rattle.net_schedule.specs.declared.end.StepEnd.{StepEnd}
+use Rattle.net_schedule.specs.declared.end.StepEnd.TheVariants as steps
+use Rattle.replay_tool.specs.declared.status.TooMuch.TheVariants.{Text, Events, Packets}
+use Rattle.replay_tool.specs.declared.status.RunEnd.{RunEnd}
+use Rattle.replay_tool.specs.declared.status.RunEnd.TheVariants.{Usage, NoMemory, ReadFault, WriteFault, BadLine, BadEvent, TooLong}
+
+abbrev pub end_of_read : ReadEnd → RunEnd
+end_of_read reads.NoMemory = NoMemory
+end_of_read reads.Fault = ReadFault
+end_of_read reads.TooLong = TooLong Text
+
+abbrev pub end_of_schedule : ScheduleEnd → RunEnd
+end_of_schedule schedules.NoMemory = NoMemory
+end_of_schedule (schedules.BadLine line why) = BadLine line why
+end_of_schedule (schedules.TooLong limits.Text) = TooLong Text
+end_of_schedule (schedules.TooLong limits.Events) = TooLong Events
+
+abbrev pub end_of_step : StepEnd → ℕ → RunEnd
+end_of_step steps.NoMemory event = NoMemory
+end_of_step (steps.BadEvent why) event = BadEvent event why
+end_of_step steps.PacketLimit event = TooLong Packets
+
+-- the exit status of an end
+abbrev pub code_of : RunEnd → ℕ
+code_of Usage = 2
+code_of NoMemory = 3
+code_of ReadFault = 4
+code_of WriteFault = 5
+code_of (BadLine line why) = 6
+code_of (BadEvent event why) = 7
+code_of (TooLong what) = 8
+
+-- the statuses of a run
+abbrev pub is_code : ℕ → Bool
+is_code code = code == 0 || (nat_le 2 code && nat_le code 8)

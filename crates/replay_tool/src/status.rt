@@ -1,0 +1,96 @@
+//! How a run ends.
+
+ghost use Rattle.std.specs.Prelude.{◌≡◌};
+ghost use Rattle.replay_tool.specs.declared.status.RunEnd.TheVariants as ends;
+ghost use Rattle.replay_tool.specs.Ends.{end_of_step as end_lem};
+
+use ft_io::{Failed, NoMemory, ReadEnd};
+use ft_model::{EventWhy, Limit, LineWhy};
+use net_schedule::StepEnd;
+use schedule_text::ScheduleEnd;
+
+/// The exit status of the program.
+#[derive(Clone, Copy, Debug, PartialEq, Eq)]
+pub struct Status {
+    pub code: u8,
+}
+
+/// What passed its limit.
+#[derive(Clone, Copy, Debug, PartialEq, Eq)]
+pub(crate) enum TooMuch {
+    Text,
+    Events,
+    Packets,
+}
+
+/// How a run ends that wasn't done to its end.
+#[derive(Clone, Copy, Debug, PartialEq, Eq)]
+pub(crate) enum RunEnd {
+    Usage,
+    NoMemory,
+    ReadFault,
+    WriteFault,
+    BadLine { line: u32, why: LineWhy },
+    BadEvent { event: u32, why: EventWhy },
+    TooLong(TooMuch),
+}
+
+impl From<NoMemory> for RunEnd {
+    ghost from_gives = { λ _ e. e ≡ ends.NoMemory };
+
+    fn from(_error: NoMemory) -> RunEnd {
+        RunEnd::NoMemory
+    }
+}
+
+impl From<ReadEnd> for RunEnd {
+    ghost use Rattle.std.specs.Prelude.{◌≡◌};
+    ghost use Rattle.replay_tool.specs.Ends.{end_of_read};
+
+    ghost from_gives = { λ end e. e ≡ end_of_read end };
+
+    fn from(end: ReadEnd) -> RunEnd {
+        match end {
+            ReadEnd::NoMemory => RunEnd::NoMemory,
+            ReadEnd::Fault => RunEnd::ReadFault,
+            ReadEnd::TooLong => RunEnd::TooLong(TooMuch::Text),
+        }
+    }
+}
+
+impl From<ScheduleEnd> for RunEnd {
+    ghost use Rattle.std.specs.Prelude.{◌≡◌};
+    ghost use Rattle.replay_tool.specs.Ends.{end_of_schedule};
+
+    ghost from_gives = { λ end e. e ≡ end_of_schedule end };
+
+    fn from(end: ScheduleEnd) -> RunEnd {
+        match end {
+            ScheduleEnd::NoMemory => RunEnd::NoMemory,
+            ScheduleEnd::BadLine { line, why } => RunEnd::BadLine { line, why },
+            ScheduleEnd::TooLong { what: Limit::Text } => RunEnd::TooLong(TooMuch::Text),
+            ScheduleEnd::TooLong {
+                what: Limit::Events,
+            } => RunEnd::TooLong(TooMuch::Events),
+        }
+    }
+}
+
+impl From<Failed> for RunEnd {
+    ghost from_gives = { λ _ e. e ≡ ends.WriteFault };
+
+    fn from(_failed: Failed) -> RunEnd {
+        RunEnd::WriteFault
+    }
+}
+
+/// The end of a run at event number `event`.
+pub(crate) fn end_of_step(end: StepEnd, event: u32) -> RunEnd
+    ensures { result ≡ end_lem end event }
+{
+    match end {
+        StepEnd::NoMemory => RunEnd::NoMemory,
+        StepEnd::BadEvent(why) => RunEnd::BadEvent { event, why },
+        StepEnd::PacketLimit => RunEnd::TooLong(TooMuch::Packets),
+    }
+}

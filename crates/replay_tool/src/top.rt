@@ -1,0 +1,47 @@
+//! The top call.
+
+ghost use Rattle.std.specs.Prelude.{◌≡◌, ◌⊎◌, true, false, map, string_bytes, IfSome};
+ghost use Rattle.std.specs.Io.KnownBytes.{IsAtEnd};
+ghost use Rattle.ft_io.specs.Faults.{Rose};
+ghost use Rattle.ft_io.specs.Source.{ConsumesAtMost};
+ghost use Rattle.replay_tool.specs.Words.{is_run};
+ghost use Rattle.replay_tool.specs.Played.{IsReported};
+ghost use Rattle.replay_tool.specs.Ends.{is_code};
+
+use crate::run::run;
+use crate::status::Status;
+use crate::telling::tell;
+use ft_io::{Sink, Source};
+use std::alloc::Global;
+
+/// `ftreplay` with these words: it reads a schedule from `input` to its end, writes the report of its run to `out` while it runs, and writes
+/// to `err` why a run ended early. The status is 0 where all was done; 2 for other words than `run`, 3 for want of memory, 4 for a
+/// fault of the source, 5 for one of a sink, 6 for a line that is refused, 7 for an event that is, and 8 at a limit.
+pub fn replay<I: Source, O: Sink, E: Sink>(
+    alloc: Global,
+    words: &[String],
+    input: &mut I,
+    out: &mut O,
+    err: &mut E,
+) -> Status
+    // The input spells a schedule, and what was written is the report of a legal trace of it.
+    ensures done { result.code ≡ 0 → IfSome (I.left input.old) (λ text. IsReported text (O.taken out.old) (O.taken out.new)) }
+    // The input was read to its end.
+    ensures end { result.code ≡ 0 → IsAtEnd (I.left input.new) }
+    // Nothing was written to err.
+    ensures silent { result.code ≡ 0 → err.new ≡ err.old }
+
+    ensures codes { is_code result.code ≡ true }
+    ensures usage { result.code ≡ 2 → is_run (map string_bytes words.now) ≡ false }
+    ensures other_words { is_run (map string_bytes words.now) ≡ false → (result.code ≡ 2) ⊎ (result.code ≡ 5) }
+    ensures read_fault { result.code ≡ 4 → Rose (I.fault_count input.old) (I.fault_count input.new) }
+    ensures write_fault { result.code ≡ 5 → Rose (O.fault_count out.old) (O.fault_count out.new) ⊎ Rose (E.fault_count err.old) (E.fault_count err.new) }
+
+    // At most one byte past the limit of the text is read.
+    ensures taken { ConsumesAtMost 8388609 (I.left input.old) (I.left input.new) }
+{
+    match run(alloc, words, input, out) {
+        Ok(()) => Status { code: 0 },
+        Err(end) => tell(err, end),
+    }
+}
