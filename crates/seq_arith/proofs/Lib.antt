@@ -3,3 +3,4 @@ pub mod Shifts
 pub mod Sums
 pub mod Passing
 pub mod Spelling
+pub mod MessageSpelling

@@ -5,3 +5,4 @@ pub mod Message
 pub mod Checksum
 pub mod Bytes
 pub mod PacketGrammar
+pub mod MessageGrammar

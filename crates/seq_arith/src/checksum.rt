@@ -77,13 +77,13 @@ fn sum_of(bytes: &[u8]) -> u32
     ensures bound { result ≤ 65280 * length bytes.now }
 {
     let mut total = 0u32;
-    let mut at = 0;
-    while at + 1 < bytes.len() {
-        total += u32::from(bytes[at]) * 256 + u32::from(bytes[at + 1]);
-        at += 2;
+    let mut rest = bytes;
+    while let [high, low, behind @ ..] = rest {
+        total += u32::from(*high) * 256 + u32::from(*low);
+        rest = behind;
     }
-    if at < bytes.len() {
-        total += u32::from(bytes[at]) * 256;
+    if let [high] = rest {
+        total += u32::from(*high) * 256;
     }
     total
 }

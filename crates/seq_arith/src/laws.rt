@@ -7,6 +7,8 @@ ghost use Rattle.seq_arith.specs.Arrival.{is_acceptable, below, is_new_ack, is_b
 ghost use Rattle.seq_arith.specs.Checksum.{word_sum, odd_after, check_of, Summed, with_bytes};
 ghost use Rattle.seq_arith.specs.Packet.{Segment};
 ghost use Rattle.seq_arith.specs.PacketGrammar.{IsSpellable, reading, spelling};
+ghost use Rattle.seq_arith.specs.Message.{Message};
+ghost use Rattle.seq_arith.specs.MessageGrammar.{IsSpellable as IsSpellableMessage, reading as message_reading, spelling as message_spelling};
 
 /// A gap stays where both its ends move by one number.
 pub fn gap_shifts()
@@ -88,4 +90,9 @@ pub fn word_replaced()
 /// The spelling of a segment says that segment.
 pub fn spelling_is_read()
     ensures { (segment : Segment) → IsSpellable segment → reading (spelling segment) ≡ Ok segment }
+{}
+
+/// The spelling of a message says that message.
+pub fn message_is_read()
+    ensures { (message : Message) → IsSpellableMessage message → message_reading (message_spelling message) ≡ Ok message }
 {}

@@ -6,8 +6,10 @@ ghost use Rattle.std.specs.Prelude.{◌≡◌, ◌+◌, ◌%◌, ◌^◌};
 ghost use Rattle.seq_arith.specs.Number.{distance, gap, precedes, precedes_or_is, is_in_window};
 
 pub use checksum::{Sum16, patch16};
+pub use kinds::{BadMsg, Field, Kind};
 
 mod checksum;
+mod kinds;
 pub mod laws;
 #[cfg(test)]
 mod tests;

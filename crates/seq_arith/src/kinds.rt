@@ -1,0 +1,90 @@
+//! The kinds of messages between server and logger, the fields that they are made of, and why a string of bytes is no message.
+
+/// Why a string of bytes is no message: the first test of the message grammar that it fails, in this order.
+#[derive(Clone, Copy, Debug, PartialEq, Eq)]
+pub enum BadMsg {
+    /// There are fewer than 16 bytes.
+    Short,
+    /// The first two bytes aren't the magic.
+    Magic,
+    /// The version isn't 1.
+    Version,
+    /// The kind isn't 1 to 18.
+    Kind,
+    /// The length isn't the count of bytes, or isn't one of the kind's.
+    Length,
+    /// The message doesn't sum to its checksum.
+    Sum,
+    /// A field is outside its range.
+    Field,
+}
+
+/// The kinds of messages, each with its number on the wire. Those that answer another stand behind what they answer.
+#[derive(Clone, Copy, Debug)]
+pub enum Kind {
+    /// A server has started.
+    Hello = 1,
+    /// How many entries the log has.
+    Summary = 2,
+    /// An entry is asked for.
+    List = 3,
+    /// An entry without its bytes and lengths.
+    Entry = 4,
+    /// Logged bytes are asked for.
+    Bytes = 5,
+    /// Logged bytes.
+    Part = 6,
+    /// Logged lengths of reads are asked for.
+    Cuts = 7,
+    /// Logged lengths of reads.
+    Lens = 8,
+    /// A connection is to be opened.
+    Open = 9,
+    /// It has an entry, with these numbers.
+    Opened = 10,
+    /// Bytes to be logged.
+    Data = 11,
+    /// How much is logged, as an answer to bytes.
+    Stable = 12,
+    /// The length of a read to be logged.
+    Read = 13,
+    /// How much is logged, as an answer to a read.
+    Reads = 14,
+    /// A connection has ended.
+    Done = 15,
+    /// Its end is logged.
+    Ended = 16,
+    /// A server with a larger boot number has started.
+    Stale = 17,
+    /// There is no room for another connection.
+    Full = 18,
+}
+
+/// What a number in a message is, which says its size and its range.
+#[derive(Clone, Copy, Debug)]
+pub enum Field {
+    /// A count of log entries.
+    Count,
+    /// The place of a log entry.
+    Place,
+    /// The address of a key.
+    Address,
+    /// The port of a key.
+    Port,
+    /// An initial sequence number.
+    Initial,
+    /// A segment size.
+    Mss,
+    /// A count of logged bytes.
+    Length,
+    /// Where bytes begin in a stream.
+    Offset,
+    /// A count of units: reads, or bytes with the FIN behind them.
+    Units,
+    /// The length of a read.
+    ReadLength,
+    /// Whether something is so.
+    Flag,
+    /// A boot number above the message's own.
+    Newer,
+}
