@@ -1,0 +1,252 @@
+-- What is read may be sent: its numbers are those that were read, and each of them is in its range.
+use Rattle.std.proofs.Common.{◌≡◌, ℕ, zero, suc, ◌≤◌, ◌+◌, ◌-◌, ◌%◌, ◌^◌, Bool, true, not, List, [], ◌∷◌, length, length-drop, take, drop, ap, refl, sym, subst, arith, ◌∙◌}
+use Rattle.std.specs.Prelude.{◌&&◌, ◌||◌, nat_eq, nat_le, slice_index}
+use Rattle.std.specs.List.{list_all}
+use Rattle.std.proofs.lemmas.Bool.{leb-true, and_from}
+use Rattle.std.proofs.lemmas.List.{take_rest}
+use Rattle.seq_arith.specs.declared.kinds.Kind.{Kind}
+use Rattle.seq_arith.specs.declared.kinds.Kind.TheVariants as kinds
+use Rattle.seq_arith.specs.declared.kinds.Field.{Field}
+use Rattle.seq_arith.specs.Bytes.{two}
+use Rattle.seq_arith.specs.Message.{Body, Message}
+use Rattle.seq_arith.specs.MessageGrammar.{number_in, fields_of, most_behind, width, behind_at, has_length, is_lens, all_in_range, numbers_in, lens_in, lens_bytes, kind_of, numbers_of, behind_of, lens_of, flag, body_in, message_in, is_sound, is_sound_in, AllFit, IsSpellable}
+use Rattle.seq_arith.proofs.MessageSpelling.{both_hold, bounded}
+use Rattle.logger_wire.specs.declared.Msg.{Msg}
+use Rattle.logger_wire.specs.Tested.{flags_in, left_over_in}
+use Rattle.logger_wire.specs.Value.{IsSendable, message_of, flags_of, left_over}
+use Rattle.logger_wire.proofs.Numbers.{AreBytes, bytes_left, number_small}
+
+abbrev are_flags : List ℕ → Bool
+are_flags flags = list_all (λ n. nat_le n 1) flags
+
+pub flag_again : (n : ℕ) → nat_le n 1 ≡ true → flag (nat_eq n 1) ≡ n
+flag_again zero h = refl
+flag_again (suc zero) h = refl
+flag_again (suc (suc n)) h = absurd (omega (arith, leb-true (suc (suc n)) 1 h))
+
+-- the numbers of a kind's fields
+abbrev read : Kind → List ℕ → List ℕ
+read kind bytes = numbers_in (fields_of kind) bytes
+
+abbrev pub message_with : ℕ → Body → Message
+message_with boot body = record { boot = boot; body = body }
+
+same_kind : (kind : Kind) (numbers behind : List ℕ) → kind_of (body_in kind numbers behind) ≡ kind
+same_kind kinds.Hello numbers behind = refl
+same_kind kinds.Summary numbers behind = refl
+same_kind kinds.List numbers behind = refl
+same_kind kinds.Entry numbers behind = refl
+same_kind kinds.Bytes numbers behind = refl
+same_kind kinds.Part numbers behind = refl
+same_kind kinds.Cuts numbers behind = refl
+same_kind kinds.Lens numbers behind = refl
+same_kind kinds.Open numbers behind = refl
+same_kind kinds.Opened numbers behind = refl
+same_kind kinds.Data numbers behind = refl
+same_kind kinds.Stable numbers behind = refl
+same_kind kinds.Read numbers behind = refl
+same_kind kinds.Reads numbers behind = refl
+same_kind kinds.Done numbers behind = refl
+same_kind kinds.Ended numbers behind = refl
+same_kind kinds.Stale numbers behind = refl
+same_kind kinds.Full numbers behind = refl
+
+-- the flags among the tests of an entry's numbers
+entry_flags : (place least most len fin done rest : Bool) → (place && ((least && most) && (len && (fin && (done && rest))))) ≡ true → (fin && (done && true)) ≡ true
+entry_flags place least most len fin done rest good =
+    let from_mss = (both_hold place ((least && most) && (len && (fin && (done && rest)))) good).1
+    in let from_length = (both_hold (least && most) (len && (fin && (done && rest))) from_mss).1
+    in let from_fin = both_hold fin (done && rest) (both_hold len (fin && (done && rest)) from_length).1
+    in and_from fin (done && true) from_fin.0 (and_from done true (both_hold done rest from_fin.1).0 refl)
+
+-- flags in their range are flags
+flags_good : (kind : Kind) (boot behind : ℕ) (bytes : List ℕ) → all_in_range boot behind (fields_of kind) (read kind bytes) ≡ true
+    → are_flags (flags_in kind (read kind bytes)) ≡ true
+flags_good kinds.Hello boot behind bytes good = refl
+flags_good kinds.Summary boot behind bytes good = refl
+flags_good kinds.List boot behind bytes good = refl
+flags_good kinds.Entry boot behind bytes good =
+    let at : ℕ → ℕ = λ i. slice_index (read kinds.Entry bytes) i
+    in entry_flags (nat_le (at 0) 63) (nat_le 64 (at 5)) (nat_le (at 5) 1460) (nat_le (at 6) (2 ^ 24)) (nat_le (at 7) 1) (nat_le (at 8) 1)
+    (nat_le (at 9) (2 ^ 24 + 1) && (nat_le (at 10) (2 ^ 24 + 1) && true)) good
+flags_good kinds.Bytes boot behind bytes good = refl
+flags_good kinds.Part boot behind bytes good = refl
+flags_good kinds.Cuts boot behind bytes good = refl
+flags_good kinds.Lens boot behind bytes good = refl
+flags_good kinds.Open boot behind bytes good = refl
+flags_good kinds.Opened boot behind bytes good = refl
+flags_good kinds.Data boot behind bytes good = (both_hold _ _ (both_hold _ _ good).1).1
+flags_good kinds.Stable boot behind bytes good =
+    let from_flag = (both_hold _ _ good).1 in and_from _ _ (both_hold _ _ from_flag).0 refl
+flags_good kinds.Read boot behind bytes good = refl
+flags_good kinds.Reads boot behind bytes good =
+    let from_flag = (both_hold _ _ good).1 in and_from _ _ (both_hold _ _ from_flag).0 refl
+flags_good kinds.Done boot behind bytes good = refl
+flags_good kinds.Ended boot behind bytes good = refl
+flags_good kinds.Stale boot behind bytes good = refl
+flags_good kinds.Full boot behind bytes good = refl
+
+-- a body that was read says the numbers that were read
+numbers_again : (kind : Kind) (bytes behind : List ℕ) → are_flags (flags_in kind (read kind bytes)) ≡ true
+    → numbers_of (body_in kind (read kind bytes) behind) ≡ read kind bytes
+numbers_again kinds.Hello bytes behind flags = refl
+numbers_again kinds.Summary bytes behind flags = refl
+numbers_again kinds.List bytes behind flags = refl
+numbers_again kinds.Entry bytes behind flags =
+    let at : ℕ → ℕ = λ i. slice_index (read kinds.Entry bytes) i
+    in let both = both_hold (nat_le (at 7) 1) (nat_le (at 8) 1 && true) flags
+    in let fin : flag (nat_eq (at 7) 1) ≡ at 7 = flag_again (at 7) both.0
+    in let done : flag (nat_eq (at 8) 1) ≡ at 8 = flag_again (at 8) (both_hold (nat_le (at 8) 1) true both.1).0
+    in cc (fin, done)
+numbers_again kinds.Bytes bytes behind flags = refl
+numbers_again kinds.Part bytes behind flags = refl
+numbers_again kinds.Cuts bytes behind flags = refl
+numbers_again kinds.Lens bytes behind flags = refl
+numbers_again kinds.Open bytes behind flags = refl
+numbers_again kinds.Opened bytes behind flags = refl
+numbers_again kinds.Data bytes behind flags =
+    let n : ℕ = slice_index (read kinds.Data bytes) 4 in let fin : flag (nat_eq n 1) ≡ n = flag_again n (both_hold (nat_le n 1) true flags).0 in cc fin
+numbers_again kinds.Stable bytes behind flags =
+    let n : ℕ = slice_index (read kinds.Stable bytes) 3 in let fin : flag (nat_eq n 1) ≡ n = flag_again n (both_hold (nat_le n 1) true flags).0 in cc fin
+numbers_again kinds.Read bytes behind flags = refl
+numbers_again kinds.Reads bytes behind flags =
+    let n : ℕ = slice_index (read kinds.Reads bytes) 3 in let fin : flag (nat_eq n 1) ≡ n = flag_again n (both_hold (nat_le n 1) true flags).0 in cc fin
+numbers_again kinds.Done bytes behind flags = refl
+numbers_again kinds.Ended bytes behind flags = refl
+numbers_again kinds.Stale bytes behind flags = refl
+numbers_again kinds.Full bytes behind flags = refl
+
+-- numbers that were read fit their fields
+read_fit : (fields : List Field) (bytes : List ℕ) → AreBytes bytes → AllFit fields (numbers_in fields bytes)
+read_fit [] bytes are = tt
+read_fit (field ∷ rest) bytes are = (number_small (width field) bytes are, read_fit rest (drop (width field) bytes) (bytes_left (width field) bytes are))
+
+lens_length : (bytes : List ℕ) → length bytes % 2 ≡ 0 → length (lens_bytes (lens_in bytes)) ≡ length bytes
+unfolding two
+lens_length [] even = refl
+lens_length (high ∷ []) even = absurd (omega arith)
+lens_length (high ∷ low ∷ bytes) even = omega (arith, lens_length bytes (omega arith))
+
+-- as many bytes stand behind the fields as were read there
+same_behind : (kind : Kind) (numbers behind : List ℕ) → length behind ≤ most_behind kind → left_over_in kind behind ≡ 0
+    → length (behind_of (body_in kind numbers behind)) ≡ length behind
+same_behind kinds.Hello numbers behind few even = omega arith
+same_behind kinds.Summary numbers behind few even = omega arith
+same_behind kinds.List numbers behind few even = omega arith
+same_behind kinds.Entry numbers behind few even = omega arith
+same_behind kinds.Bytes numbers behind few even = omega arith
+same_behind kinds.Part numbers behind few even = refl
+same_behind kinds.Cuts numbers behind few even = omega arith
+same_behind kinds.Lens numbers behind few even = lens_length behind even
+same_behind kinds.Open numbers behind few even = omega arith
+same_behind kinds.Opened numbers behind few even = omega arith
+same_behind kinds.Data numbers behind few even = refl
+same_behind kinds.Stable numbers behind few even = omega arith
+same_behind kinds.Read numbers behind few even = omega arith
+same_behind kinds.Reads numbers behind few even = omega arith
+same_behind kinds.Done numbers behind few even = omega arith
+same_behind kinds.Ended numbers behind few even = omega arith
+same_behind kinds.Stale numbers behind few even = omega arith
+same_behind kinds.Full numbers behind few even = omega arith
+
+-- where the whole has one of its kind's lengths, no byte of its lengths is left over
+none_left : (kind : Kind) (behind : List ℕ) → (not (is_lens kind) || nat_eq ((behind_at kind + length behind) % 2) 0) ≡ true → left_over_in kind behind ≡ 0
+none_left kinds.Hello behind even = refl
+none_left kinds.Summary behind even = refl
+none_left kinds.List behind even = refl
+none_left kinds.Entry behind even = refl
+none_left kinds.Bytes behind even = refl
+none_left kinds.Part behind even = refl
+none_left kinds.Cuts behind even = refl
+none_left kinds.Lens behind even = grind arith
+none_left kinds.Open behind even = refl
+none_left kinds.Opened behind even = refl
+none_left kinds.Data behind even = refl
+none_left kinds.Stable behind even = refl
+none_left kinds.Read behind even = refl
+none_left kinds.Reads behind even = refl
+none_left kinds.Done behind even = refl
+none_left kinds.Ended behind even = refl
+none_left kinds.Stale behind even = refl
+none_left kinds.Full behind even = refl
+
+no_rest : (kind : Kind) (n : ℕ) (behind : List ℕ) → n ≡ behind_at kind + length behind → has_length kind n ≡ true → left_over_in kind behind ≡ 0
+unfolding has_length
+no_rest kind n behind is size =
+    let even : (not (is_lens kind) || nat_eq (n % 2) 0) ≡ true = (both_hold _ _ size).1
+    in none_left kind behind (ap (λ k. not (is_lens kind) || nat_eq (k % 2) 0) (sym is) ∙ even)
+
+pub long_enough : (kind : Kind) (n : ℕ) → has_length kind n ≡ true → behind_at kind ≤ n
+long_enough kind n size = let least = (bounded kind n size).0 in omega arith
+
+-- a message that was read has a spelling
+read_spellable : (kind : Kind) (bytes : List ℕ) → AreBytes bytes → has_length kind (length bytes) ≡ true → is_sound_in kind bytes ≡ true
+    → IsSpellable (message_in kind bytes)
+unfolding message_in is_sound is_sound_in
+read_spellable kind bytes are size sound =
+    let fields : List ℕ = drop 16 bytes
+    in let behind : List ℕ = drop (behind_at kind) bytes
+    in let body : Body = body_in kind (read kind fields) behind
+    in let boot : ℕ = number_in 8 (drop 8 bytes)
+    in let within = bounded kind (length bytes) size
+    in let count : length bytes ≡ behind_at kind + length behind = omega (arith, length-drop (behind_at kind) bytes)
+    in let few : length behind ≤ most_behind kind = omega arith
+    in let good : all_in_range boot (length behind) (fields_of kind) (read kind fields) ≡ true = (both_hold _ _ (both_hold _ _ sound).0).1
+    in let again : numbers_of body ≡ read kind fields = numbers_again kind fields behind (flags_good kind boot (length behind) fields good)
+    in let as_many : length (behind_of body) ≡ length behind = same_behind kind (read kind fields) behind few (no_rest kind (length bytes) behind count size)
+    in let Fit : Kind → List ℕ → Type 0 = λ k numbers. AllFit (fields_of k) numbers
+    in let Sound : Kind → ℕ → List ℕ → Type 0 = λ k n numbers. is_sound k boot n numbers (lens_of body) ≡ true
+    in let Sized : Kind → ℕ → Type 0 = λ k n. has_length k (behind_at k + n) ≡ true
+    in let kind_is : kind ≡ kind_of body = sym (same_kind kind (read kind fields) behind)
+    in let fit : Fit kind (numbers_of body) = subst (Fit kind) (sym again) (read_fit (fields_of kind) fields (bytes_left 16 bytes are))
+    in let all : Sound kind (length (behind_of body)) (numbers_of body) =
+    subst (λ n. Sound kind n (numbers_of body)) (sym as_many) (subst (Sound kind (length behind)) (sym again) sound)
+    in let sized : Sized kind (length (behind_of body)) = subst (Sized kind) (sym as_many) (ap (has_length kind) (sym count) ∙ size)
+    in record {
+      boot = number_small 8 (drop 8 bytes) (bytes_left 8 bytes are);
+      numbers = subst (λ k. Fit k (numbers_of body)) kind_is fit;
+      sound = subst (λ k. Sound k (length (behind_of body)) (numbers_of body)) kind_is all;
+      size = subst (λ k. Sized k (length (behind_of body))) kind_is sized;
+    }
+
+-- what stands from a place on, as the code's slices say it
+abbrev pub part : ℕ → List ℕ → List ℕ
+part at bytes = take (length bytes - at) (drop at bytes)
+
+pub read_sendable : (kind : Kind) (bytes : List ℕ) (msg : Msg) → AreBytes bytes → has_length kind (length bytes) ≡ true → is_sound_in kind bytes ≡ true
+    → message_of msg ≡ message_in kind bytes → flags_of msg.body ≡ flags_in kind (read kind (part 16 bytes)) → (at : ℕ) → at ≡ behind_at kind
+    → left_over msg.body ≡ left_over_in kind (part at bytes) → IsSendable msg
+unfolding is_sound is_sound_in message_in
+read_sendable kind bytes msg are size sound says flags at at_is lens =
+    let behind : List ℕ = drop (behind_at kind) bytes
+    in let count : length bytes ≡ behind_at kind + length behind = omega (arith, length-drop (behind_at kind) bytes, long_enough kind (length bytes) size)
+    in let good = (both_hold _ _ (both_hold _ _ sound).0).1
+    in record {
+      flags = ap are_flags (flags ∙ ap (λ b. flags_in kind (read kind b)) (take_rest bytes 16)) ∙ flags_good kind (number_in 8 (drop 8 bytes)) (length behind) (drop 16 bytes) good;
+      lens = lens ∙ ap (left_over_in kind) (take_rest bytes at ∙ ap (λ n. drop n bytes) at_is) ∙ no_rest kind (length bytes) behind count size;
+      spellable = subst IsSpellable (sym says) (read_spellable kind bytes are size sound);
+    }
+
+body_whole : (kind : Kind) (bytes : List ℕ) (at : ℕ) (body : Body) → at ≡ behind_at kind → body ≡ body_in kind (read kind (part 16 bytes)) (part at bytes)
+    → body ≡ body_in kind (read kind (drop 16 bytes)) (drop (behind_at kind) bytes)
+body_whole kind bytes at body at_is body_is =
+    body_is ∙ ap (λ b. body_in kind (read kind b) (part at bytes)) (take_rest bytes 16)
+    ∙ ap (body_in kind (read kind (drop 16 bytes))) (take_rest bytes at ∙ ap (λ n. drop n bytes) at_is)
+
+-- a message that was read part by part
+pub says : (kind : Kind) (bytes : List ℕ) (at boot : ℕ) (body : Body) → at ≡ behind_at kind → boot ≡ number_in 8 (drop 8 bytes)
+    → body ≡ body_in kind (read kind (part 16 bytes)) (part at bytes) → message_with boot body ≡ message_in kind bytes
+unfolding message_in
+says kind bytes at boot body at_is boot_is body_is = let whole = body_whole kind bytes at body at_is body_is in cc (boot_is, whole)
+
+pub sound_is : (kind : Kind) (bytes : List ℕ) (at boot : ℕ) (body : Body) → at ≡ behind_at kind → boot ≡ number_in 8 (drop 8 bytes)
+    → body ≡ body_in kind (read kind (part 16 bytes)) (part at bytes)
+    → is_sound kind boot (length (part at bytes)) (read kind (part 16 bytes)) (lens_of body) ≡ is_sound_in kind bytes
+unfolding message_in is_sound_in
+sound_is kind bytes at boot body at_is boot_is body_is =
+    let whole = body_whole kind bytes at body at_is body_is
+    in let behind : part at bytes ≡ drop (behind_at kind) bytes = take_rest bytes at ∙ ap (λ n. drop n bytes) at_is
+    in ap (λ b. is_sound kind boot (length b) (read kind (part 16 bytes)) (lens_of body)) behind
+    ∙ ap (λ b. is_sound kind boot (length (drop (behind_at kind) bytes)) (read kind b) (lens_of body)) (take_rest bytes 16)
+    ∙ ap (λ n. is_sound kind n (length (drop (behind_at kind) bytes)) (read kind (drop 16 bytes)) (lens_of body)) boot_is
+    ∙ ap (λ b. is_sound kind (number_in 8 (drop 8 bytes)) (length (drop (behind_at kind) bytes)) (read kind (drop 16 bytes)) (lens_of b)) whole

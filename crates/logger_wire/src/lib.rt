@@ -1,0 +1,146 @@
+//! Messages between server and logger as bytes: reading and writing. What a string of bytes says, and which refusal it gets, is the
+//! message grammar of `seq_arith`. Nothing here takes memory.
+#![tactic(auto)]
+
+ghost use Rattle.std.specs.Prelude.{◌≡◌, ◌+◌, ◌*◌, ◌<◌, length, slice_index};
+ghost use Rattle.seq_arith.specs.MessageGrammar.{lens_in};
+
+use byteorder::{BigEndian, ByteOrder};
+use ft_io::Key;
+pub use reading::read_msg;
+pub use seq_arith::BadMsg;
+pub use writing::write_msg;
+
+mod reading;
+mod table;
+#[cfg(test)]
+mod tests;
+mod writing;
+
+/// A message, with the boot number of the server that it comes from or answers.
+#[derive(Clone, Copy, Debug)]
+pub struct Msg<'a> {
+    /// At least 1.
+    pub boot: u64,
+    pub body: Body<'a>,
+}
+
+/// What a message says, with the bytes of `PartMsg` and `DataMsg` and the lengths of `LensMsg` where they were read from. An index of a
+/// log entry is at most 63 and a count of entries at most 64, a segment size is 64 to 1,460 bytes, a length and an offset with its bytes
+/// are at most 2^24 bytes, counts of reads and of acknowledged units at most 2^24 + 1, and the length of a read is at most 2,048 bytes.
+/// Flags are 0 or 1.
+#[derive(Clone, Copy, Debug)]
+pub enum Body<'a> {
+    /// A server has started.
+    HelloMsg,
+    /// How many entries the log has.
+    SummaryMsg {
+        count: u16,
+    },
+    /// The entry at this place is asked for.
+    ListMsg {
+        index: u16,
+    },
+    /// An entry without its bytes and lengths.
+    EntryMsg {
+        index: u16,
+        key: Key,
+        cisn: u32,
+        sisn: u32,
+        mss: u16,
+        length: u32,
+        fin: u8,
+        done: u8,
+        reads: u32,
+        acked: u32,
+    },
+    /// The logged bytes from this offset on are asked for.
+    BytesMsg {
+        key: Key,
+        offset: u32,
+    },
+    /// Logged bytes, 1 to 1,024.
+    PartMsg {
+        key: Key,
+        offset: u32,
+        bytes: &'a [u8],
+    },
+    /// The logged lengths of reads from this one on are asked for.
+    CutsMsg {
+        key: Key,
+        first: u32,
+    },
+    /// Logged lengths of reads, 1 to 512 of two bytes each, which `len_at` reads.
+    LensMsg {
+        key: Key,
+        first: u32,
+        lens: &'a [u8],
+    },
+    /// A connection is to be opened.
+    OpenMsg {
+        key: Key,
+        cisn: u32,
+        sisn: u32,
+        mss: u16,
+    },
+    /// It has an entry, with these numbers.
+    OpenedMsg {
+        key: Key,
+        cisn: u32,
+        sisn: u32,
+        mss: u16,
+    },
+    /// Bytes to be logged, at most 1,460.
+    DataMsg {
+        key: Key,
+        offset: u32,
+        acked: u32,
+        fin: u8,
+        bytes: &'a [u8],
+    },
+    /// How much is logged, as an answer to bytes.
+    StableMsg {
+        key: Key,
+        length: u32,
+        fin: u8,
+        reads: u32,
+    },
+    /// The length of a read to be logged.
+    ReadMsg {
+        key: Key,
+        index: u32,
+        length: u16,
+    },
+    /// How much is logged, as an answer to a read.
+    ReadsMsg {
+        key: Key,
+        length: u32,
+        fin: u8,
+        reads: u32,
+    },
+    /// A connection has ended.
+    DoneMsg {
+        key: Key,
+    },
+    /// Its end is logged.
+    EndedMsg {
+        key: Key,
+    },
+    /// A server with this larger boot number has started.
+    StaleMsg {
+        newer: u64,
+    },
+    /// There is no room for another connection.
+    FullMsg {
+        key: Key,
+    },
+}
+
+/// The ith length, from 0, of those that `LensMsg` lends.
+#[tactic(auto, using(std::proofs::lemmas::List::take_rest, crate::proofs::Lens::len_found))]
+pub fn len_at(lens: &[u8], i: usize) -> u16
+    requires { 2 * i + 1 < length lens.now }
+    ensures { result ≡ slice_index (lens_in lens.now) i }
+{
+    BigEndian::read_u16(&lens[2 * i..])
+}
