@@ -1,0 +1,3 @@
+pub mod NumbersTell
+pub mod Places
+pub mod Outstanding

@@ -1,0 +1,2 @@
+pub mod SendNumbers
+pub mod Near

@@ -1,0 +1,18 @@
+//! What a TCP connection keeps of its two streams: the bytes that came and aren't read, the bytes written and not acknowledged, and the
+//! sender's numbers with the timer (RFC 9293, 3.3.1). The queues are lists to contracts. Numbers are modulo 2^32, and the tests on them
+//! are RFC 9293's. Only the queues' `new` takes memory.
+#![tactic(auto)]
+
+pub use receive_queue::RecvQueue;
+pub use send_queue::SendQueue;
+pub use send_state::{AckKind, SendState};
+
+pub mod laws;
+mod receive_queue;
+mod send_queue;
+mod send_state;
+#[cfg(test)]
+mod tests;
+
+/// How many bytes a queue holds: as many as a window without scaling can announce.
+pub const QUEUE_ROOM: usize = 65_535;

@@ -1,0 +1,115 @@
+//! The bytes that the user wrote and the peer hasn't acknowledged. They may be sent any number of times, so they are copied out, and let
+//! go only when they are acknowledged.
+
+ghost use Rattle.std.specs.Prelude.{◌≡◌, ◌+◌, ◌-◌, ◌≤◌, ◌==◌, List, [], ◌++◌, length, min, take, drop, IfOk};
+
+use crate::QUEUE_ROOM;
+use circular_buffer::HeapCircularBuffer;
+use ft_io::NoMemory;
+use std::alloc::Global;
+use std::marker::Model;
+
+/// A queue of written bytes, at most 65,535. Contracts see the bytes, the oldest first.
+#[derive(Drop)]
+pub struct SendQueue {
+    bytes: HeapCircularBuffer<u8>,
+}
+
+impl Model for SendQueue {
+    ghost use Rattle.std.specs.Prelude.{◌≡◌, List, ℕ};
+
+    ghost Value = { List ℕ };
+
+    ghost view = { λ q. q.bytes.items };
+
+    ghost invariant = { λ q. q.bytes.capacity ≡ 65535 };
+}
+
+impl SendQueue {
+    /// An empty queue with its whole room made.
+    pub fn new(alloc: Global) -> Result<SendQueue, NoMemory>
+        ensures { IfOk result (λ queue. queue ≡ []) }
+    {
+        let bytes = HeapCircularBuffer::with_capacity(alloc, QUEUE_ROOM)?;
+        Ok(SendQueue { bytes })
+    }
+
+    /// How many bytes are held.
+    pub fn len(&self) -> usize
+        ensures count { result ≡ length self.now }
+        ensures most { result ≤ 65535 }
+    {
+        self.bytes.len()
+    }
+
+    pub fn is_empty(&self) -> bool
+        ensures { result ≡ (length self.now == 0) }
+    {
+        self.bytes.is_empty()
+    }
+
+    /// How many more bytes fit.
+    pub fn room(&self) -> usize
+        ensures { result ≡ 65535 - length self.now }
+    {
+        QUEUE_ROOM - self.bytes.len()
+    }
+
+    /// Appends the front of `bytes`, as much as fits, and answers how many bytes.
+    pub fn write(&mut self, bytes: &[u8]) -> usize
+        ensures count { result ≡ min (length bytes.now) (65535 - length self.old) }
+        ensures state { self.new ≡ self.old ++ take result bytes.now }
+    {
+        self.bytes.fill_from_slice(bytes)
+    }
+
+    /// Copies the bytes from place `from` on to the front of `out`, as many as are held and fit, and answers how many. The rest of `out`
+    /// stays.
+    pub fn copy(&self, from: usize, out: &mut [u8]) -> usize
+        ensures count { result ≡ min (length self.now - from) (length out.old) }
+        ensures bytes { out.new ≡ take result (drop from self.now) ++ drop result out.old }
+    {
+        let (front, back) = self.bytes.as_slices();
+        copy_across(
+            rest_of(front, from),
+            rest_of(back, from.saturating_sub(front.len())),
+            out,
+        )
+    }
+
+    /// Lets go of the `n` oldest bytes.
+    pub fn drop_front(&mut self, n: usize)
+        requires { n ≤ length self.old }
+        ensures { self.new ≡ drop n self.old }
+    {
+        let kept = self.bytes.len() - n;
+        self.bytes.truncate_front(kept);
+    }
+
+    /// Forgets all bytes.
+    pub fn clear(&mut self)
+        ensures { self.new ≡ [] }
+    {
+        self.bytes.clear();
+    }
+}
+
+/// What stands from place `from` on.
+fn rest_of(bytes: &[u8], from: usize) -> &[u8]
+    ensures { result.now ≡ drop from bytes.now }
+{
+    &bytes[from.min(bytes.len())..]
+}
+
+/// Copies two slices, one behind the other, to the front of `out`, as much as fits, and answers how many bytes.
+fn copy_across(front: &[u8], back: &[u8], out: &mut [u8]) -> usize
+    ensures count { result ≡ min (length (front.now ++ back.now)) (length out.old) }
+    ensures bytes { out.new ≡ take result (front.now ++ back.now) ++ drop result out.old }
+{
+    let from_front = front.len().min(out.len());
+    let from_back = back.len().min(out.len() - from_front);
+    let count = from_front + from_back;
+    out[..from_front].copy_from_slice(&front[..from_front]);
+    out[from_front..count].copy_from_slice(&back[..from_back]);
+    count
+}
