@@ -30,15 +30,15 @@ use Rattle.ft_model.specs.declared.schedule.Script.{Script}
 use Rattle.ft_model.specs.declared.schedule.Script.TheVariants.{Bytes, Fill}
 
 -- What an outcome that isn't a refusal says of the tests that gave it.
-bind_ok : {A B E : Type 0} (r : Result A E) (f : A → Result B E) (y : B) → (r >>= f) ≡ Ok y → (x : A) × (r ≡ Ok x) × (f x ≡ Ok y)
+pub bind_ok : {A B E : Type 0} (r : Result A E) (f : A → Result B E) (y : B) → (r >>= f) ≡ Ok y → (x : A) × (r ≡ Ok x) × (f x ≡ Ok y)
 bind_ok (Ok x) f y e = (x, refl, e)
 bind_ok (Err d) f y e = absurd (cc)
 
-ok_or_ok : {A E : Type 0} (o : Option A) (d : E) (x : A) → ok_or o d ≡ Ok x → o ≡ Some x
+pub ok_or_ok : {A E : Type 0} (o : Option A) (d : E) (x : A) → ok_or o d ≡ Ok x → o ≡ Some x
 ok_or_ok (Some y) d x e = cc
 ok_or_ok None d x e = absurd (cc)
 
-unless : {A E : Type 0} (b : Bool) (d : E) (r : Result A E) (x : A) → cond b (Err d) r ≡ Ok x → (b ≡ false) × (r ≡ Ok x)
+pub unless : {A E : Type 0} (b : Bool) (d : E) (r : Result A E) (x : A) → cond b (Err d) r ≡ Ok x → (b ≡ false) × (r ≡ Ok x)
 unless true d r x e = absurd (cc)
 unless false d r x e = (refl, e)
 
@@ -120,18 +120,18 @@ length_letters zero = refl
 length_letters (suc n) = omega (arith, length-append {A = ℕ}, length_letters n)
 
 -- What the four tests of a client line gave.
-tested : (rn ri : Result ℕ LineWhy) (ra : Result Addr LineWhy) (rs : Result Script LineWhy) (make : ℕ → Addr → Script → ClientLine) (c : ClientLine) → (rn >>= λ n. ri >>= λ i. ra >>= λ a. rs >>= λ s. Ok (make i a s)) ≡ Ok c → (i : ℕ) × (a : Addr) × (s : Script) × (ri ≡ Ok i) × (ra ≡ Ok a) × (rs ≡ Ok s) × (make i a s ≡ c)
+pub tested : (rn ri : Result ℕ LineWhy) (ra : Result Addr LineWhy) (rs : Result Script LineWhy) (make : ℕ → Addr → Script → ClientLine) (c : ClientLine) → (rn >>= λ n. ri >>= λ i. ra >>= λ a. rs >>= λ s. Ok (make i a s)) ≡ Ok c → (i : ℕ) × (a : Addr) × (s : Script) × (ri ≡ Ok i) × (ra ≡ Ok a) × (rs ≡ Ok s) × (make i a s ≡ c)
 tested (Ok n) (Ok i) (Ok a) (Ok s) make c e = (i, a, s, refl, refl, refl, (cc))
 tested (Err d) ri ra rs make c e = absurd (cc)
 tested (Ok n) (Err d) ra rs make c e = absurd (cc)
 tested (Ok n) (Ok i) (Err d) rs make c e = absurd (cc)
 tested (Ok n) (Ok i) (Ok a) (Err d) make c e = absurd (cc)
 
-both_left : (a b : Bool) → (a && b) ≡ true → a ≡ true
+pub both_left : (a b : Bool) → (a && b) ≡ true → a ≡ true
 both_left true b e = refl
 both_left false b e = absurd (cc)
 
-both_right : (a b : Bool) → (a && b) ≡ true → b ≡ true
+pub both_right : (a b : Bool) → (a && b) ≡ true → b ≡ true
 both_right true b e = e
 both_right false b e = absurd (cc)
 
@@ -147,11 +147,11 @@ hex_bound : (digits : List ℕ) (b : Bool) (s : Script) → is_hex digits ≡ b 
 hex_bound digits true s h e = let is : Bytes (hex_bytes digits) ≡ s = cc in rw (← is) (omega (arith, half digits, hex_limit digits h))
 hex_bound digits false s h e = absurd (cc)
 
-within_bound : (least most : ℕ) (o : Option ℕ) (n : ℕ) → option_and_then (within least most) o ≡ Some n → n ≤ most
+pub within_bound : (least most : ℕ) (o : Option ℕ) (n : ℕ) → option_and_then (within least most) o ≡ Some n → n ≤ most
 within_bound least most (Some m) n e = let is = cond_some (nat_le least m && nat_le m most) m n e in rw (← is.1) (leb-true _ _ (both_right _ _ is.0))
 within_bound least most None n e = absurd (cc)
 
-number_bound : (least most : ℕ) (word : List ℕ) (n : ℕ) → number_of least most word ≡ Some n → n ≤ most
+pub number_bound : (least most : ℕ) (word : List ℕ) (n : ℕ) → number_of least most word ≡ Some n → n ≤ most
 unfolding number_of
 number_bound least most word n e = within_bound least most (numeral 20 word) n e
 
@@ -217,7 +217,7 @@ Kept Empty = Unit {0}
 Kept (Named kind) = Unit {0}
 Kept (Begun s) = IsAccepted s
 
-room_for_client : (s : Schedule) (words : List (List ℕ)) → may_join s words ≡ true → length s.clients < 16
+pub room_for_client : (s : Schedule) (words : List (List ℕ)) → may_join s words ≡ true → length s.clients < 16
 unfolding may_join
 room_for_client s words e = ltb-true _ _ (both_right _ _ (both_left _ _ e))
 

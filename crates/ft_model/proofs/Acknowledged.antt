@@ -1,5 +1,5 @@
 -- No segment acknowledges what isn't logged, and what is logged of a client is the front of its script.
-use Rattle.std.proofs.Common.{◌≡◌, ℕ, ◌≤◌, ◌^◌, pos, ◌≤ℤ◌, le_of_eq, Bool, true, false, ◌&&◌, not, refl, sym, ap, ◌∙◌, subst, true≢false, find, Option, Some, None, List, [], ◌∷◌, map, length, arith, ◌==◌}
+use Rattle.std.proofs.Common.{◌≡◌, ℕ, ◌≤◌, ◌^◌, pos, ◌≤ℤ◌, le_of_eq, true, ◌&&◌, not, refl, sym, ap, ◌∙◌, subst, find, Option, Some, None, List, [], ◌∷◌, map, length, arith, ◌==◌}
 use Rattle.std.specs.List.{AllByRecursion, list_any}
 use Rattle.ft_io.specs.declared.Addr.{Addr}
 use Rattle.ft_io.specs.declared.Key.{Key}
@@ -13,7 +13,7 @@ use Rattle.ft_model.specs.Network.Packet.{To_server, To_client, To_logger, From_
 use Rattle.ft_model.specs.Growth.{IsPrefix, logged_units}
 use Rattle.ft_model.specs.Masked.{AcknowledgesLogged}
 use Rattle.ft_model.specs.World.{World, Moment, Joint, IsStart, IsNewClient, is_apart, are_apart, world_after}
-use Rattle.ft_model.proofs.Lists.{both, all_weaker, all_find, all_slice_get, same_key, none_is_some}
+use Rattle.ft_model.proofs.Lists.{both, all_weaker, all_find, all_slice_get, same_key, none_is_some, not_true}
 use Rattle.ft_model.proofs.Fetching.{full_front}
 use Rattle.ft_model.proofs.Keys.{AreDistinct, has_key_map, finds_itself, all_from_get}
 use Rattle.ft_model.proofs.LogAnswers.{all_answers}
@@ -27,10 +27,6 @@ use Rattle.ft_model.proofs.Scripts.{EntryFits}
 use Rattle.ft_model.proofs.Faithful.{PacketFits, IsFit, EntriesFit}
 use Rattle.ft_model.proofs.FaithfulKept.{ClientFits, IsFaithful}
 use Rattle.ft_model.proofs.FaithfulOver.{script_of, isn_of, script_in, isn_in, turn_faithful, faithful_goes_on}
-
-not_true : (b : Bool) → not b ≡ true → b ≡ false
-not_true false e = refl
-not_true true e = absurd (true≢false (sym e))
 
 apart_distinct : (server : Addr) (clients : List Client) → are_apart server clients ≡ true → AreDistinct (map (λ c. c.key) clients)
 apart_distinct server [] e = tt

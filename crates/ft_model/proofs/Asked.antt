@@ -49,13 +49,13 @@ pub record IsAsked (w : World) : Type 0 where
   pub distinct : AreDistinct (entry_keys w.log)
   pub node : (node : Node) → w.node ≡ Some node → is_restarting node.stage ≡ true → IsAskedNode w node
 
-keys_stay : (key : Key) (change : Entry → Entry) (es : List Entry) → ((e : Entry) → EntryGrows e (change e))
+pub keys_stay : (key : Key) (change : Entry → Entry) (es : List Entry) → ((e : Entry) → EntryGrows e (change e))
     → map (λ e. e.key) (map (λ e. if key_eq e.key key then change e else e) es) ≡ map (λ e. e.key) es
 keys_stay key change [] g = refl
 keys_stay key change (e ∷ es) g =
     ap₂ ◌∷◌ (of_choice (λ x. x.key ≡ e.key) (key_eq e.key key) (change e) e (λ t. (g e).key) (λ t. refl)) (keys_stay key change es g)
 
-map_more : {A B : Type 0} (f : A → B) (xs : List A) (x : A) → map f (xs ++ x ∷ []) ≡ map f xs ++ f x ∷ []
+pub map_more : {A B : Type 0} (f : A → B) (xs : List A) (x : A) → map f (xs ++ x ∷ []) ≡ map f xs ++ f x ∷ []
 map_more f [] x = refl
 map_more f (y ∷ ys) x = ap (λ l. f y ∷ l) (map_more f ys x)
 

@@ -1,5 +1,5 @@
 -- In every joint trace the logged reads are one author's, and what is under way to a client is a part of the output over them.
-use Rattle.std.proofs.Common.{append-nil, le_trans, sum, ◌≡◌, ℕ, ◌≤◌, ◌^◌, Bool, true, false, ◌||◌, refl, sym, ap, ◌∙◌, subst, true≢false, inl, inr, ◌⊎◌, find, Option, Some, None, List, [], ◌∷◌, map, length, arith}
+use Rattle.std.proofs.Common.{append-nil, le_trans, sum, ◌≡◌, ℕ, ◌≤◌, ◌^◌, true, ◌||◌, refl, sym, ap, ◌∙◌, subst, true≢false, inl, inr, ◌⊎◌, Option, Some, None, List, [], ◌∷◌, map, length, arith}
 use Rattle.std.specs.List.{AllByRecursion}
 use Rattle.ft_io.specs.declared.Key.{Key}
 use Rattle.ft_io.specs.Key.{key_eq}
@@ -16,7 +16,7 @@ use Rattle.ft_model.specs.Serving.{AllGo}
 use Rattle.ft_model.specs.Lawful.{Revives, all_restored}
 use Rattle.ft_model.specs.Growth.{IsPrefix}
 use Rattle.ft_model.specs.World.{World}
-use Rattle.ft_model.proofs.Lists.{of_choice, all_of, all_slice_get, none_is_some}
+use Rattle.ft_model.proofs.Lists.{all_of, all_slice_get}
 use Rattle.ft_model.proofs.Keys.{AreDistinct, finds_itself, all_from_get}
 use Rattle.ft_model.proofs.Fetching.{IsWhole, AreFetched}
 use Rattle.ft_model.proofs.Asked.{entry_keys}
@@ -30,7 +30,7 @@ use Rattle.ft_model.proofs.StageTurns.{either_turn}
 use Rattle.ft_model.proofs.Running.{HasSmallOutputs}
 use Rattle.ft_model.proofs.Authored.{ReadFits, Speaks, Follows, PlaceRuns, IsAuthor, entry_runs, AckFits, run_units, logged_run}
 use Rattle.ft_model.proofs.FaithfulOver.{points_fit, restored_all, revives_fit}
-use Rattle.ft_model.proofs.Keys.{has_key}
+use Rattle.ft_model.proofs.Keys.{has_key, found_has_key}
 use Rattle.ft_model.proofs.Resumed.{restored_keys, restored_length, length_map}
 use Rattle.ft_model.proofs.Fetching.{full_front}
 use Rattle.ft_model.proofs.Services.{reads_go_on, prefix_length}
@@ -80,17 +80,6 @@ settled_keys key (Lives p ∷ places) a = ap (λ b. key_eq p.key key || b) (sett
 settled_keys key (Ended k ∷ places) a = ap (λ b. key_eq k key || b) (settled_keys key places a.1)
 settled_keys key (Opens n ∷ places) a = absurd a.0
 
-or_any : (a b : Bool) → (a ≡ true) ⊎ (b ≡ true) → (a || b) ≡ true
-or_any true b e = refl
-or_any false b (inl e) = absurd (true≢false (sym e))
-or_any false b (inr e) = e
-
-found_key : (key : Key) (entries : List Entry) (e : Entry) → find (λ x. key_eq x.key key) entries ≡ Some e → has_key key (map (λ x. x.key) entries) ≡ true
-found_key key [] e f = none_is_some e f
-found_key key (x ∷ xs) e f =
-    of_choice (λ o. o ≡ Some e → has_key key (map (λ y. y.key) (x ∷ xs)) ≡ true) (key_eq x.key key) (Some x) (find (λ y. key_eq y.key key) xs)
-    (λ t g. or_any (key_eq x.key key) (has_key key (map (λ y. y.key) xs)) (inl t)) (λ t g. or_any (key_eq x.key key) (has_key key (map (λ y. y.key) xs)) (inr (found_key key xs e g))) f
-
 logged_settled : {State : Type 0} (service : Machine State) (log : Log) (fetched : List Fetched) (key : Key) (o : Option Entry) → entry_of key log ≡ o
     → AreFetched log.entries fetched → AllByRecursion IsWhole fetched → length log.entries ≤ length fetched
     → (lengths_in o ≡ []) ⊎ (is_settled key (all_restored service fetched) ≡ true)
@@ -102,7 +91,7 @@ logged_settled service log fetched key (Some e) found a w all =
     let three = length_map (λ x. x.key) log.entries in
     let same : map key_of (all_restored service fetched) ≡ entry_keys log = full_front (map key_of (all_restored service fetched)) (entry_keys log) keys (omega (arith, one, two, three, all)) in
     inr (settled_keys key (all_restored service fetched) (restored_all IsNoOpening service log.entries fetched (all_of (λ e. IsNoOpening (Lives (point_of service e))) log.entries (λ x. tt)) (λ k. tt) a w)
-    ∙ (ap (has_key key) same ∙ found_key key log.entries e found))
+    ∙ (ap (has_key key) same ∙ found_has_key (λ x. x.key) key log.entries e found))
 
 -- the turn that ends a restart
 pub resuming_runs : {State : Type 0} (service : Machine State) (script author : Key → List ℕ) (isn : Key → ℕ) (log : Log) (node : Node) (count : ℕ) (fetched : List Fetched) (places : List Place) (sent : List Packet)

@@ -1,5 +1,5 @@
 -- The author of the logged reads through a turn of the server.
-use Rattle.std.proofs.Common.{append-nil, flat_map, ◌≡◌, ℕ, ◌≤◌, ◌^◌, Bool, true, false, ◌&&◌, ◌||◌, not, nat_lt, refl, sym, ap, ◌∙◌, subst, true≢false, inl, inr, ◌⊎◌, ⊎_elim, is_some, Option, Some, None, List, [], ◌∷◌, ◌++◌, map, length, if◌then◌else◌}
+use Rattle.std.proofs.Common.{append-nil, flat_map, ◌≡◌, ℕ, ◌≤◌, ◌^◌, Bool, true, false, ◌&&◌, not, nat_lt, refl, sym, ap, ◌∙◌, subst, true≢false, inl, inr, ◌⊎◌, ⊎_elim, is_some, Option, Some, None, List, [], ◌∷◌, ◌++◌, map, length, if◌then◌else◌}
 use Rattle.std.specs.List.{AllByRecursion, list_any}
 use Rattle.ft_io.specs.declared.Addr.{Addr}
 use Rattle.ft_io.specs.declared.Key.{Key}
@@ -21,7 +21,7 @@ use Rattle.ft_model.specs.Node.Input.{Packet_comes, Message_comes, Noise_comes, 
 use Rattle.ft_model.specs.Serving.{AllGo, newcomers, refusals, is_strange, ServingTurn}
 use Rattle.ft_model.specs.Lawful.{asked}
 use Rattle.ft_model.specs.Growth.{IsPrefix}
-use Rattle.ft_model.proofs.Lists.{of_choice, both, all_append, all_find, found_passes, all_slice_get, same_key, none_is_some, some_is}
+use Rattle.ft_model.proofs.Lists.{of_choice, both, or_left, or_right, all_append, all_find, found_passes, all_slice_get, same_key, none_is_some, some_is, not_true, or_cases, or_neither}
 use Rattle.ft_model.proofs.Keys.{AreDistinct, finds_itself, all_from_get}
 use Rattle.ft_model.proofs.PlaceTurns.{PlaceWent}
 use Rattle.ft_model.proofs.PlaceTurns.PlaceWent.{stayed, went_on, began, dropped, ended, refused}
@@ -68,25 +68,13 @@ settles key (Opens n) = false
 abbrev pub is_settled : Key → List Place → Bool
 is_settled key places = list_any (settles key) places
 
-or_left : (a b : Bool) → a ≡ true → (a || b) ≡ true
-or_left true b e = refl
-or_left false b e = absurd (true≢false (sym e))
-
-or_cases : (a b : Bool) → (a || b) ≡ true → (a ≡ true) ⊎ (b ≡ true)
-or_cases true b e = inl refl
-or_cases false b e = inr e
-
-or_second : (a b : Bool) → b ≡ true → (a || b) ≡ true
-or_second true b e = refl
-or_second false b e = e
-
 pub settled_append : (key : Key) (xs ys : List Place) → (is_settled key xs ≡ true) ⊎ (is_settled key ys ≡ true) → is_settled key (xs ++ ys) ≡ true
 settled_append key [] ys (inl e) = absurd (true≢false (sym e))
 settled_append key [] ys (inr e) = e
 settled_append key (x ∷ xs) ys (inl e) =
-    ⊎_elim (λ h. or_left (settles key x) (is_settled key (xs ++ ys)) h) (λ h. or_second (settles key x) (is_settled key (xs ++ ys)) (settled_append key xs ys (inl h)))
+    ⊎_elim (λ h. or_left (settles key x) (is_settled key (xs ++ ys)) h) (λ h. or_right (settles key x) (is_settled key (xs ++ ys)) (settled_append key xs ys (inl h)))
     (or_cases (settles key x) (is_settled key xs) e)
-settled_append key (x ∷ xs) ys (inr e) = or_second (settles key x) (is_settled key (xs ++ ys)) (settled_append key xs ys (inr e))
+settled_append key (x ∷ xs) ys (inr e) = or_right (settles key x) (is_settled key (xs ++ ys)) (settled_append key xs ys (inr e))
 
 pub settled_goes_on : (Goes : Place → List Place → List Packet → Type 0) (key : Key)
     → ((place : Place) (now : List Place) (sent : List Packet) → Goes place now sent → settles key place ≡ true → is_settled key now ≡ true)
@@ -106,8 +94,8 @@ place_settled service node input key place now sent (went_on news p after i w n 
     let same : after.key ≡ p.key = either_turn service node.server node.boot news p after sent (λ r. ap (λ x. x.key) r.point) (λ l. l.same.key) t in
     ap (is_settled key) n ∙ one_settled key (Lives after) (ap (λ k. key_eq k key) same ∙ (sym (ap (settles key) i) ∙ e))
 place_settled service node input key place now sent (began asked kept after i h n t) e = absurd (true≢false (sym e ∙ ap (settles key) i))
-place_settled service node input key place now sent (dropped asked i n s) e = absurd (true≢false (sym e ∙ ap (settles key) i))
-place_settled service node input key place now sent (ended p i n s) e = ap (is_settled key) n ∙ one_settled key (Ended p.key) (sym (ap (settles key) i) ∙ e)
+place_settled service node input key place now sent (dropped asked i d n s) e = absurd (true≢false (sym e ∙ ap (settles key) i))
+place_settled service node input key place now sent (ended p i h n s) e = ap (is_settled key) n ∙ one_settled key (Ended p.key) (sym (ap (settles key) i) ∙ e)
 place_settled service node input key place now sent (refused k segment i c m n s) e = ap (is_settled key) n ∙ one_settled key (Ended k) (sym (ap (settles key) i) ∙ e)
 
 -- the author after a turn: of each live connection its own reads
@@ -171,7 +159,7 @@ settled_by key [] place e s = none_is_some place e
 settled_by key (x ∷ xs) place e s =
     of_choice (λ o. o ≡ Some place → is_settled key (x ∷ xs) ≡ true) (key_eq (key_of x) key) (Some x) (place_at key xs)
     (λ t f. or_left (settles key x) (is_settled key xs) (subst (λ y. settles key y ≡ true) (sym (some_is x place f)) s))
-    (λ t f. or_second (settles key x) (is_settled key xs) (settled_by key xs place f s)) e
+    (λ t f. or_right (settles key x) (is_settled key xs) (settled_by key xs place f s)) e
 
 ran_of : {State : Type 0} (service : Machine State) (old : Key → List ℕ) (place : Place) → PlaceRuns service old place → PlaceRan service old place
 ran_of service old (Lives p) r = (([], append-nil (old p.key) ∙ r.0), r.1, r.2)
@@ -236,25 +224,17 @@ place_runs service script old author isn log node input small short entries i fr
     let fits = (place_fits service script isn log node input short entries i place now sent b.0 (began asked kept after e h n t)).0 in
     let none : old kept.key ≡ [] = ap old h.key ∙ subst (PlaceRuns service old) e b.1 in
     connection_after service script old author isn log node Begins (point_opened kept) after now sent small front tt fits (opened_runs service old kept none) n t
-place_runs service script old author isn log node input small short entries i front place now sent b (dropped asked e n s) = (
+place_runs service script old author isn log node input small short entries i front place now sent b (dropped asked e d n s) = (
   subst (AllByRecursion (After service script isn old log)) (sym n) tt,
   λ is. ⊎_elim (λ x. subst (AllByRecursion (Follows service script author log)) (sym x) tt)
       (λ x. subst (AllByRecursion (Follows service script author log)) (sym x) (rst_follows service script author log (full_rst node.server asked) refl, tt)) s,
 )
-place_runs service script old author isn log node input small short entries i front place now sent b (ended p e n s) =
+place_runs service script old author isn log node input small short entries i front place now sent b (ended p e h n s) =
     (subst (AllByRecursion (After service script isn old log)) (sym n) ((tt, tt), tt), λ is. subst (AllByRecursion (Follows service script author log)) (sym s) tt)
 place_runs service script old author isn log node input small short entries i front place now sent b (refused key segment e c k n s) = (
   subst (AllByRecursion (After service script isn old log)) (sym n) ((tt, tt), tt),
   λ is. subst (AllByRecursion (Follows service script author log)) (sym s) (closed_follows service script author log node.server segment),
 )
-
-or_both : (a b : Bool) → a ≡ false → b ≡ false → (a || b) ≡ false
-or_both true b e f = e
-or_both false b e f = f
-
-not_so : (b : Bool) → not b ≡ true → b ≡ false
-not_so false e = refl
-not_so true e = absurd (true≢false (sym e))
 
 not_settles : (key : Key) (place : Place) → key_eq (key_of place) key ≡ false → settles key place ≡ false
 not_settles key (Lives p) e = e
@@ -268,7 +248,7 @@ not_settled : (key : Key) (places : List Place) → is_known key places ≡ fals
 not_settled key [] e = refl
 not_settled key (place ∷ places) e =
     of_choice (λ o. is_some o ≡ false → is_settled key (place ∷ places) ≡ false) (key_eq (key_of place) key) (Some place) (place_at key places)
-    (λ t f. absurd (true≢false f)) (λ t f. or_both (settles key place) (is_settled key places) (not_settles key place t) (not_settled key places f)) e
+    (λ t f. absurd (true≢false f)) (λ t f. or_neither (settles key place) (is_settled key places) (not_settles key place t) (not_settled key places f)) e
 
 -- a key that is neither live nor done has no reads
 abbrev pub OnlySettled : (Key → List ℕ) → List Place → Type 0
@@ -282,7 +262,7 @@ new_after service script old isn log node (Packet_comes segment) opened places i
     (λ t f. let one = both (is_strange node segment places && is_syn segment) (nat_lt (pending_count places) 64) t in
     let two = both (is_strange node segment places) (is_syn segment) one.0 in
     let three = both (is_for node.server segment) (not (is_known (source_of segment) places)) two.0 in
-    let unknown : is_settled (source_of segment) places ≡ false = not_settled (source_of segment) places (not_so (is_known (source_of segment) places) three.1) in
+    let unknown : is_settled (source_of segment) places ≡ false = not_settled (source_of segment) places (not_true (is_known (source_of segment) places) three.1) in
     ((f.0, ⊎_elim (λ x. x) (λ x. absurd (true≢false (sym x ∙ unknown))) (only (source_of segment))), tt)) (λ t f. tt)
     (new_fits script isn log node (Packet_comes segment) opened places i)
 new_after service script old isn log node (Message_comes message) opened places i only = tt

@@ -27,8 +27,8 @@ use Rattle.ft_model.specs.Restart.{point_of, run_of}
 use Rattle.ft_model.specs.Node.{Place}
 use Rattle.ft_model.specs.Node.Place.{Opens, Lives, Ended}
 use Rattle.ft_model.specs.Growth.{IsPrefix, lengths_in, logged_lengths}
-use Rattle.ft_model.proofs.Lists.{of_choice, all_weaker, all_map, all_append, prefix_trans, none_is_some}
-use Rattle.ft_model.proofs.Stands.{nothing_first, take_first, drop_prefix}
+use Rattle.ft_model.proofs.Lists.{take_first, of_choice, all_weaker, all_map, all_append, prefix_trans, none_is_some}
+use Rattle.ft_model.proofs.Stands.{nothing_first, drop_prefix}
 use Rattle.ft_model.proofs.Scripts.{HasTaken, DataFits}
 use Rattle.ft_model.proofs.Faithful.{IsKnown, PlaceFits}
 use Rattle.ft_model.proofs.Spoken.{Spoken, SendsFin, segments_spoken}

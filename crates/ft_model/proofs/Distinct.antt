@@ -1,11 +1,12 @@
 -- No two places of a server have the same key, and a connection that is live or done stays known.
-use Rattle.std.proofs.Common.{◌≡◌, ℕ, Bool, true, false, ◌&&◌, ◌||◌, nat_lt, not, refl, sym, ap, ◌∙◌, subst, true≢false, inl, inr, ◌⊎◌, ⊎_elim, is_some, Some, List, [], ◌∷◌, ◌++◌, map, append-nil}
+use Rattle.std.proofs.Common.{◌≡◌, ℕ, true, false, ◌&&◌, nat_lt, not, refl, sym, ap, ◌∙◌, subst, true≢false, inl, inr, ◌⊎◌, ⊎_elim, Some, List, [], ◌∷◌, ◌++◌, map, append-nil}
 use Rattle.ft_io.specs.declared.Key.{Key}
 use Rattle.ft_io.specs.Key.{key_eq}
+use Rattle.seq_arith.specs.Message.{Numbers}
 use Rattle.server_trait.specs.Service.{Machine}
 use Rattle.ft_model.specs.Network.{Packet, source_of}
 use Rattle.ft_model.specs.Opening.{is_syn, numbers_for}
-use Rattle.ft_model.specs.Node.{Node, Place, Stage, Input, key_of, place_at, is_known, is_for, pending_count, booted}
+use Rattle.ft_model.specs.Node.{Node, Place, Stage, Input, key_of, is_known, is_for, pending_count, booted}
 use Rattle.ft_model.specs.Node.Place.{Opens, Lives, Ended}
 use Rattle.ft_model.specs.Node.Stage.{Asking, Fetching, Serving, Fenced}
 use Rattle.ft_model.specs.Node.Input.{Packet_comes, Message_comes, Noise_comes, Tick_comes}
@@ -14,35 +15,37 @@ use Rattle.ft_model.specs.Growth.{IsPrefix}
 use Rattle.ft_model.specs.Lawful.{all_restored}
 use Rattle.ft_model.specs.Masked.{is_restarting}
 use Rattle.ft_model.specs.World.{World}
-use Rattle.ft_model.proofs.Lists.{of_choice, both, neither, none_is_some, some_is}
-use Rattle.ft_model.proofs.Keys.{AreDistinct, has_key, distinct_front, distinct_more}
+use Rattle.ft_model.proofs.Lists.{of_choice, both, neither, none_is_some, some_is, not_true, or_neither}
+use Rattle.ft_model.proofs.Keys.{AreDistinct, has_key, absent_key, distinct_front, distinct_more}
 use Rattle.ft_model.proofs.Happened.{Happened, IsBrought}
 use Rattle.ft_model.proofs.Happened.Happened.{log_heard, client_heard, client_moved, server_turned, server_booted, server_down}
-use Rattle.ft_model.proofs.PlaceTurns.{PlaceWent, place_went}
+use Rattle.ft_model.proofs.PlaceTurns.{PlaceWent, IsDropped, place_went}
 use Rattle.ft_model.proofs.PlaceTurns.PlaceWent.{stayed, went_on, began, dropped, ended, refused}
 use Rattle.ft_model.proofs.StageTurns.{StageWent, stage_went, either_turn}
 use Rattle.ft_model.proofs.StageTurns.StageWent.{was_fenced, waited, held_off, asked_on, resumed, served}
 use Rattle.ft_model.proofs.Asked.{IsAsked, entry_keys, progress_agrees}
-use Rattle.ft_model.proofs.Resumed.{restored_keys, revived_keys}
+use Rattle.ft_model.proofs.Resumed.{restored_keys, revived_keys, map_append}
 
 -- at most one place comes of one, with its key
 abbrev pub KeepsKey : Place → List Place → Type 0
 KeepsKey place now = (now ≡ []) ⊎ ((after : Place) × (now ≡ after ∷ []) × (key_of after ≡ key_of place))
 
+-- a place that isn't dropped stays one place of its key
+pub stays_or_drops : {State : Type 0} (service : Machine State) (node : Node) (input : Input) (place : Place) (now : List Place) (sent : List Packet)
+    → PlaceWent service node input place now sent
+    → ((asked : Numbers) × (place ≡ Opens asked) × IsDropped node input asked × (now ≡ [])) ⊎ ((after : Place) × (now ≡ after ∷ []) × (key_of after ≡ key_of place))
+stays_or_drops service node input place now sent (stayed n s) = inr (place, n, refl)
+stays_or_drops service node input place now sent (went_on news p after e i n t) =
+    inr (Lives after, n, either_turn service node.server node.boot news p after sent (λ r. ap (λ x. x.key) r.point) (λ l. l.same.key) t ∙ sym (ap key_of e))
+stays_or_drops service node input place now sent (began asked kept after e h n t) =
+    inr (Lives after, n, (either_turn service node.server node.boot _ _ after sent (λ r. ap (λ x. x.key) r.point) (λ l. l.same.key) t ∙ h.key) ∙ sym (ap key_of e))
+stays_or_drops service node input place now sent (dropped asked e d n s) = inl (asked, e, d, n)
+stays_or_drops service node input place now sent (ended p e h n s) = inr (Ended p.key, n, sym (ap key_of e))
+stays_or_drops service node input place now sent (refused key segment e c k n s) = inr (Ended key, n, sym (ap key_of e))
+
 pub keeps_key : {State : Type 0} (service : Machine State) (node : Node) (input : Input) (place : Place) (now : List Place) (sent : List Packet)
     → PlaceWent service node input place now sent → KeepsKey place now
-keeps_key service node input place now sent (stayed n s) = inr (place, n, refl)
-keeps_key service node input place now sent (went_on news p after e i n t) =
-    inr (Lives after, n, either_turn service node.server node.boot news p after sent (λ r. ap (λ x. x.key) r.point) (λ l. l.same.key) t ∙ sym (ap key_of e))
-keeps_key service node input place now sent (began asked kept after e h n t) =
-    inr (Lives after, n, (either_turn service node.server node.boot _ _ after sent (λ r. ap (λ x. x.key) r.point) (λ l. l.same.key) t ∙ h.key) ∙ sym (ap key_of e))
-keeps_key service node input place now sent (dropped asked e n s) = inl n
-keeps_key service node input place now sent (ended p e n s) = inr (Ended p.key, n, sym (ap key_of e))
-keeps_key service node input place now sent (refused key segment e c k n s) = inr (Ended key, n, sym (ap key_of e))
-
-pub or_false : (a b : Bool) → a ≡ false → b ≡ false → (a || b) ≡ false
-or_false true b e f = e
-or_false false b e f = f
+keeps_key service node input place now sent t = ⊎_elim (λ d. inl d.3) (λ k. inr k) (stays_or_drops service node input place now sent t)
 
 -- the keys of a list of places, through a turn
 pub no_key_after : (Goes : Place → List Place → List Packet → Type 0) → ((place : Place) (now : List Place) (sent : List Packet) → Goes place now sent → KeepsKey place now)
@@ -53,7 +56,7 @@ no_key_after Goes keeps key (place ∷ places) after sent (now, later, first, ot
     let there : has_key key (map key_of later) ≡ false = no_key_after Goes keeps key places later others rest parts.1 in
     ⊎_elim (λ n. ap (λ l. has_key key (map key_of l)) (places_are ∙ ap (λ l. l ++ later) n) ∙ there)
     (λ n. ap (λ l. has_key key (map key_of l)) (places_are ∙ ap (λ l. l ++ later) n.1)
-    ∙ or_false (key_eq (key_of n.0) key) (has_key key (map key_of later)) (ap (λ k. key_eq k key) n.2 ∙ parts.0) there) (keeps place now first goes)
+    ∙ or_neither (key_eq (key_of n.0) key) (has_key key (map key_of later)) (ap (λ k. key_eq k key) n.2 ∙ parts.0) there) (keeps place now first goes)
 
 pub distinct_goes_on : (Goes : Place → List Place → List Packet → Type 0) → ((place : Place) (now : List Place) (sent : List Packet) → Goes place now sent → KeepsKey place now)
     → (before after : List Place) (sent : List Packet) → AllGo Goes before after sent → AreDistinct (map key_of before) → AreDistinct (map key_of after)
@@ -64,20 +67,6 @@ distinct_goes_on Goes keeps (place ∷ places) after sent (now, later, first, ot
     (λ n. subst (λ l. AreDistinct (map key_of l)) (sym (places_are ∙ ap (λ l. l ++ later) n.1))
     (subst (λ k. has_key k (map key_of later) ≡ false) (sym n.2) (no_key_after Goes keeps (key_of place) places later others rest d.0), there)) (keeps place now first goes)
 
-unknown_key : (key : Key) (places : List Place) → is_known key places ≡ false → has_key key (map key_of places) ≡ false
-unknown_key key [] e = refl
-unknown_key key (place ∷ places) unknown =
-    of_choice (λ o. is_some o ≡ false → (key_eq (key_of place) key || has_key key (map key_of places)) ≡ false) (key_eq (key_of place) key) (Some place) (place_at key places)
-    (λ t e. absurd (true≢false e)) (λ t e. or_false (key_eq (key_of place) key) (has_key key (map key_of places)) t (unknown_key key places e)) unknown
-
-not_true : (b : Bool) → not b ≡ true → b ≡ false
-not_true false e = refl
-not_true true e = absurd (true≢false (sym e))
-
-map_append : (xs ys : List Place) → map key_of (xs ++ ys) ≡ map key_of xs ++ map key_of ys
-map_append [] ys = refl
-map_append (x ∷ xs) ys = ap (λ l. key_of x ∷ l) (map_append xs ys)
-
 -- a new place has a new key
 with_new : (node : Node) (input : Input) (opened : ℕ) (before went : List Place) → AreDistinct (map key_of went)
     → ((key : Key) → has_key key (map key_of before) ≡ false → has_key key (map key_of went) ≡ false) → AreDistinct (map key_of (went ++ newcomers node input opened before))
@@ -87,8 +76,8 @@ with_new node (Packet_comes segment) opened before went d none =
     (λ t. let one = both (is_strange node segment before && is_syn segment) (nat_lt (pending_count before) 64) t in
     let two = both (is_strange node segment before) (is_syn segment) one.0 in
     let three = both (is_for node.server segment) (not (is_known (source_of segment) before)) two.0 in
-    subst AreDistinct (sym (map_append went (Opens (numbers_for node.isn opened segment) ∷ [])))
-    (distinct_more (map key_of went) (source_of segment) d (none (source_of segment) (unknown_key (source_of segment) before (not_true _ three.1)))))
+    subst AreDistinct (sym (map_append key_of went (Opens (numbers_for node.isn opened segment) ∷ [])))
+    (distinct_more (map key_of went) (source_of segment) d (none (source_of segment) (absent_key key_of (source_of segment) before (not_true _ three.1)))))
     (λ t. subst (λ l. AreDistinct (map key_of l)) (sym (append-nil went)) d)
 with_new node (Message_comes message) opened before went d none = subst (λ l. AreDistinct (map key_of l)) (sym (append-nil went)) d
 with_new node Noise_comes opened before went d none = subst (λ l. AreDistinct (map key_of l)) (sym (append-nil went)) d

@@ -250,12 +250,12 @@ place_fits service script isn log node input short entries i place now sent f (b
     let has : HasEntry log kept = subst (AnswerFits log) h.body told in
     let c = connection_fits service node.server script isn log node.boot Begins (point_opened kept) after sent short entries tt tt (opened_point script isn log kept entries has) t in
     (subst (AllByRecursion (PlaceFits script isn log)) (sym n) (c.0, tt), c.1)
-place_fits service script isn log node input short entries i place now sent f (dropped asked e n s) = (
+place_fits service script isn log node input short entries i place now sent f (dropped asked e d n s) = (
   subst (AllByRecursion (PlaceFits script isn log)) (sym n) tt,
   ⊎_elim (λ x. subst (AllByRecursion (IsFit script isn log)) (sym x) tt)
       (λ x. subst (AllByRecursion (IsFit script isn log)) (sym x) (rst_fits script isn log (full_rst node.server asked) refl, tt)) s,
 )
-place_fits service script isn log node input short entries i place now sent f (ended p e n s) =
+place_fits service script isn log node input short entries i place now sent f (ended p e h n s) =
     (subst (AllByRecursion (PlaceFits script isn log)) (sym n) (tt, tt), subst (AllByRecursion (IsFit script isn log)) (sym s) tt)
 place_fits service script isn log node input short entries i place now sent f (refused key segment e c k n s) =
     (subst (AllByRecursion (PlaceFits script isn log)) (sym n) (tt, tt), subst (AllByRecursion (IsFit script isn log)) (sym s) (closed_fits script isn log node.server segment))

@@ -105,9 +105,9 @@ place_ours : {State : Type 0} (service : Machine State) (node : Node) (input : I
 place_ours service node input place now sent (stayed n s) = subst (AllByRecursion (IsOurs node.boot)) (sym s) tt
 place_ours service node input place now sent (went_on news p after e i n t) = connection_ours service node.server node.boot news p after sent t
 place_ours service node input place now sent (began asked kept after e i n t) = connection_ours service node.server node.boot _ _ after sent t
-place_ours service node input place now sent (dropped asked e n (inl s)) = subst (AllByRecursion (IsOurs node.boot)) (sym s) tt
-place_ours service node input place now sent (dropped asked e n (inr s)) = subst (AllByRecursion (IsOurs node.boot)) (sym s) (tt, tt)
-place_ours service node input place now sent (ended p e n s) = subst (AllByRecursion (IsOurs node.boot)) (sym s) tt
+place_ours service node input place now sent (dropped asked e d n (inl s)) = subst (AllByRecursion (IsOurs node.boot)) (sym s) tt
+place_ours service node input place now sent (dropped asked e d n (inr s)) = subst (AllByRecursion (IsOurs node.boot)) (sym s) (tt, tt)
+place_ours service node input place now sent (ended p e h n s) = subst (AllByRecursion (IsOurs node.boot)) (sym s) tt
 place_ours service node input place now sent (refused key segment e i f n s) = subst (AllByRecursion (IsOurs node.boot)) (sym s) (segments_ours node.boot _)
 
 abbrev Anywhere : Place → Type 0
@@ -146,7 +146,7 @@ pub turn_ours : {State : Type 0} (service : Machine State) (node : Node) (input 
     → StageWent service node input sent after → AllByRecursion (IsOurs node.boot) sent
 turn_ours service node input sent after (was_fenced newer a s) = subst (AllByRecursion (IsOurs node.boot)) (sym s) tt
 turn_ours service node input sent after (waited r a (inl s)) = subst (AllByRecursion (IsOurs node.boot)) (sym s) (refl, tt)
-turn_ours service node input sent after (waited r a (inr (w, s))) = subst (AllByRecursion (IsOurs node.boot)) (sym s) (asked_ours node w)
+turn_ours service node input sent after (waited r a (inr (w, s, m))) = subst (AllByRecursion (IsOurs node.boot)) (sym s) (asked_ours node w)
 turn_ours service node input sent after (held_off count fetched segment b a s) =
     subst (AllByRecursion (IsOurs node.boot)) (sym s) (held_so (IsOurs node.boot) node fetched segment (λ x. tt))
 turn_ours service node input sent after (asked_on count fetched p a s) = subst (AllByRecursion (IsOurs node.boot)) (sym s) (asked_ours node (wanted count fetched))
@@ -173,7 +173,7 @@ pub turn_quiet : {State : Type 0} (service : Machine State) (node : Node) (input
     → is_restarting after ≡ true → StageWent service node input sent after → (is_restarting node.stage ≡ true) × AllByRecursion (IsNoChange node.boot) sent
 turn_quiet service node input sent after r (was_fenced newer a s) = absurd (true≢false (sym r ∙ ap is_restarting a))
 turn_quiet service node input sent after r (waited b a (inl s)) = (b, subst (AllByRecursion (IsNoChange node.boot)) (sym s) (λ e. refl, tt))
-turn_quiet service node input sent after r (waited b a (inr (w, s))) = (b, subst (AllByRecursion (IsNoChange node.boot)) (sym s) (asked_quiet node w))
+turn_quiet service node input sent after r (waited b a (inr (w, s, m))) = (b, subst (AllByRecursion (IsNoChange node.boot)) (sym s) (asked_quiet node w))
 turn_quiet service node input sent after r (held_off count fetched segment b a s) =
     (ap is_restarting b, subst (AllByRecursion (IsNoChange node.boot)) (sym s) (held_so (IsNoChange node.boot) node fetched segment (λ x. tt)))
 turn_quiet service node input sent after r (asked_on count fetched p a s) =

@@ -1,5 +1,5 @@
 -- Restart: while an incarnation fetches, every answer of its boot agrees with the log as it stands, so what is fetched is a front of it.
-use Rattle.std.proofs.Common.{◌≡◌, ℕ, ◌+◌, ◌≤◌, Bool, true, false, ◌==◌, ◌&&◌, not, nat_lt, nat_le, refl, sym, ap, ap₂, ◌∙◌, subst, true≢false, eqb-true, find, Option, Some, None, List, [], ◌∷◌, ◌++◌, map, length, take, drop, slice_get, arith, append_assoc, take-append-drop, ltb-false, if◌then◌else◌}
+use Rattle.std.proofs.Common.{◌≡◌, ℕ, ◌+◌, ◌≤◌, Bool, true, false, ◌==◌, ◌&&◌, not, nat_lt, nat_le, refl, sym, ap, ap₂, ◌∙◌, subst, true≢false, eqb-true, find, Option, Some, None, List, [], ◌∷◌, ◌++◌, map, length, take, drop, slice_get, arith, append_assoc, ltb-false, if◌then◌else◌}
 use Rattle.std.specs.List.{AllByRecursion}
 use Rattle.ft_io.specs.declared.Key.{Key}
 use Rattle.ft_io.specs.Key.{key_eq}
@@ -9,7 +9,7 @@ use Rattle.ft_model.specs.Log.{Log, Entry, entry_of, head_of, part_of, lens_of, 
 use Rattle.ft_model.specs.Restart.{Fetched, wanted, next_entry, lacks_bytes, lacks_lengths, is_fetched, fetched_by, fetched_after, all_follow, entry_in}
 use Rattle.ft_model.specs.Restart.Wanted.{An_entry, Its_bytes, Its_lengths}
 use Rattle.ft_model.specs.Growth.{IsPrefix}
-use Rattle.ft_model.proofs.Lists.{of_choice, both, found_passes, same_key, none_is_some, some_is}
+use Rattle.ft_model.proofs.Lists.{take_first, of_choice, both, found_passes, same_key, none_is_some, some_is}
 use Rattle.ft_model.proofs.Keys.{AreDistinct, finds_itself}
 
 -- an answer agrees with these entries
@@ -34,9 +34,6 @@ abbrev pub AreFetched : List Entry → List Fetched → Type 0
 AreFetched entries [] = Unit {0}
 AreFetched entries (f ∷ earlier) =
     (e : Entry) × (slice_get entries (length earlier) ≡ Some e) × IsFront f e × AllByRecursion IsWhole earlier × AreFetched entries earlier
-
-front_take : {A : Type 0} (n : ℕ) (xs : List A) → IsPrefix (take n xs) xs
-front_take n xs = (drop n xs, take-append-drop n xs)
 
 pub on_some : (o : Option Entry) (tell : Entry → Option Body) (answer : Body) → on_entry tell o ≡ Some answer → (e : Entry) × (o ≡ Some e) × (tell e ≡ Some answer)
 on_some (Some e) tell answer t = (e, refl, t)
@@ -65,11 +62,11 @@ told_agrees (ListMsg index) log answer t =
 told_agrees (BytesMsg key offset) log answer t =
     let o = on_some (entry_of key log) (λ e. part_of e offset) answer t in
     let part = chosen_some (nat_lt offset (length o.0.bytes)) (PartMsg o.0.key offset (take 1024 (drop offset o.0.bytes))) answer o.2 in
-    subst (AgreesWith log.entries) part (o.0, own_entry key log o.0 o.1, front_take 1024 (drop offset o.0.bytes))
+    subst (AgreesWith log.entries) part (o.0, own_entry key log o.0 o.1, take_first 1024 (drop offset o.0.bytes))
 told_agrees (CutsMsg key first) log answer t =
     let o = on_some (entry_of key log) (λ e. lens_of e first) answer t in
     let part = chosen_some (nat_lt first (length o.0.lengths)) (LensMsg o.0.key first (take 512 (drop first o.0.lengths))) answer o.2 in
-    subst (AgreesWith log.entries) part (o.0, own_entry key log o.0 o.1, front_take 512 (drop first o.0.lengths))
+    subst (AgreesWith log.entries) part (o.0, own_entry key log o.0 o.1, take_first 512 (drop first o.0.lengths))
 told_agrees (OpenMsg n) log answer t = opened_agrees n.key (entry_of n.key log) log.entries answer t
 told_agrees (DataMsg part) log answer t = let o = on_some (entry_of part.key log) (λ e. Some (StableMsg (kept_of e))) answer t in subst (AgreesWith log.entries) (some_is _ _ o.2) tt
 told_agrees (ReadMsg key index n) log answer t = let o = on_some (entry_of key log) (λ e. Some (ReadsMsg (kept_of e))) answer t in subst (AgreesWith log.entries) (some_is _ _ o.2) tt

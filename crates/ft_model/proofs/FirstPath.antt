@@ -1,6 +1,7 @@
 -- Every moment of the first path happens: each equation computes.
 use Rattle.std.proofs.Common.{◌^◌, refl, None, List, [], ◌∷◌}
 use native.Mathlib.Bridge.{le_by_compare, IsLe}
+use Rattle.server_trait.specs.Service.{Machine}
 use Rattle.ft_model.specs.News.{News}
 use Rattle.ft_model.specs.News.News.{Comes, Logged, Begins}
 use Rattle.ft_model.specs.Point.{Point}
@@ -31,50 +32,50 @@ starts = record {
 }
 
 -- a turn of the one live connection
-abbrev Goes : News → Point → Point → List Packet → Type 0
-Goes news before after sent = ConnectionTurn echo server 1 news before after sent
+abbrev Goes : {State : Type 0} → Machine State → News → Point → Point → List Packet → Type 0
+Goes service news before after sent = ConnectionTurn service server 1 news before after sent
 
 -- the SYN-ACK leaves
-begins : Goes Begins (point_opened numbers) row.begun_point row.moment_7.sent
+begins : {State : Type 0} (service : Machine State) → Goes service Begins (point_opened numbers) row.begun_point row.moment_7.sent
 unfolding laws
-begins = goes echo server 1 Begins (point_opened numbers) row.begun_point row.moment_7.sent refl refl refl refl
+begins service = goes service server 1 Begins (point_opened numbers) row.begun_point row.moment_7.sent refl refl refl refl
 
 -- the SYN is acknowledged
-opens : Goes (Comes (segment_in row.packet_7)) row.begun_point row.open_point row.moment_10.sent
+opens : {State : Type 0} (service : Machine State) → Goes service (Comes (segment_in row.packet_7)) row.begun_point row.open_point row.moment_10.sent
 unfolding laws
-opens = goes echo server 1 (Comes (segment_in row.packet_7)) row.begun_point row.open_point row.moment_10.sent refl refl refl refl
+opens service = goes service server 1 (Comes (segment_in row.packet_7)) row.begun_point row.open_point row.moment_10.sent refl refl refl refl
 
 -- the text is taken and read
-takes : Goes (Comes (segment_in row.packet_8)) row.open_point row.taken_point row.moment_12.sent
+takes : Goes echo (Comes (segment_in row.packet_8)) row.open_point row.taken_point row.moment_12.sent
 unfolding laws
 takes = goes echo server 1 (Comes (segment_in row.packet_8)) row.open_point row.taken_point row.moment_12.sent refl refl refl refl
 
 -- the text is logged
-hears : Goes (Logged (kept_in row.packet_12)) row.taken_point row.logged_point row.moment_14.sent
+hears : Goes echo (Logged (kept_in row.packet_12)) row.taken_point row.logged_point row.moment_14.sent
 unfolding laws
 hears = goes echo server 1 (Logged (kept_in row.packet_12)) row.taken_point row.logged_point row.moment_14.sent refl refl refl refl
 
 -- the read is logged
-releases : Goes (Logged (kept_in row.packet_14)) row.logged_point row.released_point row.moment_16.sent
+releases : Goes echo (Logged (kept_in row.packet_14)) row.logged_point row.released_point row.moment_16.sent
 unfolding laws
 releases = goes echo server 1 (Logged (kept_in row.packet_14)) row.logged_point row.released_point row.moment_16.sent refl refl refl refl
 
 -- the server's turns
-turn_3 : LawfulTurn echo (booted server 1 5000) (Message_comes (message_in row.packet_2)) [] (row.node_at (Serving 0 []))
+turn_3 : {State : Type 0} (service : Machine State) → LawfulTurn service (booted server 1 5000) (Message_comes (message_in row.packet_2)) [] (row.node_at (Serving 0 []))
 unfolding laws
-turn_3 = record { server = refl; boot = refl; isn = refl; live = refl; stage = ([], refl, (refl, refl)) }
+turn_3 service = record { server = refl; boot = refl; isn = refl; live = refl; stage = ([], refl, (refl, refl)) }
 
-pub turn_5 : LawfulTurn echo (row.node_at (Serving 0 [])) (Packet_comes (segment_in row.packet_3)) row.moment_5.sent (row.node_at (Serving 1 (Opens numbers ∷ [])))
+pub turn_5 : {State : Type 0} (service : Machine State) → LawfulTurn service (row.node_at (Serving 0 [])) (Packet_comes (segment_in row.packet_3)) row.moment_5.sent (row.node_at (Serving 1 (Opens numbers ∷ [])))
 unfolding laws
-turn_5 = record { server = refl; boot = refl; isn = refl; live = refl; stage = (Opens numbers ∷ [], refl, record { went = []; by_places = []; all_go = (refl, refl); places = refl; packets = refl }) }
+turn_5 service = record { server = refl; boot = refl; isn = refl; live = refl; stage = (Opens numbers ∷ [], refl, record { went = []; by_places = []; all_go = (refl, refl); places = refl; packets = refl }) }
 
-turn_7 : LawfulTurn echo (row.node_at (Serving 1 (Opens numbers ∷ []))) (Message_comes (message_in row.packet_5)) row.moment_7.sent (row.node_live row.begun_point)
+turn_7 : {State : Type 0} (service : Machine State) → LawfulTurn service (row.node_at (Serving 1 (Opens numbers ∷ []))) (Message_comes (message_in row.packet_5)) row.moment_7.sent (row.node_live row.begun_point)
 unfolding laws
-turn_7 = record { server = refl; boot = refl; isn = refl; live = refl; stage = (Lives row.begun_point ∷ [], refl, record { went = Lives row.begun_point ∷ []; by_places = row.moment_7.sent; all_go = alone (PlaceTurn echo (row.node_at (Serving 1 (Opens numbers ∷ []))) (Message_comes (message_in row.packet_5))) (Opens numbers) (Lives row.begun_point ∷ []) row.moment_7.sent (row.begun_point, refl, begins); places = refl; packets = refl }) }
+turn_7 service = record { server = refl; boot = refl; isn = refl; live = refl; stage = (Lives row.begun_point ∷ [], refl, record { went = Lives row.begun_point ∷ []; by_places = row.moment_7.sent; all_go = alone (PlaceTurn service (row.node_at (Serving 1 (Opens numbers ∷ []))) (Message_comes (message_in row.packet_5))) (Opens numbers) (Lives row.begun_point ∷ []) row.moment_7.sent (row.begun_point, refl, begins service); places = refl; packets = refl }) }
 
-turn_10 : LawfulTurn echo (row.node_live row.begun_point) (Packet_comes (segment_in row.packet_7)) row.moment_10.sent (row.node_live row.open_point)
+turn_10 : {State : Type 0} (service : Machine State) → LawfulTurn service (row.node_live row.begun_point) (Packet_comes (segment_in row.packet_7)) row.moment_10.sent (row.node_live row.open_point)
 unfolding laws
-turn_10 = record { server = refl; boot = refl; isn = refl; live = refl; stage = (Lives row.open_point ∷ [], refl, record { went = Lives row.open_point ∷ []; by_places = row.moment_10.sent; all_go = alone (PlaceTurn echo (row.node_live row.begun_point) (Packet_comes (segment_in row.packet_7))) (Lives row.begun_point) (Lives row.open_point ∷ []) row.moment_10.sent (row.open_point, refl, opens); places = refl; packets = refl }) }
+turn_10 service = record { server = refl; boot = refl; isn = refl; live = refl; stage = (Lives row.open_point ∷ [], refl, record { went = Lives row.open_point ∷ []; by_places = row.moment_10.sent; all_go = alone (PlaceTurn service (row.node_live row.begun_point) (Packet_comes (segment_in row.packet_7))) (Lives row.begun_point) (Lives row.open_point ∷ []) row.moment_10.sent (row.open_point, refl, opens service); places = refl; packets = refl }) }
 
 pub turn_12 : LawfulTurn echo (row.node_live row.open_point) (Packet_comes (segment_in row.packet_8)) row.moment_12.sent (row.node_live row.taken_point)
 unfolding laws
@@ -89,51 +90,51 @@ unfolding laws
 turn_16 = record { server = refl; boot = refl; isn = refl; live = refl; stage = (Lives row.released_point ∷ [], refl, record { went = Lives row.released_point ∷ []; by_places = row.moment_16.sent; all_go = alone (PlaceTurn echo (row.node_live row.logged_point) (Message_comes (message_in row.packet_14))) (Lives row.logged_point) (Lives row.released_point ∷ []) row.moment_16.sent (row.released_point, refl, releases); places = refl; packets = refl }) }
 
 -- what happens in each moment
-happens_1 : Happens echo row.start row.moment_1.event row.moment_1.sent row.moment_1.world
+happens_1 : {State : Type 0} (service : Machine State) → Happens service row.start row.moment_1.event row.moment_1.sent row.moment_1.world
 unfolding laws IsLe
-happens_1 = (refl, le_by_compare 1 1 tt, refl, refl)
+happens_1 service = (refl, le_by_compare 1 1 tt, refl, refl)
 
-happens_2 : Happens echo row.moment_1.world row.moment_2.event row.moment_2.sent row.moment_2.world
+happens_2 : {State : Type 0} (service : Machine State) → Happens service row.moment_1.world row.moment_2.event row.moment_2.sent row.moment_2.world
 unfolding laws IsLe
-happens_2 = (row.packet_1, refl, (refl, refl))
+happens_2 service = (row.packet_1, refl, (refl, refl))
 
-happens_3 : Happens echo row.moment_2.world row.moment_3.event row.moment_3.sent row.moment_3.world
+happens_3 : {State : Type 0} (service : Machine State) → Happens service row.moment_2.world row.moment_3.event row.moment_3.sent row.moment_3.world
 unfolding laws IsLe
-happens_3 = (row.packet_2, refl, ((row.node_at (Serving 0 []), refl, turn_3), refl))
+happens_3 service = (row.packet_2, refl, ((row.node_at (Serving 0 []), refl, turn_3 service), refl))
 
-happens_4 : Happens echo row.moment_3.world row.moment_4.event row.moment_4.sent row.moment_4.world
+happens_4 : {State : Type 0} (service : Machine State) → Happens service row.moment_3.world row.moment_4.event row.moment_4.sent row.moment_4.world
 unfolding laws IsLe
-happens_4 = record { client = client_with hello_text; segment = segment_in row.packet_3; later = row.opening; is_there = refl; move = record { move = Syn None; window = 65535; may = refl; fits = le_by_compare 65536 (2 ^ 16) tt; segment_is = refl; after_is = refl }; sent_is = refl; after_is = refl }
+happens_4 service = record { client = client_with hello_text; segment = segment_in row.packet_3; later = row.opening; is_there = refl; move = record { move = Syn None; window = 65535; may = refl; fits = refl; segment_is = refl; after_is = refl }; sent_is = refl; after_is = refl }
 
-happens_5 : Happens echo row.moment_4.world row.moment_5.event row.moment_5.sent row.moment_5.world
+happens_5 : {State : Type 0} (service : Machine State) → Happens service row.moment_4.world row.moment_5.event row.moment_5.sent row.moment_5.world
 unfolding laws IsLe
-happens_5 = (row.packet_3, refl, ((row.node_at (Serving 1 (Opens numbers ∷ [])), refl, turn_5), refl))
+happens_5 service = (row.packet_3, refl, ((row.node_at (Serving 1 (Opens numbers ∷ [])), refl, turn_5 service), refl))
 
-happens_6 : Happens echo row.moment_5.world row.moment_6.event row.moment_6.sent row.moment_6.world
+happens_6 : {State : Type 0} (service : Machine State) → Happens service row.moment_5.world row.moment_6.event row.moment_6.sent row.moment_6.world
 unfolding laws IsLe
-happens_6 = (row.packet_4, refl, (refl, refl))
+happens_6 service = (row.packet_4, refl, (refl, refl))
 
-happens_7 : Happens echo row.moment_6.world row.moment_7.event row.moment_7.sent row.moment_7.world
+happens_7 : {State : Type 0} (service : Machine State) → Happens service row.moment_6.world row.moment_7.event row.moment_7.sent row.moment_7.world
 unfolding laws IsLe
-happens_7 = (row.packet_5, refl, ((row.node_live row.begun_point, refl, turn_7), refl))
+happens_7 service = (row.packet_5, refl, ((row.node_live row.begun_point, refl, turn_7 service), refl))
 
-happens_8 : Happens echo row.moment_7.world row.moment_8.event row.moment_8.sent row.moment_8.world
+happens_8 : {State : Type 0} (service : Machine State) → Happens service row.moment_7.world row.moment_8.event row.moment_8.sent row.moment_8.world
 unfolding laws IsLe
-happens_8 = (row.packet_6, refl, (refl, refl))
+happens_8 service = (row.packet_6, refl, (refl, refl))
 
-happens_9 : Happens echo row.moment_8.world row.moment_9.event row.moment_9.sent row.moment_9.world
+happens_9 : {State : Type 0} (service : Machine State) → Happens service row.moment_8.world row.moment_9.event row.moment_9.sent row.moment_9.world
 unfolding laws IsLe
-happens_9 = record { client = row.open_client; segment = segment_in row.packet_7; later = row.open_client; is_there = refl; move = record { move = Acknowledge; window = 65535; may = refl; fits = le_by_compare 65536 (2 ^ 16) tt; segment_is = refl; after_is = refl }; sent_is = refl; after_is = refl }
+happens_9 service = record { client = row.open_client; segment = segment_in row.packet_7; later = row.open_client; is_there = refl; move = record { move = Acknowledge; window = 65535; may = refl; fits = refl; segment_is = refl; after_is = refl }; sent_is = refl; after_is = refl }
 
-happens_10 : Happens echo row.moment_9.world row.moment_10.event row.moment_10.sent row.moment_10.world
+happens_10 : {State : Type 0} (service : Machine State) → Happens service row.moment_9.world row.moment_10.event row.moment_10.sent row.moment_10.world
 unfolding laws IsLe
-happens_10 = (row.packet_7, refl, ((row.node_live row.open_point, refl, turn_10), refl))
+happens_10 service = (row.packet_7, refl, ((row.node_live row.open_point, refl, turn_10 service), refl))
 
-happens_11 : Happens echo row.moment_10.world row.moment_11.event row.moment_11.sent row.moment_11.world
+pub happens_11 : Happens echo row.moment_10.world row.moment_11.event row.moment_11.sent row.moment_11.world
 unfolding laws IsLe
-happens_11 = record { client = row.open_client; segment = segment_in row.packet_8; later = row.told_client; is_there = refl; move = record { move = Text 0 5; window = 65535; may = refl; fits = le_by_compare 65536 (2 ^ 16) tt; segment_is = refl; after_is = refl }; sent_is = refl; after_is = refl }
+happens_11 = record { client = row.open_client; segment = segment_in row.packet_8; later = row.told_client; is_there = refl; move = record { move = Text 0 5; window = 65535; may = refl; fits = refl; segment_is = refl; after_is = refl }; sent_is = refl; after_is = refl }
 
-happens_12 : Happens echo row.moment_11.world row.moment_12.event row.moment_12.sent row.moment_12.world
+pub happens_12 : Happens echo row.moment_11.world row.moment_12.event row.moment_12.sent row.moment_12.world
 unfolding laws IsLe
 happens_12 = (row.packet_8, refl, ((row.node_live row.taken_point, refl, turn_12), refl))
 
@@ -157,6 +158,11 @@ happens_17 : Happens echo row.moment_16.world row.moment_17.event row.moment_17.
 unfolding laws IsLe
 happens_17 = (row.packet_15, refl, (refl, refl))
 
--- the first path, whole
+-- up to the open connection it is the same for every service, ..
+pub opening_is_joint : {State : Type 0} (service : Machine State) → Joint service row.start row.opening_trace
+opening_is_joint service =
+    ((((((((((starts, happens_1 service), happens_2 service), happens_3 service), happens_4 service), happens_5 service), happens_6 service), happens_7 service), happens_8 service), happens_9 service), happens_10 service)
+
+-- .. and whole with echo
 pub is_joint : Joint echo row.start row.trace
-is_joint = (((((((((((((((((starts, happens_1), happens_2), happens_3), happens_4), happens_5), happens_6), happens_7), happens_8), happens_9), happens_10), happens_11), happens_12), happens_13), happens_14), happens_15), happens_16), happens_17)
+is_joint = (((((((opening_is_joint echo, happens_11), happens_12), happens_13), happens_14), happens_15), happens_16), happens_17)

@@ -1,5 +1,5 @@
 -- The log only grows.
-use Rattle.std.proofs.Common.{◌≡◌, ℕ, ◌+◌, ◌<◌, ◌≤◌, Bool, true, false, ◌&&◌, ◌||◌, nat_lt, nat_le, ◌==◌, max, le_refl, le_of_eq, refl, sym, ap, ◌∙◌, subst, true≢false, find, Option, Some, None, List, [], ◌∷◌, ◌++◌, map, length, arith, length-append, if◌then◌else◌, ltb-true, ⊎_elim, inl, inr, ◌⊎◌}
+use Rattle.std.proofs.Common.{◌≡◌, ℕ, ◌+◌, ◌<◌, ◌≤◌, Bool, true, false, ◌&&◌, ◌||◌, nat_lt, nat_le, ◌==◌, max, le_refl, le_of_eq, refl, sym, ap, ◌∙◌, subst, true≢false, find, Option, Some, None, List, [], ◌∷◌, ◌++◌, map, length, arith, length-append, if◌then◌else◌, ltb-true, ⊎_elim}
 use Rattle.std.specs.List.{list_any}
 use Rattle.ft_io.specs.declared.Key.{Key}
 use Rattle.ft_io.specs.Key.{key_eq}
@@ -8,7 +8,7 @@ use Rattle.seq_arith.specs.Message.Body.{HelloMsg, OpenMsg, DataMsg, ReadMsg, Do
 use Rattle.ft_model.specs.Offset.{one_if}
 use Rattle.ft_model.specs.Log.{Entry, Log, entry_of, new_entry, opened, with_bytes, with_its_fin, with_part, is_next_read, with_read, kept, is_hello, is_answer, heard, log_after}
 use Rattle.ft_model.specs.Growth.{IsPrefix, EntryGrows, EntriesGrow, LogGrows, lengths_in, units_in, logged_lengths, logged_units}
-use Rattle.ft_model.proofs.Lists.{of_choice, neither, or_right, prefix_refl, prefix_more, prefix_trans, none_is_some, some_is}
+use Rattle.ft_model.proofs.Lists.{of_choice, neither, or_right, prefix_refl, prefix_more, prefix_trans, none_is_some, some_is, or_cases}
 
 pub entry_refl : (e : Entry) → EntryGrows e e
 entry_refl e = record {
@@ -234,10 +234,6 @@ logged_lengths_grow key before after g = lengths_of key before after (entry_of k
 no_answer : (body : Body) → is_hello body ≡ true → is_answer body ≡ false
 no_answer HelloMsg h = refl
 no_answer _ h = absurd (true≢false (sym h))
-
-or_cases : (a b : Bool) → (a || b) ≡ true → (a ≡ true) ⊎ (b ≡ true)
-or_cases true b e = inl refl
-or_cases false b e = inr e
 
 -- after a Hello the log's boot is at least the Hello's
 hello_raises : (log : Log) (hello : Message) → is_hello hello.body ≡ true → hello.boot ≤ (log_after log hello).boot

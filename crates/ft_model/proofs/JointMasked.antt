@@ -95,10 +95,10 @@ received_seen : {State : Type 0} (service : Machine State) (script : Key → Lis
 received_seen service script log c segment k speaks s =
     received_by service script log c segment (entry_of c.key log) (has_rst segment) refl refl (λ r. subst (λ x. IsSpoken service script log x segment) (sym k) (speaks r)) s
 
-abbrev AllSee : {State : Type 0} → Machine State → (Key → List ℕ) → World → Type 0
+abbrev pub AllSee : {State : Type 0} → Machine State → (Key → List ℕ) → World → Type 0
 AllSee service script w = AllByRecursion (IsSeen service script w.log) w.clients
 
-client_of : {State : Type 0} (service : Machine State) (script : Key → List ℕ) (log : Log) (clients : List Client) (number : ℕ) (c : Client) → AllByRecursion (IsSeen service script log) clients
+pub client_of : {State : Type 0} (service : Machine State) (script : Key → List ℕ) (log : Log) (clients : List Client) (number : ℕ) (c : Client) → AllByRecursion (IsSeen service script log) clients
     → client_at clients number ≡ Some c → IsSeen service script log c
 client_of service script log clients zero c a e = none_is_some c e
 client_of service script log clients (suc n) c a e = all_slice_get (IsSeen service script log) clients n c a e
@@ -135,26 +135,31 @@ pub record IsSound {State : Type 0} (service : Machine State) (start w : World) 
   pub author : HasAuthor service (script_of start) w
   pub sees : AllSee service (script_of start) w
 
+pub start_sound : {State : Type 0} (service : Machine State) (start : World) → IsStart start → IsSound service start start
+start_sound service start x = record {
+  fenced = start_fenced start x;
+  asked = start_asked start x;
+  faithful = start_faithful start x;
+  distinct = λ n e. none_is_some n (sym x.node ∙ e);
+  author = start_author service (script_of start) start x;
+  sees = start_sees service (script_of start) start x;
+}
+
+pub sound_goes_on : {State : Type 0} (service : Machine State) → HasSmallOutputs service → (start before : World) (sent : List Packet) (after : World)
+    → IsStart start → IsSound service start before → Happened service before sent after → IsSound service start after
+sound_goes_on service small start before sent after s o h = record {
+  fenced = fenced_goes_on service before sent after o.fenced h;
+  asked = asked_goes_on service before sent after o.fenced o.asked h;
+  faithful = faithful_goes_on service (script_of start) (isn_of start) before sent after (short_scripts start s) o.asked o.faithful h;
+  distinct = distinct_after service before sent after o.asked o.distinct h;
+  author = author_goes_on service (script_of start) (isn_of start) before sent after small (short_scripts start s) o.fenced o.asked o.faithful o.distinct o.author h;
+  sees = sees_on service (script_of start) before sent after o.author o.sees h;
+}
+
 pub sound_after : {State : Type 0} (service : Machine State) → HasSmallOutputs service → (start : World) (trace : List Moment) → Joint service start trace → IsSound service start (world_after start trace)
 sound_after service small start trace j =
     let s : IsStart start = start_is service start trace j in
-    holds_after service (IsSound service start) start
-    (λ x. record {
-      fenced = start_fenced start x;
-      asked = start_asked start x;
-      faithful = start_faithful start x;
-      distinct = λ n e. none_is_some n (sym x.node ∙ e);
-      author = start_author service (script_of start) start x;
-      sees = start_sees service (script_of start) start x;
-    })
-    (λ before sent after o h. record {
-      fenced = fenced_goes_on service before sent after o.fenced h;
-      asked = asked_goes_on service before sent after o.fenced o.asked h;
-      faithful = faithful_goes_on service (script_of start) (isn_of start) before sent after (short_scripts start s) o.asked o.faithful h;
-      distinct = distinct_after service before sent after o.asked o.distinct h;
-      author = author_goes_on service (script_of start) (isn_of start) before sent after small (short_scripts start s) o.fenced o.asked o.faithful o.distinct o.author h;
-      sees = sees_on service (script_of start) before sent after o.author o.sees h;
-    }) trace j
+    holds_after service (IsSound service start) start (start_sound service start) (λ before sent after o h. sound_goes_on service small start before sent after s o h) trace j
 
 -- each client sees the front of the uncrashed server's output
 pub sees_front : {State : Type 0} (service : Machine State) → HasSmallOutputs service → (start : World) (trace : List Moment) → Joint service start trace

@@ -1,10 +1,10 @@
 -- Lists in which no two elements have the same key: each element is the one that its key finds.
-use Rattle.std.proofs.Common.{◌≡◌, ℕ, zero, suc, Bool, true, false, ◌||◌, cond, refl, sym, ap, ◌∙◌, subst, true≢false, find, Some, List, [], ◌∷◌, ◌++◌, map, length, slice_get}
+use Rattle.std.proofs.Common.{◌≡◌, ℕ, zero, suc, Bool, true, false, ◌||◌, cond, refl, sym, ap, ◌∙◌, subst, true≢false, find, is_some, Some, List, [], ◌∷◌, ◌++◌, map, length, slice_get}
 use Rattle.std.specs.List.{AllByRecursion, list_any}
 use Rattle.ft_io.specs.declared.Key.{Key}
 use Rattle.ft_io.specs.Key.{key_eq}
 use Rattle.ft_model.specs.Growth.{IsPrefix}
-use Rattle.ft_model.proofs.Lists.{neither, same_key, key_is, none_is_some, some_is}
+use Rattle.ft_model.proofs.Lists.{of_choice, neither, or_left, or_right, same_key, key_is, none_is_some, some_is, or_neither}
 
 -- the key stands in the list
 abbrev pub has_key : Key → List Key → Bool
@@ -13,10 +13,6 @@ has_key key keys = list_any (λ k. key_eq k key) keys
 abbrev pub AreDistinct : List Key → Type 0
 AreDistinct [] = Unit {0}
 AreDistinct (key ∷ keys) = (has_key key keys ≡ false) × AreDistinct keys
-
-or_neither : (a b : Bool) → a ≡ false → b ≡ false → (a || b) ≡ false
-or_neither false b e f = f
-or_neither true b e f = e
 
 turns : (a b : Key) (t : Bool) → key_eq a b ≡ false → key_eq b a ≡ t → t ≡ false
 turns a b false e f = refl
@@ -81,3 +77,17 @@ front_more (y ∷ xs) rest x e =
 pub all_from_get : {A : Type 0} (P : A → Type 0) (xs : List A) → ((i : ℕ) (x : A) → slice_get xs i ≡ Some x → P x) → AllByRecursion P xs
 all_from_get P [] f = tt
 all_from_get P (x ∷ xs) f = (f zero x refl, all_from_get P xs (λ i y e. f (suc i) y e))
+
+-- a key that finds something stands among the keys, ..
+pub found_has_key : {A : Type 0} (of : A → Key) (key : Key) (xs : List A) (x : A) → find (λ y. key_eq (of y) key) xs ≡ Some x → has_key key (map of xs) ≡ true
+found_has_key of key [] x f = none_is_some x f
+found_has_key of key (y ∷ ys) x f =
+    of_choice (λ o. o ≡ Some x → (key_eq (of y) key || has_key key (map of ys)) ≡ true) (key_eq (of y) key) (Some y) (find (λ z. key_eq (of z) key) ys)
+    (λ t g. or_left (key_eq (of y) key) (has_key key (map of ys)) t) (λ t g. or_right (key_eq (of y) key) (has_key key (map of ys)) (found_has_key of key ys x g)) f
+
+-- .. and one that finds nothing doesn't
+pub absent_key : {A : Type 0} (of : A → Key) (key : Key) (xs : List A) → is_some (find (λ y. key_eq (of y) key) xs) ≡ false → has_key key (map of xs) ≡ false
+absent_key of key [] e = refl
+absent_key of key (y ∷ ys) e =
+    of_choice (λ o. is_some o ≡ false → (key_eq (of y) key || has_key key (map of ys)) ≡ false) (key_eq (of y) key) (Some y) (find (λ z. key_eq (of z) key) ys)
+    (λ t g. absurd (true≢false g)) (λ t g. or_neither (key_eq (of y) key) (has_key key (map of ys)) t (absent_key of key ys g)) e

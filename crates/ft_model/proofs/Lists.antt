@@ -1,5 +1,5 @@
 -- Lists: what holds of all elements, look-ups, and fronts.
-use Rattle.std.proofs.Common.{◌≡◌, ℕ, zero, suc, Bool, true, false, ◌&&◌, ◌||◌, refl, sym, ap, ap₂, ◌∙◌, subst, true≢false, find, is_none, Option, Some, None, List, [], ◌∷◌, ◌++◌, map, slice_get, append-nil, append_assoc, eqb-true, eq-eqb, if◌then◌else◌, ◌==◌}
+use Rattle.std.proofs.Common.{◌≡◌, ℕ, zero, suc, Bool, true, false, ◌&&◌, ◌||◌, refl, sym, ap, ap₂, ◌∙◌, subst, true≢false, inl, inr, ◌⊎◌, not, find, is_none, Option, Some, None, List, [], ◌∷◌, ◌++◌, map, slice_get, append-nil, append_assoc, take, drop, take-append-drop, eqb-true, eq-eqb, if◌then◌else◌, ◌==◌}
 use Rattle.std.specs.List.{AllByRecursion}
 use Rattle.ft_io.specs.declared.Key.{Key}
 use Rattle.ft_io.specs.Key.{key_eq}
@@ -20,6 +20,32 @@ neither false false e = (refl, refl)
 neither false true e = absurd (true≢false e)
 neither true b e = absurd (true≢false e)
 
+pub or_neither : (a b : Bool) → a ≡ false → b ≡ false → (a || b) ≡ false
+or_neither true b e f = e
+or_neither false b e f = f
+
+pub or_cases : (a b : Bool) → (a || b) ≡ true → (a ≡ true) ⊎ (b ≡ true)
+or_cases true b e = inl refl
+or_cases false b e = inr e
+
+pub or_second : (a b : Bool) → (a || b) ≡ true → a ≡ false → b ≡ true
+or_second true b e f = absurd (true≢false f)
+or_second false b e f = e
+
+pub three_true : (a b c : Bool) → a ≡ true → b ≡ true → c ≡ false → (a && b && not c) ≡ true
+three_true true true false a b c = refl
+three_true false b c e f g = absurd (true≢false (sym e))
+three_true true false c e f g = absurd (true≢false (sym f))
+three_true true true true e f g = absurd (true≢false g)
+
+pub not_true : (b : Bool) → not b ≡ true → b ≡ false
+not_true false e = refl
+not_true true e = absurd (true≢false (sym e))
+
+pub or_left : (a b : Bool) → a ≡ true → (a || b) ≡ true
+or_left true b e = refl
+or_left false b e = absurd (true≢false (sym e))
+
 pub or_right : (a b : Bool) → b ≡ true → (a || b) ≡ true
 or_right true b e = refl
 or_right false b e = e
@@ -39,6 +65,13 @@ all_of P (x ∷ xs) f = (f x, all_of P xs f)
 pub all_map : {A B : Type 0} (P : B → Type 0) (f : A → B) (xs : List A) → AllByRecursion (λ x. P (f x)) xs → AllByRecursion P (map f xs)
 all_map P f [] a = tt
 all_map P f (x ∷ xs) a = (a.0, all_map P f xs a.1)
+
+pub all_front : {A : Type 0} (P : A → Type 0) (xs : List A) (y : A) → AllByRecursion P (xs ++ y ∷ []) → AllByRecursion P xs × P y
+all_front P [] y a = (tt, a.0)
+all_front P (x ∷ xs) y a = let more = all_front P xs y a.1 in ((a.0, more.0), more.1)
+
+pub take_first : {A : Type 0} (n : ℕ) (xs : List A) → IsPrefix (take n xs) xs
+take_first n xs = (drop n xs, take-append-drop n xs)
 
 pub all_append : {A : Type 0} (P : A → Type 0) (xs ys : List A) → AllByRecursion P xs → AllByRecursion P ys → AllByRecursion P (xs ++ ys)
 all_append P [] ys a b = b

@@ -1,12 +1,12 @@
 -- What the log answers: Stale to an older boot, and else what the log after the message tells, in the log's boot.
-use Rattle.std.proofs.Common.{◌≡◌, ℕ, ◌≤◌, Bool, true, false, ◌==◌, ◌||◌, nat_lt, nat_le, refl, sym, ◌∙◌, subst, true≢false, eqb-true, inl, inr, ◌⊎◌, Option, Some, None, option_map, option_to_list, [], ◌∷◌, ◌++◌, length, arith, if◌then◌else◌}
+use Rattle.std.proofs.Common.{◌≡◌, ℕ, ◌≤◌, Bool, true, false, ◌==◌, ◌||◌, nat_lt, nat_le, refl, sym, ◌∙◌, subst, eqb-true, inl, inr, ◌⊎◌, Option, Some, None, option_map, option_to_list, [], ◌∷◌, ◌++◌, length, arith, if◌then◌else◌}
 use Rattle.std.specs.List.{AllByRecursion, list_any}
 use Rattle.seq_arith.specs.Message.{Numbers, Body, Message}
 use Rattle.seq_arith.specs.Message.Body.{OpenMsg, DataMsg, ReadMsg, DoneMsg, StaleMsg}
 use Rattle.ft_model.specs.Log.{Log, log_after, answer_to, answer_body, told, heard, kept, opened, new_entry, is_hello, is_answer}
 use Rattle.ft_model.specs.Network.{Packet}
 use Rattle.ft_model.specs.Network.Packet.{From_logger}
-use Rattle.ft_model.proofs.Lists.{of_choice, neither, none_is_some, some_is}
+use Rattle.ft_model.proofs.Lists.{of_choice, neither, none_is_some, some_is, or_neither}
 use Rattle.ft_model.proofs.Happened.{answers}
 
 opened_boot : (n : Numbers) (log : Log) → (opened n log).boot ≡ log.boot
@@ -45,10 +45,6 @@ abbrev pub IsAnswered : Log → Message → Body → Type 0
 IsAnswered log message body =
     (body ≡ StaleMsg log.boot) ⊎ ((message.boot ≡ (log_after log message).boot) × (told message.body (log_after log message) ≡ Some body))
 
-or_false : (a b : Bool) → a ≡ false → b ≡ false → (a || b) ≡ false
-or_false true b e f = absurd (true≢false e)
-or_false false b e f = f
-
 by_hello : (log : Log) (message : Message) (b : Bool) → (b || message.boot == log.boot) ≡ true
     → message.boot ≡ (if b then record log { boot = message.boot } else (if message.boot == log.boot then kept message.body log else log)).boot
 by_hello log message true own = refl
@@ -60,7 +56,7 @@ own_boot : (log : Log) (message : Message) → (is_hello message.body || message
     → nat_lt message.boot log.boot ≡ false → message.boot ≡ (log_after log message).boot
 unfolding log_after
 own_boot log message own quiet current =
-    subst (λ b. message.boot ≡ (if b then log else heard message log).boot) (sym (or_false (is_answer message.body) (nat_lt message.boot log.boot) quiet current))
+    subst (λ b. message.boot ≡ (if b then log else heard message log).boot) (sym (or_neither (is_answer message.body) (nat_lt message.boot log.boot) quiet current))
     (by_hello log message (is_hello message.body) own)
 
 by_answer : (log : Log) (message : Message) (body : Body) (a b c : Bool) → is_answer message.body ≡ a → nat_lt message.boot log.boot ≡ b

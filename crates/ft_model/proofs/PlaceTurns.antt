@@ -1,5 +1,5 @@
 -- What becomes of one place in one turn, and how what holds of each place and each packet holds of a whole turn.
-use Rattle.std.proofs.Common.{◌≡◌, ℕ, Bool, true, false, ◌==◌, MatchBool, refl, sym, subst, eqb-true, List, [], ◌∷◌, map, flat_map, inl, inr, ◌⊎◌}
+use Rattle.std.proofs.Common.{◌≡◌, ℕ, Bool, true, false, ◌==◌, MatchBool, refl, sym, ap, ◌∙◌, subst, eqb-true, List, [], ◌∷◌, map, flat_map, inl, inr, ◌⊎◌}
 use Rattle.std.specs.List.{AllByRecursion}
 use Rattle.ft_io.specs.declared.Key.{Key}
 use Rattle.seq_arith.specs.Packet.{Segment}
@@ -36,14 +36,24 @@ pub record HasOpened (node : Node) (input : Input) (asked kept : Numbers) : Type
   pub body : message.body ≡ OpenedMsg kept
   pub key : kept.key ≡ asked.key
 
+-- why a pending opening is dropped: Opened has come with another number of the client, or Full
+abbrev pub IsDropped : Node → Input → Numbers → Type 0
+IsDropped node input asked =
+    ((kept : Numbers) × HasOpened node input asked kept × ((kept.cisn == asked.cisn) ≡ false))
+    ⊎ ((message : Message) × (input ≡ Message_comes message) × (message.body ≡ FullMsg asked.key))
+
+-- Ended has come for a key
+abbrev pub HasEnded : Input → Key → Type 0
+HasEnded input key = (message : Message) × (input ≡ Message_comes message) × (message.body ≡ EndedMsg key)
+
 pub data PlaceWent {State : Type 0} (service : Machine State) (node : Node) (input : Input) (place : Place) (now : List Place) (sent : List Packet) : Type 0 where
   stayed : now ≡ place ∷ [] → sent ≡ [] → PlaceWent service node input place now sent
   went_on : (news : News) (p after : Point) → place ≡ Lives p → IsNews node input news p → now ≡ Lives after ∷ []
       → ConnectionTurn service node.server node.boot news p after sent → PlaceWent service node input place now sent
   began : (asked kept : Numbers) (after : Point) → place ≡ Opens asked → HasOpened node input asked kept → now ≡ Lives after ∷ []
       → ConnectionTurn service node.server node.boot Begins (point_opened kept) after sent → PlaceWent service node input place now sent
-  dropped : (asked : Numbers) → place ≡ Opens asked → now ≡ [] → (sent ≡ []) ⊎ (sent ≡ To_client (full_rst node.server asked) ∷ []) → PlaceWent service node input place now sent
-  ended : (p : Point) → place ≡ Lives p → now ≡ Ended p.key ∷ [] → sent ≡ [] → PlaceWent service node input place now sent
+  dropped : (asked : Numbers) → place ≡ Opens asked → IsDropped node input asked → now ≡ [] → (sent ≡ []) ⊎ (sent ≡ To_client (full_rst node.server asked) ∷ []) → PlaceWent service node input place now sent
+  ended : (p : Point) → place ≡ Lives p → HasEnded input p.key → now ≡ Ended p.key ∷ [] → sent ≡ [] → PlaceWent service node input place now sent
   refused : (key : Key) (segment : Segment) → place ≡ Ended key → input ≡ Packet_comes segment → source_of segment ≡ key → now ≡ Ended key ∷ []
       → sent ≡ map To_client (as_closed node.server segment) → PlaceWent service node input place now sent
 
@@ -52,11 +62,11 @@ stays : {State : Type 0} (service : Machine State) (node : Node) (input : Input)
 stays service node input place now sent s = stayed s.0 s.1
 
 opens : {State : Type 0} (service : Machine State) (node : Node) (input : Input) (asked kept : Numbers) (b : Bool) (now : List Place) (sent : List Packet)
-    → HasOpened node input asked kept
+    → (kept.cisn == asked.cisn) ≡ b → HasOpened node input asked kept
     → MatchBool b (LivesOn service node Begins (point_opened kept) now sent) ((now ≡ []) × (sent ≡ []))
     → PlaceWent service node input (Opens asked) now sent
-opens service node input asked kept true now sent h t = began asked kept t.0 refl h t.1 t.2
-opens service node input asked kept false now sent h t = dropped asked refl t.0 (inl t.1)
+opens service node input asked kept true now sent o h t = began asked kept t.0 refl h t.1 t.2
+opens service node input asked kept false now sent o h t = dropped asked refl (inl (kept, h, o)) t.0 (inl t.1)
 
 hears : {State : Type 0} (service : Machine State) (node : Node) (message : Message) (body : Body) (place : Place) (now : List Place) (sent : List Packet)
     → message.body ≡ body → message.boot ≡ node.boot → names (key_named body) (key_of place) ≡ true
@@ -65,11 +75,12 @@ hears service node message (StableMsg kept) (Lives p) now sent e b n t =
     went_on (Logged kept) p t.0 refl (message, refl, b, same_key kept.key p.key n, inl e) t.1 t.2
 hears service node message (ReadsMsg kept) (Lives p) now sent e b n t =
     went_on (Logged kept) p t.0 refl (message, refl, b, same_key kept.key p.key n, inr e) t.1 t.2
-hears service node message (EndedMsg key) (Lives p) now sent e b n t = ended p refl t.0 t.1
+hears service node message (EndedMsg key) (Lives p) now sent e b n t = ended p refl (message, refl, e ∙ ap EndedMsg (same_key key p.key n)) t.0 t.1
 hears service node message (OpenedMsg kept) (Opens asked) now sent e b n t =
-    opens service node (Message_comes message) asked kept (kept.cisn == asked.cisn) now sent
+    opens service node (Message_comes message) asked kept (kept.cisn == asked.cisn) now sent refl
     (record { message = message; comes = refl; boot = b; body = e; key = same_key kept.key asked.key n }) t
-hears service node message (FullMsg key) (Opens asked) now sent e b n t = dropped asked refl t.0 (inr t.1)
+hears service node message (FullMsg key) (Opens asked) now sent e b n t =
+    dropped asked refl (inr (message, refl, e ∙ ap FullMsg (same_key key asked.key n))) t.0 (inr t.1)
 hears service node message body place now sent e b n t = stays service node (Message_comes message) place now sent t
 
 meets : {State : Type 0} (service : Machine State) (node : Node) (input : Input) (place : Place) (now : List Place) (sent : List Packet)
@@ -107,12 +118,12 @@ all_go_on Goes Q R P step (place ∷ places) after sent q (now, later, first, ot
       subst (AllByRecursion P) (sym sent_is) (all_append P first others here.1 there.1),
     )
 
-all_flat : {A B : Type 0} (R : A → Type 0) (P : B → Type 0) (f : A → List B) (xs : List A) → ((x : A) → R x → AllByRecursion P (f x))
+pub all_flat : {A B : Type 0} (R : A → Type 0) (P : B → Type 0) (f : A → List B) (xs : List A) → ((x : A) → R x → AllByRecursion P (f x))
     → AllByRecursion R xs → AllByRecursion P (flat_map f xs)
 all_flat R P f [] g a = tt
 all_flat R P f (x ∷ xs) g a = all_append P (f x) (flat_map f xs) (g x a.0) (all_flat R P f xs g a.1)
 
-asks_so : (node : Node) (input : Input) (R : Place → Type 0) (P : Packet → Type 0)
+pub asks_so : (node : Node) (input : Input) (R : Place → Type 0) (P : Packet → Type 0)
     → ((numbers : Numbers) → R (Opens numbers) → P (told_by node.boot (OpenMsg numbers))) → (place : Place) → R place → AllByRecursion P (opens_at node input place)
 asks_so node input R P asks (Opens numbers) r =
     of_choice (AllByRecursion P) (is_asked node input numbers) (told_by node.boot (OpenMsg numbers) ∷ []) [] (λ t. (asks numbers r, tt)) (λ t. tt)

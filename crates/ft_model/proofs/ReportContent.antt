@@ -28,7 +28,7 @@ and_right true y e = e
 and_right false y e = absurd (false≢true e)
 
 -- a literal word, by a test that computes
-lit : (w : List ℕ) → list_all (λ c. nat_lt 32 c) w ≡ true → IsWord w
+pub lit : (w : List ℕ) → list_all (λ c. nat_lt 32 c) w ≡ true → IsWord w
 lit [] e = tt
 lit (x ∷ w) e = (ltb-true 32 x (and_left _ _ e), lit w (and_right (nat_lt 32 x) _ e))
 
@@ -41,7 +41,7 @@ word_get [] i p h = absurd (omega arith)
 word_get (x ∷ t) zero p h = p.0
 word_get (x ∷ t) (suc i) p h = word_get t i p.1 (omega arith)
 
-word_encoded : (xs : List ℕ) → IsBytes xs → IsWord (encode_lower xs)
+pub word_encoded : (xs : List ℕ) → IsBytes xs → IsWord (encode_lower xs)
 unfolding encode_with
 word_encoded [] p = tt
 word_encoded (x ∷ xs) p =

@@ -163,7 +163,7 @@ client_number (ClientToServer n) = n
 client_number (ServerToClient n) = n
 client_number _ = 0
 
-content_same : (server : Addr) (clients : List Client) (p q : Packet) → IsReadable server clients p → IsReadable server clients q
+pub content_same : (server : Addr) (clients : List Client) (p q : Packet) → IsReadable server clients p → IsReadable server clients q
     → way_of clients p ≡ way_of clients q → content_words p ≡ content_words q → p ≡ q
 unfolding content_words client_number
 content_same server clients (To_server s) (To_server t) p q w e =
@@ -174,7 +174,7 @@ content_same server clients (To_logger m) (To_logger n) p q w e = ap To_logger (
 content_same server clients (From_logger m) (From_logger n) p q w e = ap From_logger (message_same m n p.0 q.0 p.1 q.1 e)
 content_same server clients p q hp hq w e = cc
 
-way_fits : (server : Addr) (clients : List Client) (p : Packet) → IsReadable server clients p → FitsWay (way_of clients p)
+pub way_fits : (server : Addr) (clients : List Client) (p : Packet) → IsReadable server clients p → FitsWay (way_of clients p)
 way_fits server clients (To_server s) h = h.0.1
 way_fits server clients (To_client s) h = h.0.1
 way_fits server clients (To_logger m) h = tt

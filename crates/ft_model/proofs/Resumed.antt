@@ -60,7 +60,7 @@ restored_length service (f ∷ earlier) =
     let so : length (all_restored service earlier) ≡ length earlier = restored_length service earlier in
     omega (arith, more, so)
 
-map_append : {A B : Type 0} (g : A → B) (xs ys : List A) → map g (xs ++ ys) ≡ map g xs ++ map g ys
+pub map_append : {A B : Type 0} (g : A → B) (xs ys : List A) → map g (xs ++ ys) ≡ map g xs ++ map g ys
 map_append g [] ys = refl
 map_append g (x ∷ xs) ys = ap (λ l. g x ∷ l) (map_append g xs ys)
 

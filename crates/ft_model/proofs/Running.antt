@@ -1,6 +1,6 @@
 -- A live connection reads no more than it has taken, keeps its output within a stream, and sends no more than may leave; so a FIN goes out
 -- only when a logged read has closed the service.
-use Rattle.std.proofs.Common.{◌≡◌, ℕ, ◌+◌, ◌-◌, ◌<◌, ◌≤◌, ◌^◌, Bool, true, false, ◌==◌, ◌&&◌, ◌||◌, not, nat_lt, nat_le, min, max, sum, le_refl, le_trans, refl, sym, ap, ap₂, ◌∙◌, subst, true≢false, ⊎_elim, Some, None, List, [], ◌∷◌, ◌++◌, length, take, append-nil, append_assoc, arith, length-append, ltb-true, ltb-false, leb-true, eqb-true, if◌then◌else◌}
+use Rattle.std.proofs.Common.{◌≡◌, ℕ, ◌+◌, ◌-◌, ◌<◌, ◌≤◌, ◌^◌, Bool, true, false, ◌==◌, ◌&&◌, not, nat_lt, nat_le, min, max, sum, le_refl, le_trans, refl, sym, ap, ap₂, ◌∙◌, subst, true≢false, ⊎_elim, Some, None, List, [], ◌∷◌, ◌++◌, length, take, append-nil, append_assoc, arith, length-append, ltb-true, ltb-false, leb-true, eqb-true, if◌then◌else◌}
 use Rattle.std.specs.List.{list_any}
 use Rattle.std.proofs.lemmas.List.{take-append-le}
 use Rattle.ft_io.specs.declared.Addr.{Addr}
@@ -18,7 +18,7 @@ use Rattle.ft_model.specs.Sending.{acknowledges, acknowledged_by, acknowledged_a
 use Rattle.ft_model.specs.Timer.{is_tick, expires, probes, must_run, interval_after, rest_after}
 use Rattle.ft_model.specs.Connection.{ResetTurn, LiveTurn}
 use Rattle.ft_model.specs.Growth.{IsPrefix}
-use Rattle.ft_model.proofs.Lists.{of_choice, both, prefix_refl, prefix_more, none_is_some, some_is}
+use Rattle.ft_model.proofs.Lists.{of_choice, both, prefix_refl, prefix_more, none_is_some, some_is, not_true, or_second}
 use Rattle.ft_model.proofs.Services.{GoesOn, reads_go_on, more_bytes, units_go_on, one_more_read, sum_append, sum_take, take_goes_on, prefix_length}
 use Rattle.ft_model.proofs.Spoken.{SendsFin}
 
@@ -80,7 +80,7 @@ makes_within service p (n ∷ ns) small f e s m =
       subst (λ l. length (reference service p.taken l).output ≤ 2 ^ 24) (append_assoc p.lengths (n ∷ []) ns) rest.1,
     )
 
-taken_grows : (news : News) (p : Point) → IsPrefix p.taken (taken_after news p)
+pub taken_grows : (news : News) (p : Point) → IsPrefix p.taken (taken_after news p)
 unfolding taken_after
 taken_grows (Comes segment) p = of_choice (IsPrefix p.taken) (continues p segment) _ p.taken (λ t. prefix_more p.taken _) (λ t. prefix_refl p.taken)
 taken_grows (Logged kept) p = prefix_refl p.taken
@@ -143,10 +143,6 @@ una_within (Logged kept) p h = h
 una_within Ticks p h = h
 una_within Begins p h = h
 
-not_true : (b : Bool) → not b ≡ true → b ≡ false
-not_true false e = refl
-not_true true e = absurd (true≢false (sym e))
-
 -- a probe finds something to send
 probe_waits : {State : Type 0} (service : Machine State) (news : News) (p : Point) → SendsWithin service p → probes news p ≡ true → p.sent < target service p
 probe_waits service news p s e =
@@ -176,10 +172,6 @@ probe_target service server boot news p q sent r t e =
     ap₂ take count t.reads.lengths ∙ take-append-le p.reads_answered p.lengths t.reads.news r.counts in
     let run : answered_run service q ≡ answered_run service p = ap₂ (reference service) taken reads in
     (ap (λ x. length x.output + one_if x.closed) run, t.edge ∙ same.2)
-
-or_second : (a b : Bool) → (a || b) ≡ true → a ≡ false → b ≡ true
-or_second true b e f = absurd (true≢false f)
-or_second false b e f = e
 
 -- a timer that isn't at rest must run
 runs : {P : Type 0} (b : Bool) (n rest : ℕ) → rest ≡ (if b then n else 0) → rest ≡ 1 → (b ≡ true → P) → P

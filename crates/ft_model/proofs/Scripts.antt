@@ -17,8 +17,8 @@ use Rattle.ft_model.specs.News.News.{Comes, Logged, Ticks, Begins}
 use Rattle.ft_model.specs.Taken.{counts, continues, end_of, taken_after, takes_fin, fin_after}
 use Rattle.ft_model.specs.Copy.{copy_start, copied_text, copies_fin, una_part, copied_part, copies}
 use Rattle.ft_model.specs.Growth.{IsPrefix}
-use Rattle.ft_model.proofs.Lists.{of_choice, both, neither}
-use Rattle.ft_model.proofs.Stands.{nothing_first, take_first, part_stands, goes_on, goes_on_all, take_nothing}
+use Rattle.ft_model.proofs.Lists.{take_first, of_choice, both, neither, or_cases}
+use Rattle.ft_model.proofs.Stands.{nothing_first, part_stands, goes_on, goes_on_all, take_nothing}
 
 -- a segment carries a part of its client's script, or nothing
 abbrev pub Carries : List ℕ → ℕ → Segment → Type 0
@@ -80,10 +80,6 @@ and_false true false c e = refl
 and_false false false c e = refl
 and_false a true c e = absurd (true≢false e)
 
-or_cases : (a b : Bool) → (a || b) ≡ true → (a ≡ true) ⊎ (b ≡ true)
-or_cases true b e = inl refl
-or_cases false b e = inr e
-
 -- behind a FIN nothing is taken
 ended_taken : (segment : Segment) (p : Point) → p.fin ≡ true → taken_after (Comes segment) p ≡ p.taken
 unfolding taken_after
@@ -91,7 +87,7 @@ ended_taken segment p e =
     ap (λ b. if b then p.taken ++ take (receive_edge p - length p.taken) (drop (below (length p.taken) (first_of p.cisn segment)) (text_of segment)) else p.taken)
     (and_false (counts p segment) (not p.fin) (int_le (first_of p.cisn segment) (pos (length p.taken))) (ap not e))
 
-int_same : (m n : ℕ) → int_eq (pos m) (pos n) ≡ true → m ≡ n
+pub int_same : (m n : ℕ) → int_eq (pos m) (pos n) ≡ true → m ≡ n
 int_same m n e =
     let parts = both (int_le (pos m) (pos n)) (int_le (pos n) (pos m)) e in
     let low : m ≤ n = leb-true _ _ parts.0 in

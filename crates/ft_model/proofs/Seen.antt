@@ -1,5 +1,5 @@
 -- What a client has accepted is the front of the uncrashed server's output on its script, read as the log says.
-use Rattle.std.proofs.Common.{◌≡◌, ℕ, ◌+◌, ◌-◌, ◌≤◌, ℤ, pos, ◌+ℤ◌, int_lt, int_le, Bool, true, false, ◌==◌, ◌&&◌, ◌||◌, not, nat_lt, refl, sym, ap, ap₂, ◌∙◌, subst, true≢false, ◌⊎◌, ⊎_elim, Some, List, [], ◌++◌, length, take, drop, arith, append-nil, leb-true, ltb-false, if◌then◌else◌}
+use Rattle.std.proofs.Common.{◌≡◌, ℕ, ◌+◌, ◌-◌, ◌≤◌, ℤ, pos, ◌+ℤ◌, int_lt, Bool, true, false, ◌==◌, ◌&&◌, ◌||◌, not, nat_lt, refl, sym, ap, ap₂, ◌∙◌, subst, true≢false, ◌⊎◌, ⊎_elim, Some, List, [], ◌++◌, length, take, drop, arith, append-nil, ltb-false, if◌then◌else◌}
 use Rattle.ft_io.specs.declared.Key.{Key}
 use Rattle.seq_arith.specs.Number.{number_at}
 use Rattle.seq_arith.specs.Arrival.{int_eq, is_acceptable, below}
@@ -15,6 +15,7 @@ use Rattle.ft_model.proofs.Lists.{of_choice, both, neither, prefix_trans}
 use Rattle.ft_model.proofs.Grows.{found_later, logged_lengths_grow}
 use Rattle.ft_model.proofs.Fetching.{full_front}
 use Rattle.ft_model.proofs.Stands.{goes_on, take_nothing}
+use Rattle.ft_model.proofs.Scripts.{int_same}
 use Rattle.ft_model.proofs.Services.{reads_go_on}
 use Rattle.ft_model.proofs.Authored.{CarriesOutput, logged_run}
 
@@ -43,10 +44,6 @@ not_yet : (a b : Bool) → (a || b) ≡ false → b ≡ false
 not_yet true b e = absurd (true≢false e)
 not_yet false b e = e
 
-not_true : (b : Bool) → not b ≡ true → b ≡ false
-not_true false e = refl
-not_true true e = absurd (true≢false (sym e))
-
 -- text continues what is accepted
 text_seen : {State : Type 0} (run : Run State) (sisn : ℕ) (c : Client) (segment : Segment) → Sees run sisn c → c.sisn ≡ sisn
     → CarriesOutput run sisn segment ⊎ ((text_of segment ≡ []) × (fin_of segment ≡ false)) → Sees run sisn (with_text c (first_of c.sisn segment) (text_of segment))
@@ -66,13 +63,6 @@ text_seen run sisn c segment s same t =
       ended = λ e. absurd (true≢false (sym e ∙ parts.0));
       sisn_is = s.sisn_is;
     })
-
-int_same : (m n : ℕ) → int_eq (pos m) (pos n) ≡ true → m ≡ n
-int_same m n e =
-    let parts = both (int_le (pos m) (pos n)) (int_le (pos n) (pos m)) e in
-    let low : m ≤ n = leb-true _ _ parts.0 in
-    let high : n ≤ m = leb-true _ _ parts.1 in
-    omega (arith, low, high)
 
 -- a FIN behind all of it ends the stream
 fin_seen : {State : Type 0} (run : Run State) (sisn : ℕ) (c : Client) (first : ℤ) (segment : Segment) → Sees run sisn c → is_open c.phase ≡ true → first ≡ first_of sisn segment

@@ -10,7 +10,7 @@ use Rattle.ft_model.specs.Rows.SegmentWhileRestarting as row
 use Rattle.ft_model.proofs.Turns.{laws, alone, goes, serves}
 
 -- a turn of the row, from where the server stands
-abbrev Happens : Node → Turn → Type 0
+abbrev pub Happens : Node → Turn → Type 0
 Happens before turn = LawfulTurn echo before turn.input turn.sent turn.node
 
 restart_1 : Happens (booted server 2 900000) row.restart_1
@@ -21,7 +21,7 @@ restart_2 : Happens row.restart_1.node row.restart_2
 unfolding laws
 restart_2 = record { server = refl; boot = refl; isn = refl; live = refl; stage = (refl, refl) }
 
-restart_3 : Happens row.restart_2.node row.restart_3
+pub restart_3 : Happens row.restart_2.node row.restart_3
 unfolding laws
 restart_3 = record { server = refl; boot = refl; isn = refl; live = refl; stage = (refl, refl) }
 
@@ -29,7 +29,7 @@ restart_4 : Happens row.restart_3.node row.restart_4
 unfolding laws
 restart_4 = record { server = refl; boot = refl; isn = refl; live = refl; stage = (refl, refl) }
 
-restart_5 : Happens row.restart_4.node row.restart_5
+pub restart_5 : Happens row.restart_4.node row.restart_5
 unfolding laws
 restart_5 = record {
   server = refl;

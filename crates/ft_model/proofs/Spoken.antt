@@ -13,7 +13,7 @@ use Rattle.ft_model.specs.Sending.{sent_at_once, acknowledged_after, counted_aft
 use Rattle.ft_model.specs.Owed.{is_owed}
 use Rattle.ft_model.specs.Segments.{new_length, texts, syn_acks, syn_ack, opens_with, first_unacknowledged, probe, resent, resent_length, new_texts, new_fin, full_segments, or_bare, bare_segment, segments_of, segment_at, text_at, fin_segment}
 use Rattle.ft_model.specs.Timer.{expires, probes}
-use Rattle.ft_model.proofs.Lists.{of_choice, both, neither, all_append}
+use Rattle.ft_model.proofs.Lists.{of_choice, both, neither, three_true, all_append, or_second}
 
 -- why a FIN goes out: more than the output is sent, or it is probed with
 abbrev pub SendsFin : {State : Type 0} → Machine State → News → Point → Point → Type 0
@@ -37,19 +37,9 @@ tick_same (Comes segment) p e = absurd (true≢false (sym e))
 tick_same (Logged kept) p e = absurd (true≢false (sym e))
 tick_same Begins p e = absurd (true≢false (sym e))
 
-or_second : (a b : Bool) → (a || b) ≡ true → a ≡ false → b ≡ true
-or_second true b e f = absurd (true≢false f)
-or_second false b e f = e
-
 not_false : (a : Bool) → not a ≡ false → a ≡ true
 not_false true e = refl
 not_false false e = absurd (true≢false e)
-
-three_true : (a b c : Bool) → a ≡ true → b ≡ true → c ≡ false → (a && b && not c) ≡ true
-three_true true true false a b c = refl
-three_true false b c e f g = absurd (true≢false (sym e))
-three_true true false c e f g = absurd (true≢false (sym f))
-three_true true true true e f g = absurd (true≢false g)
 
 texts_spoken : {State : Type 0} (service : Machine State) (server : Addr) (news : News) (before p : Point) (k offset left : ℕ)
     → AllByRecursion (Spoken service server news before p) (texts service server p k offset left)

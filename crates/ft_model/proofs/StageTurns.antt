@@ -27,9 +27,14 @@ pub record Progress (node : Node) (input : Input) (count : ℕ) (fetched : List 
   pub how : ((node.stage ≡ Asking) × (message.body ≡ SummaryMsg count) × (fetched ≡ []))
       ⊎ ((old : List Fetched) × (node.stage ≡ Fetching count old) × (fetched_after (wanted count old) message.body old ≡ Some fetched))
 
+-- the question is asked again while its answer is missing
+abbrev pub IsMissing : Node → Option Wanted → Type 0
+IsMissing node (Some w) = (count : ℕ) × (fetched : List Fetched) × (node.stage ≡ Fetching count fetched) × (wanted count fetched ≡ Some w)
+IsMissing node None = Unit {0}
+
 pub data StageWent {State : Type 0} (service : Machine State) (node : Node) (input : Input) (sent : List Packet) (after : Stage) : Type 0 where
   was_fenced : (newer : ℕ) → after ≡ Fenced newer → sent ≡ [] → StageWent service node input sent after
-  waited : is_restarting node.stage ≡ true → after ≡ node.stage → (sent ≡ hello node) ⊎ ((w : Option Wanted) × (sent ≡ asked node w)) → StageWent service node input sent after
+  waited : is_restarting node.stage ≡ true → after ≡ node.stage → (sent ≡ hello node) ⊎ ((w : Option Wanted) × (sent ≡ asked node w) × IsMissing node w) → StageWent service node input sent after
   held_off : (count : ℕ) (fetched : List Fetched) (segment : Segment) → node.stage ≡ Fetching count fetched → after ≡ Fetching count fetched
       → sent ≡ held node fetched segment → StageWent service node input sent after
   asked_on : (count : ℕ) (fetched : List Fetched) → Progress node input count fetched → after ≡ Fetching count fetched
@@ -59,7 +64,7 @@ asks_so service node message after sent (Some count) s e t =
     let parts = told_some (message.boot == node.boot) (count_told message.body) count e in
     continues service node (Message_comes message) count [] after sent (wanted count []) refl
     (record { message = message; comes = refl; boot = eqb-true _ _ parts.0; how = inl (s, summary message.body count parts.1, refl) }) t
-asks_so service node message after sent None s e t = waited (ap is_restarting s) (t.0 ∙ sym s) (inr (None, t.1))
+asks_so service node message after sent None s e t = waited (ap is_restarting s) (t.0 ∙ sym s) (inr (None, t.1, tt))
 
 fetches : {State : Type 0} (service : Machine State) (node : Node) (message : Message) (count : ℕ) (fetched : List Fetched) (after : Stage) (sent : List Packet)
     (o : Option (List Fetched)) → node.stage ≡ Fetching count fetched → fetched_then node message count fetched ≡ o
@@ -68,19 +73,23 @@ fetches service node message count fetched after sent (Some more) s e t =
     let parts = told_some (message.boot == node.boot) (fetched_after (wanted count fetched) message.body fetched) more e in
     continues service node (Message_comes message) count more after sent (wanted count more) refl
     (record { message = message; comes = refl; boot = eqb-true _ _ parts.0; how = inr (fetched, s, parts.1) }) t
-fetches service node message count fetched after sent None s e t = waited (ap is_restarting s) (t.0 ∙ sym s) (inr (None, t.1))
+fetches service node message count fetched after sent None s e t = waited (ap is_restarting s) (t.0 ∙ sym s) (inr (None, t.1, tt))
+
+missing : (node : Node) (count : ℕ) (fetched : List Fetched) (w : Option Wanted) → node.stage ≡ Fetching count fetched → wanted count fetched ≡ w → IsMissing node w
+missing node count fetched (Some w) s e = (count, fetched, s, e)
+missing node count fetched None s e = tt
 
 by_stage : {State : Type 0} (service : Machine State) (node : Node) (input : Input) (sent : List Packet) (after stage : Stage) → node.stage ≡ stage
     → StageTurn service node stage input after sent → StageWent service node input sent after
 by_stage service node Tick_comes sent after Asking s t = waited (ap is_restarting s) (t.0 ∙ sym s) (inl t.1)
 by_stage service node (Message_comes message) sent after Asking s t =
     asks_so service node message after sent (if message.boot == node.boot then count_told message.body else None) s refl t
-by_stage service node input sent after Asking s t = waited (ap is_restarting s) (t.0 ∙ sym s) (inr (None, t.1))
-by_stage service node Tick_comes sent after (Fetching count fetched) s t = waited (ap is_restarting s) (t.0 ∙ sym s) (inr (wanted count fetched, t.1))
+by_stage service node input sent after Asking s t = waited (ap is_restarting s) (t.0 ∙ sym s) (inr (None, t.1, tt))
+by_stage service node Tick_comes sent after (Fetching count fetched) s t = waited (ap is_restarting s) (t.0 ∙ sym s) (inr (wanted count fetched, t.1, missing node count fetched (wanted count fetched) s refl))
 by_stage service node (Message_comes message) sent after (Fetching count fetched) s t =
     fetches service node message count fetched after sent (fetched_then node message count fetched) s refl t
 by_stage service node (Packet_comes segment) sent after (Fetching count fetched) s t = held_off count fetched segment s t.0 t.1
-by_stage service node Noise_comes sent after (Fetching count fetched) s t = waited (ap is_restarting s) (t.0 ∙ sym s) (inr (None, t.1))
+by_stage service node Noise_comes sent after (Fetching count fetched) s t = waited (ap is_restarting s) (t.0 ∙ sym s) (inr (None, t.1, tt))
 by_stage service node input sent after (Serving opened places) s t = served opened places t.0 s t.1 t.2
 by_stage service node input sent after (Fenced newer) s t = absurd t
 

@@ -1,14 +1,11 @@
 -- A part stands at an offset of a stream where the rest of the stream from there begins with it.
-use Rattle.std.proofs.Common.{◌≡◌, ℕ, zero, suc, ◌+◌, ◌-◌, ◌≤◌, refl, subst, List, [], ◌∷◌, ◌++◌, length, take, drop, take-append-drop, drop-drop, arith}
+use Rattle.std.proofs.Common.{◌≡◌, ℕ, zero, suc, ◌+◌, ◌-◌, ◌≤◌, refl, subst, List, [], ◌∷◌, ◌++◌, length, take, drop, drop-drop, arith}
 use Rattle.ft_model.specs.Growth.{IsPrefix}
-use Rattle.ft_model.proofs.Lists.{prefix_trans}
+use Rattle.ft_model.proofs.Lists.{take_first, prefix_trans}
 use Rattle.ft_model.proofs.Fetching.{join_front}
 
 pub nothing_first : {A : Type 0} (whole : List A) → IsPrefix [] whole
 nothing_first whole = (whole, refl)
-
-pub take_first : {A : Type 0} (n : ℕ) (xs : List A) → IsPrefix (take n xs) xs
-take_first n xs = (drop n xs, take-append-drop n xs)
 
 drop_more : {A : Type 0} (k : ℕ) (xs rest : List A) → IsPrefix (drop k xs) (drop k (xs ++ rest))
 drop_more zero xs rest = (rest, refl)

@@ -1,5 +1,5 @@
 -- After each turn the last acknowledgement sent to a live client is what is both taken and known to be logged.
-use Rattle.std.proofs.Common.{◌≡◌, ℕ, Bool, true, false, ◌&&◌, ◌||◌, not, refl, sym, ap, ap₂, ◌∙◌, subst, subst₂, true≢false, MatchBool, inl, inr, ◌⊎◌, ⊎_elim, Option, Some, None, List, [], ◌∷◌, ◌++◌, map, if◌then◌else◌}
+use Rattle.std.proofs.Common.{◌≡◌, ℕ, Bool, true, false, ◌&&◌, not, refl, sym, ap, ap₂, ◌∙◌, subst, subst₂, true≢false, MatchBool, inl, inr, ◌⊎◌, ⊎_elim, Option, Some, None, List, [], ◌∷◌, ◌++◌, map, if◌then◌else◌}
 use Rattle.std.specs.List.{AllByRecursion, list_any}
 use Rattle.ft_io.specs.declared.Addr.{Addr}
 use Rattle.ft_io.specs.declared.Key.{Key}
@@ -25,13 +25,13 @@ use Rattle.ft_model.specs.Node.{Node, Place, Input, key_of}
 use Rattle.ft_model.specs.Node.Place.{Opens, Lives, Ended}
 use Rattle.ft_model.specs.Serving.{AllGo}
 use Rattle.ft_model.specs.Masked.{told_by, or_before, last_told, IsToldLast}
-use Rattle.ft_model.proofs.Lists.{of_choice, neither, all_both, all_weaker, all_append, key_is}
+use Rattle.ft_model.proofs.Lists.{of_choice, neither, three_true, all_both, all_weaker, all_append, key_is, or_neither}
 use Rattle.ft_model.proofs.Keys.{AreDistinct, has_key, key_eq_turns}
 use Rattle.ft_model.proofs.PlaceTurns.{PlaceWent}
 use Rattle.ft_model.proofs.PlaceTurns.PlaceWent.{stayed, went_on, began, dropped, ended, refused}
 use Rattle.ft_model.proofs.Spoken.{Spoken, segments_spoken, IsHeaded, headed}
 use Rattle.ft_model.proofs.TurnTells.{told, begins_told}
-use Rattle.ft_model.proofs.Distinct.{KeepsKey, or_false}
+use Rattle.ft_model.proofs.Distinct.{KeepsKey}
 
 pub or_none : (o : Option ℕ) → o ≡ or_before o None
 or_none (Some a) = refl
@@ -91,16 +91,10 @@ segments_only q [] a other e = refl
 segments_only q (segment ∷ segments) a other e =
     ap₂ or_before (segments_only q segments a.1 other e) (other_silent q.key other segment a.0.destination e)
 
-all_true : (a b c : Bool) → a ≡ true → b ≡ true → c ≡ false → (a && b && not c) ≡ true
-all_true true true false a b c = refl
-all_true false b c e f g = absurd (true≢false (sym e))
-all_true true false c e f g = absurd (true≢false (sym f))
-all_true true true true e f g = absurd (true≢false g)
-
 headed_told : (q : Point) (segment : Segment) → IsHeaded q segment → told_by q.key (To_client segment) ≡ Some (number_at q.cisn (acknowledgement q))
 headed_told q segment h =
     ap (λ b. if b then Some segment.head.ack else None)
-    (all_true (key_eq (destination_of segment) q.key) (has_ack segment) (has_rst segment) (ap (λ k. key_eq k q.key) h.destination ∙ key_is q.key) h.has_ack_flag h.no_rst)
+    (three_true (key_eq (destination_of segment) q.key) (has_ack segment) (has_rst segment) (ap (λ k. key_eq k q.key) h.destination ∙ key_is q.key) h.has_ack_flag h.no_rst)
     ∙ ap Some h.ack
 
 -- the last of some segments tells it
@@ -153,13 +147,9 @@ pub by_reset : {State : Type 0} {X : Type 0} (service : Machine State) (server :
 by_reset service server boot news p q sent true e f g t = f t
 by_reset service server boot news p q sent false e f g t = g e t
 
-or_first : (a b : Bool) → (a || b) ≡ false → a ≡ false
-or_first false b e = refl
-or_first true b e = e
-
 pub was_not_reset : (news : News) (p : Point) → reset_after news p ≡ false → p.reset ≡ false
 unfolding reset_after
-was_not_reset (Comes segment) p e = or_first p.reset _ e
+was_not_reset (Comes segment) p e = (neither p.reset _ e).0
 was_not_reset (Logged kept) p e = e
 was_not_reset Ticks p e = e
 was_not_reset Begins p e = e
@@ -234,11 +224,11 @@ place_tells service node input packets place now sent w (went_on news p after e 
 place_tells service node input packets place now sent w (began asked kept after e h n t) =
     let c = beginning_tells service node.server node.boot (point_opened kept) after sent packets t in
     (subst (AllByRecursion (TellsNow packets sent)) (sym n) (c.0, tt), subst (λ k. TellsOnly k sent) (h.key ∙ sym (ap key_of e)) c.1)
-place_tells service node input packets place now sent w (dropped asked e n s) = (
+place_tells service node input packets place now sent w (dropped asked e d n s) = (
   subst (AllByRecursion (TellsNow packets sent)) (sym n) tt,
   λ other x. ⊎_elim (λ y. nothing_said other sent y) (λ y. ap (last_told other) y ∙ ap (λ o. or_before None o) (rst_silent other (full_rst node.server asked) refl)) s,
 )
-place_tells service node input packets place now sent w (ended p e n s) =
+place_tells service node input packets place now sent w (ended p e h n s) =
     (subst (AllByRecursion (TellsNow packets sent)) (sym n) (tt, tt), λ other x. nothing_said other sent s)
 place_tells service node input packets place now sent w (refused key segment e c k n s) =
     (subst (AllByRecursion (TellsNow packets sent)) (sym n) (tt, tt), λ other x. ap (last_told other) s ∙ closed_silent other node.server segment)
@@ -269,7 +259,7 @@ no_key_later Goes Q keeps key (place ∷ places) after sent q (now, later, first
     let there : has_key key (map key_of later) ≡ false = no_key_later Goes Q keeps key places later others q.1 rest parts.1 in
     ⊎_elim (λ n. ap (λ l. has_key key (map key_of l)) (places_are ∙ ap (λ l. l ++ later) n) ∙ there)
     (λ n. ap (λ l. has_key key (map key_of l)) (places_are ∙ ap (λ l. l ++ later) n.1)
-    ∙ or_false (key_eq (key_of n.0) key) (has_key key (map key_of later)) (ap (λ k. key_eq k key) n.2 ∙ parts.0) there) (keeps place now first q.0 goes)
+    ∙ or_neither (key_eq (key_of n.0) key) (has_key key (map key_of later)) (ap (λ k. key_eq k key) n.2 ∙ parts.0) there) (keeps place now first q.0 goes)
 
 -- a whole list of places
 pub all_tell : (Goes : Place → List Place → List Packet → Type 0) (Q : Place → Type 0) (packets : List Packet)

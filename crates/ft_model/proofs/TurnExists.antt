@@ -23,7 +23,7 @@ use Rattle.ft_model.specs.Serving.{Stays, LivesOn, Hears, Meets, PlaceTurn, conc
 use Rattle.ft_model.specs.Lawful.{hello, asked, held, restored, all_restored, restored_count, Revives, Continues, AskingTurn, FetchingTurn, fetched_then, count_told, StageTurn, NodeTurn, LawfulTurn, fence, is_fenced}
 use Rattle.ft_model.proofs.LiveTurns.{turned, live_turn, counts_within, reads_from}
 use Rattle.ft_model.proofs.Settled.{noted}
-use Rattle.ft_model.proofs.TurnTells.{all_append}
+use Rattle.ft_model.proofs.Lists.{all_append}
 
 -- what a law has for a place: an outcome that keeps the counts
 abbrev Outcome : (Place → List Place → List Packet → Type 0) → Place → Type 0

@@ -22,14 +22,11 @@ use Rattle.ft_model.specs.Ending.{dones}
 use Rattle.ft_model.specs.Timer.{expires}
 use Rattle.ft_model.specs.Told.{is_segment, Tells, IsTold}
 use Rattle.ft_model.specs.Connection.{LiveTurn, told_by}
+use Rattle.ft_model.proofs.Lists.{all_append}
 
 -- a segment tells the point
 abbrev TellsIn : Point → Segment → Type 0
 TellsIn p segment = (segment.head.ack ≡ number_at p.cisn (acknowledgement p)) × (segment.head.window ≡ window p)
-
-pub all_append : {A : Type 0} (P : A → Type 0) (xs ys : List A) → AllByRecursion P xs → AllByRecursion P ys → AllByRecursion P (xs ++ ys)
-all_append P [] ys a b = b
-all_append P (x ∷ xs) ys a b = (a.0, all_append P xs ys a.1 b)
 
 one_or_none : {A : Type 0} (P : A → Type 0) (b : Bool) (x : A) → P x → AllByRecursion P (if b then x ∷ [] else [])
 one_or_none P true x h = (h, tt)

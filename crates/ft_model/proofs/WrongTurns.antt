@@ -1,17 +1,30 @@
 -- A wrong turn is refused: the lawful one, which is the only one, sends something else.
-use Rattle.std.proofs.Common.{◌≡◌, ℕ, Bool, true, false, ◌==◌, ◌&&◌, ◌+◌, ◌*◌, refl, sym, ap, ◌∙◌, true≢false, List, [], ◌∷◌, length}
-use Rattle.ft_model.specs.Network.{Packet}
-use Rattle.ft_model.specs.Network.Packet.{To_client, To_logger}
+use Rattle.std.proofs.Common.{◌≡◌, ℕ, Bool, true, false, ◌==◌, ◌&&◌, ◌+◌, ◌*◌, refl, sym, ap, ◌∙◌, true≢false, subst, Some, List, [], ◌∷◌, length}
+use Rattle.seq_arith.specs.Packet.{Segment}
+use Rattle.server_trait.specs.Service.{Machine}
+use Rattle.ft_model.specs.Network.{Packet, packet_at}
+use Rattle.ft_model.specs.Network.Packet.{To_server, To_client, To_logger}
+use Rattle.ft_model.specs.World.{World, ServerTurn, Delivered, Happens}
+use Rattle.ft_model.specs.declared.event.Event.TheVariants.{Deliver}
+use Rattle.ft_model.specs.Node.Input.{Packet_comes}
+use Rattle.ft_model.proofs.Lists.{some_is}
 use Rattle.seq_arith.specs.Message.{Body}
 use Rattle.seq_arith.specs.Message.Body.{ReadMsg}
 use Rattle.ft_model.specs.Node.{Node, Input}
+use Rattle.ft_model.specs.News.News.{Ticks}
+use Rattle.ft_model.specs.Node.Input.{Tick_comes}
 use Rattle.ft_model.specs.Node.Stage.{Serving}
 use Rattle.ft_model.specs.Node.Place.{Opens}
 use Rattle.ft_model.specs.Lawful.{LawfulTurn}
-use Rattle.ft_model.specs.Rows.Common.{echo, numbers, IsRefused}
+use Rattle.ft_model.specs.Rows.Common.{echo, server, numbers, IsRefused}
 use Rattle.ft_model.specs.Rows.FirstPath as row
+use Rattle.ft_model.specs.Rows.ZeroWindow as probe
+use Rattle.ft_model.specs.Rows.SegmentWhileRestarting as restart
 use Rattle.ft_model.proofs.TurnOnce.{turn_once}
 use Rattle.ft_model.proofs.FirstPath.{turn_5, turn_12, turn_14}
+use Rattle.ft_model.proofs.Turns.{laws, goes, serves}
+use Rattle.ft_model.proofs.ZeroWindow.{probe_7, probe_8, probe_9}
+use Rattle.ft_model.proofs.SegmentWhileRestarting.{restart_3, restart_5}
 
 -- what tells packets apart: their count, and the kind, acknowledgement, length or index of each
 abbrev mark_of_body : Body → ℕ
@@ -32,14 +45,24 @@ are_same [] [] = true
 are_same (n ∷ ns) (m ∷ ms) = n == m && are_same ns ms
 are_same _ _ = false
 
-refused : (before after : Node) (input : Input) (right wrong : List Packet) → LawfulTurn echo before input right after
-    → are_same (marks right) (marks right) ≡ true → are_same (marks right) (marks wrong) ≡ false → IsRefused before input wrong
-refused before after input right wrong turn same other =
-    λ later t. true≢false (sym same ∙ (ap (λ xs. are_same (marks right) (marks xs)) ((turn_once echo before after later input right wrong turn t).1) ∙ other))
+pub refused : {State : Type 0} (service : Machine State) (before after : Node) (input : Input) (right wrong : List Packet) → LawfulTurn service before input right after
+    → are_same (marks right) (marks right) ≡ true → are_same (marks right) (marks wrong) ≡ false → (later : Node) → LawfulTurn service before input wrong later → ⊥
+refused service before after input right wrong turn same other =
+    λ later t. true≢false (sym same ∙ (ap (λ xs. are_same (marks right) (marks xs)) ((turn_once service before after later input right wrong turn t).1) ∙ other))
+
+-- so a moment in which it is made doesn't happen
+pub never_happens : {State : Type 0} (service : Machine State) (before after : World) (number : ℕ) (segment : Segment) (node : Node) (sent : List Packet)
+    → packet_at before.packets number ≡ Some (To_server segment) → before.node ≡ Some node → ((later : Node) → LawfulTurn service node (Packet_comes segment) sent later → ⊥)
+    → Happens service before (Deliver number) sent after → ⊥
+never_happens service before after number segment node sent at up none h =
+    let same : h.0 ≡ To_server segment = some_is _ _ (sym h.1 ∙ at) in
+    let came : Delivered service before (To_server segment) sent after = subst (λ p. Delivered service before p sent after) same h.2 in
+    let turn : ServerTurn service (Packet_comes segment) (Some node) sent after.node = subst (λ n. ServerTurn service (Packet_comes segment) n sent after.node) up came.0 in
+    none turn.0 turn.2
 
 -- the wrong turns of the text's arrival
 by_text : (wrong : List Packet) → are_same (marks row.moment_12.sent) (marks wrong) ≡ false → IsRefused (row.node_live row.open_point) row.text_comes wrong
-by_text wrong other = refused (row.node_live row.open_point) (row.node_live row.taken_point) row.text_comes row.moment_12.sent wrong turn_12 refl other
+by_text wrong other = refused echo (row.node_live row.open_point) (row.node_live row.taken_point) row.text_comes row.moment_12.sent wrong turn_12 refl other
 
 pub without_copy : IsRefused (row.node_live row.open_point) row.text_comes row.without_copy
 without_copy = by_text row.without_copy refl
@@ -61,8 +84,39 @@ released_early = by_text row.released_early refl
 
 -- silence in the turn of Stable
 pub silent : IsRefused (row.node_live row.taken_point) row.stable_comes []
-silent = refused (row.node_live row.taken_point) (row.node_live row.logged_point) row.stable_comes row.moment_14.sent [] turn_14 refl refl
+silent = refused echo (row.node_live row.taken_point) (row.node_live row.logged_point) row.stable_comes row.moment_14.sent [] turn_14 refl refl
 
 -- a SYN-ACK before Opened
 pub answered_early : IsRefused (row.node_at (Serving 0 [])) row.syn_comes (row.packet_6 ∷ [])
-answered_early = refused (row.node_at (Serving 0 [])) (row.node_at (Serving 1 (Opens numbers ∷ []))) row.syn_comes row.moment_5.sent (row.packet_6 ∷ []) turn_5 refl refl
+answered_early = refused echo (row.node_at (Serving 0 [])) (row.node_at (Serving 1 (Opens numbers ∷ []))) row.syn_comes row.moment_5.sent (row.packet_6 ∷ []) (turn_5 echo) refl refl
+
+-- Reads out of order: a tick sends the unanswered ones again by index
+reads_again : LawfulTurn echo (row.node_live row.twice_read_point) Tick_comes row.reads_again (row.node_live row.twice_read_point)
+unfolding laws
+reads_again = serves echo 1 5000 Tick_comes row.twice_read_point row.twice_read_point row.reads_again refl refl refl (row.twice_read_point, refl, goes echo server 1 Ticks row.twice_read_point row.twice_read_point row.reads_again refl refl refl refl)
+
+pub reads_turned : IsRefused (row.node_live row.twice_read_point) Tick_comes row.reads_turned
+reads_turned = refused echo (row.node_live row.twice_read_point) (row.node_live row.twice_read_point) Tick_comes row.reads_again row.reads_turned reads_again refl refl
+
+-- no probe, a probe of two bytes, a probe before the timer expires, and output past the edge
+pub no_probe : IsRefused probe.probe_7.node Tick_comes []
+no_probe = refused echo probe.probe_7.node probe.probe_8.node Tick_comes probe.probe_8.sent [] probe_8 refl refl
+
+pub wide_probe : IsRefused probe.probe_7.node Tick_comes probe.wide_probe
+wide_probe = refused echo probe.probe_7.node probe.probe_8.node Tick_comes probe.probe_8.sent probe.wide_probe probe_8 refl refl
+
+pub early_probe : IsRefused probe.probe_8.node Tick_comes probe.probe_8.sent
+early_probe = refused echo probe.probe_8.node probe.probe_9.node Tick_comes [] probe.probe_8.sent probe_9 refl refl
+
+pub past_the_edge : IsRefused probe.probe_6.node probe.probe_7.input probe.past_the_edge
+past_the_edge = refused echo probe.probe_6.node probe.probe_7.node probe.probe_7.input [] probe.past_the_edge probe_7 refl refl
+
+-- while a server fetches, and when it has fetched all
+pub reset_meanwhile : IsRefused restart.restart_2.node restart.restart_3.input restart.reset_meanwhile
+reset_meanwhile = refused echo restart.restart_2.node restart.restart_3.node restart.restart_3.input restart.restart_3.sent restart.reset_meanwhile restart_3 refl refl
+
+pub silent_meanwhile : IsRefused restart.restart_2.node restart.restart_3.input []
+silent_meanwhile = refused echo restart.restart_2.node restart.restart_3.node restart.restart_3.input restart.restart_3.sent [] restart_3 refl refl
+
+pub stays_restarting : IsRefused restart.restart_4.node restart.restart_5.input []
+stays_restarting = refused echo restart.restart_4.node restart.restart_5.node restart.restart_5.input restart.restart_5.sent [] restart_5 refl refl

@@ -1,6 +1,6 @@
 -- The client: what it may send, and what it does with what comes (RFC 9293, 3.10). A scripted client follows the schedule; a live
 -- client is a TCP of its own, whose packets are moves of this machine too. Its offsets are units: bytes, and one more for a FIN.
-use Rattle.std.specs.Prelude.{◌≡◌, ℕ, ℤ, Bool, true, false, pos, ◌+◌, ◌-◌, ◌+ℤ◌, ◌^◌, ◌<◌, ◌==◌, ◌&&◌, ◌||◌, not, nat_lt, nat_le, int_lt, max, min, Option, Some, None, List, [], ◌++◌, length, take, drop, nat_abs, if◌then◌else◌}
+use Rattle.std.specs.Prelude.{◌≡◌, ℕ, ℤ, Bool, true, false, pos, ◌+◌, ◌-◌, ◌+ℤ◌, ◌^◌, ◌==◌, ◌&&◌, ◌||◌, not, nat_lt, nat_le, int_lt, max, min, Option, Some, None, List, [], ◌++◌, length, take, drop, nat_abs, if◌then◌else◌}
 use Rattle.ft_io.specs.declared.Addr.{Addr}
 use Rattle.ft_io.specs.declared.Key.{Key}
 use Rattle.seq_arith.specs.Number.{number_at}
@@ -52,7 +52,7 @@ abbrev pub accepted_units : Client → ℕ
 accepted_units client = length client.accepted + one_if (is_ended client.phase)
 
 -- What a client may send. A live client's SYN may tell a segment size, and a live client may refuse a wrong acknowledgement of its SYN
--- by a RST with that number.
+-- by a RST with that number, after which it is opening as before.
 pub data Move : Type 0 where
   Syn : (mss : Option ℕ) → Move
   Text : (from len : ℕ) → Move
@@ -71,10 +71,11 @@ suits_phase client Rst = is_opening client.phase || is_open client.phase
 suits_phase client (Refuse number) = is_opening client.phase
 
 -- text begins with what isn't acknowledged or has just not been sent, has 1 to 1,460 bytes and stays within the script; a FIN comes
--- when the script is sent whole
+-- when the script is sent whole; and an acknowledgement is refused that isn't that of what was sent (RFC 9293, 3.10.7.3)
 abbrev pub suits_range : Client → Move → Bool
 suits_range client (Text from len) = nat_le client.acknowledged from && nat_le from client.sent && nat_le 1 len && nat_le len 1460 && nat_le (from + len) (length client.script)
 suits_range client Fin = nat_le (length client.script) client.sent
+suits_range client (Refuse number) = nat_lt number (2 ^ 32) && not (number == number_at client.isn 0)
 suits_range client _ = true
 
 abbrev pub may_move : Client → Move → Bool
@@ -147,12 +148,18 @@ phase_after phase _ = phase
 abbrev pub moved : Client → Move → ℕ → Client
 moved client move window = record client { phase = phase_after client.phase move; sent = sent_after client move; edge = max client.edge (length client.accepted + window) }
 
+-- a move announces a window that a head can hold, and a RST none
+abbrev pub may_announce : Move → ℕ → Bool
+may_announce Rst window = window == 0
+may_announce (Refuse number) window = window == 0
+may_announce _ window = nat_lt window (2 ^ 16)
+
 -- a packet is a move of the client, which then stands so
 pub record IsMove (client : Client) (segment : Segment) (after : Client) : Type 0 where
   pub move : Move
   pub window : ℕ
   pub may : may_move client move ≡ true
-  pub fits : window < 2 ^ 16
+  pub fits : may_announce move window ≡ true
   pub segment_is : segment ≡ segment_of client move window
   pub after_is : after ≡ moved client move window
 

@@ -2,12 +2,12 @@
 -- order, each of them allowed, and its clients follow the script.
 use Rattle.std.specs.Prelude.{◌≡◌, ℕ, nat_le, Option, Some, None, is_some, List, [], ◌∷◌, if◌then◌else◌}
 use Rattle.server_trait.specs.Service.{Machine}
-use Rattle.ft_model.specs.Client.{Client, Move, move_of, window_of, refusal_of_move, segment_of}
+use Rattle.ft_model.specs.Client.{Client, Move, move_of, window_of, refusal_of_move, segment_of, moved}
 use Rattle.ft_model.specs.Log.{empty_log}
 use Rattle.ft_model.specs.Network.{Packet, packet_at}
 use Rattle.ft_model.specs.Network.Packet.{To_server}
 use Rattle.ft_model.specs.Schedule.{clients_of}
-use Rattle.ft_model.specs.World.{World, Moment, client_at, world_after, events_of, Joint}
+use Rattle.ft_model.specs.World.{World, Moment, client_at, with_client, world_after, events_of, Joint}
 use Rattle.ft_model.specs.declared.event.Event.{Event}
 use Rattle.ft_model.specs.declared.event.Event.TheVariants.{Boot, Crash, Tick, Deliver, Flip, Begin, Send, Fin, Ack, Reset}
 use Rattle.ft_model.specs.declared.event.EventWhy.{EventWhy}
@@ -47,16 +47,17 @@ mover_of (Ack client window) = client
 mover_of (Reset client) = client
 mover_of _ = 0
 
--- a client's packet is the one that the event asks for, with the scripted client's window
-abbrev pub IsScripted : World → Event → List Packet → Type 0
-IsScripted before event sent =
+-- a client makes the move that the event asks for, with the scripted client's window: it sends that move's packet, and stands as after it
+abbrev pub IsScripted : World → Event → List Packet → World → Type 0
+IsScripted before event sent after =
     (client : Client) (move : Move) → client_at before.clients (mover_of event) ≡ Some client → move_of event ≡ Some move
-    → sent ≡ To_server (segment_of client move (window_of client event)) ∷ []
+    → (sent ≡ To_server (segment_of client move (window_of client event)) ∷ [])
+    × (after.clients ≡ with_client client.key (λ _. moved client move (window_of client event)) before.clients)
 
 -- an allowed event, played by scripted clients
 pub record IsAllowed (before : World) (moment : Moment) : Type 0 where
   pub allowed : refusal before moment.event ≡ None
-  pub scripted : IsScripted before moment.event moment.sent
+  pub scripted : IsScripted before moment.event moment.sent moment.world
 
 abbrev pub AllAllowed : World → List Moment → Type 0
 AllAllowed start [] = Unit {0}

@@ -25,7 +25,10 @@ pub mod World
 pub mod Schedule
 pub mod Growth
 pub mod Masked
+pub mod Resets
 pub mod Legal
+pub mod Outcome
+pub mod Weakened
 pub mod Rows
 pub mod Texts
 pub mod Report

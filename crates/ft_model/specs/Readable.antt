@@ -1,5 +1,5 @@
 -- What a report's line says can be read back from it.
-use Rattle.std.specs.Prelude.{◌≡◌, ℕ, ◌<◌, ◌^◌, Option, None, Some, List}
+use Rattle.std.specs.Prelude.{◌≡◌, ℕ, ◌<◌, ◌^◌, Option, None, Some, List, length}
 use Rattle.std.specs.List.{AllByRecursion}
 use Rattle.hex.specs.Hex.{IsBytes}
 use Rattle.ft_io.specs.declared.Addr.{Addr}
@@ -7,10 +7,18 @@ use Rattle.ft_io.specs.declared.Key.{Key}
 use Rattle.seq_arith.specs.Packet.{Segment}
 use Rattle.seq_arith.specs.Message.{Numbers, Kept, EntryHead, Part, Body}
 use Rattle.seq_arith.specs.Message.Body.{HelloMsg, SummaryMsg, ListMsg, EntryMsg, BytesMsg, PartMsg, CutsMsg, LensMsg, OpenMsg, OpenedMsg, DataMsg, StableMsg, ReadMsg, ReadsMsg, DoneMsg, EndedMsg, StaleMsg, FullMsg}
+use Rattle.server_trait.specs.Service.{Machine}
 use Rattle.ft_model.specs.Client.{Client}
 use Rattle.ft_model.specs.Network.{Packet, source_of, destination_of}
 use Rattle.ft_model.specs.Network.Packet.{To_server, To_client, To_logger, From_logger}
+use Rattle.ft_model.specs.World.{Moment}
 use Rattle.ft_model.specs.Report.{number_of}
+use Rattle.ft_model.specs.declared.event.Event.{Event}
+use Rattle.ft_model.specs.declared.event.Event.TheVariants.{Boot, Crash, Tick, Deliver, Flip, Begin, Send, Fin, Ack, Reset}
+use Rattle.ft_model.specs.declared.schedule.Script.{Script}
+use Rattle.ft_model.specs.declared.schedule.Script.TheVariants.{Bytes, Fill}
+use Rattle.ft_model.specs.declared.schedule.ClientLine.{ClientLine}
+use Rattle.ft_model.specs.declared.schedule.Schedule.{Schedule}
 use Rattle.ft_model.specs.declared.way.Way.{Way}
 use Rattle.ft_model.specs.declared.way.Way.TheVariants.{ClientToServer, ServerToClient, ServerToLogger, LoggerToServer}
 
@@ -84,3 +92,39 @@ IsReadable server clients (To_server s) = IsKnown clients (source_of s) × IsOf 
 IsReadable server clients (To_client s) = IsKnown clients (destination_of s) × IsOf server (source_of s) × FitsSegment s
 IsReadable server clients (To_logger m) = Fits m.boot × FitsBody m.body
 IsReadable server clients (From_logger m) = Fits m.boot × FitsBody m.body
+
+-- every number of an event has at most 64 bits
+abbrev pub FitsEvent : Event → Type 0
+FitsEvent (Boot boot isn) = Fits boot × Fits isn
+FitsEvent Crash = Unit {0}
+FitsEvent Tick = Unit {0}
+FitsEvent (Deliver packet) = Fits packet
+FitsEvent (Flip packet bit) = Fits packet × Fits bit
+FitsEvent (Begin client window) = Fits client × Fits window
+FitsEvent (Send client from len) = Fits client × Fits from × Fits len
+FitsEvent (Fin client) = Fits client
+FitsEvent (Ack client window) = Fits client × Fits window
+FitsEvent (Reset client) = Fits client
+
+abbrev pub FitsScript : Script → Type 0
+FitsScript (Bytes bytes) = IsBytes bytes
+FitsScript (Fill n) = Fits n
+
+abbrev pub FitsClient : ClientLine → Type 0
+FitsClient asked = FitsKey asked.key × Fits asked.isn × FitsScript asked.script
+
+-- a schedule whose numbers have the sizes of their types
+pub record FitsSchedule (schedule : Schedule) : Type 0 where
+  pub ip : schedule.server.ip < 2 ^ 32
+  pub port : schedule.server.port < 2 ^ 16
+  pub clients : AllByRecursion FitsClient schedule.clients
+  pub count : Fits (length schedule.clients)
+  pub events : AllByRecursion FitsEvent schedule.events
+
+-- a turn whose lines tell all of it
+abbrev pub IsReadableTurn : Addr → List Client → Moment → Type 0
+IsReadableTurn server clients moment = FitsEvent moment.event × AllByRecursion (IsReadable server clients) moment.sent
+
+-- a service that is given bytes writes bytes
+abbrev pub WritesBytes : {State : Type 0} → Machine State → Type 0
+WritesBytes {State} service = (state : State) (chunk : List ℕ) → IsBytes chunk → IsBytes (service.after state chunk).output

@@ -1,5 +1,5 @@
 -- The report of a run: what was asked, each event with the packets that it sent, and how clients and log stand at the end.
-use Rattle.std.specs.Prelude.{ℕ, Bool, codes, ◌+◌, position, List, [], ◌∷◌, ◌++◌, length}
+use Rattle.std.specs.Prelude.{ℕ, Bool, codes, ◌+◌, position, List, [], ◌∷◌, ◌++◌, length, map}
 use Rattle.std.specs.List.{flat_map}
 use Rattle.std.specs.Option.{option_map_or}
 use Rattle.std.specs.Fmt.{decimal}
@@ -197,3 +197,7 @@ abbrev pub report : Schedule → List Moment → List ℕ
 report schedule trace =
     header schedule
     ++ (event_lines (clients_of schedule.server schedule.clients) trace ++ closing_lines (world_after (start_of schedule) trace) (length trace))
+
+-- what a trace says of each turn: the event, and the packets that were sent. The worlds beside them are witnesses
+abbrev pub turns_of : List Moment → List (Event × List Packet)
+turns_of trace = map (λ moment. (moment.event, moment.sent)) trace

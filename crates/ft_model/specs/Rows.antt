@@ -1,4 +1,5 @@
--- Worked rows: traces and turns spelled out packet by packet, of which the crate's laws in `rows` say that they are lawful, or refused.
+-- Worked rows: traces and turns spelled out packet by packet, of which the laws in `rows` say that they are lawful, or refused, and those in
+-- `weakened` what becomes of the client if one moment of them is wrong.
 pub mod Common
 pub mod FirstPath
 pub mod CrashAfterLogged
@@ -7,3 +8,7 @@ pub mod ZeroWindow
 pub mod SegmentWhileRestarting
 pub mod ClientKnowsMore
 pub mod CrashBeforeSynAck
+pub mod ZeroWindowTrace
+pub mod EarlyAcknowledgement
+pub mod ResetWhileRestarting
+pub mod UnloggedRead

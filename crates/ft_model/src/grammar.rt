@@ -7,6 +7,7 @@ ghost use Rattle.ft_model.specs.Grammar.{read_text};
 ghost use Rattle.ft_model.specs.Grammar.Refusal.{BadLine};
 ghost use Rattle.ft_model.specs.Legal.{start_of};
 ghost use Rattle.ft_model.specs.Playable.{IsPlayable};
+ghost use Rattle.ft_model.specs.Readable.{FitsSchedule};
 ghost use Rattle.ft_model.specs.World.{IsStart};
 ghost use Rattle.ft_model.specs.declared.event.Event.TheVariants.{Boot, Deliver, Begin, Ack, Send};
 ghost use Rattle.ft_model.specs.declared.schedule.LineWhy.TheVariants as why;
@@ -48,4 +49,9 @@ pub fn accepted_schedules_can_be_played()
 /// A trace can start where such a schedule does: no client has moved, nothing is logged, nothing was sent, and the server is down.
 pub fn playable_schedules_start()
     ensures { (schedule : Schedule) → IsPlayable schedule → IsStart (start_of schedule) }
+{}
+
+/// The numbers of a schedule that a text spells have the sizes of their types: addresses 32 bits and 16, bytes eight, others at most 64.
+pub fn accepted_schedules_fit()
+    ensures { (text : List ℕ) (schedule : Schedule) → read_text text ≡ Ok schedule → FitsSchedule schedule }
 {}

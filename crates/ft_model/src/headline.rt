@@ -1,13 +1,14 @@
 //! The headline: crashes and restarts of the server can't be seen from outside. Nothing here runs; each function is a theorem.
 
 ghost use Rattle.std.specs.Prelude.{◌≡◌, ℕ, ◌+◌, ◌<◌, ◌≤◌, true, List, ◌∷◌, ◌++◌, length};
-ghost use Rattle.server_trait.specs.Service.{machine};
+ghost use Rattle.server_trait.specs.Service.{CanCut, machine};
 ghost use Rattle.seq_arith.specs.Message.{Message};
 ghost use Rattle.ft_model.specs.Offset.{one_if};
 ghost use Rattle.ft_model.specs.Restart.{run_of};
 ghost use Rattle.ft_model.specs.Log.{Log, is_hello, log_after};
 ghost use Rattle.ft_model.specs.Growth.{IsPrefix, LogGrows};
 ghost use Rattle.ft_model.specs.Masked.{SeesFront, AcknowledgesLogged, RestartIsExact, AllAreTold, Masked};
+ghost use Rattle.ft_model.specs.Resets.{ResetsNoLogged};
 ghost use Rattle.std.specs.List.{AllByRecursion};
 ghost use Rattle.ft_io.specs.Key.{key_eq};
 ghost use Rattle.ft_model.specs.World.{World, Moment, Joint, world_after};
@@ -38,6 +39,13 @@ pub fn the_log_only_grows<S: Service>()
 pub fn logged_bytes_are_the_clients<S: Service>()
     ensures { (kind : ℕ) (start : World) (trace : List Moment) → Joint (machine (S.started kind) S.after) start trace
         → AllByRecursion (λ c. AllByRecursion (λ e. key_eq e.key c.key ≡ true → IsPrefix e.bytes c.script × (e.fin ≡ true → e.bytes ≡ c.script)) (world_after start trace).log.entries) (world_after start trace).clients }
+{}
+
+/// The lengths of the logged reads cut the logged bytes: together they are no longer, and only the last may be the closing read's 0. So the
+/// unfailing server is asked for nothing that its client didn't send.
+pub fn logged_reads_cut_the_bytes<S: Service>()
+    ensures { (kind : ℕ) (start : World) (trace : List Moment) → Joint (machine (S.started kind) S.after) start trace
+        → AllByRecursion (λ e. CanCut e.bytes e.lengths) (world_after start trace).log.entries }
 {}
 
 /// No byte of a client is acknowledged before it is logged: each segment with ACK and without RST that a server sends acknowledges at most
@@ -72,4 +80,11 @@ pub fn clients_are_told_what_is_logged<S: Service>()
 pub fn acknowledged_output_was_made<S: Service>()
     ensures { (kind : ℕ) (start : World) (trace : List Moment) → Joint (machine (S.started kind) S.after) start trace
         → AllByRecursion (λ e. e.acknowledged ≤ length (run_of (machine (S.started kind) S.after) e).output + one_if (run_of (machine (S.started kind) S.after) e).closed) (world_after start trace).log.entries }
+{}
+
+/// No false reset: of all RSTs that were sent so far, none goes to a client whose entry is in the log and not done. So whenever one of them is
+/// delivered, it ends no connection that the log keeps. A client that has reset its connection itself is no exception.
+pub fn no_logged_connection_is_reset<S: Service>()
+    ensures { (kind : ℕ) (start : World) (trace : List Moment) → Joint (machine (S.started kind) S.after) start trace
+        → AllByRecursion (ResetsNoLogged (world_after start trace).log) (world_after start trace).packets }
 {}

@@ -5,7 +5,10 @@
 pub use event::{Event, EventWhy};
 pub use line::{Draft, Keyword, Line, Verb};
 pub use phase::Phase;
-pub use report::{packets_of_lines, values_of_spellings, words_of_a_line, worked_lines};
+pub use report::{
+    legal_turns_are_readable, packets_of_lines, reports_tell_their_traces, turns_of_reports,
+    values_of_spellings, words_of_a_line, worked_lines,
+};
 pub use schedule::{
     ClientLine, ClientLines, Events, Limit, LineWhy, Schedule, Script, ServiceKind,
 };
@@ -21,3 +24,4 @@ mod report;
 pub mod rows;
 mod schedule;
 mod way;
+pub mod weakened;

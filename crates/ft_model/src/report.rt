@@ -1,20 +1,27 @@
 //! The report of a run is a definition alone, `specs/Report.antt`. Here are lines of it that were worked out by hand, for a run in which
-//! a client says hello to an echo.
+//! a client says hello to an echo, and the laws by which a report tells what it says.
 
 ghost use Rattle.std.specs.Prelude.{◌≡◌, ◌<◌, ◌^◌, ℕ, Bool, Option, decimal, List, [], ◌∷◌, codes, None, Some, false};
 ghost use Rattle.std.specs.List.{AllByRecursion};
 ghost use Rattle.hex.specs.Hex.{IsBytes};
-ghost use Rattle.ft_model.specs.Readable.{IsReadable, IsWord, Fits, FitsOption, FitsWay};
+ghost use Rattle.ft_model.specs.Readable.{IsReadable, FitsSchedule, IsReadableTurn, WritesBytes, IsWord, Fits, FitsOption, FitsWay};
 ghost use Rattle.ft_model.specs.Texts.{line, hex_text, list_text, mss_text, bit_text, address_text, flags_text, way_text};
 ghost use Rattle.ft_io.specs.declared.Addr.{Addr};
 ghost use Rattle.ft_model.specs.Client.{Client};
 ghost use Rattle.ft_model.specs.Network.{Packet};
 ghost use Rattle.ft_model.specs.FirstPath.{client_key, from_client, from_server, hello, opening, bytes_to_log, read, stable, reads, entry, part, cuts, lens};
-ghost use Rattle.ft_model.specs.Report.{event_line, packet_line, way_of, phase_line, entry_line, end_line};
+ghost use Rattle.ft_model.specs.Report.{event_line, packet_line, way_of, turns_of, report, phase_line, entry_line, end_line};
+ghost use Rattle.ft_model.specs.Schedule.{clients_of};
+ghost use Rattle.ft_model.specs.World.{Moment};
+ghost use Rattle.ft_model.specs.Legal.{Legal};
+ghost use Rattle.server_trait.specs.Service.{machine};
+ghost use Rattle.ft_model.specs.declared.schedule.Schedule.{Schedule};
 ghost use Rattle.ft_model.specs.declared.way.Way.{Way};
 ghost use Rattle.ft_model.specs.declared.way.Way.TheVariants.{ClientToServer, ServerToClient, ServerToLogger, LoggerToServer};
 ghost use Rattle.ft_model.specs.declared.event.Event.TheVariants.{Begin, Boot, Deliver, Send};
 ghost use Rattle.ft_model.specs.declared.phase.Phase.TheVariants.{Established};
+
+use server_trait::Service;
 
 /// Each form of line, by an example: segments, messages, events, and how client and log stand at the end.
 pub fn worked_lines()
@@ -80,4 +87,29 @@ pub fn packets_of_lines()
     ensures { (server : Addr) (clients : List Client) (m n : ℕ) (p q : Packet) → Fits m → Fits n
         → IsReadable server clients p → IsReadable server clients q
         → packet_line m (way_of clients p) p ≡ packet_line n (way_of clients q) q → (m ≡ n) × (p ≡ q) }
+{}
+
+/// A report's text tells what it says: header and turns, of any traces whose packets are segments between a client and the server, or
+/// messages, with numbers of at most 64 bits.
+pub fn turns_of_reports()
+    ensures { (schedule other : Schedule) (trace also : List Moment) → FitsSchedule schedule → FitsSchedule other
+        → AllByRecursion (IsReadableTurn schedule.server (clients_of schedule.server schedule.clients)) trace
+        → AllByRecursion (IsReadableTurn other.server (clients_of other.server other.clients)) also
+        → report schedule trace ≡ report other also
+        → (schedule.service ≡ other.service) × (schedule.server ≡ other.server) × (schedule.clients ≡ other.clients) × (turns_of trace ≡ turns_of also) }
+{}
+
+/// A report tells its schedule and its trace: two legal traces have the same report only where their schedules are the same, and they are.
+pub fn reports_tell_their_traces<S: Service>()
+    ensures { (kind : ℕ) (schedule other : Schedule) (trace also : List Moment) → FitsSchedule schedule → FitsSchedule other
+        → Legal (machine (S.started kind) S.after) schedule trace → Legal (machine (S.started kind) S.after) other also
+        → report schedule trace ≡ report other also → (schedule ≡ other) × (trace ≡ also) }
+{}
+
+/// All that is sent in a legal trace has a line that tells it: a segment has the addresses of a client and of the server, every number fits, and
+/// every byte is one. It is so where the schedule's numbers have the sizes of their types, and the service writes bytes.
+pub fn legal_turns_are_readable<S: Service>()
+    ensures { (kind : ℕ) (schedule : Schedule) (trace : List Moment) → FitsSchedule schedule → WritesBytes (machine (S.started kind) S.after)
+        → Legal (machine (S.started kind) S.after) schedule trace
+        → AllByRecursion (IsReadableTurn schedule.server (clients_of schedule.server schedule.clients)) trace }
 {}

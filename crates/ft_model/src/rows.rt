@@ -1,16 +1,21 @@
 //! Worked rows: traces and turns written out packet by packet, and the laws that they keep or that a wrong turn in them breaks. Nothing
 //! here runs; each function is a theorem.
 
-ghost use Rattle.std.specs.Prelude.{[], ◌∷◌};
+ghost use Rattle.std.specs.Prelude.{◌≡◌, [], ◌∷◌};
+ghost use Rattle.std.specs.List.{concat};
 ghost use Rattle.ft_model.specs.Node.{booted};
+ghost use Rattle.ft_model.specs.Node.Input.{Tick_comes};
 ghost use Rattle.ft_model.specs.Node.Stage.{Serving};
 ghost use Rattle.ft_model.specs.Lawful.{Lawful, hello};
 ghost use Rattle.ft_model.specs.World.{Joint};
+ghost use Rattle.ft_model.specs.Legal.{Legal};
+ghost use Rattle.ft_model.specs.Report.{report};
 ghost use Rattle.ft_model.specs.Rows.Common.{echo, server, IsRefused};
 ghost use Rattle.ft_model.specs.Rows.FirstPath;
 ghost use Rattle.ft_model.specs.Rows.CrashAfterLogged;
 ghost use Rattle.ft_model.specs.Rows.Closing;
 ghost use Rattle.ft_model.specs.Rows.ZeroWindow;
+ghost use Rattle.ft_model.specs.Rows.ZeroWindowTrace;
 ghost use Rattle.ft_model.specs.Rows.CrashBeforeSynAck;
 ghost use Rattle.ft_model.specs.Rows.ClientKnowsMore;
 ghost use Rattle.ft_model.specs.Rows.SegmentWhileRestarting;
@@ -69,4 +74,36 @@ pub fn wrong_acknowledgements_are_refused()
 pub fn early_packets_are_refused()
     ensures output { IsRefused (FirstPath.node_live FirstPath.open_point) FirstPath.text_comes FirstPath.released_early }
     ensures syn_ack { IsRefused (FirstPath.node_at (Serving 0 [])) FirstPath.syn_comes (FirstPath.packet_6 ∷ []) }
+{}
+
+/// A client without room is probed with the FIN where no byte waits in front of it.
+pub fn fin_probe_is_lawful()
+    ensures { Lawful echo server 1 5000 (hello (booted server 1 5000)) ZeroWindow.fin_turns }
+{}
+
+/// A tick sends the unanswered Reads again by index, and not out of order.
+pub fn turned_reads_are_refused()
+    ensures { IsRefused (FirstPath.node_live FirstPath.twice_read_point) Tick_comes FirstPath.reads_turned }
+{}
+
+/// A client without room gets no output past its edge but the probe, of one byte, when the timer expires, and not earlier; and it gets that.
+pub fn wrong_probes_are_refused()
+    ensures past_the_edge { IsRefused ZeroWindow.probe_6.node ZeroWindow.probe_7.input ZeroWindow.past_the_edge }
+    ensures none { IsRefused ZeroWindow.probe_7.node Tick_comes [] }
+    ensures wide { IsRefused ZeroWindow.probe_7.node Tick_comes ZeroWindow.wide_probe }
+    ensures early { IsRefused ZeroWindow.probe_8.node Tick_comes ZeroWindow.probe_8.sent }
+{}
+
+/// While a server fetches, a client whose entry has come is neither reset nor left without an answer; and the turn of the last answer tells it
+/// that the server serves again.
+pub fn wrong_restarts_are_refused()
+    ensures reset { IsRefused SegmentWhileRestarting.restart_2.node SegmentWhileRestarting.restart_3.input SegmentWhileRestarting.reset_meanwhile }
+    ensures silent { IsRefused SegmentWhileRestarting.restart_2.node SegmentWhileRestarting.restart_3.input [] }
+    ensures restarting { IsRefused SegmentWhileRestarting.restart_4.node SegmentWhileRestarting.restart_5.input [] }
+{}
+
+/// The row with a client without room, whole, is a legal trace of its schedule, and its report has these lines.
+pub fn zero_window_is_legal()
+    ensures legal { Legal echo ZeroWindowTrace.schedule ZeroWindowTrace.trace }
+    ensures told { report ZeroWindowTrace.schedule ZeroWindowTrace.trace ≡ concat ZeroWindowTrace.report_lines }
 {}

@@ -1,6 +1,6 @@
 -- The way of a packet depends on the clients' keys alone.
-use Rattle.std.proofs.Common.{◌≡◌, ◌∙◌, ap, ℕ, suc, ◌+◌, Bool, cond, not, nat_lt, Some, None, List, [], ◌∷◌, ◌++◌, length, map, refl}
-use Rattle.std.specs.List.{prefix_len, position}
+use Rattle.std.proofs.Common.{◌≡◌, ◌∙◌, ap, ℕ, suc, ◌+◌, cond, not, nat_lt, Some, None, List, [], ◌∷◌, ◌++◌, length, map, refl}
+use Rattle.std.specs.List.{prefix_len}
 use Rattle.std.specs.Option.{option_map_or}
 use Rattle.ft_io.specs.declared.Key.{Key}
 use Rattle.ft_io.specs.Key.{key_eq}

@@ -1,5 +1,6 @@
 -- A client's move is what may happen in the world of the definitions.
-use Rattle.std.proofs.Common.{◌≡◌, ◌∙◌, sym, ap, subst, ℕ, ◌+◌, ◌-◌, ◌<◌, ◌≤◌, ◌^◌, Bool, true, false, ◌&&◌, cond, Option, None, Some, List, [], ◌∷◌, ◌++◌, map, length, refl, arith, zero, suc, slice_get, get_or, Result, Ok, Err, sub-one}
+use Rattle.std.proofs.Common.{◌≡◌, ◌∙◌, sym, ap, subst, ℕ, ◌-◌, ◌<◌, ◌≤◌, ◌^◌, Bool, true, false, cond, None, Some, List, [], ◌∷◌, ◌++◌, map, length, refl, arith, zero, suc, slice_get, get_or, Result, Ok, Err, sub-one}
+use Rattle.std.proofs.lemmas.Bool.{lt-ltb}
 use Rattle.std.proofs.Math.ListN.{set, length-set}
 use Rattle.std.specs.List.{AllByRecursion}
 use Rattle.ft_io.specs.declared.Addr.{Addr}
@@ -7,16 +8,15 @@ use Rattle.ft_io.specs.declared.Key.{Key}
 use Rattle.ft_io.specs.Key.{key_eq}
 use Rattle.server_trait.specs.Service.{Machine}
 use Rattle.seq_arith.specs.Packet.{Segment}
-use Rattle.ft_model.specs.Client.{Client, Move, move_of, window_of, refusal_of_move, suits_phase, suits_range, may_move, segment_of, moved, IsMove}
+use Rattle.ft_model.specs.Client.{Client, Move, move_of, window_of, refusal_of_move, may_move, may_announce, segment_of, moved}
 use Rattle.ft_model.specs.Client.Move.{Syn, Text, Acknowledge}
 use Rattle.ft_model.specs.Network.{Packet}
 use Rattle.ft_model.specs.Network.Packet.{To_server}
 use Rattle.ft_model.specs.World.{World as Seen, with_client, client_at, Moves, Happens}
-use Rattle.ft_model.specs.Legal.{refusal, refusal_of_client, mover_of, IsScripted}
+use Rattle.ft_model.specs.Legal.{refusal, refusal_of_client, mover_of}
 use Rattle.net_schedule.specs.Played.{is_move}
 use Rattle.ft_model.specs.declared.event.Event.{Event}
 use Rattle.ft_model.specs.declared.event.Event.TheVariants.{Boot, Crash, Tick, Deliver, Flip, Begin, Send, Fin, Ack, Reset}
-use Rattle.ft_model.specs.declared.event.EventWhy.{EventWhy}
 use Rattle.net_schedule.specs.Moving.{Makes, IsRefusal, step_end}
 use Rattle.net_schedule.specs.declared.scripted_client.MoveEnd.{MoveEnd}
 use Rattle.net_schedule.specs.declared.scripted_client.MoveEnd.TheVariants.{NoMemory, Refused}
@@ -83,6 +83,26 @@ module _ {State : Type 0} (service : Machine State) where
   of_stage server key client (Fin n) move i e p = cc
   of_stage server key client (Reset n) move i e p = cc
 
+  -- a move of this stage isn't a RST, so it may announce its window
+  announces : (client : Client) (event : Event) (move : Move) → is_move event ≡ true → move_of event ≡ Some move
+      → window_of client event < 2 ^ 16 → may_announce move (window_of client event) ≡ true
+  announces client (Begin n window) move i e h =
+      let m : Syn None ≡ move = cc in
+      subst (λ x. may_announce x window ≡ true) m (lt-ltb window (2 ^ 16) h)
+  announces client (Send n from len) move i e h =
+      let m : Text from len ≡ move = cc in
+      subst (λ x. may_announce x (window_of client (Send n from len)) ≡ true) m (lt-ltb (window_of client (Send n from len)) (2 ^ 16) h)
+  announces client (Ack n window) move i e h =
+      let m : Acknowledge ≡ move = cc in
+      subst (λ x. may_announce x window ≡ true) m (lt-ltb window (2 ^ 16) h)
+  announces client (Boot boot isn) move i e h = cc
+  announces client Crash move i e h = cc
+  announces client Tick move i e h = cc
+  announces client (Deliver n) move i e h = cc
+  announces client (Flip n bit) move i e h = cc
+  announces client (Fin n) move i e h = cc
+  announces client (Reset n) move i e h = cc
+
   happen : (v after : Seen) (event : Event) (sent : List Packet) → is_move event ≡ true → Moves v (mover_of event) sent after → Happens service v event sent after
   happen v after (Begin n window) sent i m = m
   happen v after (Send n from len) sent i m = m
@@ -124,6 +144,12 @@ module _ {State : Type 0} (service : Machine State) where
       let same : (cond (key_eq c.key key) later c).key ≡ c.key = head_key key later c e in
       ap (λ k. k ∷ map (λ d. d.key) (with_client key (λ _. later) clients)) same ∙ ap (λ ks. c.key ∷ ks) (moved_keys key later clients e)
 
+  -- the packet is sent, and the client stands as after the move
+  abbrev IsPlayedBy : Seen → Event → List Packet → List Client → Client → Move → Type 0
+  IsPlayedBy v event sent clients x move =
+      (sent ≡ To_server (segment_of x move (window_of x event)) ∷ [])
+      × (clients ≡ with_client x.key (λ _. moved x move (window_of x event)) v.clients)
+
   pub client_moves : (w w' : Kept State) (v : Seen) (event : Event) (client later : Client) (segment : Segment) → WorldStands service w v → is_move event ≡ true
       → client_at w.clients (mover_of event) ≡ Some client → Makes client event segment later
       → w' ≡ record w { clients = set w.clients (mover_of event - 1) later; packets = w.packets ++ To_server segment ∷ [] } → Advances service v event w'
@@ -142,15 +168,16 @@ module _ {State : Type 0} (service : Machine State) where
         scripted = λ c move h k.
             let same : client ≡ c = cc in
             let made : m.move ≡ move = cc in
-            subst (λ x. To_server segment ∷ [] ≡ To_server (segment_of x move (window_of x event)) ∷ []) same
-            (subst (λ x. To_server segment ∷ [] ≡ To_server (segment_of client x (window_of client event)) ∷ []) made (ap (λ x. To_server x ∷ []) m.segment_is));
+            subst (λ x. IsPlayedBy v event (To_server segment ∷ []) world.clients x move) same
+            (subst (λ x. IsPlayedBy v event (To_server segment ∷ []) world.clients client x) made
+            (ap (λ x. To_server x ∷ []) m.segment_is, ap (λ x. with_client client.key (λ _. x) v.clients) m.after_is));
         happens = happen v world event (To_server segment ∷ []) i
             (record {
               client = client;
               segment = segment;
               later = later;
               is_there = ce;
-              move = record { move = m.move; window = window_of client event; may = may client m.move m.allowed; fits = m.fits; segment_is = m.segment_is; after_is = m.after_is };
+              move = record { move = m.move; window = window_of client event; may = may client m.move m.allowed; fits = announces client event m.move i m.asked m.fits; segment_is = m.segment_is; after_is = m.after_is };
               sent_is = refl;
               after_is = refl;
             });

@@ -1,5 +1,5 @@
 -- A packet by its number, among packets seen as those of the definitions.
-use Rattle.std.proofs.Common.{◌≡◌, sym, ℕ, zero, suc, option_map, List, map, slice_get, refl}
+use Rattle.std.proofs.Common.{◌≡◌, sym, ℕ, zero, suc, option_map, List, map, refl}
 use Rattle.std.proofs.lemmas.Option.{slice_get-map}
 use Rattle.ft_model.specs.Network.{Packet, packet_at}
 use Rattle.net_schedule.specs.AtNumber.{at_number}

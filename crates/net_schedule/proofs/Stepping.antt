@@ -1,5 +1,5 @@
 -- What each event does to the code's world is what may happen in the world of the definitions at which it stands.
-use Rattle.std.proofs.Common.{◌≡◌, ℤ, pos, ◌==◌, ◌&&◌, ◌||◌, not, ◌∙◌, sym, ap, subst, ℕ, ◌+◌, ◌<◌, ◌≤◌, ◌^◌, Bool, true, false, Option, None, Some, List, [], ◌∷◌, ◌++◌, length, map, nat_le, is_some, refl, arith, cond, option_map, append-nil, zero, suc, slice_get, Result, Ok, Err, ◌-◌, length-append}
+use Rattle.std.proofs.Common.{◌≡◌, ℤ, pos, ◌==◌, ◌&&◌, ◌||◌, not, ◌∙◌, sym, ap, subst, ℕ, ◌+◌, ◌<◌, ◌≤◌, Bool, true, false, Option, None, Some, List, [], ◌∷◌, ◌++◌, length, map, nat_le, is_some, refl, arith, cond, option_map, append-nil, zero, suc, slice_get, Result, Ok, Err, ◌-◌, length-append}
 use Rattle.std.specs.List.{AllByRecursion}
 use Rattle.std.specs.Option.{option_to_list}
 use Rattle.ft_io.specs.declared.Addr.{Addr}
@@ -8,6 +8,7 @@ use Rattle.server_trait.specs.Service.{Machine, Served, machine}
 use Rattle.seq_arith.specs.Packet.{Segment, has_syn, has_rst, has_ack}
 use Rattle.seq_arith.specs.Message.{Message}
 use Rattle.std.proofs.lemmas.List.{length-map}
+use Rattle.std.proofs.lemmas.Option.{none-some}
 use Rattle.ft_io.specs.Key.{key_eq}
 use Rattle.ft_model.specs.Offset.{first_of, ack_of, length_of}
 use Rattle.seq_arith.specs.Number.{number_at}
@@ -23,7 +24,7 @@ use Rattle.ft_model.specs.Node.{Node, Input, booted}
 use Rattle.ft_model.specs.Node.Input.{Packet_comes, Message_comes}
 use Rattle.ft_model.specs.Lawful.{hello}
 use Rattle.ft_model.specs.World.{World as Seen, with_client, ServerTurn}
-use Rattle.ft_model.specs.Legal.{refusal, IsScripted}
+use Rattle.ft_model.specs.Legal.{IsScripted}
 use Rattle.ft_model.specs.declared.event.Event.{Event}
 use Rattle.ft_model.specs.declared.event.Event.TheVariants.{Boot, Deliver}
 use Rattle.net_schedule.specs.Server.{Server, ServerStands, ServerStarts, ServerActs, IsOfStage, ClosesAtEnd}
@@ -153,8 +154,8 @@ all_fine server key (p ∷ ps) h = (fine server key p h.0, all_fine server key p
 
 module _ {State : Type 0} (service : Machine State) where
   -- no move is asked for where the event isn't a client's
-  no_move : (v : Seen) (n : ℕ) (sent : List Packet) → IsScripted v (Deliver n) sent
-  no_move v n sent client move h k = cc
+  no_move : (v : Seen) (n : ℕ) (sent : List Packet) (after : Seen) → IsScripted v (Deliver n) sent after
+  no_move v n sent after client move h k = absurd (none-some move k)
 
   -- a boot that the events' tests allow
   pub boots : (w w' : Kept State) (v : Seen) (boot isn : ℕ) (s : Server State) (more : List Packet) → WorldStands service w v → w.node ≡ None → w.boot < boot
@@ -170,7 +171,7 @@ module _ {State : Type 0} (service : Machine State) where
         sent = hello node;
         world = record v { boot = boot; node = Some node; packets = v.packets ++ hello node };
         allowed = rw vn (rw q refl);
-        scripted = λ client move h k. cc;
+        scripted = λ client move h k. absurd (none-some move k);
         happens = (vn, low, refl, refl);
         stands = record {
           key = st.key;
@@ -200,7 +201,7 @@ module _ {State : Type 0} (service : Machine State) where
         sent = [];
         world = record v { clients = with_client (destination_of segment) (λ c. received c segment) v.clients; packets = v.packets ++ [] };
         allowed = rw pe refl;
-        scripted = no_move v n [];
+        scripted = no_move v n [] (record v { clients = with_client (destination_of segment) (λ c. received c segment) v.clients; packets = v.packets ++ [] });
         happens = (To_client segment, pe, (refl, refl));
         stands = record {
           key = st.key;
@@ -233,7 +234,7 @@ module _ {State : Type 0} (service : Machine State) where
         sent = answer;
         world = record v { log = log_after v.log message; packets = v.packets ++ answer };
         allowed = rw pe refl;
-        scripted = no_move v n answer;
+        scripted = no_move v n answer (record v { log = log_after v.log message; packets = v.packets ++ answer });
         happens = (To_logger message, pe, (refl, refl));
         stands = record {
           key = st.key;
@@ -282,7 +283,7 @@ module _ {State : Type 0} (service : Machine State) where
         sent = [];
         world = record v { node = v.node; packets = v.packets ++ [] };
         allowed = rw pe refl;
-        scripted = no_move v n [];
+        scripted = no_move v n [] (record v { node = v.node; packets = v.packets ++ [] });
         happens = (To_server segment, pe, (subst (λ o. ServerTurn service (Packet_comes segment) o [] o) (sym vn) (refl, refl), refl));
         stands = none_acts w v st;
         grew = refl;
@@ -298,7 +299,7 @@ module _ {State : Type 0} (service : Machine State) where
         sent = [];
         world = record v { node = v.node; packets = v.packets ++ [] };
         allowed = rw pe refl;
-        scripted = no_move v n [];
+        scripted = no_move v n [] (record v { node = v.node; packets = v.packets ++ [] });
         happens = (From_logger message, pe, (subst (λ o. ServerTurn service (Message_comes message) o [] o) (sym vn) (refl, refl), refl));
         stands = none_acts w v st;
         grew = refl;
@@ -343,7 +344,7 @@ module _ {State : Type 0} (service : Machine State) where
         sent = a.sent;
         world = record v { node = Some a.later; packets = v.packets ++ a.sent };
         allowed = rw pe refl;
-        scripted = no_move v n a.sent;
+        scripted = no_move v n a.sent (record v { node = Some a.later; packets = v.packets ++ a.sent });
         happens = (To_server segment, pe, (subst (λ o. ServerTurn service (Packet_comes segment) o a.sent (Some a.later)) (sym u.1) (a.later, refl, a.turn), refl));
         stands = acts_on w w' v (Packet_comes segment) s' u.0 more st u.1 a same e';
         grew = refl;
@@ -363,7 +364,7 @@ module _ {State : Type 0} (service : Machine State) where
         sent = a.sent;
         world = record v { node = Some a.later; packets = v.packets ++ a.sent };
         allowed = rw pe refl;
-        scripted = no_move v n a.sent;
+        scripted = no_move v n a.sent (record v { node = Some a.later; packets = v.packets ++ a.sent });
         happens = (From_logger message, pe, (subst (λ o. ServerTurn service (Message_comes message) o a.sent (Some a.later)) (sym u.1) (a.later, refl, a.turn), refl));
         stands = acts_on w w' v (Message_comes message) s' u.0 more st u.1 a same e';
         grew = refl;

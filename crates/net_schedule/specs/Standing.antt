@@ -1,5 +1,5 @@
 -- The world of the code and a world of the definitions at which it stands, and what a step does to both.
-use Rattle.std.specs.Prelude.{◌≡◌, ℕ, ◌+◌, ◌<◌, ◌≤◌, ◌^◌, Bool, true, false, Option, None, Some, List, [], ◌++◌, length, map}
+use Rattle.std.specs.Prelude.{◌≡◌, ℕ, ◌+◌, ◌<◌, ◌≤◌, Option, None, Some, List, ◌++◌, length, map}
 use Rattle.std.specs.List.{AllByRecursion}
 use Rattle.ft_io.specs.declared.Addr.{Addr}
 use Rattle.ft_io.specs.declared.Key.{Key}
@@ -7,12 +7,11 @@ use Rattle.server_trait.specs.Service.{Machine}
 use Rattle.ft_model.specs.Client.{Client}
 use Rattle.ft_model.specs.Log.{Log}
 use Rattle.ft_model.specs.Network.{Packet}
-use Rattle.ft_model.specs.Network.Packet.{To_server, To_client, To_logger, From_logger}
+use Rattle.ft_model.specs.Network.Packet.{To_server}
 use Rattle.ft_model.specs.Node.{Node}
 use Rattle.ft_model.specs.World.{World as Seen, Happens}
 use Rattle.ft_model.specs.Legal.{refusal, IsScripted}
 use Rattle.ft_model.specs.declared.event.Event.{Event}
-use Rattle.ft_model.specs.declared.event.Event.TheVariants.{Boot, Crash, Tick, Deliver, Flip, Begin, Send, Fin, Ack, Reset}
 use Rattle.net_schedule.specs.Server.{Server, ServerStands, IsOfStage, ClosesAtEnd}
 use Rattle.net_schedule.specs.declared.end.StepEnd.{StepEnd}
 use Rattle.net_schedule.specs.declared.end.StepEnd.TheVariants.{NoMemory, BadEvent, PacketLimit}
@@ -65,7 +64,7 @@ pub record Advances {State : Type 0} (service : Machine State) (v : Seen) (event
   pub sent : List Packet
   pub world : Seen
   pub allowed : refusal v event ≡ None
-  pub scripted : IsScripted v event sent
+  pub scripted : IsScripted v event sent world
   pub happens : Happens service v event sent world
   pub stands : WorldStands service w world
   pub grew : world.packets ≡ v.packets ++ sent

@@ -171,11 +171,12 @@ moment_16 = moment (Deliver 14) (packet_15 ∷ []) (record moment_15.world { nod
 abbrev pub moment_17 : Moment
 moment_17 = moment (Deliver 15) [] (record moment_16.world { clients = served_client ∷ [] })
 
--- the whole trace, newest moment first
+-- the trace up to the open connection, and the whole one, newest moment first
+abbrev pub opening_trace : List Moment
+opening_trace = moment_10 ∷ moment_9 ∷ moment_8 ∷ moment_7 ∷ moment_6 ∷ moment_5 ∷ moment_4 ∷ moment_3 ∷ moment_2 ∷ moment_1 ∷ []
+
 abbrev pub trace : List Moment
-trace =
-    moment_17 ∷ moment_16 ∷ moment_15 ∷ moment_14 ∷ moment_13 ∷ moment_12 ∷ moment_11 ∷ moment_10 ∷ moment_9 ∷ moment_8 ∷ moment_7 ∷ moment_6
-    ∷ moment_5 ∷ moment_4 ∷ moment_3 ∷ moment_2 ∷ moment_1 ∷ []
+trace = moment_17 ∷ moment_16 ∷ moment_15 ∷ moment_14 ∷ moment_13 ∷ moment_12 ∷ moment_11 ∷ opening_trace
 
 -- Wrong turns. In the turn of the text: the Data is left out, ..
 abbrev pub without_copy : List Packet
@@ -210,3 +211,13 @@ text_comes = Packet_comes (client_segment 16 1001 5001 65535 hello_text)
 
 abbrev pub stable_comes : Input
 stable_comes = Message_comes (record { boot = 1; body = StableMsg (kept_with 5 false 0) })
+
+-- the connection when the text was read in two pieces, and the Reads that a tick sends again: out of order is wrong
+abbrev pub twice_read_point : Point
+twice_read_point = record taken_point { lengths = 2 ∷ 3 ∷ [] }
+
+abbrev pub reads_again : List Packet
+reads_again = to_log 1 (ReadMsg key 0 2) ∷ to_log 1 (ReadMsg key 1 3) ∷ []
+
+abbrev pub reads_turned : List Packet
+reads_turned = to_log 1 (ReadMsg key 1 3) ∷ to_log 1 (ReadMsg key 0 2) ∷ []

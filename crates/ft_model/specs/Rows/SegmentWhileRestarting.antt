@@ -3,6 +3,7 @@ use Rattle.std.specs.Prelude.{pos, true, false, None, List, [], ◌∷◌}
 use Rattle.seq_arith.specs.Packet.{Segment}
 use Rattle.seq_arith.specs.Message.{EntryHead}
 use Rattle.seq_arith.specs.Message.Body.{SummaryMsg, ListMsg, EntryMsg, BytesMsg, PartMsg, CutsMsg, LensMsg, DataMsg, ReadMsg}
+use Rattle.ft_model.specs.Network.{Packet}
 use Rattle.ft_model.specs.Point.{Point}
 use Rattle.ft_model.specs.Restart.{Fetched}
 use Rattle.ft_model.specs.Lawful.{Turn}
@@ -73,3 +74,7 @@ restart_6 = on_segment more (to_client 16 5001 1006 65535 None hello_text ∷ to
 -- the second incarnation's turns, newest first
 abbrev pub restart_turns : List Turn
 restart_turns = restart_6 ∷ restart_5 ∷ restart_4 ∷ restart_3 ∷ restart_2 ∷ restart_1 ∷ []
+
+-- a wrong turn: the segment that comes meanwhile is reset, as one of an unknown client would be
+abbrev pub reset_meanwhile : List Packet
+reset_meanwhile = to_client 4 5001 0 0 None [] ∷ []

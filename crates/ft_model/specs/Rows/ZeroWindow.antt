@@ -2,6 +2,7 @@
 use Rattle.std.specs.Prelude.{ℕ, pos, true, false, Some, None, List, [], ◌∷◌}
 use Rattle.seq_arith.specs.Packet.{Segment}
 use Rattle.seq_arith.specs.Message.Body.{SummaryMsg, OpenMsg, OpenedMsg, DataMsg, StableMsg, ReadMsg, ReadsMsg}
+use Rattle.ft_model.specs.Network.{Packet}
 use Rattle.ft_model.specs.Point.{Point}
 use Rattle.ft_model.specs.Opening.{point_opened}
 use Rattle.ft_model.specs.Lawful.{Turn}
@@ -95,3 +96,63 @@ probe_15 = on_tick (to_client 16 5001 1006 65535 None hello_text ∷ []) (servin
 -- the turns, newest first
 abbrev pub probe_turns : List Turn
 probe_turns = probe_15 ∷ probe_14 ∷ probe_13 ∷ probe_12 ∷ probe_11 ∷ probe_10 ∷ probe_9 ∷ probe_8 ∷ probe_7 ∷ probe_6 ∷ probe_5 ∷ probe_4 ∷ probe_3 ∷ probe_2 ∷ probe_1 ∷ []
+
+-- The client ends its stream while it has no room: the server's own FIN, behind which no byte waits, is the probe
+abbrev pub fin : Segment
+fin = client_segment 17 1001 5001 0 []
+
+abbrev pub last_ack : Segment
+last_ack = client_segment 16 1002 5002 0 []
+
+-- the connection when it has taken the FIN, hears that it is logged, has a FIN of its own that waits, has probed, and is over
+abbrev pub fin_taken : Point
+fin_taken = record opened { fin = true; lengths = 0 ∷ [] }
+
+abbrev pub fin_logged : Point
+fin_logged = record fin_taken { answered = 1 }
+
+abbrev pub fin_waiting : Point
+fin_waiting = record fin_logged { reads_answered = 1; rest = 1 }
+
+abbrev pub fin_probed : (interval rest : ℕ) → Point
+fin_probed = λ interval rest. record fin_waiting { sent = 1; interval = interval; rest = rest }
+
+abbrev pub over : Point
+over = record (fin_probed 1 0) { una = 1; edge = 1; wl1 = pos 1; wl2 = 1 }
+
+abbrev pub fin_5 : Turn
+fin_5 = on_segment fin (to_client 16 5001 1001 65535 None [] ∷ to_log 1 (DataMsg (part_with 0 0 true [])) ∷ to_log 1 (ReadMsg key 0 0) ∷ []) (serving_at 1 5000 fin_taken)
+
+abbrev pub fin_6 : Turn
+fin_6 = on_message 1 (StableMsg (kept_with 0 true 0)) (to_client 16 5001 1002 65535 None [] ∷ []) (serving_at 1 5000 fin_logged)
+
+-- the FIN may leave, and has no room
+abbrev pub fin_7 : Turn
+fin_7 = on_message 1 (ReadsMsg (kept_with 0 true 1)) [] (serving_at 1 5000 fin_waiting)
+
+-- a probe: the FIN, one unit beyond the edge
+abbrev pub fin_8 : Turn
+fin_8 = on_tick (to_client 17 5001 1002 65535 None [] ∷ []) (serving_at 1 5000 (fin_probed 2 2))
+
+abbrev pub fin_9 : Turn
+fin_9 = on_tick [] (serving_at 1 5000 (fin_probed 2 1))
+
+-- the same FIN again
+abbrev pub fin_10 : Turn
+fin_10 = on_tick (to_client 17 5001 1002 65535 None [] ∷ []) (serving_at 1 5000 (fin_probed 4 4))
+
+-- the client acknowledges it, and the log is told
+abbrev pub fin_11 : Turn
+fin_11 = on_segment last_ack (to_log 1 (DataMsg (part_with 0 1 false [])) ∷ []) (serving_at 1 5000 over)
+
+-- the turns, newest first
+abbrev pub fin_turns : List Turn
+fin_turns = fin_11 ∷ fin_10 ∷ fin_9 ∷ fin_8 ∷ fin_7 ∷ fin_6 ∷ fin_5 ∷ probe_4 ∷ probe_3 ∷ probe_2 ∷ probe_1 ∷ []
+
+-- Wrong turns. When the output may leave and has no room, it leaves ..
+abbrev pub past_the_edge : List Packet
+past_the_edge = to_client 16 5001 1006 65535 None hello_text ∷ []
+
+-- .. or the probe has two bytes
+abbrev pub wide_probe : List Packet
+wide_probe = to_client 16 5001 1006 65535 None (104 ∷ 101 ∷ []) ∷ []

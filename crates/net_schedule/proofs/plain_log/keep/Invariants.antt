@@ -1,4 +1,3 @@
-use Rattle.ft_model.specs.Log.{Entry}
 use Rattle.schedule_text.specs.Packet.{body_of}
 use Rattle.net_schedule.specs.Mapped.{IsMapped}
 use Rattle.net_schedule.specs.Keeping.{kept_in}

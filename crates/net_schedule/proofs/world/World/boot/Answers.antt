@@ -1,4 +1,4 @@
-use Rattle.std.proofs.Common.{◌≡◌, sym, ap, subst, refl, arith, Some, List, map}
+use Rattle.std.proofs.Common.{ap, subst, arith, Some, map}
 use Rattle.server_trait.specs.Service.{machine}
 use Rattle.schedule_text.specs.Packet.{packet_of}
 use Rattle.ft_model.specs.Node.{booted}

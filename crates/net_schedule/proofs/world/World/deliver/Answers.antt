@@ -1,14 +1,10 @@
-use Rattle.std.proofs.Common.{◌≡◌, ◌∙◌, sym, ap, subst, refl, Some, List, ◌++◌, map, option_map}
+use Rattle.std.proofs.Common.{◌∙◌, sym, ap, Some, ◌++◌, map, option_map}
 use Rattle.std.specs.Option.{option_to_list}
-use Rattle.server_trait.specs.Service.{machine}
 use Rattle.schedule_text.specs.Packet.{packet_of, segment_of, message_of}
-use Rattle.ft_model.specs.Log.{log_after, answer_to}
-use Rattle.ft_model.specs.Network.{Packet, packet_at}
+use Rattle.ft_model.specs.Log.{log_after}
+use Rattle.ft_model.specs.Network.{packet_at}
 use Rattle.ft_model.specs.Network.Packet.{From_logger}
-use Rattle.ft_model.specs.Node.Input.{Packet_comes, Message_comes}
 use Rattle.ft_model.specs.declared.event.Event.TheVariants.{Deliver}
-use Rattle.net_schedule.specs.Server.{ServerActs}
-use Rattle.net_schedule.specs.Standing.{Kept}
 use Rattle.net_schedule.proofs.Stepping.{along, client_hears, log_hears, none_hears, none_is_told, server_hears, server_is_told, hears_at, is_told_at}
 use Rattle.net_schedule.proofs.world.World.deliver.Goals as goal
 

@@ -1,4 +1,4 @@
-use Rattle.std.proofs.Common.{◌≡◌, ◌∙◌, sym, ap, subst, arith, ◌-◌, get_or, Some, ◌∷◌, [], map}
+use Rattle.std.proofs.Common.{◌≡◌, ◌∙◌, ap, subst, arith, ◌-◌, get_or, Some, ◌∷◌, [], map}
 use Rattle.std.proofs.Math.ListN.{set}
 use Rattle.std.proofs.lemmas.List.{map-append}
 use Rattle.server_trait.specs.Service.{machine}
@@ -6,7 +6,6 @@ use Rattle.schedule_text.specs.Packet.{packet_of, segment_of}
 use Rattle.schedule_text.specs.declared.packet.Packet.TheVariants.{ToServer}
 use Rattle.ft_model.specs.Legal.{mover_of}
 use Rattle.ft_model.specs.World.{client_at}
-use Rattle.net_schedule.specs.Standing.{WorldStands, EndsStep}
 use Rattle.net_schedule.proofs.Stepping.{along}
 use Rattle.net_schedule.proofs.Moving.{client_moves, client_there, refuses, converted}
 use Rattle.net_schedule.proofs.world.World.make.Goals as goal

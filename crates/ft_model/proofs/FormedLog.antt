@@ -1,0 +1,186 @@
+-- The log keeps what is well formed, and tells nothing else.
+use Rattle.std.proofs.Common.{◌≡◌, ℕ, zero, suc, ◌+◌, ◌-◌, ◌<◌, ◌≤◌, ◌^◌, true, false, ◌==◌, ◌&&◌, ◌||◌, not, nat_lt, nat_le, refl, sym, subst, Option, Some, None, List, [], ◌∷◌, ◌++◌, map, length, take, drop, sum, slice_get, arith, length-append, leb-true, if◌then◌else◌}
+use Rattle.std.specs.List.{AllByRecursion, list_any}
+use Rattle.std.proofs.lemmas.Bool.{leb-false}
+use Rattle.ft_io.specs.declared.Key.{Key}
+use Rattle.ft_io.specs.Key.{key_eq}
+use Rattle.seq_arith.specs.Message.{Numbers, Part, Body, Message}
+use Rattle.seq_arith.specs.Message.Body.{HelloMsg, ListMsg, EntryMsg, BytesMsg, PartMsg, CutsMsg, LensMsg, OpenMsg, DataMsg, StableMsg, ReadMsg, ReadsMsg, DoneMsg, EndedMsg}
+use Rattle.ft_model.specs.Log.{Log, Entry, entry_of, new_entry, opened, with_bytes, with_its_fin, with_part, may_follow, is_next_read, with_read, kept, kept_of, head_of, part_of, lens_of, opened_answer, told}
+use Rattle.ft_model.specs.World.{World}
+use Rattle.ft_model.specs.Readable.{Fits}
+use Rattle.ft_model.proofs.Lists.{of_choice, both, neither, not_true, all_weaker, all_both, all_map, all_append, all_find, all_slice_get, none_is_some, some_is}
+use Rattle.ft_model.proofs.Services.{sum_append, sum_more, prefix_length}
+use Rattle.ft_model.proofs.LogAnswers.{LogWent, kept_boot}
+use Rattle.ft_model.proofs.LogAnswers.LogWent.{ignored, raised, changed}
+use Rattle.ft_model.proofs.Fetching.{on_some, chosen_some}
+use Rattle.ft_model.proofs.Resumed.{length_map}
+use Rattle.ft_model.proofs.Scripts.{EntryFits}
+use Rattle.ft_model.proofs.Faithful.{EntriesFit}
+use Rattle.ft_model.proofs.FaithfulOver.{script_of, isn_of}
+use Rattle.ft_model.proofs.Formed.{AreBytes, bytes_take, bytes_drop, bytes_front, each_within, HasClient, NumbersFormed, KeptFormed, HeadFormed, BodyFormed, StartFormed, EntryFormed}
+
+-- no read has length 0: there are no more of them than bytes
+pub no_zero : (xs : List ℕ) → list_any (λ n. n == 0) xs ≡ false → length xs ≤ sum xs
+no_zero [] e = omega arith
+no_zero (x ∷ xs) e =
+    let parts = neither (x == 0) (list_any (λ n. n == 0) xs) e in
+    let more = sum_more x xs in
+    let rest = no_zero xs parts.1 in
+    let some : 0 < x = grind (arith, parts.0) in
+    omega (arith, more, rest, some)
+
+new_formed : (start : World) (n : Numbers) → NumbersFormed start n → EntryFormed start (new_entry n)
+new_formed start n h = record { key = h.0; sisn = h.2; mss = h.3; acknowledged = omega arith; enough = omega arith; count = omega arith }
+
+part_formed : (start : World) (part : Part) (e : Entry) → part.acked ≤ 2 ^ 31 → EntryFormed start e → EntryFormed start (with_part part e)
+part_formed start part e low h =
+    let more = length-append e.bytes (drop (length e.bytes - part.offset) part.bytes) in
+    let bytes : EntryFormed start (with_bytes part e) =
+    of_choice (EntryFormed start) (e.fin || nat_lt (length e.bytes) part.offset) e _ (λ t. h)
+    (λ t. record { key = h.key; sisn = h.sisn; mss = h.mss; acknowledged = h.acknowledged; enough = omega (arith, more, h.enough); count = h.count }) in
+    let x : Entry = with_bytes part e in
+    let fin : EntryFormed start (with_its_fin part x) =
+    of_choice (EntryFormed start) (part.fin && part.offset + length part.bytes == length x.bytes) (record x { fin = true }) x
+    (λ t. record { key = bytes.key; sisn = bytes.sisn; mss = bytes.mss; acknowledged = bytes.acknowledged; enough = bytes.enough; count = bytes.count }) (λ t. bytes) in
+    record {
+      key = fin.key;
+      sisn = fin.sisn;
+      mss = fin.mss;
+      acknowledged = omega (arith, fin.acknowledged, low);
+      enough = fin.enough;
+      count = fin.count;
+    }
+
+read_formed : (start : World) (index n : ℕ) (e : Entry) → EntryFormed start e → EntryFormed start (with_read index n e)
+read_formed start index n e h =
+    of_choice (EntryFormed start) (is_next_read e index n) (record e { lengths = e.lengths ++ n ∷ [] }) e
+    (λ t. let follows = (both (index == length e.lengths) (may_follow (length e.bytes) e.fin e.lengths n) t).1 in
+    let two = (both (not (list_any (λ k. k == 0) e.lengths) && nat_le (sum e.lengths + n) (length e.bytes)) (nat_lt 0 n || (e.fin && sum e.lengths == length e.bytes)) follows).0 in
+    let parts = both (not (list_any (λ k. k == 0) e.lengths)) (nat_le (sum e.lengths + n) (length e.bytes)) two in
+    let few = no_zero e.lengths (not_true (list_any (λ k. k == 0) e.lengths) parts.0) in
+    let within : sum e.lengths + n ≤ length e.bytes = leb-true _ _ parts.1 in
+    let total = sum_append e.lengths n in
+    let size = length-append e.lengths (n ∷ []) in
+    record { key = h.key; sisn = h.sisn; mss = h.mss; acknowledged = h.acknowledged; enough = omega (arith, total, within); count = omega (arith, total, size, few) })
+    (λ t. h)
+
+done_formed : (start : World) (e : Entry) → EntryFormed start e → EntryFormed start (record e { done = true })
+done_formed start e h = record { key = h.key; sisn = h.sisn; mss = h.mss; acknowledged = h.acknowledged; enough = h.enough; count = h.count }
+
+changed_formed : (start : World) (key : Key) (change : Entry → Entry) (es : List Entry) → ((e : Entry) → EntryFormed start e → EntryFormed start (change e))
+    → AllByRecursion (EntryFormed start) es → AllByRecursion (EntryFormed start) (map (λ e. if key_eq e.key key then change e else e) es)
+changed_formed start key change es f a =
+    all_map (EntryFormed start) (λ e. if key_eq e.key key then change e else e) es
+    (all_weaker (EntryFormed start) _ es (λ e h. of_choice (EntryFormed start) (key_eq e.key key) (change e) e (λ t. f e h) (λ t. h)) a)
+
+-- entries that are well formed, and few
+abbrev pub LogFormed : World → List Entry → Type 0
+LogFormed start entries = AllByRecursion (EntryFormed start) entries × (length entries ≤ 64)
+
+opened_formed : (start : World) (n : Numbers) (log : Log) → NumbersFormed start n → LogFormed start log.entries → LogFormed start (opened n log).entries
+opened_formed start n log h a =
+    of_choice (λ l. LogFormed start l.entries) (list_any (λ e. key_eq e.key n.key) log.entries || nat_le 64 (length log.entries)) log
+    (record log { entries = log.entries ++ new_entry n ∷ [] }) (λ t. a)
+    (λ t. let room : length log.entries < 64 = leb-false _ _ (neither (list_any (λ e. key_eq e.key n.key) log.entries) (nat_le 64 (length log.entries)) t).1 in
+    let size = length-append log.entries (new_entry n ∷ []) in
+    (all_append (EntryFormed start) log.entries (new_entry n ∷ []) a.0 (new_formed start n h, tt), omega (arith, room, size)))
+
+by_key : (start : World) (key : Key) (change : Entry → Entry) (log : Log) → ((e : Entry) → EntryFormed start e → EntryFormed start (change e))
+    → LogFormed start log.entries → LogFormed start (map (λ e. if key_eq e.key key then change e else e) log.entries)
+by_key start key change log f a =
+    let size = length_map (λ (e : Entry). if key_eq e.key key then change e else e) log.entries in
+    (changed_formed start key change log.entries f a.0, omega (arith, size, a.1))
+
+kept_formed : (start : World) (body : Body) (log : Log) → BodyFormed start body → LogFormed start log.entries → LogFormed start (kept body log).entries
+kept_formed start (OpenMsg n) log h a = opened_formed start n log h a
+kept_formed start (DataMsg part) log h a = by_key start part.key (with_part part) log (λ e f. part_formed start part e h.2 f) a
+kept_formed start (ReadMsg key index n) log h a = by_key start key (with_read index n) log (λ e f. read_formed start index n e f) a
+kept_formed start (DoneMsg key) log h a = by_key start key (λ e. record e { done = true }) log (λ e f. done_formed start e f) a
+kept_formed start _ log h a = a
+
+pub log_formed : (start : World) (log : Log) (message : Message) (after : Log) → LogWent log message after → BodyFormed start message.body → Fits message.boot → Fits log.boot
+    → LogFormed start log.entries → LogFormed start after.entries × Fits after.boot
+log_formed start log message after (ignored e) h m b a = subst (λ l. LogFormed start l.entries × Fits l.boot) (sym e) (a, b)
+log_formed start log message after (raised r w e) h m b a = subst (λ l. LogFormed start l.entries × Fits l.boot) (sym e) (a, m)
+log_formed start log message after (changed w e) h m b a =
+    subst (λ l. LogFormed start l.entries × Fits l.boot) (sym e) (kept_formed start message.body log h a, subst Fits (sym (kept_boot message.body log)) b)
+
+-- what an entry tells
+pub record EntryTells (start : World) (e : Entry) : Type 0 where
+  pub formed : EntryFormed start e
+  pub cisn : Fits e.cisn
+  pub short : length e.bytes ≤ 2 ^ 24
+  pub bytes : AreBytes e.bytes
+
+entry_tells : (start : World) → StartFormed start → (e : Entry) → EntryFormed start e → EntryFits (script_of start e.key) (isn_of start e.key) e → EntryTells start e
+entry_tells start s e h f =
+    let number = s.isn e.key in
+    let size = prefix_length e.bytes (script_of start e.key) f.front in
+    let small = s.short e.key in
+    record { formed = h; cisn = omega (arith, number, f.cisn); short = omega (arith, size, small); bytes = bytes_front e.bytes (script_of start e.key) f.front (s.bytes e.key) }
+
+pub entries_tell : (start : World) → StartFormed start → (entries : List Entry) → AllByRecursion (EntryFormed start) entries → EntriesFit (script_of start) (isn_of start) entries
+    → AllByRecursion (EntryTells start) entries
+entries_tell start s entries a f = all_both (EntryFormed start) (λ e. EntryFits (script_of start e.key) (isn_of start e.key) e) (EntryTells start) entries (entry_tells start s) a f
+
+pub head_formed : (start : World) (e : Entry) → EntryTells start e → HeadFormed start (head_of e)
+head_formed start e h = (
+  h.formed.key,
+  h.cisn,
+  h.formed.sisn,
+  h.formed.mss,
+  omega (arith, h.short),
+  omega (arith, h.short, h.formed.enough, h.formed.count),
+  h.formed.acknowledged,
+)
+
+kept_told : (start : World) (e : Entry) → EntryTells start e → KeptFormed start (kept_of e)
+kept_told start e h = (h.formed.key, omega (arith, h.short), omega (arith, h.short, h.formed.enough, h.formed.count))
+
+fits_take : (n : ℕ) (xs : List ℕ) → AllByRecursion Fits xs → AllByRecursion Fits (take n xs)
+fits_take zero xs a = tt
+fits_take (suc n) [] a = tt
+fits_take (suc n) (x ∷ xs) a = (a.0, fits_take n xs a.1)
+
+pub fits_drop : (n : ℕ) (xs : List ℕ) → AllByRecursion Fits xs → AllByRecursion Fits (drop n xs)
+fits_drop zero xs a = a
+fits_drop (suc n) [] a = tt
+fits_drop (suc n) (x ∷ xs) a = fits_drop n xs a.1
+
+lengths_fit : (first n : ℕ) (xs : List ℕ) → AllByRecursion Fits xs → AllByRecursion Fits (take n (drop first xs))
+lengths_fit first n xs a = fits_take n (drop first xs) (fits_drop first xs a)
+
+opened_told : (start : World) (log : Log) (key : Key) (o : Option Entry) (answer : Body) → HasClient start key → AllByRecursion (EntryTells start) log.entries
+    → entry_of key log ≡ o → opened_answer key o ≡ Some answer → BodyFormed start answer
+opened_told start log key (Some e) answer h a found t =
+    let x : EntryTells start e = all_find (EntryTells start) (λ y. key_eq y.key key) log.entries e a found in
+    subst (BodyFormed start) (some_is _ _ t) (x.formed.key, x.cisn, x.formed.sisn, x.formed.mss)
+opened_told start log key None answer h a found t = subst (BodyFormed start) (some_is _ _ t) h
+
+pub told_formed : (start : World) (body : Body) (log : Log) (answer : Body) → BodyFormed start body → length log.entries ≤ 64 → AllByRecursion (EntryTells start) log.entries
+    → told body log ≡ Some answer → BodyFormed start answer
+told_formed start HelloMsg log answer h few a t = subst (BodyFormed start) (some_is _ _ t) (omega (arith, few))
+told_formed start (ListMsg index) log answer h few a t =
+    let o = on_some (slice_get log.entries index) (λ e. Some (EntryMsg index (head_of e))) answer t in
+    subst (BodyFormed start) (some_is _ _ o.2) (h, head_formed start o.0 (all_slice_get (EntryTells start) log.entries index o.0 a o.1))
+told_formed start (BytesMsg key offset) log answer h few a t =
+    let o = on_some (entry_of key log) (λ e. part_of e offset) answer t in
+    let x : EntryTells start o.0 = all_find (EntryTells start) (λ y. key_eq y.key key) log.entries o.0 a o.1 in
+    subst (BodyFormed start) (chosen_some (nat_lt offset (length o.0.bytes)) (PartMsg o.0.key offset (take 1024 (drop offset o.0.bytes))) answer o.2)
+    (x.formed.key, h.1, bytes_take 1024 (drop offset o.0.bytes) (bytes_drop offset o.0.bytes x.bytes))
+told_formed start (CutsMsg key first) log answer h few a t =
+    let o = on_some (entry_of key log) (λ e. lens_of e first) answer t in
+    let x : EntryTells start o.0 = all_find (EntryTells start) (λ y. key_eq y.key key) log.entries o.0 a o.1 in
+    subst (BodyFormed start) (chosen_some (nat_lt first (length o.0.lengths)) (LensMsg o.0.key first (take 512 (drop first o.0.lengths))) answer o.2)
+    (x.formed.key, h.1, lengths_fit first 512 o.0.lengths (each_within o.0.lengths (length o.0.bytes) x.formed.enough (omega (arith, x.short))))
+told_formed start (OpenMsg n) log answer h few a t = opened_told start log n.key (entry_of n.key log) answer h.0 a refl t
+told_formed start (DataMsg part) log answer h few a t =
+    let o = on_some (entry_of part.key log) (λ e. Some (StableMsg (kept_of e))) answer t in
+    subst (BodyFormed start) (some_is _ _ o.2) (kept_told start o.0 (all_find (EntryTells start) (λ y. key_eq y.key part.key) log.entries o.0 a o.1))
+told_formed start (ReadMsg key index n) log answer h few a t =
+    let o = on_some (entry_of key log) (λ e. Some (ReadsMsg (kept_of e))) answer t in
+    subst (BodyFormed start) (some_is _ _ o.2) (kept_told start o.0 (all_find (EntryTells start) (λ y. key_eq y.key key) log.entries o.0 a o.1))
+told_formed start (DoneMsg key) log answer h few a t =
+    let o = on_some (entry_of key log) (λ e. Some (EndedMsg key)) answer t in subst (BodyFormed start) (some_is _ _ o.2) h
+told_formed start _ log answer h few a t = none_is_some answer t

@@ -1,0 +1,39 @@
+-- What becomes of a schedule when its events are played in order: all are done, or one is refused, or more packets are sent than may be.
+use Rattle.std.specs.Prelude.{◌≡◌, ℕ, ◌<◌, ◌≤◌, Some, List, ◌∷◌, ◌++◌, length}
+use Rattle.server_trait.specs.Service.{Machine}
+use Rattle.ft_model.specs.World.{Moment, world_after}
+use Rattle.ft_model.specs.Legal.{start_of, refusal, IsLegalFor, Legal}
+use Rattle.ft_model.specs.declared.event.Event.{Event}
+use Rattle.ft_model.specs.declared.event.EventWhy.{EventWhy}
+use Rattle.ft_model.specs.declared.schedule.Schedule.{Schedule}
+
+-- all packets that were sent up to the end of a trace
+abbrev pub packets_sent : Schedule → List Moment → ℕ
+packets_sent schedule trace = length (world_after (start_of schedule) trace).packets
+
+-- every event is allowed in its turn, and no more packets are sent than may be
+pub record IsWhole {State : Type 0} (service : Machine State) (schedule : Schedule) : Type 0 where
+  pub trace : List Moment
+  pub legal : Legal service schedule trace
+  pub within : packets_sent schedule trace ≤ 200000
+
+-- after these first events the next one is refused, for this cause
+pub record IsRefused {State : Type 0} (service : Machine State) (schedule : Schedule) : Type 0 where
+  pub played : List Event
+  pub event : Event
+  pub others : List Event
+  pub why : EventWhy
+  pub trace : List Moment
+  pub events : schedule.events ≡ played ++ event ∷ others
+  pub legal : IsLegalFor service schedule played trace
+  pub within : packets_sent schedule trace ≤ 200000
+  pub refused : refusal (world_after (start_of schedule) trace) event ≡ Some why
+
+-- with these first events more packets are sent than may be
+pub record IsPastPackets {State : Type 0} (service : Machine State) (schedule : Schedule) : Type 0 where
+  pub played : List Event
+  pub others : List Event
+  pub trace : List Moment
+  pub events : schedule.events ≡ played ++ others
+  pub legal : IsLegalFor service schedule played trace
+  pub over : 200000 < packets_sent schedule trace

@@ -1,0 +1,53 @@
+//! What some of the laws are needed for: traces in which one moment is as a weaker law would have it, and what becomes of the client.
+//! Nothing here runs; each function is a theorem.
+
+ghost use Rattle.std.specs.Prelude.{◌≡◌, ℕ, false, List, [], ◌∷◌, ◌++◌, map};
+ghost use Rattle.std.specs.List.{AllByRecursion};
+ghost use Rattle.ft_model.specs.Client.{may_move};
+ghost use Rattle.ft_model.specs.Client.Move.{Text};
+ghost use Rattle.ft_model.specs.Growth.{logged_units};
+ghost use Rattle.ft_model.specs.Log.{log_after};
+ghost use Rattle.ft_model.specs.Masked.{SeesFront, Masked};
+ghost use Rattle.ft_model.specs.Resets.{ResetsNoLogged};
+ghost use Rattle.ft_model.specs.Weakened.{IsWrongOnce};
+ghost use Rattle.ft_model.specs.declared.phase.Phase.TheVariants.{Reset};
+ghost use Rattle.ft_model.specs.Rows.Common.{echo, key};
+ghost use Rattle.ft_model.specs.Rows.FirstPath;
+ghost use Rattle.ft_model.specs.Rows.EarlyAcknowledgement;
+ghost use Rattle.ft_model.specs.Rows.ResetWhileRestarting;
+ghost use Rattle.ft_model.specs.Rows.UnloggedRead;
+ghost use Rattle.ft_model.specs.Rows.UnloggedRead.{meter};
+
+/// Where TCP's own acknowledgement is passed on, a crash loses bytes: the log has none of them, the Data that carries them is fenced off, and
+/// the client may not send them again. The law Acknowledgement refuses the turn.
+pub fn passed_acknowledgements_lose_bytes()
+    ensures wrong_once { IsWrongOnce echo FirstPath.start EarlyAcknowledgement.later EarlyAcknowledgement.wrong EarlyAcknowledgement.earlier }
+    ensures not_masked { Masked echo FirstPath.start (EarlyAcknowledgement.later ++ EarlyAcknowledgement.wrong ∷ EarlyAcknowledgement.earlier) → ⊥ }
+    ensures not_logged { logged_units key EarlyAcknowledgement.moment_16.world.log ≡ 0 }
+    ensures fenced { log_after EarlyAcknowledgement.moment_16.world.log EarlyAcknowledgement.data_message ≡ EarlyAcknowledgement.moment_16.world.log }
+    ensures not_sent_again { AllByRecursion (λ client. (len : ℕ) → may_move client (Text 0 len) ≡ false) EarlyAcknowledgement.moment_16.world.clients }
+{}
+
+/// Where a server answers as CLOSED while it fetches the log, a client loses its connection although that is logged. The law Restart refuses
+/// the turn.
+pub fn resets_while_restarting_lose_connections()
+    ensures wrong_once { IsWrongOnce echo FirstPath.start ResetWhileRestarting.later ResetWhileRestarting.wrong ResetWhileRestarting.earlier }
+    ensures logged { AllByRecursion (ResetsNoLogged ResetWhileRestarting.wrong.world.log) ResetWhileRestarting.wrong.sent → ⊥ }
+    ensures reset { map (λ client. client.phase) ResetWhileRestarting.moment_24.world.clients ≡ Reset ∷ [] }
+{}
+
+/// Where output leaves before its read is logged, and a crash takes that read away, the client accepts what isn't the output of the logged reads:
+/// these are cut otherwise. It shows at the end of the trace too, when the later read is logged. The law Output refuses the turn.
+pub fn early_output_depends_on_lost_reads()
+    ensures wrong_once { IsWrongOnce meter FirstPath.start UnloggedRead.after_early (UnloggedRead.moment_12 UnloggedRead.early) UnloggedRead.sent_trace }
+    ensures seen { AllByRecursion (SeesFront meter UnloggedRead.early_23.world.log) UnloggedRead.early_23.world.clients → ⊥ }
+    ensures not_masked { Masked meter FirstPath.start (UnloggedRead.after_early ++ UnloggedRead.moment_12 UnloggedRead.early ∷ UnloggedRead.sent_trace) → ⊥ }
+{}
+
+/// Where the log keeps a read of an older boot, the newer one takes its own read for logged, and what it sends isn't the output of the logged
+/// reads. The log's fence refuses the message: its boot is smaller than the log's.
+pub fn unfenced_reads_show_through()
+    ensures wrong_once { IsWrongOnce meter FirstPath.start UnloggedRead.after_unfenced UnloggedRead.unfenced UnloggedRead.before_unfenced }
+    ensures seen { AllByRecursion (SeesFront meter UnloggedRead.unfenced_25.world.log) UnloggedRead.unfenced_25.world.clients → ⊥ }
+    ensures not_masked { Masked meter FirstPath.start (UnloggedRead.after_unfenced ++ UnloggedRead.unfenced ∷ UnloggedRead.before_unfenced) → ⊥ }
+{}
