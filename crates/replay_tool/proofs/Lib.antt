@@ -1,2 +1,4 @@
 pub mod Following
 pub mod Playing
+pub mod Stopping
+pub mod Settling

@@ -1,5 +1,5 @@
 -- What is written of one event more, and of all that a run has played.
-use Rattle.std.proofs.Common.{◌≡◌, ◌∙◌, ℕ, suc, ◌+◌, Option, None, Some, List, [], ◌∷◌, ◌++◌, length, map, refl, sym, ap, subst, Ok, Err, Result, OnOk, IfSome, take, ◌<◌, ◌≤◌, arith}
+use Rattle.std.proofs.Common.{◌≡◌, ◌∙◌, ℕ, suc, ◌+◌, Option, None, Some, List, [], ◌∷◌, ◌++◌, length, map, refl, sym, ap, subst, Ok, Err, Result, OnOk, IfErr, IsErrAnd, IfSome, take, ◌<◌, ◌≤◌, arith}
 use Rattle.std.proofs.lemmas.List.{length-append, append_assoc, append-nil, length-take-le}
 use Rattle.std.proofs.Math.ListN.{get_or}
 use Rattle.std.proofs.Math.Seq.{take-suc}
@@ -12,12 +12,12 @@ use Rattle.ft_model.specs.Network.{Packet}
 use Rattle.ft_model.specs.Schedule.{clients_of}
 use Rattle.ft_model.specs.World.{World as Seen, Moment, Joint, world_after, IsStart}
 use Rattle.ft_model.specs.Masked.{Masked}
-use Rattle.ft_model.specs.Legal.{start_of}
+use Rattle.ft_model.specs.Legal.{start_of, IsLegalFor}
 use Rattle.ft_model.specs.Report.{header, event_line, packet_lines, packet_count, event_lines, client_lines, log_line, end_line}
 use Rattle.ft_model.specs.declared.event.Event.{Event}
 use Rattle.ft_model.specs.Grammar.{read_text}
 use Rattle.ft_model.specs.declared.schedule.Schedule.{Schedule}
-use Rattle.net_schedule.specs.Standing.{Kept, WorldStands, Steps}
+use Rattle.net_schedule.specs.Standing.{Kept, WorldStands, Advances, Steps}
 use Rattle.net_schedule.specs.declared.step_out.StepOut.{StepOut}
 use Rattle.replay_tool.specs.Played.{PlaysEvent, Reaches, IsPlayed, IsReported}
 
@@ -43,12 +43,23 @@ pub played : (n : ℕ) (v : Seen) (event : Event) (answer : StepOut) (w : Kept E
     → Appends old new lines → PlaysEvent n v event w old new
 played n v event answer w old new first lines law s at rest out = record {
   goes = s.goes;
+  within = s.within;
   written = subst (Appends old new)
       (rest v.packets s.goes.sent (s.goes.stands.packets ∙ s.goes.grew) s.first s.count
       ∙ (ap (λ l. l ++ packet_lines w.clients answer.first s.goes.sent) at
       ∙ (ap (λ k. event_line n event ++ packet_lines w.clients k s.goes.sent) s.first
       ∙ ap (λ l. event_line n event ++ l) (law w.clients v.clients (length v.packets + 1) s.goes.sent (ap (map (λ c. c.key)) s.goes.stands.clients ∙ s.goes.keys)))))
       out;
+}
+
+-- a legal trace with one event more
+pub legal_more : (schedule : Schedule) (events : List Event) (event : Event) (w : Kept Echo) (trace : List Moment) → IsLegalFor echo_machine schedule events trace
+    → (goes : Advances echo_machine (world_after (start_of schedule) trace) event w)
+    → IsLegalFor echo_machine schedule (events ++ event ∷ []) (record { event = event; sent = goes.sent; world = goes.world } ∷ trace)
+legal_more schedule events event w trace legal goes = record {
+  joint = (legal.joint, goes.happens);
+  events_are = ap (λ es. es ++ event ∷ []) legal.events_are;
+  allowed = (legal.allowed, record { allowed = goes.allowed; scripted = goes.scripted });
 }
 
 -- a run that has played some events plays one more
@@ -63,11 +74,8 @@ reaches_more schedule events event n w w' start old new law r at p =
     let number : n ≡ length r.trace + 1 = at ∙ ap (λ k. k + 1) (sym r.count) in
     record {
       trace = record { event = event; sent = p.goes.sent; world = p.goes.world } ∷ r.trace;
-      legal = record {
-        joint = (r.legal.joint, p.goes.happens);
-        events_are = ap (λ es. es ++ event ∷ []) r.legal.events_are;
-        allowed = (r.legal.allowed, record { allowed = p.goes.allowed; scripted = p.goes.scripted });
-      };
+      legal = legal_more schedule events event w' r.trace r.legal p.goes;
+      within = p.within;
       stands = p.goes.stands;
       count = count;
       packets = ap length p.goes.grew ∙ (length-append v.packets p.goes.sent ∙ ap (λ k. k + length p.goes.sent) r.packets);
@@ -80,14 +88,18 @@ reaches_more schedule events event n w w' start old new law r at p =
           (appends_both start old new (header schedule ++ event_lines clients r.trace) (event_line n event ++ packet_lines v.clients (length v.packets + 1) p.goes.sent) r.written p.written);
     }
 
+-- the first events with the next one
+pub one_played : (events : List Event) (event : Event) (i : ℕ) → i < length events → event ≡ get_or events i event → take i events ++ event ∷ [] ≡ take (i + 1) events
+one_played events event i within same =
+    let one : i + 1 ≡ suc i = omega arith in
+    ap (λ e. take i events ++ e ∷ []) same ∙ (sym (take-suc events i event within) ∙ ap (λ k. take k events) (sym one))
+
 -- a run that has played the first events of a schedule plays the next one
 pub reaches_next : (schedule : Schedule) (events : List Event) (event : Event) (i : ℕ) (w w' : Kept Echo) (start old new : Option (List ℕ)) → KeysTell → i < length events → event ≡ get_or events i event
     → ((v : Seen) → WorldStands echo_machine w v → PlaysEvent (i + 1) v event w' old new) → Reaches schedule (take i events) w start old → Reaches schedule (take (i + 1) events) w' start new
 reaches_next schedule events event i w w' start old new law within same goes r =
     let first : length (take i events) ≡ i = length-take-le i events (omega arith) in
-    let one : i + 1 ≡ suc i = omega arith in
-    let more : take i events ++ event ∷ [] ≡ take (i + 1) events = ap (λ e. take i events ++ e ∷ []) same ∙ (sym (take-suc events i event within) ∙ ap (λ k. take k events) (sym one)) in
-    subst (λ es. Reaches schedule es w' start new) more
+    subst (λ es. Reaches schedule es w' start new) (one_played events event i within same)
     (reaches_more schedule (take i events) event (i + 1) w w' start old new law r (ap (λ k. k + 1) (sym first)) (goes (world_after (start_of schedule) r.trace) r.stands))
 
 -- before the first event only the header is written
@@ -98,6 +110,7 @@ reaches_none schedule w old new start stands written = record {
   stands = stands;
   count = refl;
   packets = refl;
+  within = omega arith;
   keys = refl;
   written = subst (Appends old new) (sym (append-nil (header schedule))) written;
 }
@@ -112,6 +125,7 @@ closes schedule w n old mid new mask r at out =
       trace = r.trace;
       legal = r.legal;
       masked = mask (start_of schedule) r.trace r.legal.joint;
+      within = r.within;
       written = subst (Appends old new)
           (append_assoc (header schedule) lines (client_lines 1 w.clients ++ (flat_map log_line w.log.entries ++ end_line n))
           ∙ (ap (λ cs. header schedule ++ (lines ++ (client_lines 1 cs ++ (flat_map log_line w.log.entries ++ end_line n)))) r.stands.clients
@@ -124,6 +138,16 @@ closes schedule w n old mid new mask r at out =
 pub on_ok : {T E A B : Type 0} (r : Result T E) → (A → B) → OnOk r A → OnOk r B
 on_ok (Ok x) f a = f a
 on_ok (Err e) f a = tt
+
+-- what is known where a call doesn't end well
+pub on_err : {T E : Type 0} {A B : E → Type 0} (r : Result T E) → ((end : E) → A end → B end) → IfErr r A → IfErr r B
+on_err (Ok x) f a = tt
+on_err (Err e) f a = f e a
+
+-- what is known of an error
+pub if_err : {T E : Type 0} {A B : E → Type 0} (r : Result T E) → IsErrAnd r A → ((end : E) → A end → B end) → IfErr r B
+if_err (Ok x) a f = absurd a
+if_err (Err e) a f = f e a
 
 -- a whole text that spells a schedule which is played
 pub reports : (left : Option (List ℕ)) (text : List ℕ) (schedule : Schedule) (old new : Option (List ℕ)) → IfSome left (λ whole. text ≡ whole) → read_text text ≡ Ok schedule → IsPlayed schedule old new

@@ -1,3 +1,5 @@
 pub mod Ends
 pub mod Words
 pub mod Played
+pub mod Causes
+pub mod Stops

@@ -1,5 +1,5 @@
 -- What a run of a schedule has done: the events that it played, and what it wrote of them.
-use Rattle.std.specs.Prelude.{◌≡◌, ℕ, ◌+◌, Option, Some, Result, Ok, List, [], ◌∷◌, ◌++◌, length, map}
+use Rattle.std.specs.Prelude.{◌≡◌, ℕ, ◌+◌, ◌≤◌, Option, Some, Result, Ok, List, [], ◌∷◌, ◌++◌, length, map}
 use Rattle.std.specs.Io.KnownBytes.{Appends}
 use Rattle.sample_servers.specs.Echo.{echo_machine}
 use Rattle.sample_servers.specs.declared.echo.Echo.{Echo}
@@ -7,6 +7,7 @@ use Rattle.ft_model.specs.Schedule.{clients_of}
 use Rattle.ft_model.specs.World.{World as Seen, Moment, world_after}
 use Rattle.ft_model.specs.Legal.{start_of, IsLegalFor, Legal}
 use Rattle.ft_model.specs.Masked.{Masked}
+use Rattle.ft_model.specs.Outcome.{packets_sent, IsRefused}
 use Rattle.ft_model.specs.Report.{header, event_line, packet_lines, packet_count, event_lines, closing_lines, report}
 use Rattle.ft_model.specs.Grammar.{read_text}
 use Rattle.ft_model.specs.declared.event.Event.{Event}
@@ -16,6 +17,7 @@ use Rattle.net_schedule.specs.Standing.{Kept, WorldStands, Advances}
 -- one event is played, and its lines are appended to what was written
 pub record PlaysEvent (n : ℕ) (v : Seen) (event : Event) (w : Kept Echo) (old new : Option (List ℕ)) : Type 0 where
   pub goes : Advances echo_machine v event w
+  pub within : length goes.world.packets ≤ 200000
   pub written : Appends old new (event_line n event ++ packet_lines v.clients (length v.packets + 1) goes.sent)
 
 -- these first events of a schedule are played: the world stands at the end of a legal trace of them, and header and events are written
@@ -24,19 +26,33 @@ pub record Reaches (schedule : Schedule) (events : List Event) (w : Kept Echo) (
   pub legal : IsLegalFor echo_machine schedule events trace
   pub stands : WorldStands echo_machine w (world_after (start_of schedule) trace)
   pub count : length trace ≡ length events
-  pub packets : length (world_after (start_of schedule) trace).packets ≡ packet_count trace
+  pub packets : packets_sent schedule trace ≡ packet_count trace
+  pub within : packets_sent schedule trace ≤ 200000
   pub keys : map (λ c. c.key) (world_after (start_of schedule) trace).clients ≡ map (λ c. c.key) (clients_of schedule.server schedule.clients)
   pub written : Appends old new (header schedule ++ event_lines (clients_of schedule.server schedule.clients) trace)
 
--- a whole schedule is played, crashes can't be seen from outside, and its report is written
+-- a whole schedule is played within the limit of packets, crashes can't be seen from outside, and its report is written
 pub record IsPlayed (schedule : Schedule) (old new : Option (List ℕ)) : Type 0 where
   pub trace : List Moment
   pub legal : Legal echo_machine schedule trace
   pub masked : Masked echo_machine (start_of schedule) trace
+  pub within : packets_sent schedule trace ≤ 200000
   pub written : Appends old new (report schedule trace)
+
+-- a schedule is played up to an event that is refused, and the report of what was played is written
+pub record IsPlayedTill (schedule : Schedule) (old new : Option (List ℕ)) : Type 0 where
+  pub refused : IsRefused echo_machine schedule
+  pub masked : Masked echo_machine (start_of schedule) refused.trace
+  pub written : Appends old new (report schedule refused.trace)
 
 -- The text spells a schedule, and what was written is the report of a legal and masked trace of it.
 pub record IsReported (text : List ℕ) (old new : Option (List ℕ)) : Type 0 where
   pub schedule : Schedule
   pub spelled : read_text text ≡ Ok schedule
   pub played : IsPlayed schedule old new
+
+-- The text spells a schedule, and what was written is the report of a legal and masked trace of its events before the first that is refused.
+pub record IsReportedTill (text : List ℕ) (old new : Option (List ℕ)) : Type 0 where
+  pub schedule : Schedule
+  pub spelled : read_text text ≡ Ok schedule
+  pub played : IsPlayedTill schedule old new

@@ -11,3 +11,5 @@ mod telling;
 #[cfg(test)]
 mod tests;
 mod top;
+#[cfg(test)]
+mod world_tests;

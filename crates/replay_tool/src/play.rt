@@ -1,6 +1,6 @@
 //! The playing of a schedule: each event is done in the world, and its lines go out before the next one. The report is never held.
 
-ghost use Rattle.std.specs.Prelude.{◌≡◌, ℕ, ◌+◌, ◌<◌, ◌≤◌, ◌^◌, true, Some, List, [], ◌++◌, length, OnOk, IfOk, IsErrOf};
+ghost use Rattle.std.specs.Prelude.{◌≡◌, ℕ, ◌+◌, ◌<◌, ◌≤◌, ◌^◌, true, Some, List, [], ◌++◌, length, OnOk, IfOk, IfErr, IsErrOf};
 ghost use Rattle.std.specs.List.{AllByRecursion, flat_map};
 ghost use Rattle.std.specs.Io.KnownBytes.{Appends};
 ghost use Rattle.ft_io.specs.Faults.{Rose};
@@ -12,6 +12,7 @@ ghost use Rattle.ft_model.specs.Report.{header, packet_line, packet_lines, way_o
 ghost use Rattle.net_schedule.specs.Standing.{WorldStands};
 ghost use Rattle.sample_servers.specs.Echo.{echo_machine};
 ghost use Rattle.replay_tool.specs.Played.{PlaysEvent, Reaches, IsPlayed};
+ghost use Rattle.replay_tool.specs.Stops.{StopsEvent, StopsEvents, StopsPlaying, StopsWriting};
 
 use crate::status::{RunEnd, end_of_step};
 use ft_io::{NoMemory, Sink, write_all};
@@ -70,6 +71,7 @@ fn play_event<O: Sink>(
 ) -> Result<(), RunEnd>
     requires { is_played event.now ≡ true }
     ensures done { OnOk result ((v : _) → WorldStands echo_machine world.old v → PlaysEvent n v event.now world.new (O.taken out.old) (O.taken out.new)) }
+    ensures stops { IfErr result (λ end. (v : _) → WorldStands echo_machine world.old v → StopsEvent n v event.now world.old world.new (O.taken out.old) (O.taken out.new) end) }
     ensures write_fault { IsErrOf result RunEnd.WriteFault → Rose (O.fault_count out.old) (O.fault_count out.new) }
     ensures no_read_fault { IsErrOf result RunEnd.ReadFault → ⊥ }
     ensures no_usage { IsErrOf result RunEnd.Usage → ⊥ }
@@ -140,6 +142,7 @@ fn write_closing<O: Sink>(
     n: u32,
     out: &mut O,
 ) -> Result<(), RunEnd>
+    ensures stops { IfErr result StopsWriting }
     ensures written { OnOk result (Appends (O.taken out.old) (O.taken out.new) (client_lines 1 world.now.clients ++ (flat_map log_line world.now.log.entries ++ end_line n))) }
     ensures write_fault { IsErrOf result RunEnd.WriteFault → Rose (O.fault_count out.old) (O.fault_count out.new) }
     ensures no_read_fault { IsErrOf result RunEnd.ReadFault → ⊥ }
@@ -164,6 +167,7 @@ fn play_events<O: Sink>(
     requires playable { IsPlayable schedule.now }
     requires few { length schedule.now.events ≤ 100000 }
     ensures done { OnOk result ((before : _) → Reaches schedule.now [] world.old before (O.taken out.old) → Reaches schedule.now schedule.now.events world.new before (O.taken out.new)) }
+    ensures stops { IfErr result (λ end. (before : _) → Reaches schedule.now [] world.old before (O.taken out.old) → StopsEvents schedule.now world.new before (O.taken out.new) end) }
     ensures write_fault { IsErrOf result RunEnd.WriteFault → Rose (O.fault_count out.old) (O.fault_count out.new) }
     ensures no_read_fault { IsErrOf result RunEnd.ReadFault → ⊥ }
     ensures no_usage { IsErrOf result RunEnd.Usage → ⊥ }
@@ -179,6 +183,7 @@ fn play_events<O: Sink>(
 
 /// Writes the report's header.
 fn write_start<O: Sink>(alloc: Global, schedule: &Schedule, out: &mut O) -> Result<(), RunEnd>
+    ensures stops { IfErr result StopsWriting }
     ensures written { OnOk result (Appends (O.taken out.old) (O.taken out.new) (header schedule.now)) }
     ensures write_fault { IsErrOf result RunEnd.WriteFault → Rose (O.fault_count out.old) (O.fault_count out.new) }
     ensures no_read_fault { IsErrOf result RunEnd.ReadFault → ⊥ }
@@ -204,6 +209,7 @@ pub(crate) fn play<O: Sink>(alloc: Global, schedule: &Schedule, out: &mut O) -> 
     requires playable { IsPlayable schedule.now }
     requires few { length schedule.now.events ≤ 100000 }
     ensures done { OnOk result (IsPlayed schedule.now (O.taken out.old) (O.taken out.new)) }
+    ensures stops { IfErr result (StopsPlaying schedule.now (O.taken out.old) (O.taken out.new)) }
     ensures write_fault { IsErrOf result RunEnd.WriteFault → Rose (O.fault_count out.old) (O.fault_count out.new) }
     ensures no_read_fault { IsErrOf result RunEnd.ReadFault → ⊥ }
     ensures no_usage { IsErrOf result RunEnd.Usage → ⊥ }
@@ -215,10 +221,12 @@ pub(crate) fn play<O: Sink>(alloc: Global, schedule: &Schedule, out: &mut O) -> 
     let mut world = start_world(alloc, schedule)?;
     match play_events(alloc, schedule, &mut world, out) {
         Ok(()) => write_closing(alloc, &world, schedule.events.as_slice().len() as u32, out),
-        Err(RunEnd::BadEvent { event, why }) => {
-            write_closing(alloc, &world, event.saturating_sub(1), out)?;
-            Err(RunEnd::BadEvent { event, why })
-        }
-        Err(end) => Err(end),
+        Err(end) => match end {
+            RunEnd::BadEvent { event, .. } => {
+                write_closing(alloc, &world, event.saturating_sub(1), out)?;
+                Err(end)
+            }
+            _ => Err(end),
+        },
     }
 }

@@ -1,6 +1,6 @@
 //! A run, from its words to the end of its report.
 
-ghost use Rattle.std.specs.Prelude.{◌≡◌, ℕ, ◌+◌, ◌≤◌, false, map, string_bytes, length, Ok, IfSome, IfOk, OnOk, IsErrOf};
+ghost use Rattle.std.specs.Prelude.{◌≡◌, ℕ, ◌+◌, ◌≤◌, false, map, string_bytes, length, Ok, IfSome, IfOk, IfErr, OnOk, IsErrOf};
 ghost use Rattle.std.specs.Io.KnownBytes.{IsAtEnd};
 ghost use Rattle.ft_io.specs.Faults.{Rose};
 ghost use Rattle.ft_io.specs.Source.{ConsumesAtMost};
@@ -8,6 +8,7 @@ ghost use Rattle.ft_model.specs.Grammar.{read_text};
 ghost use Rattle.ft_model.specs.Playable.{IsPlayable};
 ghost use Rattle.replay_tool.specs.Words.{is_run as is_run_lem};
 ghost use Rattle.replay_tool.specs.Played.{IsReported, IsPlayed};
+ghost use Rattle.replay_tool.specs.Stops.{StopsReading, StopsRun, KeepsOut};
 
 use crate::play::play;
 use crate::status::RunEnd;
@@ -32,6 +33,7 @@ fn is_run(words: &[String]) -> bool
 /// The schedule that a text spells, which can be played.
 fn read(alloc: Global, text: &[u8]) -> Result<Schedule, RunEnd>
     ensures spelled { IfOk result (λ s. read_text text.now ≡ Ok s) }
+    ensures stops { IfErr result (StopsReading text.now) }
     ensures playable { IfOk result IsPlayable }
     ensures few { IfOk result (λ s. length s.events ≤ 100000) }
     ensures no_read_fault { IsErrOf result RunEnd.ReadFault → ⊥ }
@@ -52,6 +54,8 @@ pub(crate) fn run<I: Source, O: Sink>(
 ) -> Result<(), RunEnd>
     ensures done { OnOk result (IfSome (I.left input.old) (λ text. IsReported text (O.taken out.old) (O.taken out.new))) }
     ensures end { OnOk result (IsAtEnd (I.left input.new)) }
+    ensures stops { IfErr result (λ end. IfSome (I.left input.old) (λ text. StopsRun text (O.taken out.old) (O.taken out.new) end)) }
+    ensures keeps_out { IfErr result (KeepsOut out.old out.new) }
     ensures usage { IsErrOf result RunEnd.Usage → is_run_lem (map string_bytes words.now) ≡ false }
     ensures refused { is_run_lem (map string_bytes words.now) ≡ false → IsErrOf result RunEnd.Usage }
     ensures read_fault { IsErrOf result RunEnd.ReadFault → Rose (I.fault_count input.old) (I.fault_count input.new) }

@@ -225,3 +225,59 @@ fn a_write_to_err_that_fails_is_a_write_fault(rt: HostRuntime) -> Result<(), Fai
     }
     Ok(())
 }
+
+/// The bytes of a schedule's text and its events have a limit each, and neither is passed.
+#[test]
+fn ends_at_a_limit(rt: HostRuntime) -> Result<(), Fail> {
+    let alloc = rt.alloc();
+    let mut text = Vec::new(alloc);
+    text.resize(8_388_609, b' ')?;
+    let run = run_of(alloc, "run", &text, &[], &[], &[])?;
+    assert_eq!(rt; run.code, 8);
+    assert_eq!(rt; run.out.written().len(), 0);
+    assert_eq!(rt; run.err.written(), b"ftreplay: too long: text\n".as_slice());
+    let mut events = EMPTY.to_vec(alloc)?;
+    for _ in 0..100_000 {
+        events.extend_from_slice(b"deliver 1\n")?;
+    }
+    let run = run_of(alloc, "run", &events, &[], &[], &[])?;
+    assert_eq!(rt; run.code, 7);
+    assert_eq!(rt;
+        run.err.written(),
+        b"ftreplay: event 1: packet\n".as_slice()
+    );
+    events.extend_from_slice(b"deliver 1\n")?;
+    let run = run_of(alloc, "run", &events, &[], &[], &[])?;
+    assert_eq!(rt; run.code, 8);
+    assert_eq!(rt; run.out.written().len(), 0);
+    assert_eq!(rt;
+        run.err.written(),
+        b"ftreplay: too long: events\n".as_slice()
+    );
+    Ok(())
+}
+
+/// Each word of an event's refusal that can arise in the schedules that are accepted.
+#[test]
+fn refuses_an_event_by_its_first_test(rt: HostRuntime) -> Result<(), Fail> {
+    let rows: [(&[u8], &[u8]); 6] = [
+        (b"open 2 65535\n", b"ftreplay: event 1: client\n"),
+        (b"deliver 1\n", b"ftreplay: event 1: packet\n"),
+        (b"ack 1 65535\n", b"ftreplay: event 1: state\n"),
+        (b"open 1 65535\nsend 1 0 1\n", b"ftreplay: event 2: state\n"),
+        (b"send 1 0 6\n", b"ftreplay: event 1: state\n"),
+        (
+            b"boot 1 5000\ndeliver 1\ndeliver 2\nopen 1 65535\ndeliver 3\ndeliver 4\ndeliver 5\ndeliver 6\nsend 1 0 6\n",
+            b"ftreplay: event 9: range\n",
+        ),
+    ];
+    for (events, err) in rows {
+        let mut text = EMPTY.to_vec(rt.alloc())?;
+        text.extend_from_slice(b"client 1 192.0.2.1:40000 1000 hex:68656c6c6f\n")?;
+        text.extend_from_slice(events)?;
+        let run = run_of(rt.alloc(), "run", &text, &[], &[], &[])?;
+        assert_eq!(rt; run.err.written(), err);
+        assert_eq!(rt; run.code, 7);
+    }
+    Ok(())
+}

@@ -5,13 +5,16 @@ ghost use Rattle.std.specs.Io.KnownBytes.{IsAtEnd};
 ghost use Rattle.ft_io.specs.Faults.{Rose};
 ghost use Rattle.ft_io.specs.Source.{ConsumesAtMost};
 ghost use Rattle.replay_tool.specs.Words.{is_run};
-ghost use Rattle.replay_tool.specs.Played.{IsReported};
+ghost use Rattle.replay_tool.specs.Played.{IsReported, IsReportedTill};
+ghost use Rattle.replay_tool.specs.Causes.{HasBadLine, IsPastLimit, IsStill, IsSettled};
 ghost use Rattle.replay_tool.specs.Ends.{is_code};
 
 use crate::run::run;
 use crate::status::Status;
 use crate::telling::tell;
 use ft_io::{Sink, Source};
+use ft_model::laws::schedules_have_one_outcome;
+use sample_servers::Echo;
 use std::alloc::Global;
 
 /// `ftreplay` with these words: it reads a schedule from `input` to its end, writes the report of its run to `out` while it runs, and writes
@@ -31,6 +34,18 @@ pub fn replay<I: Source, O: Sink, E: Sink>(
     // Nothing was written to err.
     ensures silent { result.code ≡ 0 → err.new ≡ err.old }
 
+    // A line is refused, and nothing was written to out.
+    ensures bad_line { result.code ≡ 6 → IfSome (I.left input.old) HasBadLine }
+    ensures bad_line_keeps_out { result.code ≡ 6 → out.new ≡ out.old }
+    // An event is refused, and what was written is the report of a legal trace of the events before it.
+    ensures bad_event { result.code ≡ 7 → IfSome (I.left input.old) (λ text. IsReportedTill text (O.taken out.old) (O.taken out.new)) }
+    // The text, its events or their packets pass a limit.
+    ensures past_limit { result.code ≡ 8 → IfSome (I.left input.old) IsPastLimit }
+    // Where no count of faults rises, the text settles the status, but for want of memory.
+    ensures settled { is_run (map string_bytes words.now) ≡ true
+        → IsStill (I.fault_count input.old) (I.fault_count input.new) → IsStill (O.fault_count out.old) (O.fault_count out.new) → IsStill (E.fault_count err.old) (E.fault_count err.new)
+        → IfSome (I.left input.old) (λ text. IsSettled text result.code) }
+
     ensures codes { is_code result.code ≡ true }
     ensures usage { result.code ≡ 2 → is_run (map string_bytes words.now) ≡ false }
     ensures other_words { is_run (map string_bytes words.now) ≡ false → (result.code ≡ 2) ⊎ (result.code ≡ 5) }
@@ -40,6 +55,7 @@ pub fn replay<I: Source, O: Sink, E: Sink>(
     // At most one byte past the limit of the text is read.
     ensures taken { ConsumesAtMost 8388609 (I.left input.old) (I.left input.new) }
 {
+    schedules_have_one_outcome::<Echo>();
     match run(alloc, words, input, out) {
         Ok(()) => Status { code: 0 },
         Err(end) => tell(err, end),

@@ -1,0 +1,44 @@
+-- What a text must be for a run of it to end in a certain way, and the status that it then has.
+use Rattle.std.specs.Prelude.{◌≡◌, ◌⊎◌, ℕ, Ok, Err, List}
+use Rattle.ft_io.specs.Faults.{Rose}
+use Rattle.ft_model.specs.Grammar.{read_text}
+use Rattle.ft_model.specs.Grammar.Refusal.{BadLine, TooLong}
+use Rattle.ft_model.specs.Outcome.{IsWhole, IsRefused, IsPastPackets}
+use Rattle.ft_model.specs.declared.schedule.Schedule.{Schedule}
+use Rattle.ft_model.specs.declared.schedule.LineWhy.{LineWhy}
+use Rattle.ft_model.specs.declared.schedule.Limit.{Limit}
+use Rattle.sample_servers.specs.Echo.{echo_machine}
+
+-- it spells a schedule, and each of its events may happen in its turn, within the limit of packets
+pub record IsInOrder (text : List ℕ) : Type 0 where
+  pub schedule : Schedule
+  pub spelled : read_text text ≡ Ok schedule
+  pub whole : IsWhole echo_machine schedule
+
+-- one of its lines is refused
+pub record HasBadLine (text : List ℕ) : Type 0 where
+  pub line : ℕ
+  pub why : LineWhy
+  pub refused : read_text text ≡ Err (BadLine line why)
+
+-- it spells a schedule, and one of its events may not happen in its turn
+pub record HasBadEvent (text : List ℕ) : Type 0 where
+  pub schedule : Schedule
+  pub spelled : read_text text ≡ Ok schedule
+  pub refused : IsRefused echo_machine schedule
+
+-- it is too long, has too many events, or these send too many packets
+pub data IsPastLimit (text : List ℕ) : Type 0 where
+  by_text : (what : Limit) → read_text text ≡ Err (TooLong what) → IsPastLimit text
+  by_packets : (schedule : Schedule) → read_text text ≡ Ok schedule → IsPastPackets echo_machine schedule → IsPastLimit text
+
+-- a count of faults doesn't rise
+abbrev pub IsStill : ℕ → ℕ → Type 0
+IsStill before after = Rose before after → ⊥
+
+-- The status by the text, where no count of faults rises: it is settled but for want of memory.
+pub record IsSettled (text : List ℕ) (code : ℕ) : Type 0 where
+  pub in_order : IsInOrder text → (code ≡ 0) ⊎ (code ≡ 3)
+  pub bad_line : HasBadLine text → (code ≡ 6) ⊎ (code ≡ 3)
+  pub bad_event : HasBadEvent text → (code ≡ 7) ⊎ (code ≡ 3)
+  pub past_limit : IsPastLimit text → (code ≡ 8) ⊎ (code ≡ 3)
