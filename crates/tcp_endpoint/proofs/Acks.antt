@@ -1,0 +1,255 @@
+-- The own numbers, modulo 2^32, against the sender's offsets.
+use Rattle.std.proofs.Common.{◌≡◌, ℕ, ◌<◌, ◌≤◌, ◌+◌, ◌-◌, ◌%◌, ◌^◌, Bool, true, false, not, refl, ap, arith, ◌∙◌, List, length, drop, min}
+use Rattle.std.specs.Prelude.{ℤ, pos, ◌==◌, ◌&&◌, ◌||◌, nat_abs, nat_le, nat_eq, int_le, if◌then◌else◌}
+use Rattle.std.proofs.lemmas.Int.{ints}
+use Rattle.std.proofs.lemmas.Bool.{false≢true}
+use Rattle.std.proofs.lemmas.List.{drop_min}
+use Rattle.seq_arith.specs.Number.{distance, number_at, offset_of, precedes, precedes_or_is}
+use Rattle.seq_arith.specs.Arrival.{int_eq, is_new_ack, is_beyond}
+use Rattle.seq_arith.proofs.Gaps.{offset_leads}
+use Rattle.tcp_buffers.specs.declared.send_state.AckKind.{AckKind}
+use Rattle.tcp_buffers.specs.declared.send_state.AckKind.TheVariants.{New, Old, Beyond}
+use Rattle.tcp_buffers.specs.declared.send_state.SendState.{SendState}
+use Rattle.tcp_buffers.specs.SendNumbers.{acks_new, acks_beyond, kind_of, una_by, interval_by, left_by, is_window_used, edge_of, IsUsed}
+use Rattle.tcp_buffers.specs.Near.{IsNearAck}
+use Rattle.tcp_buffers.proofs.NumbersTell.{after_is, up_to_is, new_is}
+use Rattle.tcp_endpoint.specs.Sending.{Sending, own, told_by, moves_edge, acknowledged, units_of, was_sent, NumbersFit, IsShort}
+
+pub first_is : (iss ack : ℕ) → ack < 2 ^ 32 → nat_eq ack ((iss + 1) % 2 ^ 32) ≡ int_eq (offset_of iss ack) (pos 0)
+first_is iss ack small = grind (arith, ints, offset_leads iss ack small)
+
+-- numbers of the own stream by their offsets
+una_number : (iss una : ℕ) → una < 2 ^ 32 → una ≡ number_at iss (own iss una)
+una_number iss una fits = omega arith
+
+nxt_number : (iss una nxt : ℕ) → una < 2 ^ 32 → nxt < 2 ^ 32 → nxt ≡ number_at iss (own iss una + distance nxt una)
+nxt_number iss una nxt fits_una fits_nxt = omega arith
+
+own_is : (iss ack : ℕ) → ack < 2 ^ 32 → int_le (pos 0) (offset_of iss ack) ≡ true → own iss ack ≡ nat_abs (offset_of iss ack)
+own_is iss ack fits up = grind (arith, ints, offset_leads iss ack fits)
+
+from_is : (iss k ack : ℕ) → k ≤ 2 ^ 25 → ack < 2 ^ 32 → IsNearAck (offset_of iss ack)
+    → precedes_or_is (number_at iss k) ack ≡ int_le (pos k) (offset_of iss ack)
+from_is iss k ack short fits near = grind (arith, ints, offset_leads iss ack fits)
+
+wl2_is : (iss w ack : ℕ) → w ≤ 2 ^ 25 → ack < 2 ^ 32 → IsNearAck (offset_of iss ack) → int_le (pos 0) (offset_of iss ack) ≡ true
+    → precedes_or_is (number_at iss w) ack ≡ nat_le w (nat_abs (offset_of iss ack))
+wl2_is iss w ack short fits near up = grind (arith, ints, offset_leads iss ack fits)
+
+above_zero : (u : ℕ) (z : ℤ) → int_le (pos u) z ≡ true → int_le (pos 0) z ≡ true
+above_zero u z h = grind (arith, ints)
+
+-- the tests, on numbers and on offsets
+pub beyond_test : (iss una nxt ack : ℕ) → una < 2 ^ 32 → nxt < 2 ^ 32 → ack < 2 ^ 32 → own iss una + distance nxt una ≤ 2 ^ 25
+    → IsNearAck (offset_of iss ack) → acks_beyond nxt ack ≡ is_beyond (own iss una + distance nxt una) (offset_of iss ack)
+beyond_test iss una nxt ack fits_una fits_nxt fits_ack short near =
+    ap (λ n. acks_beyond n ack) (nxt_number iss una nxt fits_una fits_nxt) ∙ after_is iss _ ack short fits_ack near
+
+new_test : (iss una nxt ack : ℕ) → una < 2 ^ 32 → nxt < 2 ^ 32 → ack < 2 ^ 32 → own iss una ≤ 2 ^ 25
+    → own iss una + distance nxt una ≤ 2 ^ 25 → IsNearAck (offset_of iss ack)
+    → acks_new una nxt ack ≡ is_new_ack (own iss una) (own iss una + distance nxt una) (offset_of iss ack)
+new_test iss una nxt ack fits_una fits_nxt fits_ack low short near =
+    ap (λ n. acks_new n nxt ack) (una_number iss una fits_una)
+    ∙ ap (λ n. acks_new (number_at iss (own iss una)) n ack) (nxt_number iss una nxt fits_una fits_nxt)
+    ∙ new_is iss (own iss una) _ ack low short fits_ack near
+
+-- a conjunction whose last part is only looked at where the first holds
+guarded : (a b c c' d : Bool) (e : Bool) → (a ≡ true → c ≡ c') → (a && b && (d || (e && c))) ≡ (a && b && (d || (e && c')))
+guarded true b c c' d e same = ap (λ v. true && b && (d || (e && v))) (same refl)
+guarded false b c c' d e same = refl
+
+window_test : (iss : ℕ) (n : SendState) (seq ack : ℕ) (opened : Bool) (held : List ℕ) (closed fin_sent : Bool) (mss : ℕ) → NumbersFit n seq ack
+    → IsShort (told_by iss opened n held closed fin_sent mss) → IsNearAck (offset_of iss ack)
+    → is_window_used n seq ack ≡ moves_edge (told_by iss opened n held closed fin_sent mss) seq (offset_of iss ack)
+window_test iss n seq ack opened held closed fin_sent mss fits short near =
+    let u : ℕ = own iss n.una.0 in
+    let s : ℕ = u + distance n.nxt.0 n.una.0 in
+    let w : ℕ = own iss n.wl2.0 in
+    let z : ℤ = offset_of iss ack in
+    let una : precedes_or_is n.una.0 ack ≡ int_le (pos u) z =
+    ap (λ k. precedes_or_is k ack) (una_number iss n.una.0 fits.una) ∙ from_is iss u ack short.una fits.ack near in
+    let nxt : precedes_or_is ack n.nxt.0 ≡ int_le z (pos s) =
+    ap (λ k. precedes_or_is ack k) (nxt_number iss n.una.0 n.nxt.0 fits.una fits.nxt) ∙ up_to_is iss s ack short.sent fits.ack near in
+    let wl2 : int_le (pos u) z ≡ true → precedes_or_is n.wl2.0 ack ≡ nat_le w (nat_abs z) =
+    λ up. ap (λ k. precedes_or_is k ack) (una_number iss n.wl2.0 fits.wl2) ∙ wl2_is iss w ack short.wl2 fits.ack near (above_zero u z up) in
+    ap (λ a. a && precedes_or_is ack n.nxt.0 && (precedes n.wl1.0 seq || (n.wl1.0 == seq && precedes_or_is n.wl2.0 ack))) una
+    ∙ ap (λ b. int_le (pos u) z && b && (precedes n.wl1.0 seq || (n.wl1.0 == seq && precedes_or_is n.wl2.0 ack))) nxt
+    ∙ guarded (int_le (pos u) z) (int_le z (pos s)) (precedes_or_is n.wl2.0 ack) (nat_le w (nat_abs z)) (precedes n.wl1.0 seq) (n.wl1.0 == seq) wl2
+
+-- the fields, by whether the acknowledgement is new and whether the window is used
+abbrev kind_by : Bool → ℕ → AckKind
+kind_by b units = if b then New units else Old
+
+una_field : (iss una ack una' : ℕ) (b : Bool) (d a : ℕ) → una' ≡ una_by (kind_by b d) una ack → (b ≡ true → own iss ack ≡ a)
+    → own iss una' ≡ (if b then a else own iss una)
+una_field iss una ack una' true d a is on = ap (own iss) is ∙ on refl
+una_field iss una ack una' false d a is on = ap (own iss) is
+
+sent_field : (iss una ack una' nxt s : ℕ) (b : Bool) (d : ℕ) → una' ≡ una_by (kind_by b d) una ack → own iss una + distance nxt una ≡ s
+    → (b ≡ true → own iss ack + distance nxt ack ≡ s) → own iss una' + distance nxt una' ≡ s
+sent_field iss una ack una' nxt s true d is before on = ap (λ n. own iss n + distance nxt n) is ∙ on refl
+sent_field iss una ack una' nxt s false d is before on = ap (λ n. own iss n + distance nxt n) is ∙ before
+
+held_field : (held : List ℕ) (b : Bool) (d k : ℕ) → (b ≡ true → d ≡ k)
+    → drop (min (units_of (kind_by b d)) (length held)) held ≡ (if b then drop k held else held)
+held_field held true d k on = drop_min d held ∙ ap (λ n. drop n held) (on refl)
+held_field held false d k on = drop_min 0 held
+
+interval_field : (b : Bool) (d interval : ℕ) → interval_by (kind_by b d) interval ≡ (if b then 1 else interval)
+interval_field true d interval = refl
+interval_field false d interval = refl
+
+left_field : (b c : Bool) (d nxt ack left : ℕ) → (b ≡ true → nat_eq ack nxt ≡ c)
+    → left_by (kind_by b d) nxt ack left ≡ (if b then (if c then 0 else 1) else left)
+left_field true c d nxt ack left on = ap (λ v. if v then 0 else 1) (on refl)
+left_field false c d nxt ack left on = refl
+
+edge_field : (iss edge ack window : ℕ) (m m' : Bool) (a : ℕ) → m ≡ m' → (m' ≡ true → own iss ((ack + window) % 2 ^ 32) ≡ a)
+    → own iss (if m then (ack + window) % 2 ^ 32 else edge) ≡ (if m' then a else own iss edge)
+edge_field iss edge ack window m true a is on = ap (λ v. own iss (if v then (ack + window) % 2 ^ 32 else edge)) is ∙ on refl
+edge_field iss edge ack window m false a is on = ap (λ v. own iss (if v then (ack + window) % 2 ^ 32 else edge)) is
+
+choice_field : (x y y' : ℕ) (m m' : Bool) → m ≡ m' → (m' ≡ true → y ≡ y') → (if m then y else x) ≡ (if m' then y' else x)
+choice_field x y y' m true is on = ap (λ v. if v then y else x) is ∙ on refl
+choice_field x y y' m false is on = ap (λ v. if v then y else x) is
+
+wl2_field : (iss x y a : ℕ) (m m' : Bool) → m ≡ m' → (m' ≡ true → own iss y ≡ a) → own iss (if m then y else x) ≡ (if m' then a else own iss x)
+wl2_field iss x y a m true is on = ap (λ v. own iss (if v then y else x)) is ∙ on refl
+wl2_field iss x y a m false is on = ap (λ v. own iss (if v then y else x)) is
+
+-- what a new acknowledgement says
+new_bounds : (u s : ℕ) (z : ℤ) → is_new_ack u s z ≡ true → (int_le (pos 0) z ≡ true) × (u < nat_abs z) × (nat_abs z ≤ s)
+new_bounds u s z h = (grind (arith, ints), grind (arith, ints), grind (arith, ints))
+
+moved_bounds : (a b c : Bool) → (a && b && c) ≡ true → a ≡ true
+moved_bounds true b c h = refl
+moved_bounds false b c h = h
+
+second_bound : (a b c : Bool) → (a && b && c) ≡ true → b ≡ true
+second_bound true true c h = refl
+second_bound true false c h = h
+second_bound false b c h = absurd (false≢true h)
+
+new_distance : (iss una ack : ℕ) → una < 2 ^ 32 → ack < 2 ^ 32 → own iss una ≤ own iss ack → distance ack una ≡ own iss ack - own iss una
+new_distance iss una ack fits_una fits_ack up = omega arith
+
+rest_distance : (iss una nxt ack : ℕ) → una < 2 ^ 32 → nxt < 2 ^ 32 → ack < 2 ^ 32 → own iss una + distance nxt una ≤ 2 ^ 25 → own iss una ≤ own iss ack
+    → own iss ack ≤ own iss una + distance nxt una → own iss ack + distance nxt ack ≡ own iss una + distance nxt una
+rest_distance iss una nxt ack fits_una fits_nxt fits_ack short up within = omega arith
+
+all_acked : (iss una nxt ack : ℕ) → una < 2 ^ 32 → nxt < 2 ^ 32 → ack < 2 ^ 32 → own iss una + distance nxt una ≤ 2 ^ 25
+    → IsNearAck (offset_of iss ack) → nat_abs (offset_of iss ack) ≤ own iss una + distance nxt una → int_le (pos 0) (offset_of iss ack) ≡ true
+    → nat_eq ack nxt ≡ int_le (pos (own iss una + distance nxt una)) (offset_of iss ack)
+all_acked iss una nxt ack fits_una fits_nxt fits_ack short near within up = grind (arith, ints, offset_leads iss ack fits_ack)
+
+edge_reached : (iss ack window a : ℕ) → ack < 2 ^ 32 → own iss ack ≡ a → a ≤ 2 ^ 30 → window < 2 ^ 16 → own iss ((ack + window) % 2 ^ 32) ≡ a + window
+edge_reached iss ack window a fits is near small = omega arith
+
+-- what moves the edge was sent
+moved_short : (s : Sending) (seq : ℕ) (z : ℤ) → s.sent ≤ 2 ^ 30 → moves_edge s seq z ≡ true → nat_abs z ≤ 2 ^ 30
+moved_short s seq z short h =
+    let up : int_le (pos 0) z ≡ true = above_zero s.una z (moved_bounds (int_le (pos s.una) z) (int_le z (pos s.sent)) _ h)
+    in let sent : int_le z (pos s.sent) ≡ true = second_bound (int_le (pos s.una) z) (int_le z (pos s.sent)) _ h
+    in grind (arith, ints)
+
+-- the kind of an acknowledgement that isn't beyond SND.NXT
+kind_is : (una nxt ack : ℕ) (b : Bool) → acks_beyond nxt ack ≡ false → acks_new una nxt ack ≡ b → kind_of una nxt ack ≡ kind_by b (distance ack una)
+kind_is una nxt ack b is_sent is = rw (is_sent, is) refl
+
+-- a sender whose fields are these
+same_sender : (s s' : Sending) → s.iss ≡ s'.iss → s.opened ≡ s'.opened → s.una ≡ s'.una → s.sent ≡ s'.sent → s.edge ≡ s'.edge
+    → s.wl1 ≡ s'.wl1 → s.wl2 ≡ s'.wl2 → s.held ≡ s'.held → s.closed ≡ s'.closed → s.fin_sent ≡ s'.fin_sent → s.mss ≡ s'.mss
+    → s.interval ≡ s'.interval → s.rest ≡ s'.rest → s ≡ s'
+same_sender s s' iss opened una sent edge wl1 wl2 held closed fin_sent mss interval rest = λ i. record {
+  iss = iss i;
+  opened = opened i;
+  una = una i;
+  sent = sent i;
+  edge = edge i;
+  wl1 = wl1 i;
+  wl2 = wl2 i;
+  held = held i;
+  closed = closed i;
+  fin_sent = fin_sent i;
+  mss = mss i;
+  interval = interval i;
+  rest = rest i;
+}
+
+-- what an acknowledgement that isn't beyond SND.NXT makes of the numbers is what it makes of the offsets
+pub acknowledged_is : (iss : ℕ) (n n' : SendState) (seq ack window : ℕ) (opened : Bool) (held : List ℕ) (closed fin_sent : Bool) (mss : ℕ)
+    → NumbersFit n seq ack → window < 2 ^ 16 → IsShort (told_by iss opened n held closed fin_sent mss) → IsNearAck (offset_of iss ack)
+    → IsUsed n n' seq ack window → acks_beyond n.nxt.0 ack ≡ false
+    → told_by iss opened n' (drop (min (units_of (kind_of n.una.0 n.nxt.0 ack)) (length held)) held) closed fin_sent mss
+    ≡ acknowledged (told_by iss opened n held closed fin_sent mss) seq (offset_of iss ack) window
+unfolding acknowledged
+acknowledged_is iss n n' seq ack window opened held closed fin_sent mss fits small short near used is_sent =
+    let u : ℕ = own iss n.una.0 in
+    let s : ℕ = u + distance n.nxt.0 n.una.0 in
+    let z : ℤ = offset_of iss ack in
+    let b : Bool = is_new_ack u s z in
+    let before : Sending = told_by iss opened n held closed fin_sent mss in
+    let d : ℕ = distance ack n.una.0 in
+    let is_new : acks_new n.una.0 n.nxt.0 ack ≡ b = new_test iss n.una.0 n.nxt.0 ack fits.una fits.nxt fits.ack short.una short.sent near in
+    let kind : kind_of n.una.0 n.nxt.0 ack ≡ kind_by b d = kind_is n.una.0 n.nxt.0 ack b is_sent is_new in
+    let moves : is_window_used n seq ack ≡ moves_edge before seq z = window_test iss n seq ack opened held closed fin_sent mss fits short near in
+    let a : ℕ = nat_abs z in
+    let on : b ≡ true → own iss ack ≡ a = λ h. own_is iss ack fits.ack (new_bounds u s z h).0 in
+    let up : b ≡ true → u ≤ own iss ack = λ h. omega (arith, on h, (new_bounds u s z h).1) in
+    let within : b ≡ true → own iss ack ≤ s = λ h. omega (arith, on h, (new_bounds u s z h).2) in
+    let moved : moves_edge before seq z ≡ true → own iss ack ≡ a =
+    λ h. own_is iss ack fits.ack (above_zero u z (moved_bounds (int_le (pos u) z) (int_le z (pos s)) _ h)) in
+    let una_is : n'.una.0 ≡ una_by (kind_by b d) n.una.0 ack = used.una ∙ ap (λ k. una_by k n.una.0 ack) kind in
+    let nxt_is : n'.nxt.0 ≡ n.nxt.0 = ap (λ q. q.0) used.nxt in
+    same_sender _ _ refl refl
+    (una_field iss n.una.0 ack n'.una.0 b d a una_is on)
+    (ap (λ q. own iss n'.una.0 + distance q n'.una.0) nxt_is
+    ∙ sent_field iss n.una.0 ack n'.una.0 n.nxt.0 s b d una_is refl
+    (λ h. rest_distance iss n.una.0 n.nxt.0 ack fits.una fits.nxt fits.ack short.sent (up h) (within h)))
+    (ap (own iss) used.edge ∙ edge_field iss (edge_of n) ack window (is_window_used n seq ack) (moves_edge before seq z) (a + window) moves
+    (λ h. edge_reached iss ack window a fits.ack (moved h) (moved_short before seq z (omega (arith, short.sent)) h) small))
+    (used.wl1 ∙ choice_field n.wl1.0 seq seq _ _ moves (λ h. refl))
+    (ap (own iss) used.wl2 ∙ wl2_field iss n.wl2.0 ack a _ _ moves moved)
+    (ap (λ k. drop (min (units_of k) (length held)) held) kind
+    ∙ held_field held b d (a - u) (λ h. new_distance iss n.una.0 ack fits.una fits.ack (up h) ∙ ap (λ v. v - u) (on h)))
+    refl refl refl
+    (used.interval ∙ ap (λ k. interval_by k n.interval) kind ∙ interval_field b d n.interval)
+    (used.left ∙ ap (λ k. left_by k n.nxt.0 ack n.left) kind
+    ∙ left_field b (int_le (pos s) z) d n.nxt.0 ack n.left
+    (λ h. all_acked iss n.una.0 n.nxt.0 ack fits.una fits.nxt fits.ack short.sent near (new_bounds u s z h).2 (new_bounds u s z h).0))
+
+kind_sent : (beyond new : Bool) (d : ℕ) → was_sent (if beyond then Beyond else (if new then New d else Old)) ≡ not beyond
+kind_sent true new d = refl
+kind_sent false true d = refl
+kind_sent false false d = refl
+
+choose : (b b' : Bool) (x y z : Sending) → b ≡ b' → (b ≡ true → x ≡ y) → (b ≡ false → x ≡ z) → x ≡ (if b' then y else z)
+choose b true x y z is on off = on is
+choose b false x y z is on off = off is
+
+-- what Sender::on_ack answers, ..
+pub sent_is : (iss : ℕ) (n : SendState) (seq ack : ℕ) (opened : Bool) (held : List ℕ) (closed fin_sent : Bool) (mss : ℕ) (kind : AckKind)
+    → NumbersFit n seq ack → IsShort (told_by iss opened n held closed fin_sent mss) → IsNearAck (offset_of iss ack)
+    → kind ≡ kind_of n.una.0 n.nxt.0 ack
+    → was_sent kind ≡ not (is_beyond (told_by iss opened n held closed fin_sent mss).sent (offset_of iss ack))
+sent_is iss n seq ack opened held closed fin_sent mss kind fits short near is =
+    ap was_sent is ∙ kind_sent (acks_beyond n.nxt.0 ack) (acks_new n.una.0 n.nxt.0 ack) (distance ack n.una.0)
+    ∙ ap not (beyond_test iss n.una.0 n.nxt.0 ack fits.una fits.nxt fits.ack short.sent near)
+
+-- .. and what it makes of the sender
+pub used_is : (iss : ℕ) (n n' : SendState) (seq ack window : ℕ) (opened : Bool) (held held' : List ℕ) (closed fin_sent : Bool) (mss : ℕ) (kind : AckKind)
+    → NumbersFit n seq ack → window < 2 ^ 16 → IsShort (told_by iss opened n held closed fin_sent mss) → IsNearAck (offset_of iss ack)
+    → kind ≡ kind_of n.una.0 n.nxt.0 ack → IsUsed n n' seq ack window → (kind ≡ Beyond → n' ≡ n)
+    → held' ≡ drop (min (units_of kind) (length held)) held
+    → told_by iss opened n' held' closed fin_sent mss
+    ≡ (if is_beyond (told_by iss opened n held closed fin_sent mss).sent (offset_of iss ack)
+    then told_by iss opened n held closed fin_sent mss
+    else acknowledged (told_by iss opened n held closed fin_sent mss) seq (offset_of iss ack) window)
+used_is iss n n' seq ack window opened held held' closed fin_sent mss kind fits small short near is used unused held_is =
+    let as_held : List ℕ → Sending = λ q. told_by iss opened n' q closed fin_sent mss in
+    choose (acks_beyond n.nxt.0 ack) _ _ _ _ (beyond_test iss n.una.0 n.nxt.0 ack fits.una fits.nxt fits.ack short.sent near)
+    (λ h. let beyond : kind ≡ Beyond = is ∙ rw h refl in
+    ap as_held (held_is ∙ ap (λ k. drop (min (units_of k) (length held)) held) beyond ∙ drop_min 0 held)
+    ∙ ap (λ m. told_by iss opened m held closed fin_sent mss) (unused beyond))
+    (λ h. ap as_held (held_is ∙ ap (λ k. drop (min (units_of k) (length held)) held) is)
+    ∙ acknowledged_is iss n n' seq ack window opened held closed fin_sent mss fits small short near used h)

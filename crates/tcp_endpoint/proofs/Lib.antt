@@ -1,0 +1,11 @@
+pub mod Pieces
+pub mod Places
+pub mod Acks
+pub mod Spelled
+pub mod TakenLaw
+pub mod SendingLaw
+pub mod Bounding
+pub mod TurnLaw
+pub mod OwedLaw
+pub mod StandingLaw
+pub mod ToldLaw

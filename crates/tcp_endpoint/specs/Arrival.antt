@@ -1,0 +1,159 @@
+-- What a segment that arrives makes of an endpoint: the checks of RFC 9293, 3.10.7, in their order, one definition a check.
+use Rattle.std.specs.Prelude.{◌≡◌, ℕ, ℤ, Bool, true, pos, ◌+◌, ◌%◌, ◌^◌, ◌&&◌, ◌||◌, not, nat_lt, int_lt, None, Some, if◌then◌else◌}
+use Rattle.seq_arith.specs.Arrival.{int_eq, is_acceptable, is_beyond}
+use Rattle.seq_arith.specs.Packet.{Segment, has_fin, has_syn, has_rst, has_ack}
+use Rattle.ft_io.specs.declared.Addr.{Addr}
+use Rattle.tcp_buffers.specs.Near.{IsNearAck}
+use Rattle.ft_model.specs.Offset.{first_of, ack_of, length_of}
+use Rattle.segment_codec.specs.declared.Head.{Head}
+use Rattle.tcp_endpoint.specs.declared.states.StateName.{StateName}
+use Rattle.tcp_endpoint.specs.declared.states.StateName.TheVariants.{Closed, Listen, SynSent, SynReceived, Established}
+use Rattle.tcp_endpoint.specs.States.{opened, after_fin_acked, after_fin, is_time_wait}
+use Rattle.tcp_endpoint.specs.Receiving.{next, window, with_segment}
+use Rattle.tcp_endpoint.specs.Sending.{segment_size, opened_by, acknowledged, fin_acked}
+use Rattle.tcp_endpoint.specs.Tcb.{Tcb}
+
+-- SEG.SEQ and SEG.ACK as offsets
+abbrev pub first : Tcb → Segment → ℤ
+first e p = first_of e.receiving.irs p
+
+abbrev pub ack_at : Tcb → Segment → ℤ
+ack_at e p = ack_of e.sending.iss p
+
+-- what it acknowledges, if it does, lies near
+abbrev pub AcksNear : Tcb → Segment → Type 0
+AcksNear e p = has_ack p ≡ true → IsNearAck (ack_at e p)
+
+abbrev pub source : Segment → Addr
+source p = record { ip = p.head.src; port = p.head.sport }
+
+-- a RST that answers a segment, with window 0
+abbrev pub rst : Tcb → Segment → (seq ack flags : ℕ) → Head
+rst e p seq ack flags = record {
+  src = e.local.ip;
+  dst = p.head.src;
+  sport = e.local.port;
+  dport = p.head.sport;
+  seq = record { 0 = seq };
+  ack = record { 0 = ack };
+  flags = flags;
+  window = 0;
+  mss = None;
+}
+
+-- <SEQ=SEG.ACK><CTL=RST>
+unfoldable pub refusing : Tcb → Segment → Tcb
+refusing e p = record e { answer = Some (rst e p p.head.ack 0 4) }
+
+-- <SEQ=0><ACK=SEG.SEQ+SEG.LEN><CTL=RST,ACK>
+unfoldable pub refusing_without_ack : Tcb → Segment → Tcb
+refusing_without_ack e p = record e { answer = Some (rst e p 0 ((p.head.seq + length_of p) % 2 ^ 32) 20) }
+
+-- a segment without data is owed
+abbrev pub owing_if : Bool → Tcb → Tcb
+owing_if b e = record e { owed = e.owed || b }
+
+-- the connection is reset
+abbrev pub killed : Tcb → Tcb
+killed e = record e { name = Closed; reset = true }
+
+-- a state is entered. TIME-WAIT lasts four ticks
+abbrev pub entering : StateName → Tcb → Tcb
+entering name e = record e { name = name; wait = if is_time_wait name && not (is_time_wait e.name) then 4 else e.wait }
+
+-- 3.10.7.1: CLOSED
+unfoldable pub in_closed : Tcb → Segment → Tcb
+in_closed e p = if has_rst p then e else (if has_ack p then refusing e p else refusing_without_ack e p)
+
+-- 3.10.7.2: LISTEN. A SYN makes a connection, whose SYN-ACK is due
+unfoldable pub begun : Tcb → Segment → Tcb
+begun e p = record e {
+  remote = source p;
+  name = SynReceived;
+  receiving = record e.receiving { irs = p.head.seq };
+  sending = record e.sending { mss = segment_size p.head.mss };
+  again = true;
+}
+
+unfoldable pub in_listen : Tcb → Segment → Tcb
+in_listen e p = if has_rst p then e else (if has_ack p then refusing e p else (if has_syn p then begun e p else e))
+
+-- 3.10.7.3: SYN-SENT. What was sent is the SYN alone, so one number acknowledges it
+unfoldable pub answered : Tcb → Segment → Tcb
+answered e p = record e {
+  name = Established;
+  receiving = record e.receiving { irs = p.head.seq };
+  sending = opened_by (record e.sending { mss = segment_size p.head.mss }) p.head.seq p.head.window;
+  owed = true;
+}
+
+unfoldable pub in_syn_sent : Tcb → Segment → Tcb
+in_syn_sent e p =
+    if has_ack p
+    then (if int_eq (ack_at e p) (pos 0)
+    then (if has_rst p then killed e else (if has_syn p then answered e p else e))
+    else (if has_rst p then e else refusing e p))
+    else e
+
+-- 3.10.7.4, seventh and eighth check: text and FIN
+unfoldable pub with_text_and_fin : Tcb → Segment → Tcb
+with_text_and_fin e p =
+    let taking = record e {
+      receiving = with_segment e.receiving (first e p) p.payload (has_fin p);
+      owed = e.owed || int_lt (pos (next e.receiving)) (first e p);
+    }
+    in if taking.receiving.fin && not e.receiving.fin then entering (after_fin e.name) taking else taking
+
+-- fifth check: an acknowledgement of the own FIN
+unfoldable pub with_fin_acked : Tcb → Tcb
+with_fin_acked e = if fin_acked e.sending then entering (after_fin_acked e.name) e else e
+
+-- fifth check, in SYN-RECEIVED: only the SYN is sent, so one number acknowledges it
+unfoldable pub with_first_ack : Tcb → Segment → Tcb
+with_first_ack e p =
+    if int_eq (ack_at e p) (pos 0)
+    then with_text_and_fin (record e { name = opened e.sending.closed; sending = opened_by e.sending p.head.seq p.head.window }) p
+    else refusing e p
+
+-- fifth check, in the other states
+unfoldable pub with_ack : Tcb → Segment → Tcb
+with_ack e p =
+    if is_beyond e.sending.sent (ack_at e p)
+    then owing_if true e
+    else with_text_and_fin (with_fin_acked (record e { sending = acknowledged e.sending p.head.seq (ack_at e p) p.head.window })) p
+
+unfoldable pub check_ack : Tcb → Segment → Tcb
+check_ack e p = if has_ack p then (if e.sending.opened then with_ack e p else with_first_ack e p) else e
+
+-- fourth check: a SYN gets a challenge ACK. A segment that takes up numbers is owed an answer
+unfoldable pub check_syn : Tcb → Segment → Tcb
+check_syn e p = if has_syn p then owing_if true e else check_ack (owing_if (nat_lt 0 (length_of p)) e) p
+
+-- second check: a RST resets at RCV.NXT, and gets a challenge ACK elsewhere in the window
+unfoldable pub check_rst : Tcb → Segment → Tcb
+check_rst e p = if has_rst p then (if int_eq (first e p) (pos (next e.receiving)) then killed e else owing_if true e) else check_syn e p
+
+-- a FIN that comes again starts TIME-WAIT again
+unfoldable pub waiting_again : Tcb → Segment → Tcb
+waiting_again e p = record e { wait = if is_time_wait e.name && has_fin p && not (has_rst p) then 4 else e.wait }
+
+-- first check: an unacceptable segment is owed an answer, unless it is a RST
+unfoldable pub check_place : Tcb → Segment → Tcb
+check_place e p =
+    if is_acceptable (next e.receiving) (window e.receiving) (first e p) (length_of p)
+    then check_rst e p
+    else owing_if (not (has_rst p)) e
+
+-- 3.10.7.4: SYN-RECEIVED and the synchronized states
+unfoldable pub in_others : Tcb → Segment → Tcb
+in_others e p = check_place (waiting_again e p) p
+
+abbrev pub received_in : StateName → Tcb → Segment → Tcb
+received_in Closed e p = in_closed e p
+received_in Listen e p = in_listen e p
+received_in SynSent e p = in_syn_sent e p
+received_in name e p = in_others e p
+
+-- a segment arrives
+unfoldable pub received : Tcb → Segment → Tcb
+received e p = received_in e.name e p

@@ -1,0 +1,158 @@
+-- What an endpoint sends at the end of a turn, in order (RFC 9293, 3.7, 3.8.1, 3.8.6.1 and 3.10.7.4), and what it is after that.
+use Rattle.std.specs.Prelude.{ℕ, Bool, false, zero, suc, ◌+◌, ◌-◌, ◌==◌, ◌&&◌, ◌||◌, not, nat_lt, min, Option, None, Some, List, [], ◌∷◌, ◌++◌, length, take, drop, map, if◌then◌else◌}
+use Rattle.seq_arith.specs.Number.{number_at}
+use Rattle.seq_arith.specs.Packet.{Head, Segment}
+use Rattle.seq_arith.specs.PacketGrammar.{spelling}
+use Rattle.segment_codec.specs.Value.{said}
+use Rattle.segment_codec.specs.declared.Head as codec
+use Rattle.ft_model.specs.Segments.{or_bare}
+use Rattle.tcp_endpoint.specs.States.{is_closed, is_syn_sent, has_begun}
+use Rattle.tcp_endpoint.specs.Receiving.{next, window, announced_edge}
+use Rattle.tcp_endpoint.specs.Sending.{in_flight, must_run, timed, sendable, sends_fin, resent_length, with_sent, with_fin_sent}
+use Rattle.tcp_endpoint.specs.Tcb.{Tcb}
+
+-- the head of every segment but a RST that answers: it acknowledges all that is taken, and announces the window
+unfoldable pub head_at : Tcb → (seq flags : ℕ) → Head
+head_at e seq flags = record {
+  src = e.local.ip;
+  dst = e.remote.ip;
+  sport = e.local.port;
+  dport = e.remote.port;
+  seq = seq;
+  ack = number_at e.receiving.irs (next e.receiving);
+  flags = flags;
+  window = window e.receiving;
+  mss = None;
+}
+
+-- the SYN, which acknowledges nothing, or the SYN-ACK
+unfoldable pub opening_segment : Tcb → Segment
+opening_segment e =
+    if is_syn_sent e.name
+    then record { head = record (head_at e e.sending.iss 2) { ack = 0; mss = Some 1460 }; payload = [] }
+    else record { head = record (head_at e e.sending.iss 18) { mss = Some 1460 }; payload = [] }
+
+-- a segment that begins so many units behind SND.UNA, with these flags
+abbrev pub segment_at : Tcb → (place flags : ℕ) → List ℕ → Segment
+segment_at e place flags payload = record { head = head_at e (number_at e.sending.iss (e.sending.una + place)) flags; payload = payload }
+
+-- n bytes of text from there on, with ACK alone
+unfoldable pub text_at : Tcb → (place n : ℕ) → Segment
+text_at e place n = segment_at e place 16 (take n (drop place e.sending.held))
+
+-- the FIN, in a segment of its own
+unfoldable pub fin_at : Tcb → ℕ → Segment
+fin_at e place = segment_at e place 17 []
+
+-- so many bytes from a place on, in at most k segments, each but the last of the segment size
+unfoldable pub texts : ℕ → Tcb → (place left : ℕ) → List Segment
+texts zero e place left = []
+texts (suc k) e place left =
+    if nat_lt 0 left
+    then text_at e place (min left e.sending.mss) ∷ texts k e (place + min left e.sending.mss) (left - min left e.sending.mss)
+    else []
+
+-- the RST that answers
+abbrev pub answer_segments : Option codec.Head → List Segment
+answer_segments None = []
+answer_segments (Some head) = record { head = said head; payload = [] } ∷ []
+
+unfoldable pub answer_out : Tcb → List Segment
+answer_out e = answer_segments e.answer
+
+-- the first segment that is unacknowledged: the SYN or SYN-ACK, else the FIN where all bytes are acknowledged, else text
+unfoldable pub again_segment : Tcb → Segment
+again_segment e =
+    if not e.sending.opened then opening_segment e
+    else (if length e.sending.held == 0 then fin_at e 0 else text_at e 0 (resent_length e.sending))
+
+unfoldable pub again_out : Tcb → List Segment
+again_out e = if e.again && not (is_closed e.name) then again_segment e ∷ [] else []
+
+-- a probe goes out at SND.NXT: one byte, or the FIN where no byte waits
+abbrev pub probes : Tcb → Bool
+probes e = e.probe && has_begun e.name && e.sending.opened && not e.sending.fin_sent
+
+abbrev pub probes_text : Tcb → Bool
+probes_text e = probes e && nat_lt (in_flight e.sending) (length e.sending.held)
+
+abbrev pub probes_fin : Tcb → Bool
+probes_fin e = probes e && not (nat_lt (in_flight e.sending) (length e.sending.held)) && e.sending.closed
+
+unfoldable pub probe_out : Tcb → List Segment
+probe_out e =
+    if probes_text e then text_at e (in_flight e.sending) 1 ∷ [] else (if probes_fin e then fin_at e (in_flight e.sending) ∷ [] else [])
+
+unfoldable pub with_probe : Tcb → Tcb
+with_probe e = record e {
+  sending = if probes_text e then with_sent e.sending 1 else (if probes_fin e then with_fin_sent e.sending else e.sending);
+}
+
+-- text goes out for the first time
+abbrev pub new_length : Tcb → ℕ
+new_length e = if has_begun e.name then sendable e.sending else 0
+
+unfoldable pub text_out : Tcb → List Segment
+text_out e = texts (new_length e) e (in_flight e.sending) (new_length e)
+
+unfoldable pub with_text_sent : Tcb → Tcb
+with_text_sent e = record e { sending = with_sent e.sending (new_length e) }
+
+-- and the FIN
+abbrev pub new_fin : Tcb → Bool
+new_fin e = has_begun e.name && sends_fin e.sending
+
+unfoldable pub fin_out : Tcb → List Segment
+fin_out e = if new_fin e then fin_at e (in_flight e.sending) ∷ [] else []
+
+unfoldable pub with_fin_out : Tcb → Tcb
+with_fin_out e = record e { sending = if new_fin e then with_fin_sent e.sending else e.sending }
+
+-- all but a segment without data
+unfoldable pub full_out : Tcb → List Segment
+full_out e = answer_out e ++ again_out e ++ probe_out e ++ text_out (with_probe e) ++ fin_out (with_text_sent (with_probe e))
+
+unfoldable pub after_full : Tcb → Tcb
+after_full e = with_fin_out (with_text_sent (with_probe e))
+
+-- a segment without data is owed: a rule asks for it, or what was last announced has changed
+unfoldable pub is_owed : Tcb → Bool
+is_owed e = has_begun e.name && (e.owed || not (e.told_next == next e.receiving) || not (e.told_edge == announced_edge e.receiving))
+
+-- it stands at SND.NXT
+unfoldable pub bare_segment : Tcb → Segment
+bare_segment e = segment_at e (in_flight e.sending) 16 []
+
+-- what leaves, in order: a segment without data only where no other goes out
+unfoldable pub leaving : Tcb → List Segment
+leaving e = or_bare (is_owed (after_full e)) (bare_segment (after_full e)) (full_out e)
+
+-- what is announced in every segment of a connection that has begun
+unfoldable pub announced : Tcb → Tcb
+announced e = record e {
+  told_next = if has_begun e.name then next e.receiving else e.told_next;
+  told_edge = if has_begun e.name then announced_edge e.receiving else e.told_edge;
+  owed = false;
+  again = false;
+  probe = false;
+  answer = None;
+}
+
+-- the timer runs in a connection that sends and isn't closed
+abbrev pub is_timed : Tcb → Bool
+is_timed e = (has_begun e.name || is_syn_sent e.name) && must_run e.sending
+
+unfoldable pub settled : Tcb → Tcb
+settled e = record (announced e) { sending = timed (is_timed e) e.sending }
+
+unfoldable pub flushed : Tcb → Tcb
+flushed e = settled (after_full e)
+
+-- the packets that leave, as bytes
+unfoldable pub packets : List Segment → List (List ℕ)
+packets segments = map spelling segments
+
+-- a packet that goes out where it is owed and no other does
+abbrev pub or_packet : Bool → List ℕ → List (List ℕ) → List (List ℕ)
+or_packet owed bare [] = if owed then bare ∷ [] else []
+or_packet owed bare (packet ∷ packets) = packet ∷ packets

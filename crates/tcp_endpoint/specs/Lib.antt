@@ -1,0 +1,11 @@
+pub mod Packets
+pub mod States
+pub mod Receiving
+pub mod Sending
+pub mod Tcb
+pub mod Arrival
+pub mod Leaving
+pub mod Turning
+pub mod Laws
+pub mod Lending
+pub mod Standing

@@ -1,0 +1,53 @@
+-- The states of a connection and how they follow one another (RFC 9293, 3.3.2, figure 5, and 3.10).
+use Rattle.std.specs.Prelude.{Bool, true, false, if◌then◌else◌}
+use Rattle.tcp_endpoint.specs.declared.states.StateName.{StateName}
+use Rattle.tcp_endpoint.specs.declared.states.StateName.TheVariants.{Closed, Listen, SynSent, Established, FinWait1, FinWait2, CloseWait, Closing, LastAck, TimeWait}
+
+-- the user closes (3.10.4). In SYN-RECEIVED the FIN waits for ESTABLISHED
+abbrev pub after_close : StateName → StateName
+after_close Listen = Closed
+after_close SynSent = Closed
+after_close Established = FinWait1
+after_close CloseWait = LastAck
+after_close name = name
+
+-- the SYN is acknowledged, by a user who may have closed before
+abbrev pub opened : Bool → StateName
+opened closed = if closed then FinWait1 else Established
+
+-- the own FIN is acknowledged (3.10.7.4, fifth check)
+abbrev pub after_fin_acked : StateName → StateName
+after_fin_acked FinWait1 = FinWait2
+after_fin_acked Closing = TimeWait
+after_fin_acked LastAck = Closed
+after_fin_acked name = name
+
+-- the peer's FIN is taken (3.10.7.4, eighth check)
+abbrev pub after_fin : StateName → StateName
+after_fin Established = CloseWait
+after_fin FinWait1 = Closing
+after_fin FinWait2 = TimeWait
+after_fin name = name
+
+abbrev pub is_closed : StateName → Bool
+is_closed Closed = true
+is_closed name = false
+
+abbrev pub is_listen : StateName → Bool
+is_listen Listen = true
+is_listen name = false
+
+abbrev pub is_syn_sent : StateName → Bool
+is_syn_sent SynSent = true
+is_syn_sent name = false
+
+abbrev pub is_time_wait : StateName → Bool
+is_time_wait TimeWait = true
+is_time_wait name = false
+
+-- SYN-RECEIVED and the synchronized states: both initial numbers are known
+abbrev pub has_begun : StateName → Bool
+has_begun Closed = false
+has_begun Listen = false
+has_begun SynSent = false
+has_begun name = true

@@ -1,0 +1,49 @@
+-- What an endpoint is: a connection's variables in stream offsets (RFC 9293, 3.3.1), and what is due at the end of the turn.
+use Rattle.std.specs.Prelude.{ℕ, Bool, true, false, ◌^◌, min, Option, None}
+use Rattle.ft_io.specs.declared.Addr.{Addr}
+use Rattle.segment_codec.specs.declared.Head.{Head}
+use Rattle.tcp_endpoint.specs.declared.states.StateName.{StateName}
+use Rattle.tcp_endpoint.specs.declared.states.StateName.TheVariants.{Listen, SynSent}
+use Rattle.tcp_endpoint.specs.Receiving.{Receiving, receiving_up_to}
+use Rattle.tcp_endpoint.specs.Sending.{Sending, sending_from}
+
+pub record Tcb : Type 0 where
+  pub local : Addr
+  pub remote : Addr
+  pub name : StateName
+  pub reset : Bool
+  pub receiving : Receiving
+  pub sending : Sending
+  pub wait : ℕ  -- the ticks that TIME-WAIT still lasts
+  pub told_next : ℕ  -- the acknowledgement last sent, ..
+  pub told_edge : ℕ  -- .. and the edge last announced
+  pub owed : Bool  -- of this turn: a segment without data is owed,
+  pub again : Bool  -- the first segment that is unacknowledged goes out again,
+  pub probe : Bool  -- a probe goes out,
+  pub answer : Option Head  -- and this RST answers
+
+-- the receive edge that an endpoint keeps to: a billion bytes, where a larger limit is asked for
+abbrev pub kept_limit : ℕ → ℕ
+kept_limit limit = min limit (2 ^ 30)
+
+-- a passive open
+unfoldable pub listening : Addr → ℕ → ℕ → Tcb
+listening local iss limit = record {
+  local = local;
+  remote = record { ip = 0; port = 0 };
+  name = Listen;
+  reset = false;
+  receiving = receiving_up_to (kept_limit limit);
+  sending = sending_from iss;
+  wait = 0;
+  told_next = 0;
+  told_edge = 0;
+  owed = false;
+  again = false;
+  probe = false;
+  answer = None;
+}
+
+-- an active open: the SYN is due
+unfoldable pub connecting : Addr → Addr → ℕ → ℕ → Tcb
+connecting local remote iss limit = record (listening local iss limit) { remote = remote; name = SynSent; again = true }

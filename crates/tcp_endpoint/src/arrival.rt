@@ -1,0 +1,368 @@
+//! A segment arrives: the checks of RFC 9293, 3.10.7, in their order, one function a check.
+
+ghost use Rattle.std.specs.Prelude.{◌≡◌, ◌+◌, ◌/◌, ◌%◌, ◌^◌, ◌<◌, ◌≤◌, ◌==◌, ◌&&◌, not, nat_lt, Bool, true, false, length, if◌then◌else◌};
+ghost use Rattle.seq_arith.specs.Packet.{is_flagged, has_fin, has_syn, has_rst, has_ack};
+ghost use Rattle.segment_codec.specs.Value.{segment_of};
+ghost use Rattle.ft_model.specs.Offset.{length_of};
+ghost use Rattle.tcp_buffers.specs.Near.{IsNearFirst, IsNearAck};
+ghost use Rattle.tcp_endpoint.specs.Sending.{IsShort};
+ghost use Rattle.tcp_endpoint.specs.Arrival.{first, ack_at, AcksNear, refusing, refusing_without_ack, owing_if, killed, entering, in_closed, begun, in_listen, answered, in_syn_sent, with_text_and_fin, with_fin_acked, with_first_ack, with_ack, check_ack, check_syn, check_rst, waiting_again, check_place, in_others, received};
+
+use crate::endpoint::Endpoint;
+use crate::states::StateName;
+use ft_io::Addr;
+use segment_codec::{Head, PacketRef};
+use seq_arith::Seq;
+
+fn is_flagged(flag: u8, flags: u8) -> bool
+    requires { 0 < flag }
+    ensures { result ≡ is_flagged flag flags }
+{
+    flags / flag % 2 == 1
+}
+
+fn has_fin(p: PacketRef<'_>) -> bool
+    ensures { result ≡ has_fin (segment_of p.entry) }
+{
+    is_flagged(1, p.head.flags)
+}
+
+fn has_syn(p: PacketRef<'_>) -> bool
+    ensures { result ≡ has_syn (segment_of p.entry) }
+{
+    is_flagged(2, p.head.flags)
+}
+
+fn has_rst(p: PacketRef<'_>) -> bool
+    ensures { result ≡ has_rst (segment_of p.entry) }
+{
+    is_flagged(4, p.head.flags)
+}
+
+fn has_ack(p: PacketRef<'_>) -> bool
+    ensures { result ≡ has_ack (segment_of p.entry) }
+{
+    is_flagged(16, p.head.flags)
+}
+
+/// SEG.LEN: data and FIN, or the SYN alone; nothing of a RST.
+fn length_of(p: PacketRef<'_>) -> u32
+    requires { length p.payload.now ≤ 65535 }
+    ensures count { result ≡ length_of (segment_of p.entry) }
+    ensures most { result ≤ 2 ^ 16 }
+{
+    if has_rst(p) {
+        return 0;
+    }
+    if has_syn(p) {
+        return 1;
+    }
+    p.payload.len() as u32 + u32::from(has_fin(p))
+}
+
+/// The packet with at most 65,535 bytes of text. No packet of IP has more.
+#[tactic(auto, using(std::proofs::lemmas::List::take_all))]
+fn shortened(p: PacketRef<'_>) -> PacketRef<'_>
+    ensures short { length result.payload.now ≤ 65535 }
+    ensures same { length p.entry.payload.now ≤ 65535 → segment_of result ≡ segment_of p.entry }
+{
+    PacketRef {
+        head: p.head,
+        payload: &p.payload[..p.payload.len().min(65_535)],
+    }
+}
+
+impl Endpoint {
+    /// A packet of the peer arrives. What it makes of the endpoint is said of packets of at most 65,535 bytes whose acknowledgement, if they
+    /// have one, lies near, of an endpoint whose own offsets are small enough for numbers to tell their order.
+    pub fn on_packet(&mut self, p: PacketRef<'_>)
+        ensures { length p.entry.payload.now ≤ 65535 → IsShort self.old.sending → AcksNear self.old (segment_of p.entry)
+            → self.new ≡ received self.old (segment_of p.entry) }
+    {
+        self.receive(shortened(p));
+    }
+
+    #[tactic(auto, unfolding(crate::specs::Arrival::received))]
+    fn receive(&mut self, p: PacketRef<'_>)
+        requires { length p.payload.now ≤ 65535 }
+        ensures { IsShort self.old.sending → AcksNear self.old (segment_of p.entry) → self.new ≡ received self.old (segment_of p.entry) }
+    {
+        match self.name {
+            StateName::Closed => self.in_closed(p),
+            StateName::Listen => self.in_listen(p),
+            StateName::SynSent => self.in_syn_sent(p),
+            _ => self.in_others(p),
+        }
+    }
+
+    /// Answers with a RST at SEG.ACK.
+    #[tactic(auto, unfolding(crate::specs::Arrival::refusing))]
+    fn refuse(&mut self, p: PacketRef<'_>)
+        ensures { self.new ≡ refusing self.old (segment_of p.entry) }
+    {
+        self.answer = Some(Head {
+            src: self.local.ip,
+            dst: p.head.src,
+            sport: self.local.port,
+            dport: p.head.sport,
+            seq: p.head.ack,
+            ack: Seq(0),
+            flags: 4,
+            window: 0,
+            mss: None,
+        });
+    }
+
+    /// Answers a segment without ACK with a RST at 0 that acknowledges it.
+    #[tactic(auto, unfolding(crate::specs::Arrival::refusing_without_ack))]
+    fn refuse_without_ack(&mut self, p: PacketRef<'_>)
+        requires { length p.payload.now ≤ 65535 }
+        ensures { self.new ≡ refusing_without_ack self.old (segment_of p.entry) }
+    {
+        self.answer = Some(Head {
+            src: self.local.ip,
+            dst: p.head.src,
+            sport: self.local.port,
+            dport: p.head.sport,
+            seq: Seq(0),
+            ack: Seq(p.head.seq.add(length_of(p)).0),
+            flags: 20,
+            window: 0,
+            mss: None,
+        });
+    }
+
+    /// RFC 9293, 3.10.7.1.
+    #[tactic(auto, unfolding(crate::specs::Arrival::in_closed))]
+    fn in_closed(&mut self, p: PacketRef<'_>)
+        requires { length p.payload.now ≤ 65535 }
+        ensures { self.new ≡ in_closed self.old (segment_of p.entry) }
+    {
+        if has_rst(p) {
+            return;
+        }
+        if has_ack(p) {
+            self.refuse(p);
+        } else {
+            self.refuse_without_ack(p);
+        }
+    }
+
+    /// A SYN makes a connection.
+    #[tactic(auto, unfolding(crate::specs::Arrival::begun))]
+    fn begin(&mut self, p: PacketRef<'_>)
+        ensures { self.new ≡ begun self.old (segment_of p.entry) }
+    {
+        self.remote = Addr {
+            ip: p.head.src,
+            port: p.head.sport,
+        };
+        self.name = StateName::SynReceived;
+        self.receiver.begin(p.head.seq);
+        self.sender.begin(p.head.mss);
+        self.again = true;
+    }
+
+    /// RFC 9293, 3.10.7.2.
+    #[tactic(auto, unfolding(crate::specs::Arrival::in_listen))]
+    fn in_listen(&mut self, p: PacketRef<'_>)
+        ensures { self.new ≡ in_listen self.old (segment_of p.entry) }
+    {
+        if has_rst(p) {
+            return;
+        }
+        if has_ack(p) {
+            self.refuse(p);
+        } else if has_syn(p) {
+            self.begin(p);
+        }
+    }
+
+    /// The peer's SYN acknowledges the own one.
+    #[tactic(auto, unfolding(crate::specs::Arrival::answered))]
+    fn answered(&mut self, p: PacketRef<'_>)
+        ensures { self.new ≡ answered self.old (segment_of p.entry) }
+    {
+        self.name = StateName::Established;
+        self.receiver.begin(p.head.seq);
+        self.sender.begin(p.head.mss);
+        self.sender.open(p.head.seq, p.head.window);
+        self.owed = true;
+    }
+
+    /// RFC 9293, 3.10.7.3.
+    #[tactic(auto, unfolding(crate::specs::Arrival::in_syn_sent))]
+    fn in_syn_sent(&mut self, p: PacketRef<'_>)
+        ensures { self.new ≡ in_syn_sent self.old (segment_of p.entry) }
+    {
+        if !has_ack(p) {
+            return;
+        }
+        if !self.sender.acks_syn(p.head.ack) {
+            if !has_rst(p) {
+                self.refuse(p);
+            }
+            return;
+        }
+        if has_rst(p) {
+            self.kill();
+        } else if has_syn(p) {
+            self.answered(p);
+        }
+    }
+
+    /// The connection is reset.
+    fn kill(&mut self)
+        ensures { self.new ≡ killed self.old }
+    {
+        self.name = StateName::Closed;
+        self.reset = true;
+    }
+
+    /// Enters a state. TIME-WAIT lasts four ticks.
+    fn enter(&mut self, name: StateName)
+        ensures { self.new ≡ entering name self.old }
+    {
+        if name.is_time_wait() && !self.name.is_time_wait() {
+            self.wait = 4;
+        }
+        self.name = name;
+    }
+
+    /// A segment without data is owed.
+    fn owe(&mut self, is_owed: bool)
+        ensures { self.new ≡ owing_if is_owed self.old }
+    {
+        self.owed = self.owed || is_owed;
+    }
+
+    /// RFC 9293, 3.10.7.4, first check.
+    #[tactic(auto, unfolding(crate::specs::Arrival::check_place, crate::specs::Arrival::in_others, crate::specs::Arrival::waiting_again))]
+    fn in_others(&mut self, p: PacketRef<'_>)
+        requires { length p.payload.now ≤ 65535 }
+        ensures { IsShort self.old.sending → AcksNear self.old (segment_of p.entry) → self.new ≡ in_others self.old (segment_of p.entry) }
+    {
+        self.wait_again(p);
+        if self.receiver.accepts(p.head.seq, length_of(p)) {
+            self.check_rst(p);
+        } else {
+            self.owe(!has_rst(p));
+        }
+    }
+
+    /// A FIN that comes again starts TIME-WAIT again.
+    #[tactic(auto, unfolding(crate::specs::Arrival::waiting_again))]
+    fn wait_again(&mut self, p: PacketRef<'_>)
+        ensures { self.new ≡ waiting_again self.old (segment_of p.entry) }
+    {
+        if self.name.is_time_wait() && has_fin(p) && !has_rst(p) {
+            self.wait = 4;
+        }
+    }
+
+    /// Second check.
+    #[tactic(auto, unfolding(crate::specs::Arrival::check_rst))]
+    fn check_rst(&mut self, p: PacketRef<'_>)
+        requires short { length p.payload.now ≤ 65535 }
+        requires near { IsNearFirst (first self.old (segment_of p)) }
+        ensures { IsShort self.old.sending → AcksNear self.old (segment_of p.entry) → self.new ≡ check_rst self.old (segment_of p.entry) }
+    {
+        if !has_rst(p) {
+            self.check_syn(p);
+        } else if self.receiver.is_next(p.head.seq) {
+            self.kill();
+        } else {
+            self.owe(true);
+        }
+    }
+
+    /// Fourth check.
+    #[tactic(auto, unfolding(crate::specs::Arrival::check_syn))]
+    fn check_syn(&mut self, p: PacketRef<'_>)
+        requires short { length p.payload.now ≤ 65535 }
+        requires near { IsNearFirst (first self.old (segment_of p)) }
+        ensures { IsShort self.old.sending → AcksNear self.old (segment_of p.entry) → self.new ≡ check_syn self.old (segment_of p.entry) }
+    {
+        if has_syn(p) {
+            self.owe(true);
+            return;
+        }
+        self.owe(length_of(p) > 0);
+        self.check_ack(p);
+    }
+
+    /// Fifth check.
+    #[tactic(auto, unfolding(crate::specs::Arrival::check_ack))]
+    fn check_ack(&mut self, p: PacketRef<'_>)
+        requires short { length p.payload.now ≤ 65535 }
+        requires near { IsNearFirst (first self.old (segment_of p)) }
+        ensures { IsShort self.old.sending → AcksNear self.old (segment_of p.entry) → self.new ≡ check_ack self.old (segment_of p.entry) }
+    {
+        if !has_ack(p) {
+            return;
+        }
+        if self.sender.is_opened() {
+            self.use_ack(p);
+        } else {
+            self.use_first_ack(p);
+        }
+    }
+
+    /// Fifth check, in SYN-RECEIVED.
+    #[tactic(auto, unfolding(crate::specs::Arrival::with_first_ack))]
+    fn use_first_ack(&mut self, p: PacketRef<'_>)
+        requires short { length p.payload.now ≤ 65535 }
+        requires near { IsNearFirst (first self.old (segment_of p)) }
+        ensures { self.new ≡ with_first_ack self.old (segment_of p.entry) }
+    {
+        if !self.sender.acks_syn(p.head.ack) {
+            self.refuse(p);
+            return;
+        }
+        self.name = StateName::opened(self.sender.is_closed());
+        self.sender.open(p.head.seq, p.head.window);
+        self.take_text_and_fin(p);
+    }
+
+    /// Fifth check, in the other states.
+    #[tactic(auto, unfolding(crate::specs::Arrival::with_ack))]
+    fn use_ack(&mut self, p: PacketRef<'_>)
+        requires short { length p.payload.now ≤ 65535 }
+        requires near { IsNearFirst (first self.old (segment_of p)) }
+        ensures { IsShort self.old.sending → IsNearAck (ack_at self.old (segment_of p.entry)) → self.new ≡ with_ack self.old (segment_of p.entry) }
+    {
+        if !self.sender.on_ack(p.head.seq, p.head.ack, p.head.window) {
+            self.owe(true);
+            return;
+        }
+        self.note_fin_acked();
+        self.take_text_and_fin(p);
+    }
+
+    /// The state moves on where the own FIN is acknowledged.
+    #[tactic(auto, unfolding(crate::specs::Arrival::with_fin_acked))]
+    fn note_fin_acked(&mut self)
+        ensures state { self.new ≡ with_fin_acked self.old }
+        ensures receiving { self.new.receiving ≡ self.old.receiving }
+    {
+        if self.sender.fin_acked() {
+            self.enter(self.name.after_fin_acked());
+        }
+    }
+
+    /// Seventh and eighth check.
+    #[tactic(auto, unfolding(crate::specs::Arrival::with_text_and_fin))]
+    fn take_text_and_fin(&mut self, p: PacketRef<'_>)
+        requires short { length p.payload.now ≤ 65535 }
+        requires near { IsNearFirst (first self.old (segment_of p)) }
+        ensures { self.new ≡ with_text_and_fin self.old (segment_of p.entry) }
+    {
+        let had_fin = self.receiver.has_fin();
+        let is_early = self.receiver.is_early(p.head.seq);
+        self.receiver.take(p.head.seq, p.payload, has_fin(p));
+        self.owe(is_early);
+        if self.receiver.has_fin() && !had_fin {
+            self.enter(self.name.after_fin());
+        }
+    }
+}

@@ -1,0 +1,119 @@
+//! One connection's endpoint: its two halves, its state, and what is due at the end of the turn.
+
+ghost use Rattle.std.specs.Prelude.{◌≡◌, IfOk};
+ghost use Rattle.tcp_endpoint.specs.Tcb.{listening, connecting};
+ghost use Rattle.tcp_endpoint.specs.Turning.{sent_number, acked_number};
+
+use crate::receiver::Receiver;
+use crate::sender::Sender;
+use crate::states::{State, StateName};
+use ft_io::{Addr, NoMemory};
+use segment_codec::Head;
+use seq_arith::Seq;
+use std::alloc::Global;
+use std::marker::Model;
+use tcp_buffers::{RecvQueue, SendQueue};
+
+/// A TCP endpoint of one connection (RFC 9293). `on_packet` and `on_tick` begin a turn and `flush` ends it, so one flush stands between any
+/// two of them. Contracts see a record in offsets of the two streams.
+#[derive(Drop)]
+pub struct Endpoint {
+    pub(crate) local: Addr,
+    pub(crate) remote: Addr,
+    pub(crate) name: StateName,
+    pub(crate) reset: bool,
+    pub(crate) receiver: Receiver,
+    pub(crate) sender: Sender,
+    /// The ticks that TIME-WAIT still lasts.
+    pub(crate) wait: u8,
+    /// The acknowledgement and the receive edge that were sent last.
+    pub(crate) told_next: u32,
+    pub(crate) told_edge: u32,
+    /// What is due in this turn: a segment without data, the first unacknowledged segment again, a probe, a RST that answers.
+    pub(crate) owed: bool,
+    pub(crate) again: bool,
+    pub(crate) probe: bool,
+    pub(crate) answer: Option<Head>,
+}
+
+impl Model for Endpoint {
+    ghost use Rattle.tcp_endpoint.specs.Tcb.{Tcb};
+
+    ghost Value = { Tcb };
+
+    ghost view = { λ e. record { local = e.local; remote = e.remote; name = e.name; reset = e.reset; receiving = e.receiver; sending = e.sender; wait = e.wait; told_next = e.told_next; told_edge = e.told_edge; owed = e.owed; again = e.again; probe = e.probe; answer = e.answer } };
+}
+
+impl Endpoint {
+    /// A passive open at a local address, with the initial number `isn`. The receive edge never passes `limit` bytes, nor 2^30.
+    #[tactic(auto, unfolding(crate::specs::Tcb::listening))]
+    pub fn listen(alloc: Global, local: Addr, isn: Seq, limit: u32) -> Result<Endpoint, NoMemory>
+        ensures { IfOk result (λ e. e ≡ listening local isn.0 limit) }
+    {
+        let unread = RecvQueue::new(alloc)?;
+        let held = SendQueue::new(alloc)?;
+        Ok(Endpoint {
+            local,
+            remote: Addr { ip: 0, port: 0 },
+            name: StateName::Listen,
+            reset: false,
+            receiver: Receiver::new(unread, limit),
+            sender: Sender::new(isn, held),
+            wait: 0,
+            told_next: 0,
+            told_edge: 0,
+            owed: false,
+            again: false,
+            probe: false,
+            answer: None,
+        })
+    }
+
+    /// An active open to a remote address. The next flush sends the SYN.
+    #[tactic(auto, unfolding(crate::specs::Tcb::connecting, crate::specs::Tcb::listening))]
+    pub fn connect(
+        alloc: Global,
+        local: Addr,
+        remote: Addr,
+        isn: Seq,
+        limit: u32,
+    ) -> Result<Endpoint, NoMemory>
+        ensures { IfOk result (λ e. e ≡ connecting local remote isn.0 limit) }
+    {
+        let mut endpoint = Endpoint::listen(alloc, local, isn, limit)?;
+        endpoint.remote = remote;
+        endpoint.name = StateName::SynSent;
+        endpoint.again = true;
+        Ok(endpoint)
+    }
+
+    /// The state, and whether the peer has reset the connection.
+    pub fn state(&self) -> State
+        ensures { result ≡ record { name = self.now.name; reset = self.now.reset } }
+    {
+        State {
+            name: self.name,
+            reset: self.reset,
+        }
+    }
+
+    /// SND.NXT.
+    pub fn sent(&self) -> Seq
+        ensures { result.0 ≡ sent_number self.now }
+    {
+        if self.name.is_listen() {
+            return self.sender.iss();
+        }
+        self.sender.nxt()
+    }
+
+    /// SND.UNA.
+    pub fn acked(&self) -> Seq
+        ensures { result.0 ≡ acked_number self.now }
+    {
+        if !self.sender.is_opened() {
+            return self.sender.iss();
+        }
+        self.sender.una()
+    }
+}

@@ -1,0 +1,173 @@
+//! The laws that an endpoint meets, each the clause of a function that does nothing: what a crate above may cite. They stand apart from the
+//! functions that the code's clauses name, in the words of the laws of `ft_model`.
+
+ghost use Rattle.std.specs.Prelude.{◌≡◌, ℕ, ◌+◌, ◌<◌, ◌≤◌, ◌^◌, true, false, List, length};
+ghost use Rattle.seq_arith.specs.Packet.{Segment};
+ghost use Rattle.tcp_endpoint.specs.States.{has_begun};
+ghost use Rattle.tcp_endpoint.specs.Tcb.{Tcb, listening, connecting};
+ghost use Rattle.tcp_endpoint.specs.Arrival.{received};
+ghost use Rattle.tcp_endpoint.specs.Laws.{IsBounded, IsUsual, taken_by, IsSentBy, ProbesRightly, sent_by_law, is_refused, owes, starts, interval_by, rest_by, ticked_interval, ticked_rest, IsTimedBy, told, asks, IsShut};
+ghost use Rattle.tcp_endpoint.specs.Sending.{IsShort};
+ghost use Rattle.ft_model.specs.Segments.{or_bare};
+ghost use Rattle.tcp_endpoint.specs.Receiving.{next, announced_edge};
+ghost use Rattle.tcp_endpoint.specs.Leaving.{bare_segment, full_out, leaving, after_full, is_timed, flushed};
+ghost use Rattle.tcp_endpoint.specs.Turning.{after_tick, after_read, after_write, closing};
+ghost use Rattle.tcp_endpoint.specs.declared.states.StateName.TheVariants.{Listen, SynSent};
+ghost use Rattle.ft_io.specs.declared.Addr.{Addr};
+ghost use Rattle.ft_model.specs.Point.{Point};
+ghost use Rattle.tcp_endpoint.specs.Standing.{StandsAt, point_after};
+
+/// The law Taken: which bytes of a segment are taken, and when its FIN is.
+#[tactic(auto, using(crate::proofs::TakenLaw::taken_law))]
+pub fn segments_are_taken_by_law()
+    ensures { (e : Tcb) (p : Segment) → has_begun e.name ≡ true → IsBounded e → IsUsual e p → (received e p).receiving ≡ taken_by e p }
+{}
+
+/// The law Sending: what an acknowledgement and a window do. Nothing is sent where a segment arrives: that is the flush's.
+#[tactic(auto, using(crate::proofs::SendingLaw::sending_law))]
+pub fn segments_are_acknowledged_by_law()
+    ensures { (e : Tcb) (p : Segment) → has_begun e.name ≡ true → IsBounded e → IsUsual e p → IsSentBy e p (received e p).sending }
+{}
+
+/// A passive open with a limit of at most 2^24 bytes is within the bounds ..
+#[tactic(auto, using(crate::proofs::Bounding::bounded_at_listen))]
+pub fn passive_opens_are_bounded()
+    ensures { (local : Addr) (iss limit : ℕ) → limit ≤ 2 ^ 24 → IsBounded (listening local iss limit) }
+{}
+
+/// .. and so is an active one.
+#[tactic(auto, using(crate::proofs::Bounding::bounded_at_connect))]
+pub fn active_opens_are_bounded()
+    ensures { (local remote : Addr) (iss limit : ℕ) → limit ≤ 2 ^ 24 → IsBounded (connecting local remote iss limit) }
+{}
+
+/// They stay within them where a segment comes in LISTEN, ..
+#[tactic(auto, using(crate::proofs::Bounding::bounded_in_listen))]
+pub fn listening_stays_bounded()
+    ensures { (e : Tcb) (p : Segment) → e.name ≡ Listen → e.sending.opened ≡ false → IsBounded e → IsBounded (received e p) }
+{}
+
+/// .. and in SYN-SENT, ..
+#[tactic(auto, using(crate::proofs::Bounding::bounded_in_syn_sent))]
+pub fn answers_keep_the_bounds()
+    ensures { (e : Tcb) (p : Segment) → e.name ≡ SynSent → e.sending.opened ≡ false → IsBounded e → p.head.seq < 2 ^ 32 → p.head.window ≤ 65535
+        → IsBounded (received e p) }
+{}
+
+/// .. in a connection that has begun, ..
+#[tactic(auto, using(crate::proofs::Bounding::bounded_by_segment))]
+pub fn segments_keep_the_bounds()
+    ensures { (e : Tcb) (p : Segment) → has_begun e.name ≡ true → IsBounded e → IsUsual e p → IsBounded (received e p) }
+{}
+
+/// .. where a turn ends, ..
+#[tactic(auto, using(crate::proofs::Bounding::bounded_by_flush))]
+pub fn flushes_keep_the_bounds()
+    ensures { (e : Tcb) → IsBounded e → IsBounded (flushed e) }
+{}
+
+/// .. where a tick passes, ..
+#[tactic(auto, using(crate::proofs::Bounding::bounded_by_tick))]
+pub fn ticks_keep_the_bounds()
+    ensures { (e : Tcb) → IsBounded e → IsBounded (after_tick e) }
+{}
+
+/// .. where the user reads, ..
+#[tactic(auto, using(crate::proofs::Bounding::bounded_by_read))]
+pub fn reads_keep_the_bounds()
+    ensures { (e : Tcb) (n : ℕ) → n ≤ length e.receiving.unread → IsBounded e → IsBounded (after_read e n) }
+{}
+
+/// .. where the user writes and has written no more than 2^24 bytes, ..
+#[tactic(auto, using(crate::proofs::Bounding::bounded_by_write))]
+pub fn writes_keep_the_bounds()
+    ensures { (e : Tcb) (bytes : List ℕ) → e.sending.una + length e.sending.held + length bytes ≤ 2 ^ 24 → IsBounded e → IsBounded (after_write e bytes) }
+{}
+
+/// .. and where the user closes.
+pub fn closing_keeps_the_bounds()
+    ensures { (e : Tcb) → IsBounded e → IsBounded (closing e) }
+{}
+
+/// Within the bounds numbers tell the order of offsets, as `on_packet` asks.
+#[tactic(auto, using(crate::proofs::Bounding::bounded_is_short))]
+pub fn bounds_are_enough()
+    ensures { (e : Tcb) → IsBounded e → IsShort e.sending }
+{}
+
+/// The law Sending, at the end of a turn: all that may leave is sent at once, up to the right edge, and one unit more at a probe.
+#[tactic(auto, using(crate::proofs::TurnLaw::sent_law))]
+pub fn turns_send_up_to_the_edge()
+    ensures { (e : Tcb) → has_begun e.name ≡ true → IsBounded e → ProbesRightly e → (flushed e).sending.sent ≡ sent_by_law e }
+{}
+
+/// The law Owed: when an answer is owed to a segment. It goes out where no other segment does.
+#[tactic(auto, using(crate::proofs::OwedLaw::owed_law))]
+pub fn segments_are_owed_answers_by_law()
+    ensures { (e : Tcb) (p : Segment) → has_begun e.name ≡ true → IsBounded e → IsUsual e p → e.owed ≡ false → is_refused e p ≡ false
+        → (received e p).owed ≡ owes e p }
+{}
+
+/// The law of the timer, at the end of a turn with a segment, whatever the user does in between.
+pub fn segments_time_by_law()
+    ensures { (e u : Tcb) (p : Segment) → has_begun e.name ≡ true → IsBounded e → IsUsual e p
+        → u.sending.interval ≡ (received e p).sending.interval → u.sending.rest ≡ (received e p).sending.rest
+        → IsTimedBy (flushed u).sending (interval_by (is_timed (after_full u)) (starts e.sending (received e p).sending) e.sending)
+        (rest_by (is_timed (after_full u)) (starts e.sending (received e p).sending) e.sending) }
+{}
+
+/// The law of the timer, at the end of a turn with a tick.
+pub fn ticks_time_by_law()
+    ensures { (e u : Tcb) → 1 ≤ e.sending.interval → u.sending.interval ≡ (after_tick e).sending.interval → u.sending.rest ≡ (after_tick e).sending.rest
+        → IsTimedBy (flushed u).sending (ticked_interval (is_timed (after_full u)) e.sending) (ticked_rest (is_timed (after_full u)) e.sending) }
+{}
+
+/// The laws Taken and Sending of `ft_model` themselves, of an endpoint with the limit of a stream: what a segment makes of it is what they
+/// make of the point at which it stands.
+pub fn segments_lead_from_point_to_point()
+    ensures { (p : Point) (e : Tcb) (segment : Segment) → e.receiving.limit ≡ 2 ^ 24 → has_begun e.name ≡ true → IsBounded e → IsUsual e segment
+        → StandsAt p e → StandsAt (point_after segment p) (received e segment) }
+{}
+
+/// The law on a segment without data, at the end of a turn with a segment: it goes out exactly where one is owed and no other segment does.
+pub fn bare_segments_go_out_where_owed()
+    ensures { (e u : Tcb) (p : Segment) → has_begun e.name ≡ true → has_begun u.name ≡ true → IsBounded e → IsUsual e p → e.owed ≡ false
+        → is_refused e p ≡ false → u.owed ≡ (received e p).owed
+        → leaving u ≡ or_bare (asks (owes e p) u) (bare_segment (after_full u)) (full_out u) }
+{}
+
+/// The same, at the end of a turn in which no segment came.
+pub fn bare_segments_go_out_where_news_are()
+    ensures { (u : Tcb) → has_begun u.name ≡ true → u.owed ≡ false
+        → leaving u ≡ or_bare (asks false u) (bare_segment (after_full u)) (full_out u) }
+{}
+
+/// What is taken and the receive edge are what was last announced, once a turn has ended ..
+#[tactic(auto, using(crate::proofs::ToldLaw::told_by_flush))]
+pub fn turns_announce()
+    ensures { (e : Tcb) → has_begun e.name ≡ true → told (flushed e) ≡ (next e.receiving, announced_edge e.receiving) }
+{}
+
+/// .. and a segment leaves what was last announced.
+#[tactic(auto, using(crate::proofs::ToldLaw::told_by_segment))]
+pub fn segments_announce_nothing()
+    ensures { (e : Tcb) (p : Segment) → has_begun e.name ≡ true → told (received e p) ≡ told e }
+{}
+
+/// A probe is due only where it is right, ..
+#[tactic(auto, using(crate::proofs::ToldLaw::probed_by_tick))]
+pub fn ticks_probe_rightly()
+    ensures { (e : Tcb) → e.probe ≡ false → IsBounded e → IsShut e.sending → ProbesRightly (after_tick e) }
+{}
+
+/// .. since a turn ends with the edge reached, ..
+#[tactic(auto, using(crate::proofs::ToldLaw::shut_by_flush))]
+pub fn turns_end_shut()
+    ensures { (e : Tcb) → has_begun e.name ≡ true → IsBounded e → ProbesRightly e → IsShut (flushed e).sending }
+{}
+
+/// .. and what the user writes only adds to what waits.
+#[tactic(auto, using(crate::proofs::ToldLaw::shut_by_write))]
+pub fn writes_leave_shut()
+    ensures { (e : Tcb) (bytes : List ℕ) → IsShut e.sending → IsShut (after_write e bytes).sending }
+{}

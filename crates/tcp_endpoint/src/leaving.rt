@@ -1,0 +1,299 @@
+//! The end of a turn: what goes out, in order (RFC 9293, 3.7, 3.8.1, 3.8.6.1 and 3.10.7.4), and the timer.
+
+ghost use Rattle.std.specs.Prelude.{◌≡◌, ℕ, ◌+◌, ◌*◌, ◌-◌, ◌<◌, ◌≤◌, ◌==◌, ◌&&◌, ◌||◌, Bool, true, false, None, Some, List, [], ◌∷◌, ◌++◌, length, if◌then◌else◌};
+ghost use Rattle.seq_arith.specs.PacketGrammar.{packet_length, spelling};
+ghost use Rattle.segment_codec.specs.Value.{said};
+ghost use Rattle.segment_codec.specs.Written.{segment_with};
+ghost use Rattle.tcp_endpoint.specs.Packets.{byte_count};
+ghost use Rattle.tcp_endpoint.specs.Sending.{in_flight};
+ghost use Rattle.tcp_endpoint.specs.Leaving.{head_at, opening_segment, text_at, fin_at, texts, answer_out, again_out, probe_out, with_probe, text_out, with_text_sent, new_length, fin_out, with_fin_out, is_owed, bare_segment, leaving, announced, is_timed, settled, flushed, packets, or_packet};
+
+use crate::endpoint::Endpoint;
+use crate::outbox::Outbox;
+use segment_codec::{Head, write_packet};
+use seq_arith::Seq;
+
+/// Puts a packet behind the others in the outbox, which has room for it.
+#[tactic(auto, using(std::proofs::lemmas::List::take_at, seq_arith::proofs::Spelling::size, crate::proofs::Spelled::spelled_bytes, std::proofs::lemmas::List::length_push))]
+fn emit(head: &Head, payload: &[u8], out: &mut Outbox)
+    requires size { packet_length (segment_with head.now payload.now) ≤ 1500 }
+    requires count { length out.old < 1100 }
+    requires bytes { byte_count out.old ≤ 118000 }
+    ensures sent { out.new ≡ out.old ++ spelling (segment_with head.now payload.now) ∷ [] }
+    ensures count { length out.new ≡ length out.old + 1 }
+    ensures bytes { byte_count out.new ≡ byte_count out.old + packet_length (segment_with head.now payload.now) }
+{
+    let mut packet = [0u8; 1_500];
+    let len = write_packet(head, payload, &mut packet);
+    let _is_put = out.push(&packet[..len]);
+}
+
+impl Endpoint {
+    /// Ends the turn: puts into the outbox what goes out, which is at most 1,030 packets and 110,000 bytes.
+    #[tactic(auto, using(crate::proofs::Spelled::leaving_is), unfolding(crate::specs::Leaving::flushed, crate::specs::Leaving::after_full))]
+    pub fn flush(&mut self, out: &mut Outbox)
+        requires { out.old ≡ [] }
+        ensures state { self.new ≡ flushed self.old }
+        ensures sent { out.new ≡ packets (leaving self.old) }
+        ensures count { length out.new ≤ 1030 }
+        ensures bytes { byte_count out.new ≤ 110000 }
+    {
+        self.send_answer(out);
+        self.send_again(out);
+        self.send_probe(out);
+        self.send_text(out);
+        self.send_fin(out);
+        self.send_owed(out);
+        self.settle();
+    }
+
+    /// The head of every segment but a RST that answers.
+    #[tactic(auto, unfolding(crate::specs::Leaving::head_at))]
+    fn head(&self, seq: Seq, flags: u8) -> Head
+        ensures head { said result ≡ head_at self.now seq.0 flags }
+        ensures size { result.mss ≡ None }
+    {
+        Head {
+            src: self.local.ip,
+            dst: self.remote.ip,
+            sport: self.local.port,
+            dport: self.remote.port,
+            seq,
+            ack: self.receiver.next_number(),
+            flags,
+            window: self.receiver.window(),
+            mss: None,
+        }
+    }
+
+    /// The head of the SYN or of the SYN-ACK.
+    #[tactic(auto, unfolding(crate::specs::Leaving::opening_segment))]
+    fn opening_head(&self) -> Head
+        ensures { segment_with result [] ≡ opening_segment self.now }
+    {
+        if self.name.is_syn_sent() {
+            let head = self.head(self.sender.iss(), 2);
+            return Head {
+                ack: Seq(0),
+                mss: Some(1_460),
+                ..head
+            };
+        }
+        let head = self.head(self.sender.iss(), 18);
+        Head {
+            mss: Some(1_460),
+            ..head
+        }
+    }
+
+    /// The RST that answers.
+    #[tactic(auto, using(crate::proofs::Spelled::options_short, crate::proofs::Spelled::packets_one, crate::proofs::Spelled::packets_none), unfolding(crate::specs::Leaving::answer_out))]
+    fn send_answer(&self, out: &mut Outbox)
+        requires { out.old ≡ [] }
+        ensures sent { out.new ≡ packets (answer_out self.now) }
+        ensures count { length out.new ≤ 1 }
+        ensures bytes { byte_count out.new ≤ 44 }
+    {
+        if let Some(head) = self.answer {
+            emit(&head, &[], out);
+        }
+    }
+
+    /// A text of n bytes that begins so far behind SND.UNA.
+    #[tactic(auto, unfolding(crate::specs::Leaving::text_at))]
+    fn send_text_at(&self, place: u32, n: u32, out: &mut Outbox)
+        requires text { place + n ≤ length self.now.sending.held }
+        requires size { n ≤ 1460 }
+        requires count { length out.old < 1100 }
+        requires bytes { byte_count out.old ≤ 118000 }
+        ensures sent { out.new ≡ out.old ++ spelling (text_at self.now place n) ∷ [] }
+        ensures count { length out.new ≡ length out.old + 1 }
+        ensures bytes { byte_count out.new ≡ byte_count out.old + 40 + n }
+    {
+        let mut text = [0u8; 1_460];
+        let part = &mut text[..n as usize];
+        self.sender.copy(place, part);
+        emit(&self.head(self.sender.number_behind(place), 16), part, out);
+    }
+
+    /// The FIN, so far behind SND.UNA.
+    #[tactic(auto, unfolding(crate::specs::Leaving::fin_at))]
+    fn send_fin_at(&self, place: u32, out: &mut Outbox)
+        requires count { length out.old < 1100 }
+        requires bytes { byte_count out.old ≤ 118000 }
+        ensures sent { out.new ≡ out.old ++ spelling (fin_at self.now place) ∷ [] }
+        ensures count { length out.new ≡ length out.old + 1 }
+        ensures bytes { byte_count out.new ≡ byte_count out.old + 40 }
+    {
+        emit(&self.head(self.sender.number_behind(place), 17), &[], out);
+    }
+
+    /// The first segment that is unacknowledged, where it is due again.
+    #[tactic(auto, using(crate::proofs::Spelled::options_short, crate::proofs::Spelled::packets_one, crate::proofs::Spelled::nothing_more), unfolding(crate::specs::Leaving::again_out, crate::specs::Leaving::again_segment))]
+    fn send_again(&self, out: &mut Outbox)
+        requires count { length out.old ≤ 1 }
+        requires bytes { byte_count out.old ≤ 44 }
+        ensures sent { out.new ≡ out.old ++ packets (again_out self.now) }
+        ensures count { length out.new ≤ length out.old + 1 }
+        ensures bytes { byte_count out.new ≤ byte_count out.old + 1500 }
+    {
+        if !self.again || self.name.is_closed() {
+            return;
+        }
+        if !self.sender.is_opened() {
+            emit(&self.opening_head(), &[], out);
+        } else if self.sender.held() == 0 {
+            self.send_fin_at(0, out);
+        } else {
+            self.send_text_at(0, self.sender.resent_length(), out);
+        }
+    }
+
+    /// A probe, where it is due.
+    #[tactic(auto, using(crate::proofs::Spelled::packets_one, crate::proofs::Spelled::nothing_more), unfolding(crate::specs::Leaving::probe_out, crate::specs::Leaving::with_probe))]
+    fn send_probe(&mut self, out: &mut Outbox)
+        requires count { length out.old ≤ 2 }
+        requires bytes { byte_count out.old ≤ 1544 }
+        ensures state { self.new ≡ with_probe self.old }
+        ensures sent { out.new ≡ out.old ++ packets (probe_out self.old) }
+        ensures count { length out.new ≤ length out.old + 1 }
+        ensures bytes { byte_count out.new ≤ byte_count out.old + 41 }
+    {
+        if !self.probe
+            || !self.name.has_begun()
+            || !self.sender.is_opened()
+            || self.sender.is_fin_sent()
+        {
+            return;
+        }
+        let place = self.sender.in_flight();
+        if (place as usize) < self.sender.held() {
+            self.send_text_at(place, 1, out);
+            self.sender.note_sent(1);
+        } else if self.sender.is_closed() {
+            self.send_fin_at(place, out);
+            self.sender.note_fin_sent();
+        }
+    }
+
+    /// How many bytes go out for the first time.
+    fn new_length(&self) -> u32
+        ensures count { result ≡ new_length self.now }
+        ensures held { 0 < result → in_flight self.now.sending + result ≤ length self.now.sending.held }
+        ensures short { result ≤ 65535 }
+    {
+        if self.name.has_begun() {
+            self.sender.sendable()
+        } else {
+            0
+        }
+    }
+
+    /// Text that goes out for the first time.
+    #[tactic(auto, unfolding(crate::specs::Leaving::text_out, crate::specs::Leaving::with_text_sent))]
+    fn send_text(&mut self, out: &mut Outbox)
+        requires count { length out.old ≤ 3 }
+        requires bytes { byte_count out.old ≤ 1585 }
+        ensures state { self.new ≡ with_text_sent self.old }
+        ensures sent { out.new ≡ out.old ++ packets (text_out self.old) }
+        ensures count { length out.new ≤ length out.old + 1024 }
+        ensures bytes { byte_count out.new ≤ byte_count out.old + 106495 }
+    {
+        let n = self.new_length();
+        self.send_texts(self.sender.in_flight(), n, out);
+        self.sender.note_sent(n);
+    }
+
+    /// So many bytes of text from a place on, in segments of the segment size.
+    fn send_texts(&self, mut place: u32, mut left: u32, out: &mut Outbox)
+        requires text { 0 < left → place + left ≤ length self.now.sending.held }
+        requires near { place ≤ 65536 }
+        requires short { left ≤ 65535 }
+        requires count { length out.old ≤ 3 }
+        requires bytes { byte_count out.old ≤ 1585 }
+        ensures sent { out.new ≡ out.old ++ packets (texts left self.now place left) }
+        ensures count { length out.new ≤ length out.old + 1024 }
+        ensures bytes { byte_count out.new ≤ byte_count out.old + 106495 }
+    {
+        while left > 0 {
+            let n = left.min(u32::from(self.sender.mss()));
+            self.send_text_at(place, n, out);
+            place += n;
+            left -= n;
+        }
+    }
+
+    /// The FIN, where it goes out for the first time.
+    #[tactic(auto, using(crate::proofs::Spelled::packets_one, crate::proofs::Spelled::nothing_more), unfolding(crate::specs::Leaving::fin_out, crate::specs::Leaving::with_fin_out))]
+    fn send_fin(&mut self, out: &mut Outbox)
+        requires count { length out.old ≤ 1027 }
+        requires bytes { byte_count out.old ≤ 108080 }
+        ensures state { self.new ≡ with_fin_out self.old }
+        ensures sent { out.new ≡ out.old ++ packets (fin_out self.old) }
+        ensures count { length out.new ≤ length out.old + 1 }
+        ensures bytes { byte_count out.new ≤ byte_count out.old + 40 }
+    {
+        if self.name.has_begun() && self.sender.sends_fin() {
+            self.send_fin_at(self.sender.in_flight(), out);
+            self.sender.note_fin_sent();
+        }
+    }
+
+    /// Whether a segment without data is owed.
+    #[tactic(auto, unfolding(crate::specs::Leaving::is_owed))]
+    fn is_owed(&self) -> bool
+        ensures { result ≡ is_owed self.now }
+    {
+        self.name.has_begun()
+            && (self.owed
+                || self.told_next != self.receiver.next()
+                || self.told_edge != self.receiver.announced_edge())
+    }
+
+    /// The segment without data, where it is owed and no other goes out.
+    #[tactic(auto, unfolding(crate::specs::Leaving::bare_segment))]
+    fn send_owed(&self, out: &mut Outbox)
+        requires count { length out.old ≤ 1028 }
+        requires bytes { byte_count out.old ≤ 108120 }
+        ensures sent { out.new ≡ or_packet (is_owed self.now) (spelling (bare_segment self.now)) out.old }
+        ensures count { length out.new ≤ length out.old + 1 }
+        ensures bytes { byte_count out.new ≤ byte_count out.old + 40 }
+    {
+        if out.is_empty() && self.is_owed() {
+            let seq = self.sender.number_behind(self.sender.in_flight());
+            emit(&self.head(seq, 16), &[], out);
+        }
+    }
+
+    /// What is announced is noted, and nothing is due any more.
+    #[tactic(auto, unfolding(crate::specs::Leaving::announced))]
+    fn note_announced(&mut self)
+        ensures { self.new ≡ announced self.old }
+    {
+        if self.name.has_begun() {
+            self.told_next = self.receiver.next();
+            self.told_edge = self.receiver.announced_edge();
+        }
+        self.owed = false;
+        self.again = false;
+        self.probe = false;
+        self.answer = None;
+    }
+
+    /// Whether the timer runs.
+    fn is_timed(&self) -> bool
+        ensures { result ≡ is_timed self.now }
+    {
+        (self.name.has_begun() || self.name.is_syn_sent()) && self.sender.must_run()
+    }
+
+    /// The turn is over.
+    #[tactic(auto, unfolding(crate::specs::Leaving::settled, crate::specs::Leaving::announced))]
+    fn settle(&mut self)
+        ensures { self.new ≡ settled self.old }
+    {
+        self.note_announced();
+        let runs = self.is_timed();
+        self.sender.set_timer(runs);
+    }
+}

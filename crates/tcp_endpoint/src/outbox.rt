@@ -1,0 +1,118 @@
+//! The packets that a turn sends, in order, in room that is made once.
+
+ghost use Rattle.std.specs.Prelude.{◌≡◌, ℕ, ◌+◌, ◌-◌, ◌<◌, ◌≤◌, ◌==◌, ◌&&◌, ◌↔◌, List, [], ◌∷◌, ◌++◌, Some, length, nat_lt, nat_le, IfOk, IsTrue, slice_get, slice_index, slice_set};
+ghost use Rattle.std.specs.Borrow.{sem};
+ghost use Rattle.std.specs.Bool.{OnTrue, OnFalse};
+ghost use Rattle.tcp_endpoint.specs.Packets.{byte_count, with_bytes_at};
+ghost use Rattle.tcp_endpoint.specs.Lending.{LendsPacket};
+
+use ft_io::NoMemory;
+use std::alloc::Global;
+use std::marker::Model;
+
+/// How many packets an outbox holds.
+const PACKET_ROOM: usize = 1_100;
+
+/// How many bytes these packets have in all.
+const BYTE_ROOM: usize = 120_000;
+
+/// At most 1,100 packets of at most 120,000 bytes in all. Contracts see their list.
+#[derive(Debug, Drop)]
+pub struct Outbox {
+    bytes: Vec<u8>,
+    ends: Vec<usize>,
+}
+
+impl Model for Outbox {
+    ghost use Rattle.std.specs.Prelude.{ℕ, List, vec_capacity};
+    ghost use Rattle.tcp_endpoint.specs.Packets.{pieces, Stores};
+
+    ghost Value = { List (List ℕ) };
+
+    ghost view = { λ o. pieces 0 o.ends.items o.bytes.items };
+
+    ghost invariant = { λ o. Stores o.bytes.items o.ends.items (vec_capacity o.bytes) (vec_capacity o.ends) };
+}
+
+impl Outbox {
+    /// An outbox without packets, with all its room.
+    pub fn new(alloc: Global) -> Result<Outbox, NoMemory>
+        ensures { IfOk result (λ out. out ≡ []) }
+    {
+        let bytes = Vec::with_capacity(alloc, BYTE_ROOM)?;
+        let ends = Vec::with_capacity(alloc, PACKET_ROOM)?;
+        Ok(Outbox { bytes, ends })
+    }
+
+    /// How many packets there are.
+    #[tactic(auto, using(crate::proofs::Pieces::length_pieces))]
+    pub fn len(&self) -> usize
+        ensures { result ≡ length self.now }
+    {
+        self.ends.len()
+    }
+
+    #[tactic(auto, using(crate::proofs::Pieces::length_pieces))]
+    pub fn is_empty(&self) -> bool
+        ensures { result ≡ (length self.now == 0) }
+    {
+        self.ends.is_empty()
+    }
+
+    /// The bytes of packet `i`, from 0.
+    #[tactic(auto, using(crate::proofs::Pieces::length_pieces, crate::proofs::Pieces::bounds_at, crate::proofs::Pieces::piece_at))]
+    pub fn packet(&self, i: usize) -> &[u8]
+        requires { i < length self.now }
+        ensures { slice_get self.now i ≡ Some result.now }
+    {
+        let (start, end) = bounds(&self.ends, i);
+        &self.bytes[start..end]
+    }
+
+    /// The bytes of packet `i`, from 0, to be written over.
+    #[tactic(auto, using(crate::proofs::Pieces::length_pieces, crate::proofs::Pieces::bounds_at, crate::proofs::Pieces::piece_at))]
+    pub fn packet_mut(&mut self, i: usize) -> &mut [u8]
+        requires { i < length self.old }
+        ensures* writes_back { sem 𝓛 (LendsPacket self.entry i result) }
+        ensures value { slice_get self.old i ≡ Some result.now }
+        // Bytes of the packet's length take its place, and the other packets stay.
+        ensures same_length { (bytes : List ℕ) → length bytes ≡ length result.now → with_bytes_at self.old i bytes ≡ slice_set self.old i bytes }
+    {
+        let (start, end) = bounds(&self.ends, i);
+        self.bytes.slice_mut(start..end)
+    }
+
+    /// Puts a packet behind the others. It answers false, and changes nothing, where there would be more than 1,100 packets or more
+    /// than 120,000 bytes.
+    #[tactic(auto, using(crate::proofs::Pieces::length_pieces, crate::proofs::Pieces::byte_count_pieces, crate::proofs::Pieces::climbs_push, crate::proofs::Pieces::pieces_push))]
+    pub fn push(&mut self, packet: &[u8]) -> bool
+        ensures fits { IsTrue result ↔ (length self.old < PACKET_ROOM) × (byte_count self.old + length packet.now ≤ BYTE_ROOM) }
+        ensures pushed { OnTrue result (self.new ≡ self.old ++ packet.now ∷ []) }
+        ensures refused { OnFalse result (self.new ≡ self.old) }
+    {
+        if self.ends.len() == PACKET_ROOM || packet.len() > BYTE_ROOM - self.bytes.len() {
+            return false;
+        }
+        self.bytes.extend_from_slice(packet).unwrap();
+        self.ends.push(self.bytes.len()).unwrap();
+        true
+    }
+
+    /// Takes all packets out.
+    pub fn clear(&mut self)
+        ensures { self.new ≡ [] }
+    {
+        self.bytes.clear();
+        self.ends.clear();
+    }
+}
+
+/// Where packet `i` begins and ends.
+fn bounds(ends: &[usize], i: usize) -> (usize, usize)
+    requires { i < length ends.now }
+    ensures start { result.0 ≡ slice_index (0 ∷ ends.now) i }
+    ensures end { result.1 ≡ slice_index ends.now i }
+{
+    let start = if i == 0 { 0 } else { ends[i - 1] };
+    (start, ends[i])
+}

@@ -1,0 +1,284 @@
+//! The receiving half of a connection: the one place that compares the peer's numbers, modulo 2^32. Contracts see offsets in the peer's
+//! stream, whatever its initial number.
+
+ghost use Rattle.std.specs.Prelude.{◌≡◌, ℕ, ◌+◌, ◌-◌, ◌^◌, ◌<◌, ◌≤◌, ◌==◌, ◌&&◌, pos, ◌+ℤ◌, int_lt, Bool, false, true, List, [], ◌++◌, length, min, take, drop};
+ghost use Rattle.std.specs.Bool.{OnTrue};
+ghost use Rattle.seq_arith.specs.Number.{number_at, offset_of};
+ghost use Rattle.seq_arith.specs.Arrival.{int_eq, lies_in, is_acceptable, below};
+ghost use Rattle.tcp_buffers.specs.Near.{IsNearFirst};
+ghost use Rattle.tcp_endpoint.specs.Receiving.{taken, next, receive_edge, announced_edge, window, receiving_up_to, with_text, with_fin, with_segment, read_out};
+ghost use Rattle.tcp_endpoint.specs.Tcb.{kept_limit};
+
+use seq_arith::Seq;
+use std::marker::Model;
+use tcp_buffers::RecvQueue;
+
+/// A receive edge goes no further than this, so that every offset is near to every other.
+const MOST: u32 = 1 << 30;
+
+/// What is known of the peer's stream.
+#[derive(Drop)]
+pub(crate) struct Receiver {
+    irs: Seq,
+    read: u32,
+    unread: RecvQueue,
+    fin: bool,
+    limit: u32,
+}
+
+impl Model for Receiver {
+    ghost use Rattle.tcp_endpoint.specs.Receiving.{Receiving, Keeps};
+
+    ghost Value = { Receiving };
+
+    ghost view = { λ r. record { irs = r.irs.0; read = r.read; unread = r.unread; fin = r.fin; limit = r.limit } };
+
+    ghost invariant = { λ r. Keeps r.read r.unread r.limit };
+}
+
+impl Receiver {
+    /// Nothing is received yet.
+    pub(crate) fn new(unread: RecvQueue, limit: u32) -> Receiver
+        requires { unread ≡ [] }
+        ensures { result ≡ receiving_up_to (kept_limit limit) }
+    {
+        Receiver {
+            irs: Seq(0),
+            read: 0,
+            unread,
+            fin: false,
+            limit: limit.min(MOST),
+        }
+    }
+
+    /// Notes the peer's initial number.
+    pub(crate) fn begin(&mut self, irs: Seq)
+        ensures { self.new ≡ record self.old { irs = irs.0 } }
+    {
+        self.irs = irs;
+    }
+
+    /// The bytes taken.
+    fn taken(&self) -> u32
+        ensures count { result ≡ taken self.now }
+        ensures most { result ≤ 2 ^ 30 }
+    {
+        self.read + self.unread.len() as u32
+    }
+
+    /// What a proof may know of a number and of the fields: their ranges, and that all offsets are near to one another.
+    fn ranges(&self, number: Seq)
+        ensures number { number.0 < 2 ^ 32 }
+        ensures next { next self.now ≤ 2 ^ 30 + 1 }
+        ensures within { taken self.now ≤ receive_edge self.now }
+        ensures room { window self.now ≤ 65535 }
+    {
+        let _number = number.0;
+        let _read = self.read;
+        let _fin = self.fin;
+    }
+
+    /// RCV.NXT, as an offset.
+    pub(crate) fn next(&self) -> u32
+        ensures { result ≡ next self.now }
+    {
+        self.taken() + u32::from(self.fin)
+    }
+
+    /// RCV.NXT.
+    pub(crate) fn next_number(&self) -> Seq
+        ensures { result.0 ≡ number_at self.now.irs (next self.now) }
+    {
+        self.irs.add(1).add(self.next())
+    }
+
+    /// Up to where bytes are taken.
+    fn receive_edge(&self) -> u32
+        ensures { result ≡ receive_edge self.now }
+    {
+        (self.read + 65_535).min(self.limit)
+    }
+
+    /// The edge that is announced.
+    pub(crate) fn announced_edge(&self) -> u32
+        ensures { result ≡ announced_edge self.now }
+    {
+        self.receive_edge() + u32::from(self.fin)
+    }
+
+    /// RCV.WND.
+    pub(crate) fn window(&self) -> u16
+        ensures { result ≡ window self.now }
+    {
+        self.ranges(self.irs);
+        (self.receive_edge() - self.taken()) as u16
+    }
+
+    /// Whether a number lies in the window.
+    #[tactic(auto, using(crate::proofs::Places::lies_in_window))]
+    fn has(&self, number: Seq) -> bool
+        ensures { result ≡ lies_in (next self.now) (window self.now) (offset_of self.now.irs number.0) }
+    {
+        self.ranges(number);
+        number.in_window(self.next_number(), u32::from(self.window()))
+    }
+
+    /// Whether the last number of a segment lies in the window.
+    #[tactic(auto, using(crate::proofs::Places::last_lies_in))]
+    fn has_last(&self, seq: Seq, len: u32) -> bool
+        requires some { 0 < len }
+        requires most { len ≤ 2 ^ 16 }
+        ensures { result ≡ lies_in (next self.now) (window self.now) (offset_of self.now.irs seq.0 +ℤ pos (len - 1)) }
+    {
+        self.ranges(seq);
+        self.has(seq.add(len - 1))
+    }
+
+    /// Whether this is RCV.NXT.
+    #[tactic(auto, using(crate::proofs::Places::is_next))]
+    pub(crate) fn is_next(&self, seq: Seq) -> bool
+        ensures { result ≡ int_eq (offset_of self.now.irs seq.0) (pos (next self.now)) }
+    {
+        self.ranges(seq);
+        seq == self.next_number()
+    }
+
+    /// Whether a segment is acceptable (RFC 9293, 3.10.7.4, first check, table 6).
+    #[tactic(auto, using(crate::proofs::Places::near_of_acceptable))]
+    pub(crate) fn accepts(&self, seq: Seq, len: u32) -> bool
+        requires { len ≤ 2 ^ 16 }
+        ensures acceptable { result ≡ is_acceptable (next self.now) (window self.now) (offset_of self.now.irs seq.0) len }
+        // What is acceptable is near.
+        ensures near { OnTrue result (IsNearFirst (offset_of self.now.irs seq.0)) }
+    {
+        self.ranges(seq);
+        if len == 0 {
+            if self.window() == 0 {
+                self.is_next(seq)
+            } else {
+                self.has(seq)
+            }
+        } else if self.window() == 0 {
+            false
+        } else {
+            self.has(seq) || self.has_last(seq, len)
+        }
+    }
+
+    /// Whether a segment begins past RCV.NXT.
+    #[tactic(auto, using(crate::proofs::Places::is_later))]
+    pub(crate) fn is_early(&self, seq: Seq) -> bool
+        requires { IsNearFirst (offset_of self.now.irs seq.0) }
+        ensures { result ≡ int_lt (pos (next self.now)) (offset_of self.now.irs seq.0) }
+    {
+        self.ranges(seq);
+        self.next_number().lt(seq)
+    }
+
+    /// The number behind the bytes taken.
+    fn taken_number(&self) -> Seq
+        ensures { result.0 ≡ number_at self.now.irs (taken self.now) }
+    {
+        self.irs.add(1).add(self.taken())
+    }
+
+    /// Whether a text begins past the bytes taken.
+    #[tactic(auto, using(crate::proofs::Places::is_later))]
+    fn is_past(&self, seq: Seq) -> bool
+        requires { IsNearFirst (offset_of self.now.irs seq.0) }
+        ensures { result ≡ int_lt (pos (taken self.now)) (offset_of self.now.irs seq.0) }
+    {
+        self.ranges(seq);
+        self.taken_number().lt(seq)
+    }
+
+    /// How much of a text was taken before.
+    #[tactic(auto, using(crate::proofs::Places::skipped))]
+    fn known(&self, seq: Seq) -> u32
+        requires near { IsNearFirst (offset_of self.now.irs seq.0) }
+        requires no_gap { int_lt (pos (taken self.now)) (offset_of self.now.irs seq.0) ≡ false }
+        ensures { result ≡ below (taken self.now) (offset_of self.now.irs seq.0) }
+    {
+        self.ranges(seq);
+        self.taken_number().minus(seq)
+    }
+
+    /// Takes the text and the FIN of an acceptable segment (RFC 9293, 3.10.7.4, seventh and eighth check).
+    #[tactic(auto, using(crate::proofs::Places::ends_at), unfolding(crate::specs::Receiving::with_segment, crate::specs::Receiving::with_text))]
+    pub(crate) fn take(&mut self, seq: Seq, text: &[u8], fin: bool)
+        requires near { IsNearFirst (offset_of self.old.irs seq.0) }
+        requires short { length text.now ≤ 2 ^ 16 }
+        ensures { self.new ≡ with_segment self.old (offset_of self.old.irs seq.0) text.now fin }
+    {
+        if self.fin || self.is_past(seq) {
+            return;
+        }
+        self.ranges(seq);
+        self.take_text(seq, text);
+        self.take_fin(seq.add(text.len() as u32), fin);
+    }
+
+    /// Takes the part of a text from RCV.NXT on, up to the window's edge.
+    #[tactic(auto, unfolding(crate::specs::Receiving::with_text))]
+    fn take_text(&mut self, seq: Seq, text: &[u8])
+        requires near { IsNearFirst (offset_of self.old.irs seq.0) }
+        requires no_gap { int_lt (pos (taken self.old)) (offset_of self.old.irs seq.0) ≡ false }
+        ensures { self.new ≡ with_text self.old (offset_of self.old.irs seq.0) text.now }
+    {
+        self.ranges(seq);
+        let known = self.known(seq) as usize;
+        let room = usize::from(self.window());
+        keep(&mut self.unread, part(text, known, room));
+    }
+
+    /// Takes a FIN at this number, where it stands at RCV.NXT within the window.
+    #[tactic(auto, using(crate::proofs::Places::is_next), unfolding(crate::specs::Receiving::with_fin))]
+    fn take_fin(&mut self, place: Seq, fin: bool)
+        ensures { self.new ≡ with_fin self.old (offset_of self.old.irs place.0) fin }
+    {
+        self.fin = self.fin
+            || (fin && place == self.taken_number() && self.taken() < self.receive_edge());
+    }
+
+    /// How many bytes are taken and not read.
+    pub(crate) fn readable(&self) -> usize
+        ensures { result ≡ length self.now.unread }
+    {
+        self.unread.len()
+    }
+
+    pub(crate) fn has_fin(&self) -> bool
+        ensures { result ≡ self.now.fin }
+    {
+        self.fin
+    }
+
+    /// Moves the first unread bytes into `buf`.
+    pub(crate) fn read(&mut self, buf: &mut [u8]) -> usize
+        ensures count { result ≡ min (length self.old.unread) (length buf.old) }
+        ensures bytes { buf.new ≡ take result self.old.unread ++ drop result buf.old }
+        ensures state { self.new ≡ read_out self.old result }
+    {
+        let count = self.unread.read(buf);
+        self.read += count as u32;
+        count
+    }
+}
+
+/// The part of a text behind `known` bytes, at most `room` bytes.
+#[tactic(auto, using(std::proofs::lemmas::List::take_rest, std::proofs::lemmas::List::drop_min, std::proofs::lemmas::List::take_min))]
+fn part(text: &[u8], known: usize, room: usize) -> &[u8]
+    ensures { result.now ≡ take room (drop known text.now) }
+{
+    let rest = &text[known.min(text.len())..];
+    &rest[..room.min(rest.len())]
+}
+
+/// Puts bytes that fit into the queue.
+#[tactic(auto, using(std::proofs::lemmas::List::take_all))]
+fn keep(queue: &mut RecvQueue, bytes: &[u8])
+    requires { length queue.old + length bytes.now ≤ 65535 }
+    ensures { queue.new ≡ queue.old ++ bytes.now }
+{
+    let _kept = queue.push(bytes);
+}

@@ -1,0 +1,363 @@
+//! The sending half of a connection: the one place that compares numbers of the own stream, modulo 2^32. Contracts see offsets in the own
+//! stream, whatever its initial number.
+
+ghost use Rattle.std.specs.Prelude.{◌≡◌, ℕ, ◌+◌, ◌-◌, ◌%◌, ◌^◌, ◌<◌, ◌≤◌, ◌==◌, ◌&&◌, pos, int_le, Bool, false, true, not, List, [], ◌++◌, length, min, take, drop, if◌then◌else◌};
+ghost use Rattle.seq_arith.specs.Number.{number_at, offset_of};
+ghost use Rattle.seq_arith.specs.Arrival.{int_eq, is_beyond};
+ghost use Rattle.tcp_buffers.specs.Near.{IsNearAck};
+ghost use Rattle.tcp_endpoint.specs.Sending.{sending_from, segment_size, opened_by, acknowledged, fin_acked, in_flight, is_unacknowledged, expires, ticked, must_run, timed, sendable, sends_fin, resent_length, with_sent, with_fin_sent, units_of, was_sent, NumbersFit, IsShort};
+
+use seq_arith::Seq;
+use std::marker::Model;
+use tcp_buffers::{AckKind, SendQueue, SendState};
+
+/// What is known of the own stream.
+#[derive(Drop)]
+pub(crate) struct Sender {
+    iss: Seq,
+    opened: bool,
+    numbers: SendState,
+    held: SendQueue,
+    closed: bool,
+    fin_sent: bool,
+    mss: u16,
+}
+
+impl Model for Sender {
+    ghost use Rattle.tcp_endpoint.specs.Sending.{Sending, told_by, Holds};
+
+    ghost Value = { Sending };
+
+    ghost view = { λ s. told_by s.iss.0 s.opened s.numbers s.held s.closed s.fin_sent s.mss };
+
+    ghost invariant = { λ s. Holds s.numbers s.held s.fin_sent s.mss };
+}
+
+impl Sender {
+    /// Nothing is sent yet.
+    pub(crate) fn new(iss: Seq, held: SendQueue) -> Sender
+        requires { held ≡ [] }
+        ensures { result ≡ sending_from iss.0 }
+    {
+        let first = iss.add(1);
+        Sender {
+            iss,
+            opened: false,
+            numbers: SendState {
+                una: first,
+                nxt: first,
+                wnd: 0,
+                wl1: Seq(0),
+                wl2: first,
+                interval: 1,
+                left: 0,
+            },
+            held,
+            closed: false,
+            fin_sent: false,
+            mss: 536,
+        }
+    }
+
+    /// Notes the segment size that the peer's SYN offers.
+    pub(crate) fn begin(&mut self, mss: Option<u16>)
+        ensures { self.new ≡ record self.old { mss = segment_size mss } }
+    {
+        self.mss = segment_size(mss);
+    }
+
+    /// ISS.
+    pub(crate) fn iss(&self) -> Seq
+        ensures { result.0 ≡ self.now.iss }
+    {
+        self.iss
+    }
+
+    /// SND.NXT.
+    pub(crate) fn nxt(&self) -> Seq
+        ensures { result.0 ≡ number_at self.now.iss self.now.sent }
+    {
+        fit(&self.numbers, self.iss, self.iss);
+        self.numbers.nxt
+    }
+
+    /// SND.UNA.
+    pub(crate) fn una(&self) -> Seq
+        ensures { result.0 ≡ number_at self.now.iss self.now.una }
+    {
+        fit(&self.numbers, self.iss, self.iss);
+        self.numbers.una
+    }
+
+    pub(crate) fn is_opened(&self) -> bool
+        ensures { result ≡ self.now.opened }
+    {
+        self.opened
+    }
+
+    pub(crate) fn is_fin_sent(&self) -> bool
+        ensures { result ≡ self.now.fin_sent }
+    {
+        self.fin_sent
+    }
+
+    pub(crate) fn is_closed(&self) -> bool
+        ensures { result ≡ self.now.closed }
+    {
+        self.closed
+    }
+
+    /// The number of byte 0.
+    fn first(&self) -> Seq
+        ensures { result.0 ≡ (self.now.iss + 1) % 2 ^ 32 }
+    {
+        self.iss.add(1)
+    }
+
+    /// Whether this acknowledges the SYN and nothing else.
+    #[tactic(auto, using(crate::proofs::Acks::first_is))]
+    pub(crate) fn acks_syn(&self, ack: Seq) -> bool
+        ensures { result ≡ int_eq (offset_of self.now.iss ack.0) (pos 0) }
+    {
+        let _number = ack.0;
+        ack == self.first()
+    }
+
+    /// Uses the acknowledgement of the SYN.
+    pub(crate) fn open(&mut self, seq: Seq, window: u16)
+        ensures { self.new ≡ opened_by self.old seq.0 window }
+    {
+        let first = self.first();
+        self.opened = true;
+        self.numbers = SendState {
+            una: first,
+            nxt: first,
+            wnd: u32::from(window),
+            wl1: seq,
+            wl2: first,
+            interval: 1,
+            left: 0,
+        };
+    }
+
+    /// Uses an acknowledgement and a window (RFC 9293, 3.10.7.4, fifth check). It answers false, and changes nothing, where the
+    /// acknowledgement is beyond SND.NXT.
+    pub(crate) fn on_ack(&mut self, seq: Seq, ack: Seq, window: u16) -> bool
+        ensures used { IsShort self.old → IsNearAck (offset_of self.old.iss ack.0) → result ≡ not (is_beyond self.old.sent (offset_of self.old.iss ack.0)) }
+        ensures state { IsShort self.old → IsNearAck (offset_of self.old.iss ack.0)
+            → self.new ≡ (if is_beyond self.old.sent (offset_of self.old.iss ack.0) then self.old else acknowledged self.old seq.0 (offset_of self.old.iss ack.0) window) }
+    {
+        fit(&self.numbers, seq, ack);
+        let kind = self.numbers.on_ack(seq, ack, window);
+        let units = units_of(kind).min(self.held.len());
+        self.held.drop_front(units);
+        was_sent(kind)
+    }
+
+    /// Whether the own FIN is acknowledged.
+    pub(crate) fn fin_acked(&self) -> bool
+        ensures { result ≡ fin_acked self.now }
+    {
+        self.fin_sent && self.in_flight() == 0
+    }
+
+    /// The units sent and not acknowledged.
+    pub(crate) fn in_flight(&self) -> u32
+        ensures count { result ≡ in_flight self.now }
+        ensures most { result ≤ length self.now.held + 1 }
+        ensures short { result ≤ 65536 }
+        ensures text { self.now.fin_sent ≡ false → result ≤ length self.now.held }
+    {
+        self.numbers.nxt.minus(self.numbers.una)
+    }
+
+    /// The number so many units behind SND.UNA.
+    pub(crate) fn number_behind(&self, place: u32) -> Seq
+        ensures { result.0 ≡ number_at self.now.iss (self.now.una + place) }
+    {
+        self.numbers.una.add(place)
+    }
+
+    /// How many bytes are written and not acknowledged.
+    pub(crate) fn held(&self) -> usize
+        ensures count { result ≡ length self.now.held }
+        ensures most { result ≤ 65535 }
+    {
+        self.held.len()
+    }
+
+    /// Up to how far behind SND.UNA the peer has room.
+    fn room(&self) -> u32
+        ensures { result ≡ self.now.edge - self.now.una }
+    {
+        let edge = self.numbers.una.add(self.numbers.wnd).minus(self.first());
+        edge.saturating_sub(self.numbers.una.minus(self.first()))
+    }
+
+    /// The segment size.
+    pub(crate) fn mss(&self) -> u16
+        ensures size { result ≡ self.now.mss }
+        ensures least { 64 ≤ result }
+        ensures most { result ≤ 1460 }
+    {
+        self.mss
+    }
+
+    /// How many bytes may be sent for the first time.
+    pub(crate) fn sendable(&self) -> u32
+        ensures count { result ≡ sendable self.now }
+        ensures most { 0 < result → in_flight self.now + result ≤ length self.now.held }
+        ensures short { result ≤ 65535 }
+    {
+        if !self.opened || self.fin_sent {
+            return 0;
+        }
+        (self.held.len() as u32)
+            .min(self.room())
+            .saturating_sub(self.in_flight())
+    }
+
+    /// Whether the FIN may be sent.
+    pub(crate) fn sends_fin(&self) -> bool
+        ensures { result ≡ sends_fin self.now }
+    {
+        self.opened
+            && self.closed
+            && !self.fin_sent
+            && self.in_flight() == self.held.len() as u32
+            && self.in_flight() < self.room()
+    }
+
+    /// How many bytes go out again.
+    pub(crate) fn resent_length(&self) -> u32
+        ensures count { result ≡ resent_length self.now }
+        ensures most { result ≤ length self.now.held }
+        ensures segment { result ≤ 1460 }
+    {
+        let sent = self.in_flight().min(self.held.len() as u32);
+        u32::from(self.mss).min(sent.min(self.room().max(1)))
+    }
+
+    /// How many more bytes may be written.
+    pub(crate) fn write_room(&self) -> usize
+        ensures { result ≡ 65535 - length self.now.held }
+    {
+        self.held.room()
+    }
+
+    /// Copies held bytes from a place on.
+    #[tactic(auto, using(std::proofs::lemmas::List::drop_all))]
+    pub(crate) fn copy(&self, place: u32, out: &mut [u8])
+        requires { place + length out.old ≤ length self.now.held }
+        ensures { out.new ≡ take (length out.old) (drop place self.now.held) }
+    {
+        let _count = self.held.copy(place as usize, out);
+    }
+
+    /// Notes that so many bytes more are sent.
+    pub(crate) fn note_sent(&mut self, n: u32)
+        requires { 0 < n → in_flight self.old + n ≤ length self.old.held }
+        ensures { self.new ≡ with_sent self.old n }
+    {
+        self.numbers.nxt = self.numbers.nxt.add(n);
+    }
+
+    /// Notes that the FIN is sent.
+    pub(crate) fn note_fin_sent(&mut self)
+        requires { self.old.fin_sent ≡ false }
+        ensures { self.new ≡ with_fin_sent self.old }
+    {
+        self.numbers.nxt = self.numbers.nxt.add(1);
+        self.fin_sent = true;
+    }
+
+    /// Whether something sent is unacknowledged.
+    pub(crate) fn is_unacknowledged(&self) -> bool
+        ensures { result ≡ is_unacknowledged self.now }
+    {
+        !self.opened || self.in_flight() > 0
+    }
+
+    /// Whether the timer must run.
+    pub(crate) fn must_run(&self) -> bool
+        ensures { result ≡ must_run self.now }
+    {
+        self.is_unacknowledged() || (!self.fin_sent && (!self.held.is_empty() || self.closed))
+    }
+
+    /// Lets a tick pass, and answers whether the timer expires.
+    pub(crate) fn tick(&mut self) -> bool
+        ensures expires { result ≡ expires self.old }
+        ensures state { self.new ≡ ticked self.old }
+    {
+        self.numbers.on_tick()
+    }
+
+    /// Starts the timer where it must run and doesn't, and stops it where it needn't run.
+    pub(crate) fn set_timer(&mut self, runs: bool)
+        ensures { self.new ≡ timed runs self.old }
+    {
+        if !runs {
+            self.numbers.interval = 1;
+            self.numbers.left = 0;
+        } else if self.numbers.left == 0 {
+            self.numbers.interval = 1;
+            self.numbers.left = 1;
+        }
+    }
+
+    /// Takes the front of `bytes`, as much as fits.
+    pub(crate) fn write(&mut self, bytes: &[u8]) -> usize
+        ensures count { result ≡ min (65535 - length self.old.held) (length bytes.now) }
+        ensures state { self.new ≡ record self.old { held = self.old.held ++ take result bytes.now } }
+    {
+        self.held.write(bytes)
+    }
+
+    /// Notes that the user has closed.
+    pub(crate) fn close(&mut self)
+        ensures { self.new ≡ record self.old { closed = true } }
+    {
+        self.closed = true;
+    }
+}
+
+/// What a proof may know of numbers: they are below 2^32.
+fn fit(numbers: &SendState, seq: Seq, ack: Seq)
+    ensures { NumbersFit numbers.now seq.0 ack.0 }
+{
+    let _una = numbers.una.0;
+    let _nxt = numbers.nxt.0;
+    let _wl2 = numbers.wl2.0;
+    let _seq = seq.0;
+    let _ack = ack.0;
+}
+
+/// Whether what is acknowledged was sent.
+fn was_sent(kind: AckKind) -> bool
+    ensures { result ≡ was_sent kind }
+{
+    !matches!(kind, AckKind::Beyond)
+}
+
+/// How many units are acknowledged for the first time.
+fn units_of(kind: AckKind) -> usize
+    ensures { result ≡ units_of kind }
+{
+    match kind {
+        AckKind::New { units } => units as usize,
+        _ => 0,
+    }
+}
+
+/// The segment size from the option of the peer's SYN.
+fn segment_size(mss: Option<u16>) -> u16
+    ensures size { result ≡ segment_size mss }
+    ensures least { 64 ≤ result }
+    ensures most { result ≤ 1460 }
+{
+    match mss {
+        Some(mss) => mss.min(1_460).max(64),
+        None => 536,
+    }
+}
