@@ -1,0 +1,33 @@
+#!/usr/bin/env bash
+# Segments a second of endpoint_echo, which echoes 64 MiB between two endpoints in memory, beside packets a second of a plain C loop of a
+# packet's checks (gcc -O2), in one run: segments of 1,460 bytes beside packets of 1,500 bytes, and of 64 beside 40. Of each the least
+# processor time of 7 turns, taken in turn. A segment counts once: it is written, handed over, read, and its text echoed or compared.
+set -eu
+cd "$(dirname "$0")/.."
+(cd crates/endpoint_echo && rt run -- 1460 1460 >/dev/null 2>&1)
+echo_program="$PWD/crates/endpoint_echo/out/endpoint_echo"
+work=$(mktemp -d)
+trap 'rm -rf "$work"' EXIT
+gcc -O2 -Wall -o "$work/packets" bench/packets.c
+
+# user time of one run, in milliseconds
+TIMEFORMAT=%U
+spent() { { time "$@" >"$work/out"; } 2>&1 | tr -d .; }
+
+printf '%s processors, %s, load %s\n' "$(nproc)" "$(lscpu | sed -n 's/^Model name: *//p')" "$(cut -d' ' -f1 /proc/loadavg)"
+for row in "1460 1500 6000" "64 40 120000"; do
+    read -r text bytes rounds <<<"$row"
+    least_echo=999999 least_c=999999
+    for _ in 1 2 3 4 5 6 7; do
+        a=$((10#$(spent "$echo_program" 67108864 "$text")))
+        segments=$(awk '/segments/ { n += $2 } END { print n }' "$work/out")
+        grep -q '^echoed 67108864 bytes$' "$work/out" || { echo "not echoed"; exit 1; }
+        b=$((10#$(spent "$work/packets" "$bytes" "$rounds")))
+        ((a < least_echo)) && least_echo=$a
+        ((b < least_c)) && least_c=$b
+    done
+    awk -v text="$text" -v segments="$segments" -v a="$least_echo" -v packets="$((64 * rounds))" -v b="$least_c" -v bytes="$bytes" 'BEGIN {
+        printf "%d bytes: %d segments in %d ms, %d a second; C, packets of %d bytes, %d a second; ratio %.3f\n",
+            text, segments, a, segments / a * 1000, bytes, packets / b * 1000, segments / a * b / packets
+    }'
+done

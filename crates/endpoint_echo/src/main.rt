@@ -1,0 +1,70 @@
+//! A client and a server endpoint in memory, for `bench/endpoint.sh`: `endpoint_echo BYTES WRITE` has the client write so many bytes in
+//! writes of WRITE bytes, the server echo them, and the client compare the echo and close. It prints the segments that each side sent and
+//! the bytes that came back. Statuses: 0, 1 where the echo differs or doesn't come to its end, 2 for wrong words, 3 without memory.
+#![tactic(auto)]
+
+use exchange::Exchange;
+use ft_io::NoMemory;
+use std::alloc::Global;
+use std::process::ExitCode;
+use std::{env, io};
+
+mod exchange;
+mod pattern;
+
+/// The words of the command line.
+#[derive(Clone, Copy, Debug)]
+struct Work {
+    bytes: u32,
+    /// The bytes of a write, at most those of a segment.
+    write: usize,
+}
+
+fn work_of(words: &[String]) -> Option<Work> {
+    let [bytes, write] = words else {
+        return None;
+    };
+    let bytes: u32 = bytes.as_str().parse().ok()?;
+    let write: usize = write.as_str().parse().ok()?;
+    let fits = (1..1 << 30).contains(&bytes) && (1..=1_460).contains(&write);
+    fits.then_some(Work { bytes, write })
+}
+
+fn run(alloc: Global, work: Work) -> Result<Exchange, NoMemory> {
+    let mut exchange = Exchange::new(alloc, work.bytes, work.write)?;
+    exchange.run();
+    Ok(exchange)
+}
+
+fn main(rt: HostRuntime) -> io::Result<ExitCode> {
+    let Ok(words) = env::args(&rt)?.skip(1).collect::<Vec<String>>(rt.alloc()) else {
+        return Ok(ExitCode::from(3));
+    };
+    let Some(work) = work_of(&words) else {
+        eprintln!(rt;
+            "endpoint_echo BYTES WRITE, of 1 to 1073741823 bytes and writes of 1 to 1460"
+        )?;
+        return Ok(ExitCode::from(2));
+    };
+    let Ok(exchange) = run(rt.alloc(), work) else {
+        eprintln!(rt; "no memory is left")?;
+        return Ok(ExitCode::from(3));
+    };
+    let (client, server) = (&exchange.client, &exchange.server);
+    println!(rt;
+        "client {} segments, {:?}",
+        client.segments,
+        client.state().name
+    )?;
+    println!(rt;
+        "server {} segments, {:?}",
+        server.segments,
+        server.state().name
+    )?;
+    println!(rt; "echoed {} bytes", exchange.echoed)?;
+    if exchange.is_whole() {
+        return Ok(ExitCode::from(0));
+    }
+    eprintln!(rt; "the echo differs")?;
+    Ok(ExitCode::from(1))
+}
