@@ -246,8 +246,9 @@ bounded_by_tick e b = ticked_bounds e.receiving e.sending b
 pub bounded_by_read : (e : Tcb) (n : ℕ) → n ≤ length e.receiving.unread → IsBounded e → IsBounded (after_read e n)
 bounded_by_read e n some b = other_bounds e.receiving e.sending b (after_read e n).receiving b.limit (omega (arith, b.taken, length-drop n e.receiving.unread)) refl
 
-pub bounded_by_write : (e : Tcb) (bytes : List ℕ) → e.sending.una + length e.sending.held + length bytes ≤ 2 ^ 24 → IsBounded e → IsBounded (after_write e bytes)
-bounded_by_write e bytes few b =
+pub bounded_by_more : (e : Tcb) (bytes : List ℕ) → e.sending.una + length e.sending.held + length bytes ≤ 2 ^ 24 + one_if e.sending.fin_sent → IsBounded e
+    → IsBounded (after_write e bytes)
+bounded_by_more e bytes few b =
     let more : length (e.sending.held ++ bytes) ≡ length e.sending.held + length bytes = length-append e.sending.held bytes in
     record {
       limit = b.limit;
@@ -263,6 +264,9 @@ bounded_by_write e bytes few b =
       wl2 = b.wl2;
       edge = b.edge;
     }
+
+pub bounded_by_write : (e : Tcb) (bytes : List ℕ) → e.sending.una + length e.sending.held + length bytes ≤ 2 ^ 24 → IsBounded e → IsBounded (after_write e bytes)
+bounded_by_write e bytes few b = bounded_by_more e bytes (omega (arith, few)) b
 
 both : (P : Bool → Type 0) (b : Bool) → P true → P false → P b
 both P true p q = p

@@ -9,3 +9,12 @@ pub mod TurnLaw
 pub mod OwedLaw
 pub mod StandingLaw
 pub mod ToldLaw
+pub mod Flushing
+pub mod Answering
+pub mod Calls
+pub mod Arrivals
+pub mod TurnEnd
+pub mod SegmentsLaw
+pub mod TimerAt
+pub mod Turns
+pub mod Beginning

@@ -55,7 +55,7 @@ unfolding waiting_again
 sending_aside = record { killed = λ e. refl; owing = λ b e. refl; waiting = λ e p. refl }
 
 -- what a segment that counts makes of the sending half
-abbrev used_by : Tcb → Segment → Sending
+abbrev pub used_by : Tcb → Segment → Sending
 used_by e p =
     if e.sending.opened
     then acknowledged e.sending p.head.seq (ack_at e p) p.head.window
@@ -159,20 +159,20 @@ next_by : (fin : Bool) (t limit : ℕ) → limit ≤ 2 ^ 24 → t ≤ limit → 
 next_by true t limit small within = omega arith
 next_by false t limit small within = omega arith
 
-next_near : (r : Receiving) → r.limit ≤ 2 ^ 24 → taken r ≤ r.limit → next r ≤ 2 ^ 30 + 1
+pub next_near : (r : Receiving) → r.limit ≤ 2 ^ 24 → taken r ≤ r.limit → next r ≤ 2 ^ 30 + 1
 next_near r small within = next_by r.fin (taken r) r.limit small within
 
 window_by : (read limit len k : ℕ) → min (read + 65535) limit + k - (read + len + k) ≤ 2 ^ 16
 window_by read limit len k = omega arith
 
-window_short : (r : Receiving) → announced_edge r - next r ≤ 2 ^ 16
+pub window_short : (r : Receiving) → announced_edge r - next r ≤ 2 ^ 16
 window_short r = window_by r.read r.limit (length r.unread) (if r.fin then 1 else 0)
 
 -- a segment has at most 2^16 numbers
-length_short : (p : Segment) → length p.payload ≤ 65535 → length_of p ≤ 2 ^ 16
+pub length_short : (p : Segment) → length p.payload ≤ 65535 → length_of p ≤ 2 ^ 16
 length_short p h = length_by (has_rst p) (has_syn p) (has_fin p) (length p.payload) h
 
-acceptable_of : (ack syn rst acceptable acked : Bool) → (ack && not syn && not rst && acceptable && acked) ≡ true → acceptable ≡ true
+pub acceptable_of : (ack syn rst acceptable acked : Bool) → (ack && not syn && not rst && acceptable && acked) ≡ true → acceptable ≡ true
 acceptable_of ack syn rst true acked h = refl
 acceptable_of ack syn rst false acked h = absurd (false≢true (dull_end (ack && not syn && not rst) acked h))
 

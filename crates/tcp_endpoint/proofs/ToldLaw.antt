@@ -204,7 +204,7 @@ new_target s =
     fin_target texted f.0 f.1 (at_end texted.una texted.sent (length texted.held) f.2) ∙ text)
     (λ h. text)
 
-after_probe : (e : Tcb) → has_begun e.name ≡ true → IsBounded e → (pt pf : Bool) → probes_text e ≡ pt → probes_fin e ≡ pf
+pub after_probe : (e : Tcb) → has_begun e.name ≡ true → IsBounded e → (pt pf : Bool) → probes_text e ≡ pt → probes_fin e ≡ pf
     → target (after_steps true pt pf e.sending) ≡ target e.sending
 after_probe e begun b true pf is_text is_fin =
     let s : Sending = e.sending in
@@ -226,7 +226,7 @@ edge_of_if true x y n p q = p
 edge_of_if false x y n p q = q
 
 -- the fields that no step of a flush touches
-una_kept : (pt pf : Bool) (s : Sending) → (after_steps true pt pf s).una ≡ s.una
+pub una_kept : (pt pf : Bool) (s : Sending) → (after_steps true pt pf s).una ≡ s.una
 una_kept pt pf s =
     let probed : Sending = if pt then with_sent s 1 else (if pf then with_fin_sent s else s) in
     let is : probed.una ≡ s.una = una_of_if pt (with_sent s 1) (if pf then with_fin_sent s else s) s.una refl (una_of_if pf (with_fin_sent s) s s.una refl refl) in

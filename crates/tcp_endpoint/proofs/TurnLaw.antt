@@ -91,16 +91,16 @@ fin_steps s =
     in sent_of_if (sends_fin texted) (with_fin_sent texted) texted ∙ probed_fin s.opened s.closed s.una (length s.held) s.edge s.sent _
 
 -- the tests of a probe
-fin_unsent : (f c : Bool) (una len sent : ℕ) → una ≡ sent → sent + 1 ≤ (if f then sent else una + len + one_if c) → f ≡ false
+pub fin_unsent : (f c : Bool) (una len sent : ℕ) → una ≡ sent → sent + 1 ≤ (if f then sent else una + len + one_if c) → f ≡ false
 fin_unsent true c una len sent is h = absurd (omega arith)
 fin_unsent false c una len sent is h = refl
 
-waits_fin : (f c : Bool) (una len sent : ℕ) → una ≡ sent → sent + 1 ≤ (if f then sent else una + len + one_if c) → len ≡ 0 → c ≡ true
+pub waits_fin : (f c : Bool) (una len sent : ℕ) → una ≡ sent → sent + 1 ≤ (if f then sent else una + len + one_if c) → len ≡ 0 → c ≡ true
 waits_fin true c una len sent is h none = absurd (omega arith)
 waits_fin false true una len sent is h none = refl
 waits_fin false false una len sent is h none = absurd (omega arith)
 
-probing : (e : Tcb) → has_begun e.name ≡ true → e.sending.opened ≡ true → e.sending.fin_sent ≡ false → e.probe ≡ true → probes e ≡ true
+pub probing : (e : Tcb) → has_begun e.name ≡ true → e.sending.opened ≡ true → e.sending.fin_sent ≡ false → e.probe ≡ true → probes e ≡ true
 probing e begun is_opened unsent is =
     ap (λ b. b && has_begun e.name && e.sending.opened && not e.sending.fin_sent) is
     ∙ ap (λ b. true && b && e.sending.opened && not e.sending.fin_sent) begun
@@ -122,7 +122,7 @@ one_more : (sent target edge : ℕ) (probe : Bool) → probe ≡ true → edge �
 one_more sent target edge true is h = omega arith
 one_more sent target edge false is h = absurd (false≢true is)
 
-nothing_held : (una sent len : ℕ) → una ≡ sent → nat_lt (sent - una) len ≡ false → len ≡ 0
+pub nothing_held : (una sent len : ℕ) → una ≡ sent → nat_lt (sent - una) len ≡ false → len ≡ 0
 nothing_held una sent len is h = grind arith
 
 steps_sent : (e : Tcb) (pr t : Bool) → e.probe ≡ pr → nat_lt (e.sending.sent - e.sending.una) (length e.sending.held) ≡ t
@@ -203,7 +203,7 @@ steps_rest begun pt pf s =
     ∙ fin
 
 -- the timer after a flush, by what it was before
-flushed_timer : (u : Tcb) (interval rest : ℕ) → u.sending.interval ≡ interval → u.sending.rest ≡ rest
+pub flushed_timer : (u : Tcb) (interval rest : ℕ) → u.sending.interval ≡ interval → u.sending.rest ≡ rest
     → IsTimedBy (flushed u).sending (if is_timed (after_full u) then (if rest == 0 then 1 else interval) else 1)
     (if is_timed (after_full u) then (if rest == 0 then 1 else rest) else 0)
 unfolding flushed settled announced after_full with_fin_out with_text_sent with_probe

@@ -104,9 +104,13 @@ pub record ProbesRightly (e : Tcb) : Type 0 where
 abbrev pub sent_by_law : Tcb → ℕ
 sent_by_law e = max e.sending.sent (min (target e.sending) e.sending.edge) + one_if e.probe
 
--- Owed: while the SYN is unacknowledged, an acknowledgement of less gets a RST, and nothing else is owed
+-- the SYN isn't acknowledged yet, and the segment acknowledges less
+abbrev pub acknowledges_less : Tcb → Segment → Bool
+acknowledges_less e p = not e.sending.opened && has_ack p && int_lt (ack_at e p) (pos 0)
+
+-- Owed: an acceptable segment that acknowledges less than the SYN gets a RST, and nothing else is owed to it
 abbrev pub is_refused : Tcb → Segment → Bool
-is_refused e p = not e.sending.opened && has_ack p && int_lt (ack_at e p) (pos 0)
+is_refused e p = accepts e p && not (has_rst p) && not (has_syn p) && acknowledges_less e p
 
 -- Owed: to an acceptable segment, a challenge ACK for a RST elsewhere than at the next number and for a SYN, and an ACK for what takes up
 -- numbers and for what begins past the next number

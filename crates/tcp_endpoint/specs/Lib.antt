@@ -8,4 +8,5 @@ pub mod Leaving
 pub mod Turning
 pub mod Laws
 pub mod Lending
+pub mod Turn
 pub mod Standing

@@ -1,7 +1,7 @@
 //! The laws that an endpoint meets, each the clause of a function that does nothing: what a crate above may cite. They stand apart from the
 //! functions that the code's clauses name, in the words of the laws of `ft_model`.
 
-ghost use Rattle.std.specs.Prelude.{◌≡◌, ℕ, ◌+◌, ◌<◌, ◌≤◌, ◌^◌, true, false, List, length};
+ghost use Rattle.std.specs.Prelude.{◌≡◌, ℕ, ◌+◌, ◌%◌, ◌<◌, ◌≤◌, ◌^◌, true, false, List, length};
 ghost use Rattle.seq_arith.specs.Packet.{Segment};
 ghost use Rattle.tcp_endpoint.specs.States.{has_begun};
 ghost use Rattle.tcp_endpoint.specs.Tcb.{Tcb, listening, connecting};
@@ -14,8 +14,14 @@ ghost use Rattle.tcp_endpoint.specs.Leaving.{bare_segment, full_out, leaving, af
 ghost use Rattle.tcp_endpoint.specs.Turning.{after_tick, after_read, after_write, closing};
 ghost use Rattle.tcp_endpoint.specs.declared.states.StateName.TheVariants.{Listen, SynSent};
 ghost use Rattle.ft_io.specs.declared.Addr.{Addr};
+ghost use Rattle.server_trait.specs.Service.{machine};
+ghost use Rattle.ft_model.specs.News.{News};
+ghost use Rattle.ft_model.specs.Opening.{is_syn};
 ghost use Rattle.ft_model.specs.Point.{Point};
-ghost use Rattle.tcp_endpoint.specs.Standing.{StandsAt, point_after};
+ghost use Rattle.tcp_endpoint.specs.Turn.{Call, MayUse, IsUsualNews, IsBetweenTurns, arrived, before_flush};
+ghost use Rattle.tcp_endpoint.specs.Standing.{StandsAt, MeetsLaws, IsUsedAt, LeadsTo, BeginsAt, numbers_with, point_begun};
+
+use server_trait::Service;
 
 /// The law Taken: which bytes of a segment are taken, and when its FIN is.
 #[tactic(auto, using(crate::proofs::TakenLaw::taken_law))]
@@ -122,11 +128,25 @@ pub fn ticks_time_by_law()
         → IsTimedBy (flushed u).sending (ticked_interval (is_timed (after_full u)) e.sending) (ticked_rest (is_timed (after_full u)) e.sending) }
 {}
 
-/// The laws Taken and Sending of `ft_model` themselves, of an endpoint with the limit of a stream: what a segment makes of it is what they
-/// make of the point at which it stands.
-pub fn segments_lead_from_point_to_point()
-    ensures { (p : Point) (e : Tcb) (segment : Segment) → e.receiving.limit ≡ 2 ^ 24 → has_begun e.name ≡ true → IsBounded e → IsUsual e segment
-        → StandsAt p e → StandsAt (point_after segment p) (received e segment) }
+/// An endpoint of `listen` stands at a point of `ft_model` from its SYN on: at the new connection's, whose SYN-ACK is all that leaves. The
+/// fetched bytes are as many as the endpoint's limit leaves of 2^24, and none for the limit of a whole stream.
+pub fn syns_lead_to_points()
+    ensures { (local : Addr) (iss limit cisn : ℕ) (fetched : List ℕ) (syn : Segment) (calls : List Call)
+        → limit + length fetched ≡ 2 ^ 24 → is_syn syn ≡ true → syn.head.seq ≡ (cisn + length fetched) % 2 ^ 32
+        → MayUse calls (received (listening local iss limit) syn)
+        → BeginsAt (point_begun fetched (numbers_with cisn iss syn)) (listening local iss limit) syn calls }
+{}
+
+/// From there on each turn, until the endpoint is CLOSED, leads from the point at which it stands to the point that the laws Taken and
+/// Sending of `ft_model` and its law of the timer lead to, for the service that reads and writes as the endpoint's user does; and what
+/// leaves, segment for segment, is what they say.
+pub fn turns_lead_from_point_to_point<S: Service>()
+    ensures { (kind : ℕ) (news : News) (calls : List Call) (before after : Point) (e : Tcb)
+        → has_begun e.name ≡ true → IsBetweenTurns e → StandsAt before e → IsUsualNews news e → MayUse calls (arrived news e)
+        → has_begun (before_flush news calls e).name ≡ true
+        → MeetsLaws (machine (S.started kind) S.after) news before after
+        → IsUsedAt (machine (S.started kind) S.after) after (before_flush news calls e)
+        → LeadsTo (machine (S.started kind) S.after) news before after e calls }
 {}
 
 /// The law on a segment without data, at the end of a turn with a segment: it goes out exactly where one is owed and no other segment does.

@@ -1,0 +1,5 @@
+use Rattle.tcp_endpoint.proofs.Beginning.{begins_law}
+use Rattle.tcp_endpoint.proofs.laws.syns_lead_to_points.Goals as goal
+
+pub returns : goal.returns
+returns c = λ local iss limit cisn fetched syn calls whole is number may. begins_law local iss limit cisn fetched syn calls whole is number may
