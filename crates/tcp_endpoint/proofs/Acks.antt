@@ -1,19 +1,17 @@
 -- The own numbers, modulo 2^32, against the sender's offsets.
-use Rattle.std.proofs.Common.{◌≡◌, ℕ, ◌<◌, ◌≤◌, ◌+◌, ◌-◌, ◌%◌, ◌^◌, Bool, true, false, not, refl, ap, arith, ◌∙◌, List, length, drop, min}
-use Rattle.std.specs.Prelude.{ℤ, pos, ◌==◌, ◌&&◌, ◌||◌, nat_abs, nat_le, nat_eq, int_le, if◌then◌else◌}
+use Rattle.std.proofs.Common.{◌≡◌, ℕ, ◌<◌, ◌≤◌, ◌+◌, ◌-◌, ◌%◌, ◌^◌, Bool, true, false, not, refl, sym, ap, arith, ◌∙◌, List, length, drop, min}
+use Rattle.std.specs.Prelude.{ℤ, pos, ◌-ℤ◌, ◌≤ℤ◌, ◌==◌, ◌&&◌, ◌||◌, nat_abs, nat_le, nat_eq, int_lt, int_le, if◌then◌else◌}
 use Rattle.std.proofs.lemmas.Int.{ints}
 use Rattle.std.proofs.lemmas.Bool.{false≢true}
 use Rattle.std.proofs.lemmas.List.{drop_min}
 use Rattle.seq_arith.specs.Number.{distance, number_at, offset_of, precedes, precedes_or_is}
-use Rattle.seq_arith.specs.Arrival.{int_eq, is_new_ack, is_beyond}
+use Rattle.seq_arith.specs.Arrival.{int_eq, is_new_ack}
 use Rattle.seq_arith.proofs.Gaps.{offset_leads}
 use Rattle.tcp_buffers.specs.declared.send_state.AckKind.{AckKind}
 use Rattle.tcp_buffers.specs.declared.send_state.AckKind.TheVariants.{New, Old, Beyond}
 use Rattle.tcp_buffers.specs.declared.send_state.SendState.{SendState}
 use Rattle.tcp_buffers.specs.SendNumbers.{acks_new, acks_beyond, kind_of, una_by, interval_by, left_by, is_window_used, edge_of, IsUsed}
-use Rattle.tcp_buffers.specs.Near.{IsNearAck}
-use Rattle.tcp_buffers.proofs.NumbersTell.{after_is, up_to_is, new_is}
-use Rattle.tcp_endpoint.specs.Sending.{Sending, own, told_by, moves_edge, acknowledged, units_of, was_sent, NumbersFit, IsShort}
+use Rattle.tcp_endpoint.specs.Sending.{Sending, own, told_by, is_ahead, moves_edge, acknowledged, units_of, was_sent, NumbersFit, IsShort}
 
 pub first_is : (iss ack : ℕ) → ack < 2 ^ 32 → nat_eq ack ((iss + 1) % 2 ^ 32) ≡ int_eq (offset_of iss ack) (pos 0)
 first_is iss ack small = grind (arith, ints, offset_leads iss ack small)
@@ -28,53 +26,83 @@ nxt_number iss una nxt fits_una fits_nxt = omega arith
 own_is : (iss ack : ℕ) → ack < 2 ^ 32 → int_le (pos 0) (offset_of iss ack) ≡ true → own iss ack ≡ nat_abs (offset_of iss ack)
 own_is iss ack fits up = grind (arith, ints, offset_leads iss ack fits)
 
-from_is : (iss k ack : ℕ) → k ≤ 2 ^ 25 → ack < 2 ^ 32 → IsNearAck (offset_of iss ack)
-    → precedes_or_is (number_at iss k) ack ≡ int_le (pos k) (offset_of iss ack)
-from_is iss k ack short fits near = grind (arith, ints, offset_leads iss ack fits)
+-- a number comes after that of an offset of the stream, or so far behind it that it comes ahead again
+ahead_is : (iss sent ack : ℕ) → sent ≤ 2 ^ 30 → ack < 2 ^ 32 → precedes (number_at iss sent) ack ≡ is_ahead sent (offset_of iss ack)
+ahead_is iss sent ack short fits = grind (arith, ints, offset_leads iss ack fits)
 
-wl2_is : (iss w ack : ℕ) → w ≤ 2 ^ 25 → ack < 2 ^ 32 → IsNearAck (offset_of iss ack) → int_le (pos 0) (offset_of iss ack) ≡ true
+-- what isn't ahead of SND.NXT lies where numbers tell the order
+record Sent (sent : ℕ) (z : ℤ) : Type 0 where
+  upper : z ≤ℤ pos sent
+  lower : (pos sent -ℤ pos (2 ^ 31)) ≤ℤ z
+
+sent_by : (sent : ℕ) (z : ℤ) → is_ahead sent z ≡ false → Sent sent z
+sent_by sent z h = record { upper = grind (arith, ints); lower = grind (arith, ints) }
+
+above_is : (iss k sent ack : ℕ) → k ≤ sent → sent ≤ 2 ^ 30 → ack < 2 ^ 32 → Sent sent (offset_of iss ack)
+    → precedes (number_at iss k) ack ≡ int_lt (pos k) (offset_of iss ack)
+above_is iss k sent ack order short fits was = grind (arith, ints, offset_leads iss ack fits, was.upper, was.lower)
+
+from_is : (iss k sent ack : ℕ) → k ≤ sent → sent ≤ 2 ^ 30 → ack < 2 ^ 32 → Sent sent (offset_of iss ack)
+    → precedes_or_is (number_at iss k) ack ≡ int_le (pos k) (offset_of iss ack)
+from_is iss k sent ack order short fits was = grind (arith, ints, offset_leads iss ack fits, was.upper, was.lower)
+
+up_to_is : (iss sent ack : ℕ) → sent ≤ 2 ^ 30 → ack < 2 ^ 32 → int_le (pos 0) (offset_of iss ack) ≡ true
+    → precedes_or_is ack (number_at iss sent) ≡ int_le (offset_of iss ack) (pos sent)
+up_to_is iss sent ack short fits up = grind (arith, ints, offset_leads iss ack fits)
+
+wl2_is : (iss w ack : ℕ) → w ≤ 2 ^ 30 → ack < 2 ^ 32 → int_le (pos 0) (offset_of iss ack) ≡ true
     → precedes_or_is (number_at iss w) ack ≡ nat_le w (nat_abs (offset_of iss ack))
-wl2_is iss w ack short fits near up = grind (arith, ints, offset_leads iss ack fits)
+wl2_is iss w ack short fits up = grind (arith, ints, offset_leads iss ack fits)
 
 above_zero : (u : ℕ) (z : ℤ) → int_le (pos u) z ≡ true → int_le (pos 0) z ≡ true
 above_zero u z h = grind (arith, ints)
 
+past_zero : (u : ℕ) (z : ℤ) → int_lt (pos u) z ≡ true → int_le (pos 0) z ≡ true
+past_zero u z h = grind (arith, ints)
+
 -- the tests, on numbers and on offsets
-pub beyond_test : (iss una nxt ack : ℕ) → una < 2 ^ 32 → nxt < 2 ^ 32 → ack < 2 ^ 32 → own iss una + distance nxt una ≤ 2 ^ 25
-    → IsNearAck (offset_of iss ack) → acks_beyond nxt ack ≡ is_beyond (own iss una + distance nxt una) (offset_of iss ack)
-beyond_test iss una nxt ack fits_una fits_nxt fits_ack short near =
-    ap (λ n. acks_beyond n ack) (nxt_number iss una nxt fits_una fits_nxt) ∙ after_is iss _ ack short fits_ack near
+pub ahead_test : (iss una nxt ack : ℕ) → una < 2 ^ 32 → nxt < 2 ^ 32 → ack < 2 ^ 32 → own iss una + distance nxt una ≤ 2 ^ 30
+    → acks_beyond nxt ack ≡ is_ahead (own iss una + distance nxt una) (offset_of iss ack)
+ahead_test iss una nxt ack fits_una fits_nxt fits_ack short =
+    ap (λ n. acks_beyond n ack) (nxt_number iss una nxt fits_una fits_nxt) ∙ ahead_is iss _ ack short fits_ack
 
-new_test : (iss una nxt ack : ℕ) → una < 2 ^ 32 → nxt < 2 ^ 32 → ack < 2 ^ 32 → own iss una ≤ 2 ^ 25
-    → own iss una + distance nxt una ≤ 2 ^ 25 → IsNearAck (offset_of iss ack)
+and_when : (a b b' : Bool) → (a ≡ true → b ≡ b') → (a && b) ≡ (a && b')
+and_when true b b' same = same refl
+and_when false b b' same = refl
+
+new_test : (iss una nxt ack : ℕ) → una < 2 ^ 32 → nxt < 2 ^ 32 → ack < 2 ^ 32 → own iss una + distance nxt una ≤ 2 ^ 30
+    → Sent (own iss una + distance nxt una) (offset_of iss ack)
     → acks_new una nxt ack ≡ is_new_ack (own iss una) (own iss una + distance nxt una) (offset_of iss ack)
-new_test iss una nxt ack fits_una fits_nxt fits_ack low short near =
-    ap (λ n. acks_new n nxt ack) (una_number iss una fits_una)
-    ∙ ap (λ n. acks_new (number_at iss (own iss una)) n ack) (nxt_number iss una nxt fits_una fits_nxt)
-    ∙ new_is iss (own iss una) _ ack low short fits_ack near
+new_test iss una nxt ack fits_una fits_nxt fits_ack short was =
+    let u : ℕ = own iss una in
+    let s : ℕ = u + distance nxt una in
+    let z : ℤ = offset_of iss ack in
+    (λ i. precedes (una_number iss una fits_una i) ack && precedes_or_is ack (nxt_number iss una nxt fits_una fits_nxt i))
+    ∙ ap (λ v. v && precedes_or_is ack (number_at iss s)) (above_is iss u s ack (omega arith) short fits_ack was)
+    ∙ and_when (int_lt (pos u) z) _ _ (λ h. up_to_is iss s ack short fits_ack (past_zero u z h))
 
--- a conjunction whose last part is only looked at where the first holds
-guarded : (a b c c' d : Bool) (e : Bool) → (a ≡ true → c ≡ c') → (a && b && (d || (e && c))) ≡ (a && b && (d || (e && c')))
-guarded true b c c' d e same = ap (λ v. true && b && (d || (e && v))) (same refl)
-guarded false b c c' d e same = refl
+-- a conjunction whose later parts are only looked at where the first holds
+guarded : (a b b' c c' d e : Bool) → (a ≡ true → b ≡ b') → (a ≡ true → c ≡ c') → (a && b && (d || (e && c))) ≡ (a && b' && (d || (e && c')))
+guarded true b b' c c' d e same_b same_c = λ i. true && same_b refl i && (d || (e && same_c refl i))
+guarded false b b' c c' d e same_b same_c = refl
 
 window_test : (iss : ℕ) (n : SendState) (seq ack : ℕ) (opened : Bool) (held : List ℕ) (closed fin_sent : Bool) (mss : ℕ) → NumbersFit n seq ack
-    → IsShort (told_by iss opened n held closed fin_sent mss) → IsNearAck (offset_of iss ack)
+    → IsShort (told_by iss opened n held closed fin_sent mss) → Sent (own iss n.una.0 + distance n.nxt.0 n.una.0) (offset_of iss ack)
     → is_window_used n seq ack ≡ moves_edge (told_by iss opened n held closed fin_sent mss) seq (offset_of iss ack)
-window_test iss n seq ack opened held closed fin_sent mss fits short near =
+window_test iss n seq ack opened held closed fin_sent mss fits short was =
     let u : ℕ = own iss n.una.0 in
     let s : ℕ = u + distance n.nxt.0 n.una.0 in
     let w : ℕ = own iss n.wl2.0 in
     let z : ℤ = offset_of iss ack in
     let una : precedes_or_is n.una.0 ack ≡ int_le (pos u) z =
-    ap (λ k. precedes_or_is k ack) (una_number iss n.una.0 fits.una) ∙ from_is iss u ack short.una fits.ack near in
-    let nxt : precedes_or_is ack n.nxt.0 ≡ int_le z (pos s) =
-    ap (λ k. precedes_or_is ack k) (nxt_number iss n.una.0 n.nxt.0 fits.una fits.nxt) ∙ up_to_is iss s ack short.sent fits.ack near in
+    ap (λ k. precedes_or_is k ack) (una_number iss n.una.0 fits.una) ∙ from_is iss u s ack (omega arith) short.sent fits.ack was in
+    let nxt : int_le (pos u) z ≡ true → precedes_or_is ack n.nxt.0 ≡ int_le z (pos s) =
+    λ up. ap (λ k. precedes_or_is ack k) (nxt_number iss n.una.0 n.nxt.0 fits.una fits.nxt) ∙ up_to_is iss s ack short.sent fits.ack (above_zero u z up) in
     let wl2 : int_le (pos u) z ≡ true → precedes_or_is n.wl2.0 ack ≡ nat_le w (nat_abs z) =
-    λ up. ap (λ k. precedes_or_is k ack) (una_number iss n.wl2.0 fits.wl2) ∙ wl2_is iss w ack short.wl2 fits.ack near (above_zero u z up) in
+    λ up. ap (λ k. precedes_or_is k ack) (una_number iss n.wl2.0 fits.wl2) ∙ wl2_is iss w ack short.wl2 fits.ack (above_zero u z up) in
     ap (λ a. a && precedes_or_is ack n.nxt.0 && (precedes n.wl1.0 seq || (n.wl1.0 == seq && precedes_or_is n.wl2.0 ack))) una
-    ∙ ap (λ b. int_le (pos u) z && b && (precedes n.wl1.0 seq || (n.wl1.0 == seq && precedes_or_is n.wl2.0 ack))) nxt
-    ∙ guarded (int_le (pos u) z) (int_le z (pos s)) (precedes_or_is n.wl2.0 ack) (nat_le w (nat_abs z)) (precedes n.wl1.0 seq) (n.wl1.0 == seq) wl2
+    ∙ guarded (int_le (pos u) z) (precedes_or_is ack n.nxt.0) (int_le z (pos s)) (precedes_or_is n.wl2.0 ack) (nat_le w (nat_abs z)) (precedes n.wl1.0 seq)
+    (n.wl1.0 == seq) nxt wl2
 
 -- the fields, by whether the acknowledgement is new and whether the window is used
 abbrev kind_by : Bool → ℕ → AckKind
@@ -133,14 +161,14 @@ second_bound false b c h = absurd (false≢true h)
 new_distance : (iss una ack : ℕ) → una < 2 ^ 32 → ack < 2 ^ 32 → own iss una ≤ own iss ack → distance ack una ≡ own iss ack - own iss una
 new_distance iss una ack fits_una fits_ack up = omega arith
 
-rest_distance : (iss una nxt ack : ℕ) → una < 2 ^ 32 → nxt < 2 ^ 32 → ack < 2 ^ 32 → own iss una + distance nxt una ≤ 2 ^ 25 → own iss una ≤ own iss ack
+rest_distance : (iss una nxt ack : ℕ) → una < 2 ^ 32 → nxt < 2 ^ 32 → ack < 2 ^ 32 → own iss una + distance nxt una ≤ 2 ^ 30 → own iss una ≤ own iss ack
     → own iss ack ≤ own iss una + distance nxt una → own iss ack + distance nxt ack ≡ own iss una + distance nxt una
 rest_distance iss una nxt ack fits_una fits_nxt fits_ack short up within = omega arith
 
-all_acked : (iss una nxt ack : ℕ) → una < 2 ^ 32 → nxt < 2 ^ 32 → ack < 2 ^ 32 → own iss una + distance nxt una ≤ 2 ^ 25
-    → IsNearAck (offset_of iss ack) → nat_abs (offset_of iss ack) ≤ own iss una + distance nxt una → int_le (pos 0) (offset_of iss ack) ≡ true
+all_acked : (iss una nxt ack : ℕ) → una < 2 ^ 32 → nxt < 2 ^ 32 → ack < 2 ^ 32 → own iss una + distance nxt una ≤ 2 ^ 30
+    → nat_abs (offset_of iss ack) ≤ own iss una + distance nxt una → int_le (pos 0) (offset_of iss ack) ≡ true
     → nat_eq ack nxt ≡ int_le (pos (own iss una + distance nxt una)) (offset_of iss ack)
-all_acked iss una nxt ack fits_una fits_nxt fits_ack short near within up = grind (arith, ints, offset_leads iss ack fits_ack)
+all_acked iss una nxt ack fits_una fits_nxt fits_ack short within up = grind (arith, ints, offset_leads iss ack fits_ack)
 
 edge_reached : (iss ack window a : ℕ) → ack < 2 ^ 32 → own iss ack ≡ a → a ≤ 2 ^ 30 → window < 2 ^ 16 → own iss ((ack + window) % 2 ^ 32) ≡ a + window
 edge_reached iss ack window a fits is near small = omega arith
@@ -178,21 +206,22 @@ same_sender s s' iss opened una sent edge wl1 wl2 held closed fin_sent mss inter
 
 -- what an acknowledgement that isn't beyond SND.NXT makes of the numbers is what it makes of the offsets
 pub acknowledged_is : (iss : ℕ) (n n' : SendState) (seq ack window : ℕ) (opened : Bool) (held : List ℕ) (closed fin_sent : Bool) (mss : ℕ)
-    → NumbersFit n seq ack → window < 2 ^ 16 → IsShort (told_by iss opened n held closed fin_sent mss) → IsNearAck (offset_of iss ack)
+    → NumbersFit n seq ack → window < 2 ^ 16 → IsShort (told_by iss opened n held closed fin_sent mss)
     → IsUsed n n' seq ack window → acks_beyond n.nxt.0 ack ≡ false
     → told_by iss opened n' (drop (min (units_of (kind_of n.una.0 n.nxt.0 ack)) (length held)) held) closed fin_sent mss
     ≡ acknowledged (told_by iss opened n held closed fin_sent mss) seq (offset_of iss ack) window
 unfolding acknowledged
-acknowledged_is iss n n' seq ack window opened held closed fin_sent mss fits small short near used is_sent =
+acknowledged_is iss n n' seq ack window opened held closed fin_sent mss fits small short used is_sent =
     let u : ℕ = own iss n.una.0 in
     let s : ℕ = u + distance n.nxt.0 n.una.0 in
     let z : ℤ = offset_of iss ack in
     let b : Bool = is_new_ack u s z in
+    let was : Sent s z = sent_by s z (sym (ahead_test iss n.una.0 n.nxt.0 ack fits.una fits.nxt fits.ack short.sent) ∙ is_sent) in
     let before : Sending = told_by iss opened n held closed fin_sent mss in
     let d : ℕ = distance ack n.una.0 in
-    let is_new : acks_new n.una.0 n.nxt.0 ack ≡ b = new_test iss n.una.0 n.nxt.0 ack fits.una fits.nxt fits.ack short.una short.sent near in
+    let is_new : acks_new n.una.0 n.nxt.0 ack ≡ b = new_test iss n.una.0 n.nxt.0 ack fits.una fits.nxt fits.ack short.sent was in
     let kind : kind_of n.una.0 n.nxt.0 ack ≡ kind_by b d = kind_is n.una.0 n.nxt.0 ack b is_sent is_new in
-    let moves : is_window_used n seq ack ≡ moves_edge before seq z = window_test iss n seq ack opened held closed fin_sent mss fits short near in
+    let moves : is_window_used n seq ack ≡ moves_edge before seq z = window_test iss n seq ack opened held closed fin_sent mss fits short was in
     let a : ℕ = nat_abs z in
     let on : b ≡ true → own iss ack ≡ a = λ h. own_is iss ack fits.ack (new_bounds u s z h).0 in
     let up : b ≡ true → u ≤ own iss ack = λ h. omega (arith, on h, (new_bounds u s z h).1) in
@@ -216,7 +245,7 @@ acknowledged_is iss n n' seq ack window opened held closed fin_sent mss fits sma
     (used.interval ∙ ap (λ k. interval_by k n.interval) kind ∙ interval_field b d n.interval)
     (used.left ∙ ap (λ k. left_by k n.nxt.0 ack n.left) kind
     ∙ left_field b (int_le (pos s) z) d n.nxt.0 ack n.left
-    (λ h. all_acked iss n.una.0 n.nxt.0 ack fits.una fits.nxt fits.ack short.sent near (new_bounds u s z h).2 (new_bounds u s z h).0))
+    (λ h. all_acked iss n.una.0 n.nxt.0 ack fits.una fits.nxt fits.ack short.sent (new_bounds u s z h).2 (new_bounds u s z h).0))
 
 kind_sent : (beyond new : Bool) (d : ℕ) → was_sent (if beyond then Beyond else (if new then New d else Old)) ≡ not beyond
 kind_sent true new d = refl
@@ -229,27 +258,27 @@ choose b false x y z is on off = off is
 
 -- what Sender::on_ack answers, ..
 pub sent_is : (iss : ℕ) (n : SendState) (seq ack : ℕ) (opened : Bool) (held : List ℕ) (closed fin_sent : Bool) (mss : ℕ) (kind : AckKind)
-    → NumbersFit n seq ack → IsShort (told_by iss opened n held closed fin_sent mss) → IsNearAck (offset_of iss ack)
+    → NumbersFit n seq ack → IsShort (told_by iss opened n held closed fin_sent mss)
     → kind ≡ kind_of n.una.0 n.nxt.0 ack
-    → was_sent kind ≡ not (is_beyond (told_by iss opened n held closed fin_sent mss).sent (offset_of iss ack))
-sent_is iss n seq ack opened held closed fin_sent mss kind fits short near is =
+    → was_sent kind ≡ not (is_ahead (told_by iss opened n held closed fin_sent mss).sent (offset_of iss ack))
+sent_is iss n seq ack opened held closed fin_sent mss kind fits short is =
     ap was_sent is ∙ kind_sent (acks_beyond n.nxt.0 ack) (acks_new n.una.0 n.nxt.0 ack) (distance ack n.una.0)
-    ∙ ap not (beyond_test iss n.una.0 n.nxt.0 ack fits.una fits.nxt fits.ack short.sent near)
+    ∙ ap not (ahead_test iss n.una.0 n.nxt.0 ack fits.una fits.nxt fits.ack short.sent)
 
 -- .. and what it makes of the sender
 pub used_is : (iss : ℕ) (n n' : SendState) (seq ack window : ℕ) (opened : Bool) (held held' : List ℕ) (closed fin_sent : Bool) (mss : ℕ) (kind : AckKind)
-    → NumbersFit n seq ack → window < 2 ^ 16 → IsShort (told_by iss opened n held closed fin_sent mss) → IsNearAck (offset_of iss ack)
+    → NumbersFit n seq ack → window < 2 ^ 16 → IsShort (told_by iss opened n held closed fin_sent mss)
     → kind ≡ kind_of n.una.0 n.nxt.0 ack → IsUsed n n' seq ack window → (kind ≡ Beyond → n' ≡ n)
     → held' ≡ drop (min (units_of kind) (length held)) held
     → told_by iss opened n' held' closed fin_sent mss
-    ≡ (if is_beyond (told_by iss opened n held closed fin_sent mss).sent (offset_of iss ack)
+    ≡ (if is_ahead (told_by iss opened n held closed fin_sent mss).sent (offset_of iss ack)
     then told_by iss opened n held closed fin_sent mss
     else acknowledged (told_by iss opened n held closed fin_sent mss) seq (offset_of iss ack) window)
-used_is iss n n' seq ack window opened held held' closed fin_sent mss kind fits small short near is used unused held_is =
+used_is iss n n' seq ack window opened held held' closed fin_sent mss kind fits small short is used unused held_is =
     let as_held : List ℕ → Sending = λ q. told_by iss opened n' q closed fin_sent mss in
-    choose (acks_beyond n.nxt.0 ack) _ _ _ _ (beyond_test iss n.una.0 n.nxt.0 ack fits.una fits.nxt fits.ack short.sent near)
+    choose (acks_beyond n.nxt.0 ack) _ _ _ _ (ahead_test iss n.una.0 n.nxt.0 ack fits.una fits.nxt fits.ack short.sent)
     (λ h. let beyond : kind ≡ Beyond = is ∙ rw h refl in
     ap as_held (held_is ∙ ap (λ k. drop (min (units_of k) (length held)) held) beyond ∙ drop_min 0 held)
     ∙ ap (λ m. told_by iss opened m held closed fin_sent mss) (unused beyond))
     (λ h. ap as_held (held_is ∙ ap (λ k. drop (min (units_of k) (length held)) held) is)
-    ∙ acknowledged_is iss n n' seq ack window opened held closed fin_sent mss fits small short near used h)
+    ∙ acknowledged_is iss n n' seq ack window opened held closed fin_sent mss fits small short used h)

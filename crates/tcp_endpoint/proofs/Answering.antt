@@ -1,14 +1,14 @@
 -- The RST that answers a segment, and what a segment leaves of what else is due.
 use Rattle.std.proofs.Common.{◌≡◌, ℕ, Bool, true, false, not, Some, refl, sym, ap, arith, ◌∙◌}
 use Rattle.std.specs.Prelude.{ℤ, pos, ◌≤ℤ◌, ◌&&◌, ◌||◌, nat_lt, int_lt, if◌then◌else◌}
-use Rattle.seq_arith.specs.Arrival.{int_eq, is_acceptable, is_beyond}
+use Rattle.seq_arith.specs.Arrival.{int_eq, is_acceptable}
 use Rattle.seq_arith.specs.Packet.{Segment, has_syn, has_rst, has_ack}
 use Rattle.ft_model.specs.Offset.{length_of}
 use Rattle.std.proofs.lemmas.Int.{ints}
 use Rattle.tcp_endpoint.specs.declared.states.StateName.{StateName}
 use Rattle.tcp_endpoint.specs.States.{opened, after_fin, after_fin_acked, has_begun}
 use Rattle.tcp_endpoint.specs.Receiving.{Receiving, next}
-use Rattle.tcp_endpoint.specs.Sending.{Sending, opened_by, acknowledged, fin_acked}
+use Rattle.tcp_endpoint.specs.Sending.{Sending, opened_by, is_ahead, acknowledged, fin_acked}
 use Rattle.tcp_endpoint.specs.Tcb.{Tcb}
 use Rattle.tcp_endpoint.specs.Arrival.{first, ack_at, rst, killed, owing_if, entering, with_text_and_fin, with_fin_acked, with_first_ack, with_ack, waiting_again, received, refusing}
 use Rattle.tcp_endpoint.specs.Laws.{accepts, acknowledges_less, is_refused, IsBounded, IsUsual}
@@ -26,7 +26,7 @@ later_part : {X : Type 0} (f : Tcb → X) (e : Tcb) (p : Segment) → Beside f �
 unfolding with_ack
 later_part f e p b =
     let used : Tcb = record e { sending = acknowledged e.sending p.head.seq (ack_at e p) p.head.window } in
-    let beyond : Bool = is_beyond e.sending.sent (ack_at e p) in
+    let beyond : Bool = is_ahead e.sending.sent (ack_at e p) in
     part_of_if f beyond (owing_if true e) (with_text_and_fin (with_fin_acked used) p)
     ∙ if_when beyond (f (owing_if true e)) (f e) (f (with_text_and_fin (with_fin_acked used) p)) (f e)
     (λ h. b.aside.owing true e) (λ h. b.text (with_fin_acked used) p ∙ b.acked used ∙ b.using e p)

@@ -4,10 +4,12 @@ use Rattle.std.specs.Prelude.{◌==◌, ◌&&◌, ◌||◌, nat_lt, if◌then◌
 use Rattle.std.proofs.lemmas.Bool.{false≢true}
 use Rattle.std.proofs.Math.Seq.{drop-length}
 use Rattle.ft_io.specs.declared.Addr.{Addr}
+use Rattle.server_trait.specs.Service.{Machine}
 use Rattle.seq_arith.specs.Packet.{Segment, has_syn, has_rst, has_ack}
 use Rattle.ft_model.specs.Opening as opening
 use Rattle.ft_model.specs.Offset.{one_if}
 use Rattle.ft_model.specs.Point.{Point}
+use Rattle.ft_model.specs.News.News.{Comes}
 use Rattle.ft_model.specs.Segments.{syn_ack, or_bare}
 use Rattle.tcp_endpoint.specs.States.{is_syn_sent, has_begun}
 use Rattle.tcp_endpoint.specs.Receiving.{Receiving, taken}
@@ -16,14 +18,14 @@ use Rattle.tcp_endpoint.specs.Tcb.{Tcb, listening}
 use Rattle.tcp_endpoint.specs.Arrival.{source, received, in_listen, begun, refusing}
 use Rattle.tcp_endpoint.specs.Leaving.{announced, settled, with_fin_out, fin_at, text_at, answer_segments, answer_out, again_segment, opening_segment, again_out, probe_out, with_probe, text_out, with_text_sent, fin_out, full_out, is_owed, bare_segment, leaving, after_full, is_timed, flushed}
 use Rattle.tcp_endpoint.specs.Laws.{IsBounded, ProbesRightly}
-use Rattle.tcp_endpoint.specs.Turn.{Call, MayUse, IsBetweenTurns, used}
-use Rattle.tcp_endpoint.specs.Standing.{ReceivesAt, SendsAt, StandsAt, BeginsAt, numbers_with, point_begun}
+use Rattle.tcp_endpoint.specs.Turn.{Call, MayUse, IsBetweenTurns, used, before_flush, turned}
+use Rattle.tcp_endpoint.specs.Standing.{ReceivesAt, SendsAt, StandsAt, LeadsTo, BeginsAt, Step, RunsByLaws, numbers_with, point_begun}
 use Rattle.tcp_endpoint.proofs.Bounding.{bounded_at_listen, bounded_in_listen}
 use Rattle.tcp_endpoint.proofs.TurnLaw.{sent_law, flushed_timer}
 use Rattle.tcp_endpoint.proofs.Calls.{FinIsLast, IsUsed, used_is, bounded_used}
 use Rattle.tcp_endpoint.proofs.Arrivals.{no_probe}
 use Rattle.tcp_endpoint.proofs.TurnEnd.{flushed_sends, full_keeps, full_name}
-use Rattle.tcp_endpoint.proofs.Turns.{between_again, flushed_receives, flushed_remote}
+use Rattle.tcp_endpoint.proofs.Turns.{between_again, flushed_receives, flushed_remote, leads_law}
 use Rattle.tcp_endpoint.proofs.SegmentsLaw.{Tells, opening_at, once_again, no_text_probe, no_fin_probe, probe_by, unprobed, no_text_out, no_fin_out, full_out_is}
 
 -- an endpoint that a SYN has just opened
@@ -224,3 +226,21 @@ begins_law local iss limit cisn fetched syn calls whole is number may =
     let a : IsUsed m (used calls m) = used_is calls m may in
     let done = opened_turn local iss limit cisn fetched syn m (used calls m) o a (bounded_used calls m may last b) whole number in
     record { begun = flushed_name (used calls m) (a.begun o.begun); between = done.0; stands = done.1; segments = done.2 }
+
+-- turn by turn
+runs_on : {State : Type 0} (service : Machine State) (steps : List Step) (before : Point) (e : Tcb) → has_begun e.name ≡ true → IsBetweenTurns e → StandsAt before e
+    → RunsByLaws service before e steps
+runs_on service [] before e begun between stands = tt
+runs_on service (step ∷ steps) before e begun between stands = λ s.
+    let led : LeadsTo service step.news before step.after e step.calls =
+    leads_law service step.news step.calls before step.after e begun between stands s.usual s.may s.begun s.laws s.user in
+    (led, runs_on service steps step.after (turned step.news step.calls e) (flushed_name (before_flush step.news step.calls e) s.begun) led.between led.stands)
+
+pub run_law : {State : Type 0} (service : Machine State) (local : Addr) (iss limit cisn : ℕ) (fetched : List ℕ) (syn : Segment) (calls : List Call) (steps : List Step)
+    → limit + length fetched ≡ 2 ^ 24 → opening.is_syn syn ≡ true → syn.head.seq ≡ (cisn + length fetched) % 2 ^ 32
+    → MayUse calls (received (listening local iss limit) syn)
+    → BeginsAt (point_begun fetched (numbers_with cisn iss syn)) (listening local iss limit) syn calls
+    × RunsByLaws service (point_begun fetched (numbers_with cisn iss syn)) (turned (Comes syn) calls (listening local iss limit)) steps
+run_law service local iss limit cisn fetched syn calls steps whole is number may =
+    let b = begins_law local iss limit cisn fetched syn calls whole is number may in
+    (b, runs_on service steps (point_begun fetched (numbers_with cisn iss syn)) (turned (Comes syn) calls (listening local iss limit)) b.begun b.between b.stands)

@@ -25,7 +25,7 @@ use Rattle.tcp_endpoint.proofs.TakenLaw.{taken_law}
 use Rattle.tcp_endpoint.proofs.SendingLaw.{sending_is, held_field, near_of_counts}
 
 pub bounded_is_short : (e : Tcb) → IsBounded e → IsShort e.sending
-bounded_is_short e b = record { una = grind (arith, b.order, b.sent); sent = grind (arith, b.sent); wl2 = grind (arith, b.wl2, b.order, b.sent) }
+bounded_is_short e b = record { sent = grind (arith, b.sent); wl2 = grind (arith, b.wl2, b.order, b.sent) }
 
 pub bounded_at_listen : (local : Addr) (iss limit : ℕ) → limit ≤ 2 ^ 24 → IsBounded (listening local iss limit)
 unfolding listening

@@ -3,12 +3,12 @@ use Rattle.std.proofs.Common.{◌≡◌, ℕ, Bool, true, false, not, refl, sym,
 use Rattle.std.specs.Prelude.{ℤ, pos, ◌≤ℤ◌, ◌&&◌, ◌||◌, nat_lt, int_lt, if◌then◌else◌}
 use Rattle.std.proofs.lemmas.Int.{ints}
 use Rattle.std.proofs.lemmas.Bool.{false≢true}
-use Rattle.seq_arith.specs.Arrival.{int_eq, is_acceptable, is_beyond}
+use Rattle.seq_arith.specs.Arrival.{int_eq, is_acceptable}
 use Rattle.seq_arith.specs.Packet.{Segment, has_syn, has_rst, has_ack}
 use Rattle.ft_model.specs.Offset.{length_of}
 use Rattle.tcp_endpoint.specs.States.{opened, after_fin, after_fin_acked, has_begun}
 use Rattle.tcp_endpoint.specs.Receiving.{Receiving, next, window}
-use Rattle.tcp_endpoint.specs.Sending.{opened_by, acknowledged, fin_acked}
+use Rattle.tcp_endpoint.specs.Sending.{opened_by, is_ahead, acknowledged, fin_acked}
 use Rattle.tcp_endpoint.specs.Tcb.{Tcb}
 use Rattle.tcp_endpoint.specs.Arrival.{first, ack_at, owing_if, killed, entering, with_text_and_fin, with_fin_acked, with_first_ack, with_ack, check_ack, check_syn, check_rst, waiting_again, check_place, in_others, received, refusing}
 use Rattle.tcp_endpoint.specs.Laws.{accepts, acknowledges_less, is_refused, owes_acceptable, owes, IsBounded, IsUsual}
@@ -34,7 +34,7 @@ unfolding with_fin_acked
 acked_receiving e =
     part_of_if (λ (t : Tcb). t.receiving) (fin_acked e.sending) (entering (after_fin_acked e.name) e) e ∙ same_if (fin_acked e.sending) e.receiving
 
-later_ack_part : (e : Tcb) (p : Segment) → is_beyond e.sending.sent (ack_at e p) ≡ false
+later_ack_part : (e : Tcb) (p : Segment) → is_ahead e.sending.sent (ack_at e p) ≡ false
     → (with_ack e p).owed ≡ (e.owed || int_lt (pos (next e.receiving)) (first e p))
 unfolding with_ack
 later_ack_part e p sent =
@@ -51,7 +51,7 @@ first_ack_part e p is_syn =
     in ap (λ b. (if b then with_text_and_fin opening p else refusing e p).owed) is_syn ∙ text_part opening p
 
 -- with ACK, while it isn't refused
-ack_part : (e : Tcb) (p : Segment) → is_beyond e.sending.sent (ack_at e p) ≡ false → (e.sending.opened ≡ false → int_eq (ack_at e p) (pos 0) ≡ true)
+ack_part : (e : Tcb) (p : Segment) → is_ahead e.sending.sent (ack_at e p) ≡ false → (e.sending.opened ≡ false → int_eq (ack_at e p) (pos 0) ≡ true)
     → (if e.sending.opened then (with_ack e p).owed else (with_first_ack e p).owed) ≡ (e.owed || int_lt (pos (next e.receiving)) (first e p))
 ack_part e p sent syn =
     if_when e.sending.opened (with_ack e p).owed _ (with_first_ack e p).owed _ (λ h. later_ack_part e p sent) (λ h. first_ack_part e p (syn h))
@@ -89,7 +89,7 @@ plain_owed e p b usual none not_less =
     part_of_if (λ (t : Tcb). t.owed) (has_ack p) (if e1.sending.opened then with_ack e1 p else with_first_ack e1 p) e1
     ∙ ap (λ x. if has_ack p then x else e1.owed) (part_of_if (λ (t : Tcb). t.owed) e1.sending.opened (with_ack e1 p) (with_first_ack e1 p))
     ∙ if_when (has_ack p) _ (some || (has_ack p && early)) _ (some || (has_ack p && early))
-    (λ is_ack. ack_part e1 p (sent_bool e p (usual.sent is_ack)) (is_syn_ack e p b usual not_less is_ack)
+    (λ is_ack. ack_part e1 p (sent_bool e p b usual is_ack) (is_syn_ack e p b usual not_less is_ack)
     ∙ ap (λ v. v || early) (none_or e.owed some none) ∙ ap (λ v. some || (v && early)) (sym is_ack))
     (λ no_ack. none_or e.owed some none ∙ or_false some ∙ ap (λ v. some || (v && early)) (sym no_ack))
     ∙ same_if (has_ack p) (some || (has_ack p && early))

@@ -4,14 +4,14 @@ use Rattle.std.specs.Prelude.{ℤ, pos, ◌≤ℤ◌, ◌==◌, ◌&&◌, ◌||�
 use Rattle.std.proofs.lemmas.Int.{ints}
 use Rattle.std.proofs.lemmas.Bool.{false≢true}
 use Rattle.seq_arith.specs.Number.{offset_of, precedes}
-use Rattle.seq_arith.specs.Arrival.{int_eq, is_acceptable, is_beyond, is_new_ack, una_after, updates_window}
+use Rattle.seq_arith.specs.Arrival.{int_eq, is_acceptable, is_new_ack, una_after, updates_window}
 use Rattle.seq_arith.specs.Packet.{Segment, has_fin, has_syn, has_rst, has_ack}
 use Rattle.ft_model.specs.Offset.{length_of}
 use Rattle.tcp_buffers.specs.Near.{IsNearFirst}
 use Rattle.tcp_buffers.proofs.NumbersTell.{between_is, same_is}
 use Rattle.tcp_endpoint.specs.States.{opened, after_fin, after_fin_acked, has_begun}
 use Rattle.tcp_endpoint.specs.Receiving.{Receiving, taken, next, announced_edge, window}
-use Rattle.tcp_endpoint.specs.Sending.{Sending, opened_by, acknowledged, fin_acked, moves_edge}
+use Rattle.tcp_endpoint.specs.Sending.{Sending, opened_by, is_ahead, acknowledged, fin_acked, moves_edge}
 use Rattle.tcp_endpoint.specs.Tcb.{Tcb}
 use Rattle.tcp_endpoint.specs.Arrival.{first, ack_at, owing_if, entering, with_text_and_fin, with_fin_acked, with_first_ack, with_ack, waiting_again, in_others, received, refusing}
 use Rattle.tcp_endpoint.specs.Laws.{accepts, counts, acknowledges, uses_window, IsSentBy, IsBounded, IsUsual}
@@ -33,7 +33,7 @@ unfolding with_fin_acked
 acked_part e =
     part_of_if (λ (t : Tcb). t.sending) (fin_acked e.sending) (entering (after_fin_acked e.name) e) e ∙ same_if (fin_acked e.sending) e.sending
 
-later_ack_part : (e : Tcb) (p : Segment) → is_beyond e.sending.sent (ack_at e p) ≡ false
+later_ack_part : (e : Tcb) (p : Segment) → is_ahead e.sending.sent (ack_at e p) ≡ false
     → (with_ack e p).sending ≡ acknowledged e.sending p.head.seq (ack_at e p) p.head.window
 unfolding with_ack
 later_ack_part e p sent =
@@ -61,18 +61,18 @@ used_by e p =
     then acknowledged e.sending p.head.seq (ack_at e p) p.head.window
     else opened_by e.sending p.head.seq p.head.window
 
-checks_use : (e : Tcb) (p : Segment) → IsUsual e p
+checks_use : (e : Tcb) (p : Segment) → IsBounded e → IsUsual e p
     → (in_others e p).sending
     ≡ by_checks (is_acceptable (next e.receiving) (window e.receiving) (first e p) (length_of p)) (has_rst p) (has_syn p) (has_ack p) e.sending.opened
     (int_eq (ack_at e p) (pos 0)) (acknowledged e.sending p.head.seq (ack_at e p) p.head.window) (opened_by e.sending p.head.seq p.head.window) e.sending
 unfolding waiting_again
-checks_use e p usual =
+checks_use e p bounded usual =
     others_part (λ (t : Tcb). t.sending) e p sending_aside ∙ if_when (is_acceptable (next e.receiving) (window e.receiving) (first e p) (length_of p)) _ _ _ _
     (λ acceptable. if_when (has_rst p) _ _ _ _ (λ h. refl)
     (λ no_rst. if_when (has_syn p) _ _ _ _ (λ h. refl)
     (λ no_syn. if_when (has_ack p) _ _ _ _
     (λ is_ack. if_when e.sending.opened _ _ _ _
-    (λ h. later_ack_part (at_ack e p) p (sent_bool e p (usual.sent is_ack)))
+    (λ h. later_ack_part (at_ack e p) p (sent_bool e p bounded usual is_ack))
     (λ h. first_ack_part (at_ack e p) p))
     (λ h. refl))))
     (λ h. refl)
@@ -106,7 +106,7 @@ sending_is e p begun bounded usual =
     let acked : Bool = int_le (pos 0) (ack_at e p) in
     let chosen : ℕ → Sending = λ w.
     if has_ack p && not (has_syn p) && not (has_rst p) && acceptable w && (e.sending.opened || acked) then used_by e p else e.sending in
-    ap (λ (t : Tcb). t.sending) (begun_is e.name e p begun) ∙ checks_use e p usual
+    ap (λ (t : Tcb). t.sending) (begun_is e.name e p begun) ∙ checks_use e p bounded usual
     ∙ by_law (acceptable (window e.receiving)) (has_rst p) (has_syn p) (has_ack p) e.sending.opened (int_eq (ack_at e p) (pos 0)) acked
     (acknowledged e.sending p.head.seq (ack_at e p) p.head.window) (opened_by e.sending p.head.seq p.head.window) e.sending
     (λ is_ack unopened. syn_only e p (usual.sent is_ack) (bounded.unopened unopened))

@@ -1,17 +1,17 @@
 -- The checks on a segment, one by one, take what the law Taken says.
-use Rattle.std.proofs.Common.{◌≡◌, ℕ, ◌+◌, ◌-◌, Bool, true, false, not, List, ◌++◌, length, take, drop, refl, sym, ap, arith, ◌∙◌}
-use Rattle.std.specs.Prelude.{ℤ, pos, ◌+ℤ◌, ◌≤ℤ◌, ◌&&◌, ◌||◌, nat_lt, int_lt, int_le, if◌then◌else◌}
+use Rattle.std.proofs.Common.{◌≡◌, ℕ, ◌≤◌, ◌+◌, ◌-◌, ◌^◌, Bool, true, false, not, List, ◌++◌, length, take, drop, refl, sym, ap, arith, ◌∙◌}
+use Rattle.std.specs.Prelude.{ℤ, pos, ◌+ℤ◌, ◌-ℤ◌, ◌≤ℤ◌, ◌&&◌, ◌||◌, nat_lt, int_lt, int_le, if◌then◌else◌}
 use Rattle.std.proofs.lemmas.Int.{ints}
 use Rattle.std.proofs.lemmas.Bool.{false≢true}
 use Rattle.seq_arith.specs.Number.{offset_of}
-use Rattle.seq_arith.specs.Arrival.{int_eq, is_acceptable, is_beyond, below}
+use Rattle.seq_arith.specs.Arrival.{int_eq, is_acceptable, below}
 use Rattle.seq_arith.specs.Packet.{Segment, has_fin, has_syn, has_rst, has_ack}
-use Rattle.ft_model.specs.Offset.{length_of, text_of, fin_of}
+use Rattle.ft_model.specs.Offset.{one_if, length_of, text_of, fin_of}
 use Rattle.tcp_endpoint.specs.declared.states.StateName.{StateName}
 use Rattle.tcp_endpoint.specs.declared.states.StateName.TheVariants.{Closed, Listen, SynSent, SynReceived, Established, FinWait1, FinWait2, CloseWait, Closing, LastAck, TimeWait}
 use Rattle.tcp_endpoint.specs.States.{opened, after_fin, after_fin_acked, has_begun}
 use Rattle.tcp_endpoint.specs.Receiving.{Receiving, taken, next, receive_edge, announced_edge, window, with_text, with_fin, with_segment}
-use Rattle.tcp_endpoint.specs.Sending.{opened_by, acknowledged, fin_acked}
+use Rattle.tcp_endpoint.specs.Sending.{opened_by, is_ahead, acknowledged, fin_acked}
 use Rattle.tcp_endpoint.specs.Tcb.{Tcb}
 use Rattle.tcp_endpoint.specs.Arrival.{first, ack_at, owing_if, killed, entering, with_text_and_fin, with_fin_acked, with_first_ack, with_ack, check_ack, check_syn, check_rst, waiting_again, check_place, in_others, received_in, received, refusing}
 use Rattle.tcp_endpoint.specs.Laws.{accepts, counts, continues, taken_by, IsBounded, IsUsual}
@@ -50,8 +50,16 @@ pub if_when : {X : Type 0} (b : Bool) (x x' y y' : X) → (b ≡ true → x ≡ 
 if_when true x x' y y' on off = on refl
 if_when false x x' y y' on off = off refl
 
-pub sent_bool : (e : Tcb) (p : Segment) → ack_at e p ≤ℤ pos e.sending.sent → is_beyond e.sending.sent (ack_at e p) ≡ false
-sent_bool e p h = grind (arith, ints)
+not_ahead : (sent : ℕ) (ack : ℤ) → sent ≤ 2 ^ 24 + 1 → ack ≤ℤ pos sent → (pos 0 -ℤ pos (2 ^ 30 + 2 ^ 24)) ≤ℤ ack → is_ahead sent ack ≡ false
+not_ahead sent ack few h near = grind (arith, ints)
+
+few_sent : (f : Bool) (sent : ℕ) → sent ≤ 2 ^ 24 + one_if f → sent ≤ 2 ^ 24 + 1
+few_sent true sent h = h
+few_sent false sent h = omega (arith, h)
+
+pub sent_bool : (e : Tcb) (p : Segment) → IsBounded e → IsUsual e p → has_ack p ≡ true → is_ahead e.sending.sent (ack_at e p) ≡ false
+sent_bool e p b usual is_ack =
+    not_ahead e.sending.sent (ack_at e p) (few_sent e.sending.fin_sent e.sending.sent b.sent) (usual.sent is_ack) (usual.near is_ack)
 
 -- the text and the FIN that the checks take
 abbrev pub segment_taken : Tcb → Segment → Receiving
@@ -132,7 +140,7 @@ unfolding with_fin_acked
 acked_part e =
     part_of_if (λ (t : Tcb). t.receiving) (fin_acked e.sending) (entering (after_fin_acked e.name) e) e ∙ same_if (fin_acked e.sending) e.receiving
 
-later_ack_part : (e : Tcb) (p : Segment) → is_beyond e.sending.sent (ack_at e p) ≡ false → (with_ack e p).receiving ≡ segment_taken e p
+later_ack_part : (e : Tcb) (p : Segment) → is_ahead e.sending.sent (ack_at e p) ≡ false → (with_ack e p).receiving ≡ segment_taken e p
 unfolding with_ack
 later_ack_part e p sent =
     let used : Tcb = record e { sending = acknowledged e.sending p.head.seq (ack_at e p) p.head.window }
@@ -151,18 +159,18 @@ receiving_aside : Aside (λ (e : Tcb). e.receiving)
 unfolding waiting_again
 receiving_aside = record { killed = λ e. refl; owing = λ b e. refl; waiting = λ e p. refl }
 
-checks_take : (e : Tcb) (p : Segment) → IsUsual e p
+checks_take : (e : Tcb) (p : Segment) → IsBounded e → IsUsual e p
     → (in_others e p).receiving
     ≡ by_checks (is_acceptable (next e.receiving) (window e.receiving) (first e p) (length_of p)) (has_rst p) (has_syn p) (has_ack p) e.sending.opened
     (int_eq (ack_at e p) (pos 0)) (segment_taken e p) (segment_taken e p) e.receiving
 unfolding waiting_again
-checks_take e p usual =
+checks_take e p bounded usual =
     others_part (λ (t : Tcb). t.receiving) e p receiving_aside ∙ if_when (is_acceptable (next e.receiving) (window e.receiving) (first e p) (length_of p)) _ _ _ _
     (λ acceptable. if_when (has_rst p) _ _ _ _ (λ h. refl)
     (λ no_rst. if_when (has_syn p) _ _ _ _ (λ h. refl)
     (λ no_syn. if_when (has_ack p) _ _ _ _
     (λ is_ack. if_when e.sending.opened _ _ _ _
-    (λ h. later_ack_part (at_ack e p) p (sent_bool e p (usual.sent is_ack)))
+    (λ h. later_ack_part (at_ack e p) p (sent_bool e p bounded usual is_ack))
     (λ h. first_ack_part (at_ack e p) p))
     (λ h. refl))))
     (λ h. refl)
@@ -279,7 +287,7 @@ taken_law e p begun bounded usual =
     if has_ack p && not (has_syn p) && not (has_rst p) && acceptable w && (e.sending.opened || acked) then segment_taken e p else e.receiving in
     let plain : counts e p ≡ true → (has_syn p ≡ false) × (has_rst p ≡ false) =
     λ h. counts_plain (has_ack p) (has_syn p) (has_rst p) (accepts e p) (e.sending.opened || acked) h in
-    ap (λ (t : Tcb). t.receiving) (begun_is e.name e p begun) ∙ checks_take e p usual
+    ap (λ (t : Tcb). t.receiving) (begun_is e.name e p begun) ∙ checks_take e p bounded usual
     ∙ by_law (acceptable (window e.receiving)) (has_rst p) (has_syn p) (has_ack p) e.sending.opened (int_eq (ack_at e p) (pos 0)) acked (segment_taken e p) e.receiving
     (λ is_ack unopened. syn_only e p (usual.sent is_ack) (bounded.unopened unopened))
     ∙ ap chosen (sym (window_is e.receiving))

@@ -2,13 +2,13 @@
 use Rattle.std.proofs.Common.{◌≡◌, ℕ, ◌≤◌, ◌+◌, ◌-◌, Bool, true, false, not, List, ◌++◌, length, length-append, max, min, refl, sym, ap, arith, ◌∙◌}
 use Rattle.std.specs.Prelude.{pos, ◌==◌, ◌&&◌, ◌||◌, nat_lt, int_lt, if◌then◌else◌}
 use Rattle.std.proofs.lemmas.Bool.{false≢true}
-use Rattle.seq_arith.specs.Arrival.{int_eq, is_acceptable, is_beyond}
+use Rattle.seq_arith.specs.Arrival.{int_eq, is_acceptable}
 use Rattle.seq_arith.specs.Packet.{Segment, has_syn, has_rst, has_ack}
 use Rattle.ft_model.specs.Offset.{one_if, length_of}
 use Rattle.ft_model.specs.Segments.{or_bare}
 use Rattle.tcp_endpoint.specs.States.{opened, after_fin, after_fin_acked, is_syn_sent, has_begun}
 use Rattle.tcp_endpoint.specs.Receiving.{next, window, announced_edge}
-use Rattle.tcp_endpoint.specs.Sending.{Sending, opened_by, acknowledged, fin_acked, target, sendable, sends_fin, must_run, timed, expires, ticked, with_sent, with_fin_sent}
+use Rattle.tcp_endpoint.specs.Sending.{Sending, opened_by, is_ahead, acknowledged, fin_acked, target, sendable, sends_fin, must_run, timed, expires, ticked, with_sent, with_fin_sent}
 use Rattle.tcp_endpoint.specs.Tcb.{Tcb}
 use Rattle.tcp_endpoint.specs.Arrival.{first, ack_at, owing_if, entering, with_text_and_fin, with_fin_acked, with_first_ack, with_ack, waiting_again, received, refusing}
 use Rattle.tcp_endpoint.specs.Leaving.{is_owed, bare_segment, full_out, leaving, probes_text, probes_fin, with_probe, with_text_sent, with_fin_out, after_full, announced, is_timed, settled, flushed}
@@ -60,7 +60,7 @@ later_ack_part : (e : Tcb) (p : Segment) → told (with_ack e p) ≡ told e
 unfolding with_ack
 later_ack_part e p =
     let used : Tcb = record e { sending = acknowledged e.sending p.head.seq (ack_at e p) p.head.window } in
-    let beyond : Bool = is_beyond e.sending.sent (ack_at e p) in
+    let beyond : Bool = is_ahead e.sending.sent (ack_at e p) in
     part_of_if told beyond (owing_if true e) (with_text_and_fin (with_fin_acked used) p)
     ∙ if_when beyond (told e) (told e) (told (with_text_and_fin (with_fin_acked used) p)) (told e) (λ h. refl) (λ h. text_part (with_fin_acked used) p ∙ acked_part used)
     ∙ same_if beyond (told e)

@@ -1,16 +1,15 @@
 -- What a segment that arrives makes of an endpoint: the checks of RFC 9293, 3.10.7, in their order, one definition a check.
 use Rattle.std.specs.Prelude.{◌≡◌, ℕ, ℤ, Bool, true, pos, ◌+◌, ◌%◌, ◌^◌, ◌&&◌, ◌||◌, not, nat_lt, int_lt, None, Some, if◌then◌else◌}
-use Rattle.seq_arith.specs.Arrival.{int_eq, is_acceptable, is_beyond}
+use Rattle.seq_arith.specs.Arrival.{int_eq, is_acceptable}
 use Rattle.seq_arith.specs.Packet.{Segment, has_fin, has_syn, has_rst, has_ack}
 use Rattle.ft_io.specs.declared.Addr.{Addr}
-use Rattle.tcp_buffers.specs.Near.{IsNearAck}
 use Rattle.ft_model.specs.Offset.{first_of, ack_of, length_of}
 use Rattle.segment_codec.specs.declared.Head.{Head}
 use Rattle.tcp_endpoint.specs.declared.states.StateName.{StateName}
 use Rattle.tcp_endpoint.specs.declared.states.StateName.TheVariants.{Closed, Listen, SynSent, SynReceived, Established}
 use Rattle.tcp_endpoint.specs.States.{opened, after_fin_acked, after_fin, is_time_wait}
 use Rattle.tcp_endpoint.specs.Receiving.{next, window, with_segment}
-use Rattle.tcp_endpoint.specs.Sending.{segment_size, opened_by, acknowledged, fin_acked}
+use Rattle.tcp_endpoint.specs.Sending.{segment_size, opened_by, is_ahead, acknowledged, fin_acked}
 use Rattle.tcp_endpoint.specs.Tcb.{Tcb}
 
 -- SEG.SEQ and SEG.ACK as offsets
@@ -19,10 +18,6 @@ first e p = first_of e.receiving.irs p
 
 abbrev pub ack_at : Tcb → Segment → ℤ
 ack_at e p = ack_of e.sending.iss p
-
--- what it acknowledges, if it does, lies near
-abbrev pub AcksNear : Tcb → Segment → Type 0
-AcksNear e p = has_ack p ≡ true → IsNearAck (ack_at e p)
 
 abbrev pub source : Segment → Addr
 source p = record { ip = p.head.src; port = p.head.sport }
@@ -115,10 +110,10 @@ with_first_ack e p =
     then with_text_and_fin (record e { name = opened e.sending.closed; sending = opened_by e.sending p.head.seq p.head.window }) p
     else refusing e p
 
--- fifth check, in the other states
+-- fifth check, in the other states: an acknowledgement ahead of SND.NXT is owed an answer, and nothing of its segment is used
 unfoldable pub with_ack : Tcb → Segment → Tcb
 with_ack e p =
-    if is_beyond e.sending.sent (ack_at e p)
+    if is_ahead e.sending.sent (ack_at e p)
     then owing_if true e
     else with_text_and_fin (with_fin_acked (record e { sending = acknowledged e.sending p.head.seq (ack_at e p) p.head.window })) p
 

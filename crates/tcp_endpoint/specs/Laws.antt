@@ -1,7 +1,7 @@
 -- The laws Taken, Sending, Owed and Timer of `ft_model`, of an endpoint: one definition a sentence, in the words of those laws and not of the
 -- checks in `Arrival` and `Leaving`. Nothing is fetched here, the receive edge keeps to the endpoint's limit in place of 2^24, and the
 -- target is the bytes written, and one more once the user has closed.
-use Rattle.std.specs.Prelude.{◌≡◌, ℕ, Bool, true, false, pos, ◌+◌, ◌-◌, ◌*◌, ◌^◌, ◌<◌, ◌≤◌, ◌+ℤ◌, ◌≤ℤ◌, ◌==◌, ◌&&◌, ◌||◌, not, nat_lt, int_lt, int_le, max, min, nat_abs, List, ◌++◌, length, take, drop, if◌then◌else◌}
+use Rattle.std.specs.Prelude.{◌≡◌, ℕ, Bool, true, false, pos, ◌+◌, ◌-◌, ◌*◌, ◌^◌, ◌<◌, ◌≤◌, ◌+ℤ◌, ◌-ℤ◌, ◌≤ℤ◌, ◌==◌, ◌&&◌, ◌||◌, not, nat_lt, int_lt, int_le, max, min, nat_abs, List, ◌++◌, length, take, drop, if◌then◌else◌}
 use Rattle.seq_arith.specs.Number.{offset_of}
 use Rattle.seq_arith.specs.Arrival.{int_eq, is_acceptable, below, una_after, updates_window}
 use Rattle.seq_arith.specs.Packet.{Segment, has_syn, has_rst, has_ack}
@@ -67,9 +67,10 @@ pub record IsSentBy (e : Tcb) (p : Segment) (after : Sending) : Type 0 where
   pub held : after.una + length after.held ≡ max after.una (e.sending.una + length e.sending.held)
   pub closed : after.closed ≡ e.sending.closed
 
--- a packet that acknowledges at most what was sent. Its fields fit their bytes
+-- a packet that acknowledges at most what was sent, and nothing far behind. Its fields fit their bytes
 pub record IsUsual (e : Tcb) (p : Segment) : Type 0 where
   pub sent : has_ack p ≡ true → ack_at e p ≤ℤ pos e.sending.sent
+  pub near : has_ack p ≡ true → (pos 0 -ℤ pos (2 ^ 30 + 2 ^ 24)) ≤ℤ ack_at e p
   pub seq : p.head.seq < 2 ^ 32
   pub window : p.head.window ≤ 65535
   pub text : length p.payload ≤ 65535

@@ -1,7 +1,7 @@
 -- The sending half of a connection, in offsets of the own stream: byte k has the offset k, and a FIN counts as one more (RFC 9293,
 -- 3.3.1, send sequence variables, and 3.10.7.4, fifth check).
-use Rattle.std.specs.Prelude.{ℕ, ℤ, Bool, true, false, pos, ◌+◌, ◌-◌, ◌*◌, ◌%◌, ◌^◌, ◌<◌, ◌≤◌, ◌==◌, ◌&&◌, ◌||◌, not, nat_lt, nat_le, int_le, min, max, nat_abs, List, [], length, drop, Option, None, Some, if◌then◌else◌}
-use Rattle.seq_arith.specs.Arrival.{is_new_ack}
+use Rattle.std.specs.Prelude.{ℕ, ℤ, Bool, true, false, pos, ◌+◌, ◌-◌, ◌*◌, ◌%◌, ◌^◌, ◌<◌, ◌≤◌, ◌+ℤ◌, ◌==◌, ◌&&◌, ◌||◌, not, nat_lt, nat_le, int_lt, int_le, min, max, nat_abs, List, [], length, drop, Option, None, Some, if◌then◌else◌}
+use Rattle.seq_arith.specs.Arrival.{is_new_ack, is_beyond}
 use Rattle.seq_arith.specs.Number.{distance, precedes}
 use Rattle.tcp_buffers.specs.SendNumbers.{edge_of}
 use Rattle.tcp_buffers.specs.declared.send_state.AckKind.{AckKind}
@@ -51,13 +51,17 @@ segment_size (Some mss) = max 64 (min mss 1460)
 abbrev pub opened_by : Sending → ℕ → ℕ → Sending
 opened_by s seq window = record s { opened = true; una = 0; sent = 0; edge = window; wl1 = seq; wl2 = 0; interval = 1; rest = 0 }
 
+-- SEG.ACK > SND.NXT, in RFC 9293's order of numbers (3.4): a number more than 2^31 behind SND.NXT comes ahead of it
+abbrev pub is_ahead : ℕ → ℤ → Bool
+is_ahead sent ack = is_beyond sent ack || int_lt (ack +ℤ pos (2 ^ 31)) (pos sent)
+
 -- whether the window is used: SND.UNA =< SEG.ACK =< SND.NXT, and the segment isn't older than the one that moved the edge last: either
 -- SND.WL1 < SEG.SEQ, or SND.WL1 = SEG.SEQ and SND.WL2 =< SEG.ACK
 abbrev pub moves_edge : Sending → ℕ → ℤ → Bool
 moves_edge s seq ack =
     int_le (pos s.una) ack && int_le ack (pos s.sent) && (precedes s.wl1 seq || (s.wl1 == seq && nat_le s.wl2 (nat_abs ack)))
 
--- an acknowledgement that isn't beyond SND.NXT. What is acknowledged for the first time is let go, and starts the timer again (RFC 6298,
+-- an acknowledgement that isn't ahead of SND.NXT. What is acknowledged for the first time is let go, and starts the timer again (RFC 6298,
 -- 5.2 and 5.3). Where the window isn't used, the edge stays
 unfoldable pub acknowledged : Sending → ℕ → ℤ → ℕ → Sending
 acknowledged s seq ack window = record s {
@@ -154,9 +158,8 @@ pub record Holds (n : SendState) (held : List ℕ) (fin_sent : Bool) (mss : ℕ)
 
 -- the offsets are so small that numbers tell their order
 pub record IsShort (s : Sending) : Type 0 where
-  pub una : s.una ≤ 2 ^ 25
-  pub sent : s.sent ≤ 2 ^ 25
-  pub wl2 : s.wl2 ≤ 2 ^ 25
+  pub sent : s.sent ≤ 2 ^ 30
+  pub wl2 : s.wl2 ≤ 2 ^ 30
 
 -- how many units an acknowledgement lets go
 abbrev pub units_of : AckKind → ℕ

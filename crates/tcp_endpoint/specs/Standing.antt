@@ -24,7 +24,7 @@ use Rattle.tcp_endpoint.specs.States.{has_begun}
 use Rattle.tcp_endpoint.specs.Receiving.{taken}
 use Rattle.tcp_endpoint.specs.Sending.{bytes_end}
 use Rattle.tcp_endpoint.specs.Tcb.{Tcb}
-use Rattle.tcp_endpoint.specs.Turn.{Call, IsBetweenTurns, turned, sent_in}
+use Rattle.tcp_endpoint.specs.Turn.{Call, MayUse, IsUsualNews, IsBetweenTurns, arrived, before_flush, turned, sent_in}
 
 -- the receiving half
 pub record ReceivesAt (p : Point) (e : Tcb) : Type 0 where
@@ -121,3 +121,25 @@ pub record LeadsTo {State : Type 0} (service : Machine State) (news : News) (bef
   pub between : IsBetweenTurns (turned news calls e)
   pub stands : StandsAt after (turned news calls e)
   pub segments : sent_in news calls e ≡ segments_by_laws service e.local news before after
+
+-- a turn of a run, and the point after it
+pub record Step : Type 0 where
+  pub news : News
+  pub calls : List Call
+  pub after : Point
+
+-- what is asked of it: its segment is a usual one, the user's calls may be, the endpoint isn't CLOSED by it, and the point after it follows
+-- from the one before by the laws, for a service that has read and written as the user
+pub record IsStep {State : Type 0} (service : Machine State) (before : Point) (e : Tcb) (step : Step) : Type 0 where
+  pub usual : IsUsualNews step.news e
+  pub may : MayUse step.calls (arrived step.news e)
+  pub begun : has_begun (before_flush step.news step.calls e).name ≡ true
+  pub laws : MeetsLaws service step.news before step.after
+  pub user : IsUsedAt service step.after (before_flush step.news step.calls e)
+
+-- each turn of a run leads to the point after it
+abbrev pub RunsByLaws : {State : Type 0} → Machine State → Point → Tcb → List Step → Type 0
+RunsByLaws service before e [] = Unit {0}
+RunsByLaws service before e (step ∷ steps) =
+    IsStep service before e step
+    → LeadsTo service step.news before step.after e step.calls × RunsByLaws service step.after (turned step.news step.calls e) steps

@@ -4,9 +4,9 @@ ghost use Rattle.std.specs.Prelude.{◌≡◌, ◌+◌, ◌/◌, ◌%◌, ◌^�
 ghost use Rattle.seq_arith.specs.Packet.{is_flagged, has_fin, has_syn, has_rst, has_ack};
 ghost use Rattle.segment_codec.specs.Value.{segment_of};
 ghost use Rattle.ft_model.specs.Offset.{length_of};
-ghost use Rattle.tcp_buffers.specs.Near.{IsNearFirst, IsNearAck};
+ghost use Rattle.tcp_buffers.specs.Near.{IsNearFirst};
 ghost use Rattle.tcp_endpoint.specs.Sending.{IsShort};
-ghost use Rattle.tcp_endpoint.specs.Arrival.{first, ack_at, AcksNear, refusing, refusing_without_ack, owing_if, killed, entering, in_closed, begun, in_listen, answered, in_syn_sent, with_text_and_fin, with_fin_acked, with_first_ack, with_ack, check_ack, check_syn, check_rst, waiting_again, check_place, in_others, received};
+ghost use Rattle.tcp_endpoint.specs.Arrival.{first, ack_at, refusing, refusing_without_ack, owing_if, killed, entering, in_closed, begun, in_listen, answered, in_syn_sent, with_text_and_fin, with_fin_acked, with_first_ack, with_ack, check_ack, check_syn, check_rst, waiting_again, check_place, in_others, received};
 
 use crate::endpoint::Endpoint;
 use crate::states::StateName;
@@ -73,11 +73,10 @@ fn shortened(p: PacketRef<'_>) -> PacketRef<'_>
 }
 
 impl Endpoint {
-    /// A packet of the peer arrives. What it makes of the endpoint is said of packets of at most 65,535 bytes whose acknowledgement, if they
-    /// have one, lies near, of an endpoint whose own offsets are small enough for numbers to tell their order.
+    /// A packet of the peer arrives. What it makes of the endpoint is said of every packet of at most 65,535 bytes of text, which is more than
+    /// IP carries, and of an endpoint whose own offsets are at most 2^30, so that numbers tell their order.
     pub fn on_packet(&mut self, p: PacketRef<'_>)
-        ensures { length p.entry.payload.now ≤ 65535 → IsShort self.old.sending → AcksNear self.old (segment_of p.entry)
-            → self.new ≡ received self.old (segment_of p.entry) }
+        ensures { length p.entry.payload.now ≤ 65535 → IsShort self.old.sending → self.new ≡ received self.old (segment_of p.entry) }
     {
         self.receive(shortened(p));
     }
@@ -85,7 +84,7 @@ impl Endpoint {
     #[tactic(auto, unfolding(crate::specs::Arrival::received))]
     fn receive(&mut self, p: PacketRef<'_>)
         requires { length p.payload.now ≤ 65535 }
-        ensures { IsShort self.old.sending → AcksNear self.old (segment_of p.entry) → self.new ≡ received self.old (segment_of p.entry) }
+        ensures { IsShort self.old.sending → self.new ≡ received self.old (segment_of p.entry) }
     {
         match self.name {
             StateName::Closed => self.in_closed(p),
@@ -240,7 +239,7 @@ impl Endpoint {
     #[tactic(auto, unfolding(crate::specs::Arrival::check_place, crate::specs::Arrival::in_others, crate::specs::Arrival::waiting_again))]
     fn in_others(&mut self, p: PacketRef<'_>)
         requires { length p.payload.now ≤ 65535 }
-        ensures { IsShort self.old.sending → AcksNear self.old (segment_of p.entry) → self.new ≡ in_others self.old (segment_of p.entry) }
+        ensures { IsShort self.old.sending → self.new ≡ in_others self.old (segment_of p.entry) }
     {
         self.wait_again(p);
         if self.receiver.accepts(p.head.seq, length_of(p)) {
@@ -265,7 +264,7 @@ impl Endpoint {
     fn check_rst(&mut self, p: PacketRef<'_>)
         requires short { length p.payload.now ≤ 65535 }
         requires near { IsNearFirst (first self.old (segment_of p)) }
-        ensures { IsShort self.old.sending → AcksNear self.old (segment_of p.entry) → self.new ≡ check_rst self.old (segment_of p.entry) }
+        ensures { IsShort self.old.sending → self.new ≡ check_rst self.old (segment_of p.entry) }
     {
         if !has_rst(p) {
             self.check_syn(p);
@@ -281,7 +280,7 @@ impl Endpoint {
     fn check_syn(&mut self, p: PacketRef<'_>)
         requires short { length p.payload.now ≤ 65535 }
         requires near { IsNearFirst (first self.old (segment_of p)) }
-        ensures { IsShort self.old.sending → AcksNear self.old (segment_of p.entry) → self.new ≡ check_syn self.old (segment_of p.entry) }
+        ensures { IsShort self.old.sending → self.new ≡ check_syn self.old (segment_of p.entry) }
     {
         if has_syn(p) {
             self.owe(true);
@@ -296,7 +295,7 @@ impl Endpoint {
     fn check_ack(&mut self, p: PacketRef<'_>)
         requires short { length p.payload.now ≤ 65535 }
         requires near { IsNearFirst (first self.old (segment_of p)) }
-        ensures { IsShort self.old.sending → AcksNear self.old (segment_of p.entry) → self.new ≡ check_ack self.old (segment_of p.entry) }
+        ensures { IsShort self.old.sending → self.new ≡ check_ack self.old (segment_of p.entry) }
     {
         if !has_ack(p) {
             return;
@@ -329,7 +328,7 @@ impl Endpoint {
     fn use_ack(&mut self, p: PacketRef<'_>)
         requires short { length p.payload.now ≤ 65535 }
         requires near { IsNearFirst (first self.old (segment_of p)) }
-        ensures { IsShort self.old.sending → IsNearAck (ack_at self.old (segment_of p.entry)) → self.new ≡ with_ack self.old (segment_of p.entry) }
+        ensures { IsShort self.old.sending → self.new ≡ with_ack self.old (segment_of p.entry) }
     {
         if !self.sender.on_ack(p.head.seq, p.head.ack, p.head.window) {
             self.owe(true);

@@ -16,10 +16,11 @@ ghost use Rattle.tcp_endpoint.specs.declared.states.StateName.TheVariants.{Liste
 ghost use Rattle.ft_io.specs.declared.Addr.{Addr};
 ghost use Rattle.server_trait.specs.Service.{machine};
 ghost use Rattle.ft_model.specs.News.{News};
+ghost use Rattle.ft_model.specs.News.News.{Comes};
 ghost use Rattle.ft_model.specs.Opening.{is_syn};
 ghost use Rattle.ft_model.specs.Point.{Point};
-ghost use Rattle.tcp_endpoint.specs.Turn.{Call, MayUse, IsUsualNews, IsBetweenTurns, arrived, before_flush};
-ghost use Rattle.tcp_endpoint.specs.Standing.{StandsAt, MeetsLaws, IsUsedAt, LeadsTo, BeginsAt, numbers_with, point_begun};
+ghost use Rattle.tcp_endpoint.specs.Turn.{Call, MayUse, IsUsualNews, IsBetweenTurns, arrived, before_flush, turned};
+ghost use Rattle.tcp_endpoint.specs.Standing.{StandsAt, MeetsLaws, IsUsedAt, LeadsTo, BeginsAt, Step, RunsByLaws, numbers_with, point_begun};
 
 use server_trait::Service;
 
@@ -147,6 +148,16 @@ pub fn turns_lead_from_point_to_point<S: Service>()
         → MeetsLaws (machine (S.started kind) S.after) news before after
         → IsUsedAt (machine (S.started kind) S.after) after (before_flush news calls e)
         → LeadsTo (machine (S.started kind) S.after) news before after e calls }
+{}
+
+/// So over a whole run: an endpoint of `listen` meets the laws Taken and Sending of `ft_model`, with the timer's, from its SYN on and until it
+/// is CLOSED, for every initial number of both sides, every limit up to 2^24, and whatever comes and the user does in each turn.
+pub fn endpoints_run_by_the_laws<S: Service>()
+    ensures { (kind : ℕ) (local : Addr) (iss limit cisn : ℕ) (fetched : List ℕ) (syn : Segment) (calls : List Call) (steps : List Step)
+        → limit + length fetched ≡ 2 ^ 24 → is_syn syn ≡ true → syn.head.seq ≡ (cisn + length fetched) % 2 ^ 32
+        → MayUse calls (received (listening local iss limit) syn)
+        → BeginsAt (point_begun fetched (numbers_with cisn iss syn)) (listening local iss limit) syn calls
+        × RunsByLaws (machine (S.started kind) S.after) (point_begun fetched (numbers_with cisn iss syn)) (turned (Comes syn) calls (listening local iss limit)) steps }
 {}
 
 /// The law on a segment without data, at the end of a turn with a segment: it goes out exactly where one is owed and no other segment does.

@@ -3,9 +3,8 @@
 
 ghost use Rattle.std.specs.Prelude.{◌≡◌, ℕ, ◌+◌, ◌-◌, ◌%◌, ◌^◌, ◌<◌, ◌≤◌, ◌==◌, ◌&&◌, pos, int_le, Bool, false, true, not, List, [], ◌++◌, length, min, take, drop, if◌then◌else◌};
 ghost use Rattle.seq_arith.specs.Number.{number_at, offset_of};
-ghost use Rattle.seq_arith.specs.Arrival.{int_eq, is_beyond};
-ghost use Rattle.tcp_buffers.specs.Near.{IsNearAck};
-ghost use Rattle.tcp_endpoint.specs.Sending.{sending_from, segment_size, opened_by, acknowledged, fin_acked, in_flight, is_unacknowledged, expires, ticked, must_run, timed, sendable, sends_fin, resent_length, with_sent, with_fin_sent, units_of, was_sent, NumbersFit, IsShort};
+ghost use Rattle.seq_arith.specs.Arrival.{int_eq};
+ghost use Rattle.tcp_endpoint.specs.Sending.{sending_from, segment_size, opened_by, acknowledged, fin_acked, in_flight, is_unacknowledged, expires, ticked, must_run, timed, sendable, sends_fin, resent_length, with_sent, with_fin_sent, units_of, was_sent, NumbersFit, IsShort, is_ahead};
 
 use seq_arith::Seq;
 use std::marker::Model;
@@ -141,11 +140,11 @@ impl Sender {
     }
 
     /// Uses an acknowledgement and a window (RFC 9293, 3.10.7.4, fifth check). It answers false, and changes nothing, where the
-    /// acknowledgement is beyond SND.NXT.
+    /// acknowledgement is ahead of SND.NXT.
     pub(crate) fn on_ack(&mut self, seq: Seq, ack: Seq, window: u16) -> bool
-        ensures used { IsShort self.old → IsNearAck (offset_of self.old.iss ack.0) → result ≡ not (is_beyond self.old.sent (offset_of self.old.iss ack.0)) }
-        ensures state { IsShort self.old → IsNearAck (offset_of self.old.iss ack.0)
-            → self.new ≡ (if is_beyond self.old.sent (offset_of self.old.iss ack.0) then self.old else acknowledged self.old seq.0 (offset_of self.old.iss ack.0) window) }
+        ensures used { IsShort self.old → result ≡ not (is_ahead self.old.sent (offset_of self.old.iss ack.0)) }
+        ensures state { IsShort self.old
+            → self.new ≡ (if is_ahead self.old.sent (offset_of self.old.iss ack.0) then self.old else acknowledged self.old seq.0 (offset_of self.old.iss ack.0) window) }
     {
         fit(&self.numbers, seq, ack);
         let kind = self.numbers.on_ack(seq, ack, window);
