@@ -11,7 +11,9 @@ use Rattle.tcp_buffers.specs.declared.send_state.AckKind.{AckKind}
 use Rattle.tcp_buffers.specs.declared.send_state.AckKind.TheVariants.{New, Old, Beyond}
 use Rattle.tcp_buffers.specs.declared.send_state.SendState.{SendState}
 use Rattle.tcp_buffers.specs.SendNumbers.{acks_new, acks_beyond, kind_of, una_by, interval_by, left_by, is_window_used, edge_of, IsUsed}
-use Rattle.tcp_endpoint.specs.Sending.{Sending, own, told_by, is_ahead, moves_edge, acknowledged, units_of, was_sent, NumbersFit, IsShort}
+use Rattle.tcp_buffers.specs.Near.{is_ahead}
+use Rattle.tcp_buffers.proofs.NumbersTell.{ahead_is, WasSent, sent_by, from_is, up_to_is, new_is}
+use Rattle.tcp_endpoint.specs.Sending.{Sending, own, told_by, moves_edge, acknowledged, units_of, was_sent, NumbersFit, IsShort}
 
 pub first_is : (iss ack : ℕ) → ack < 2 ^ 32 → nat_eq ack ((iss + 1) % 2 ^ 32) ≡ int_eq (offset_of iss ack) (pos 0)
 first_is iss ack small = grind (arith, ints, offset_leads iss ack small)
@@ -26,30 +28,6 @@ nxt_number iss una nxt fits_una fits_nxt = omega arith
 own_is : (iss ack : ℕ) → ack < 2 ^ 32 → int_le (pos 0) (offset_of iss ack) ≡ true → own iss ack ≡ nat_abs (offset_of iss ack)
 own_is iss ack fits up = grind (arith, ints, offset_leads iss ack fits)
 
--- a number comes after that of an offset of the stream, or so far behind it that it comes ahead again
-ahead_is : (iss sent ack : ℕ) → sent ≤ 2 ^ 30 → ack < 2 ^ 32 → precedes (number_at iss sent) ack ≡ is_ahead sent (offset_of iss ack)
-ahead_is iss sent ack short fits = grind (arith, ints, offset_leads iss ack fits)
-
--- what isn't ahead of SND.NXT lies where numbers tell the order
-record Sent (sent : ℕ) (z : ℤ) : Type 0 where
-  upper : z ≤ℤ pos sent
-  lower : (pos sent -ℤ pos (2 ^ 31)) ≤ℤ z
-
-sent_by : (sent : ℕ) (z : ℤ) → is_ahead sent z ≡ false → Sent sent z
-sent_by sent z h = record { upper = grind (arith, ints); lower = grind (arith, ints) }
-
-above_is : (iss k sent ack : ℕ) → k ≤ sent → sent ≤ 2 ^ 30 → ack < 2 ^ 32 → Sent sent (offset_of iss ack)
-    → precedes (number_at iss k) ack ≡ int_lt (pos k) (offset_of iss ack)
-above_is iss k sent ack order short fits was = grind (arith, ints, offset_leads iss ack fits, was.upper, was.lower)
-
-from_is : (iss k sent ack : ℕ) → k ≤ sent → sent ≤ 2 ^ 30 → ack < 2 ^ 32 → Sent sent (offset_of iss ack)
-    → precedes_or_is (number_at iss k) ack ≡ int_le (pos k) (offset_of iss ack)
-from_is iss k sent ack order short fits was = grind (arith, ints, offset_leads iss ack fits, was.upper, was.lower)
-
-up_to_is : (iss sent ack : ℕ) → sent ≤ 2 ^ 30 → ack < 2 ^ 32 → int_le (pos 0) (offset_of iss ack) ≡ true
-    → precedes_or_is ack (number_at iss sent) ≡ int_le (offset_of iss ack) (pos sent)
-up_to_is iss sent ack short fits up = grind (arith, ints, offset_leads iss ack fits)
-
 wl2_is : (iss w ack : ℕ) → w ≤ 2 ^ 30 → ack < 2 ^ 32 → int_le (pos 0) (offset_of iss ack) ≡ true
     → precedes_or_is (number_at iss w) ack ≡ nat_le w (nat_abs (offset_of iss ack))
 wl2_is iss w ack short fits up = grind (arith, ints, offset_leads iss ack fits)
@@ -57,29 +35,18 @@ wl2_is iss w ack short fits up = grind (arith, ints, offset_leads iss ack fits)
 above_zero : (u : ℕ) (z : ℤ) → int_le (pos u) z ≡ true → int_le (pos 0) z ≡ true
 above_zero u z h = grind (arith, ints)
 
-past_zero : (u : ℕ) (z : ℤ) → int_lt (pos u) z ≡ true → int_le (pos 0) z ≡ true
-past_zero u z h = grind (arith, ints)
-
 -- the tests, on numbers and on offsets
 pub ahead_test : (iss una nxt ack : ℕ) → una < 2 ^ 32 → nxt < 2 ^ 32 → ack < 2 ^ 32 → own iss una + distance nxt una ≤ 2 ^ 30
     → acks_beyond nxt ack ≡ is_ahead (own iss una + distance nxt una) (offset_of iss ack)
 ahead_test iss una nxt ack fits_una fits_nxt fits_ack short =
     ap (λ n. acks_beyond n ack) (nxt_number iss una nxt fits_una fits_nxt) ∙ ahead_is iss _ ack short fits_ack
 
-and_when : (a b b' : Bool) → (a ≡ true → b ≡ b') → (a && b) ≡ (a && b')
-and_when true b b' same = same refl
-and_when false b b' same = refl
-
 new_test : (iss una nxt ack : ℕ) → una < 2 ^ 32 → nxt < 2 ^ 32 → ack < 2 ^ 32 → own iss una + distance nxt una ≤ 2 ^ 30
-    → Sent (own iss una + distance nxt una) (offset_of iss ack)
+    → is_ahead (own iss una + distance nxt una) (offset_of iss ack) ≡ false
     → acks_new una nxt ack ≡ is_new_ack (own iss una) (own iss una + distance nxt una) (offset_of iss ack)
 new_test iss una nxt ack fits_una fits_nxt fits_ack short was =
-    let u : ℕ = own iss una in
-    let s : ℕ = u + distance nxt una in
-    let z : ℤ = offset_of iss ack in
-    (λ i. precedes (una_number iss una fits_una i) ack && precedes_or_is ack (nxt_number iss una nxt fits_una fits_nxt i))
-    ∙ ap (λ v. v && precedes_or_is ack (number_at iss s)) (above_is iss u s ack (omega arith) short fits_ack was)
-    ∙ and_when (int_lt (pos u) z) _ _ (λ h. up_to_is iss s ack short fits_ack (past_zero u z h))
+    (λ i. acks_new (una_number iss una fits_una i) (nxt_number iss una nxt fits_una fits_nxt i) ack)
+    ∙ new_is iss (own iss una) (own iss una + distance nxt una) ack (omega arith) short fits_ack was
 
 -- a conjunction whose later parts are only looked at where the first holds
 guarded : (a b b' c c' d e : Bool) → (a ≡ true → b ≡ b') → (a ≡ true → c ≡ c') → (a && b && (d || (e && c))) ≡ (a && b' && (d || (e && c')))
@@ -87,7 +54,7 @@ guarded true b b' c c' d e same_b same_c = λ i. true && same_b refl i && (d || 
 guarded false b b' c c' d e same_b same_c = refl
 
 window_test : (iss : ℕ) (n : SendState) (seq ack : ℕ) (opened : Bool) (held : List ℕ) (closed fin_sent : Bool) (mss : ℕ) → NumbersFit n seq ack
-    → IsShort (told_by iss opened n held closed fin_sent mss) → Sent (own iss n.una.0 + distance n.nxt.0 n.una.0) (offset_of iss ack)
+    → IsShort (told_by iss opened n held closed fin_sent mss) → WasSent (own iss n.una.0 + distance n.nxt.0 n.una.0) (offset_of iss ack)
     → is_window_used n seq ack ≡ moves_edge (told_by iss opened n held closed fin_sent mss) seq (offset_of iss ack)
 window_test iss n seq ack opened held closed fin_sent mss fits short was =
     let u : ℕ = own iss n.una.0 in
@@ -216,12 +183,12 @@ acknowledged_is iss n n' seq ack window opened held closed fin_sent mss fits sma
     let s : ℕ = u + distance n.nxt.0 n.una.0 in
     let z : ℤ = offset_of iss ack in
     let b : Bool = is_new_ack u s z in
-    let was : Sent s z = sent_by s z (sym (ahead_test iss n.una.0 n.nxt.0 ack fits.una fits.nxt fits.ack short.sent) ∙ is_sent) in
+    let was : is_ahead s z ≡ false = sym (ahead_test iss n.una.0 n.nxt.0 ack fits.una fits.nxt fits.ack short.sent) ∙ is_sent in
     let before : Sending = told_by iss opened n held closed fin_sent mss in
     let d : ℕ = distance ack n.una.0 in
     let is_new : acks_new n.una.0 n.nxt.0 ack ≡ b = new_test iss n.una.0 n.nxt.0 ack fits.una fits.nxt fits.ack short.sent was in
     let kind : kind_of n.una.0 n.nxt.0 ack ≡ kind_by b d = kind_is n.una.0 n.nxt.0 ack b is_sent is_new in
-    let moves : is_window_used n seq ack ≡ moves_edge before seq z = window_test iss n seq ack opened held closed fin_sent mss fits short was in
+    let moves : is_window_used n seq ack ≡ moves_edge before seq z = window_test iss n seq ack opened held closed fin_sent mss fits short (sent_by s z was) in
     let a : ℕ = nat_abs z in
     let on : b ≡ true → own iss ack ≡ a = λ h. own_is iss ack fits.ack (new_bounds u s z h).0 in
     let up : b ≡ true → u ≤ own iss ack = λ h. omega (arith, on h, (new_bounds u s z h).1) in

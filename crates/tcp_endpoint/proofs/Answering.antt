@@ -5,10 +5,11 @@ use Rattle.seq_arith.specs.Arrival.{int_eq, is_acceptable}
 use Rattle.seq_arith.specs.Packet.{Segment, has_syn, has_rst, has_ack}
 use Rattle.ft_model.specs.Offset.{length_of}
 use Rattle.std.proofs.lemmas.Int.{ints}
+use Rattle.tcp_buffers.specs.Near.{is_ahead}
 use Rattle.tcp_endpoint.specs.declared.states.StateName.{StateName}
 use Rattle.tcp_endpoint.specs.States.{opened, after_fin, after_fin_acked, has_begun}
 use Rattle.tcp_endpoint.specs.Receiving.{Receiving, next}
-use Rattle.tcp_endpoint.specs.Sending.{Sending, opened_by, is_ahead, acknowledged, fin_acked}
+use Rattle.tcp_endpoint.specs.Sending.{Sending, opened_by, acknowledged, fin_acked}
 use Rattle.tcp_endpoint.specs.Tcb.{Tcb}
 use Rattle.tcp_endpoint.specs.Arrival.{first, ack_at, rst, killed, owing_if, entering, with_text_and_fin, with_fin_acked, with_first_ack, with_ack, waiting_again, received, refusing}
 use Rattle.tcp_endpoint.specs.Laws.{accepts, acknowledges_less, is_refused, IsBounded, IsUsual}

@@ -7,11 +7,11 @@ use Rattle.seq_arith.specs.Number.{offset_of, precedes}
 use Rattle.seq_arith.specs.Arrival.{int_eq, is_acceptable, is_new_ack, una_after, updates_window}
 use Rattle.seq_arith.specs.Packet.{Segment, has_fin, has_syn, has_rst, has_ack}
 use Rattle.ft_model.specs.Offset.{length_of}
-use Rattle.tcp_buffers.specs.Near.{IsNearFirst}
+use Rattle.tcp_buffers.specs.Near.{IsNearFirst, is_ahead}
 use Rattle.tcp_buffers.proofs.NumbersTell.{between_is, same_is}
 use Rattle.tcp_endpoint.specs.States.{opened, after_fin, after_fin_acked, has_begun}
 use Rattle.tcp_endpoint.specs.Receiving.{Receiving, taken, next, announced_edge, window}
-use Rattle.tcp_endpoint.specs.Sending.{Sending, opened_by, is_ahead, acknowledged, fin_acked, moves_edge}
+use Rattle.tcp_endpoint.specs.Sending.{Sending, opened_by, acknowledged, fin_acked, moves_edge}
 use Rattle.tcp_endpoint.specs.Tcb.{Tcb}
 use Rattle.tcp_endpoint.specs.Arrival.{first, ack_at, owing_if, entering, with_text_and_fin, with_fin_acked, with_first_ack, with_ack, waiting_again, in_others, received, refusing}
 use Rattle.tcp_endpoint.specs.Laws.{accepts, counts, acknowledges, uses_window, IsSentBy, IsBounded, IsUsual}

@@ -7,11 +7,12 @@ use Rattle.seq_arith.specs.Number.{offset_of}
 use Rattle.seq_arith.specs.Arrival.{int_eq, is_acceptable, below}
 use Rattle.seq_arith.specs.Packet.{Segment, has_fin, has_syn, has_rst, has_ack}
 use Rattle.ft_model.specs.Offset.{one_if, length_of, text_of, fin_of}
+use Rattle.tcp_buffers.specs.Near.{is_ahead}
 use Rattle.tcp_endpoint.specs.declared.states.StateName.{StateName}
 use Rattle.tcp_endpoint.specs.declared.states.StateName.TheVariants.{Closed, Listen, SynSent, SynReceived, Established, FinWait1, FinWait2, CloseWait, Closing, LastAck, TimeWait}
 use Rattle.tcp_endpoint.specs.States.{opened, after_fin, after_fin_acked, has_begun}
 use Rattle.tcp_endpoint.specs.Receiving.{Receiving, taken, next, receive_edge, announced_edge, window, with_text, with_fin, with_segment}
-use Rattle.tcp_endpoint.specs.Sending.{opened_by, is_ahead, acknowledged, fin_acked}
+use Rattle.tcp_endpoint.specs.Sending.{opened_by, acknowledged, fin_acked}
 use Rattle.tcp_endpoint.specs.Tcb.{Tcb}
 use Rattle.tcp_endpoint.specs.Arrival.{first, ack_at, owing_if, killed, entering, with_text_and_fin, with_fin_acked, with_first_ack, with_ack, check_ack, check_syn, check_rst, waiting_again, check_place, in_others, received_in, received, refusing}
 use Rattle.tcp_endpoint.specs.Laws.{accepts, counts, continues, taken_by, IsBounded, IsUsual}

@@ -5,11 +5,12 @@ use Rattle.seq_arith.specs.Packet.{Segment, has_fin, has_syn, has_rst, has_ack}
 use Rattle.ft_io.specs.declared.Addr.{Addr}
 use Rattle.ft_model.specs.Offset.{first_of, ack_of, length_of}
 use Rattle.segment_codec.specs.declared.Head.{Head}
+use Rattle.tcp_buffers.specs.Near.{is_ahead}
 use Rattle.tcp_endpoint.specs.declared.states.StateName.{StateName}
 use Rattle.tcp_endpoint.specs.declared.states.StateName.TheVariants.{Closed, Listen, SynSent, SynReceived, Established}
 use Rattle.tcp_endpoint.specs.States.{opened, after_fin_acked, after_fin, is_time_wait}
 use Rattle.tcp_endpoint.specs.Receiving.{next, window, with_segment}
-use Rattle.tcp_endpoint.specs.Sending.{segment_size, opened_by, is_ahead, acknowledged, fin_acked}
+use Rattle.tcp_endpoint.specs.Sending.{segment_size, opened_by, acknowledged, fin_acked}
 use Rattle.tcp_endpoint.specs.Tcb.{Tcb}
 
 -- SEG.SEQ and SEG.ACK as offsets

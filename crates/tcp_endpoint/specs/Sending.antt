@@ -1,7 +1,7 @@
 -- The sending half of a connection, in offsets of the own stream: byte k has the offset k, and a FIN counts as one more (RFC 9293,
 -- 3.3.1, send sequence variables, and 3.10.7.4, fifth check).
-use Rattle.std.specs.Prelude.{ℕ, ℤ, Bool, true, false, pos, ◌+◌, ◌-◌, ◌*◌, ◌%◌, ◌^◌, ◌<◌, ◌≤◌, ◌+ℤ◌, ◌==◌, ◌&&◌, ◌||◌, not, nat_lt, nat_le, int_lt, int_le, min, max, nat_abs, List, [], length, drop, Option, None, Some, if◌then◌else◌}
-use Rattle.seq_arith.specs.Arrival.{is_new_ack, is_beyond}
+use Rattle.std.specs.Prelude.{ℕ, ℤ, Bool, true, false, pos, ◌+◌, ◌-◌, ◌*◌, ◌%◌, ◌^◌, ◌<◌, ◌≤◌, ◌==◌, ◌&&◌, ◌||◌, not, nat_lt, nat_le, int_le, min, max, nat_abs, List, [], length, drop, Option, None, Some, if◌then◌else◌}
+use Rattle.seq_arith.specs.Arrival.{is_new_ack}
 use Rattle.seq_arith.specs.Number.{distance, precedes}
 use Rattle.tcp_buffers.specs.SendNumbers.{edge_of}
 use Rattle.tcp_buffers.specs.declared.send_state.AckKind.{AckKind}
@@ -50,10 +50,6 @@ segment_size (Some mss) = max 64 (min mss 1460)
 -- the acknowledgement of the SYN, which alone is sent, by the segment of that number (3.10.7.3, fourth check; 3.10.7.4, fifth check)
 abbrev pub opened_by : Sending → ℕ → ℕ → Sending
 opened_by s seq window = record s { opened = true; una = 0; sent = 0; edge = window; wl1 = seq; wl2 = 0; interval = 1; rest = 0 }
-
--- SEG.ACK > SND.NXT, in RFC 9293's order of numbers (3.4): a number more than 2^31 behind SND.NXT comes ahead of it
-abbrev pub is_ahead : ℕ → ℤ → Bool
-is_ahead sent ack = is_beyond sent ack || int_lt (ack +ℤ pos (2 ^ 31)) (pos sent)
 
 -- whether the window is used: SND.UNA =< SEG.ACK =< SND.NXT, and the segment isn't older than the one that moved the edge last: either
 -- SND.WL1 < SEG.SEQ, or SND.WL1 = SEG.SEQ and SND.WL2 =< SEG.ACK
