@@ -151,9 +151,19 @@ no_probe m none = record {
   opened = λ h. absurd (false≢true (sym none ∙ h));
 }
 
-fin_last_kept : (s m : Sending) → m.fin_sent ≡ s.fin_sent → m.closed ≡ s.closed → m.sent ≡ s.sent → FinIsLast s → FinIsLast m
-fin_last_kept s m fin closed sent last = λ h.
-    let k = last (sym fin ∙ h) in (closed ∙ k.0, omega (arith, k.1, sent))
+-- what is acknowledged anew is let go, and a FIN stays behind the rest
+held_kept : (una len sent una' len' sent' : ℕ) → una ≤ sent → una ≤ una' → una' + len' ≡ max una' (una + len) → sent' ≡ sent → 1 ≤ sent
+    → len ≡ sent - 1 - una → len' ≡ sent' - 1 - una'
+held_kept una len sent una' len' sent' order rises held same some last = omega (arith, order, rises, held, same, some, last)
+
+fin_last_kept : (s m : Sending) → m.fin_sent ≡ s.fin_sent → m.closed ≡ s.closed → m.sent ≡ s.sent → s.una ≤ s.sent → s.una ≤ m.una
+    → m.una + length m.held ≡ max m.una (s.una + length s.held) → FinIsLast s → FinIsLast m
+fin_last_kept s m fin closed sent order una held last = λ h.
+    let k = last (sym fin ∙ h) in (
+      closed ∙ k.0,
+      omega (arith, k.1, sent),
+      held_kept s.una (length s.held) s.sent m.una (length m.held) m.sent order una held sent k.1 k.2,
+    )
 
 -- the model's words for what is refused and owed
 less_is : (p : Point) (e : Tcb) (segment : Segment) → Meets p e segment → rule.is_refused p segment ≡ acknowledges_less e segment
@@ -242,6 +252,8 @@ segment_arrives p e segment begun between stands usual =
     let b : IsBounded e = between.bounds in
     let m : Meets p e segment = record { receives = stands.receives; sends = stands.sends; sent = stands.sent; bounds = b; usual = usual } in
     let by : IsSentBy e segment (received e segment).sending = sending_law e segment begun b usual in
+    let una : e.sending.una ≤ (received e segment).sending.una =
+    omega (arith, by.una, rises (acknowledges e segment) e.sending.una (nat_abs (ack_at e segment))) in
     record {
       local = local_is e segment begun b usual;
       remote = remote_is e segment begun b usual;
@@ -249,14 +261,15 @@ segment_arrives p e segment begun between stands usual =
       sends = received_sends p e segment begun m (mss_is e segment begun b usual);
       sent = by.sent;
       bounds = bounded_by_segment e segment begun b usual;
-      fin_last = fin_last_kept e.sending (received e segment).sending (fin_sent_is e segment begun b usual) by.closed by.sent between.fin_last;
+      fin_last = fin_last_kept e.sending (received e segment).sending (fin_sent_is e segment begun b usual) by.closed by.sent b.order una by.held
+          between.fin_last;
       told = told_by_segment e segment begun;
       again = again_is e segment begun b usual ∙ between.again;
       probe = probe_is e segment begun b usual ∙ between.probe;
       probes = no_probe (received e segment) (probe_is e segment begun b usual ∙ between.probe);
       answer = segment_answer p e segment m begun between.answer;
       target = target_is e segment begun b usual;
-      una = omega (arith, by.una, rises (acknowledges e segment) e.sending.una (nat_abs (ack_at e segment)));
+      una = una;
     }
 
 nothing_arrives : (news : News) (p : Point) (e : Tcb) → IsBetweenTurns e → StandsAt p e → timer.is_tick news ≡ false
@@ -320,6 +333,8 @@ tick_arrives p e between stands =
     let t : Sending = e.sending in
     let runs_out : expires t ≡ timer.expires Ticks p = ap (λ n. n == 1) (sym stands.rest) in
     let sent : (ticked t).sent ≡ t.sent = tick_keeps (λ (q : Sending). q.sent) t (λ i r. refl) in
+    let una : (ticked t).una ≡ t.una = tick_keeps (λ (q : Sending). q.una) t (λ i r. refl) in
+    let held : length (ticked t).held ≡ length t.held = tick_keeps (λ (q : Sending). length q.held) t (λ i r. refl) in
     record {
       local = refl;
       remote = refl;
@@ -328,14 +343,14 @@ tick_arrives p e between stands =
       sent = sent;
       bounds = bounded_by_tick e between.bounds;
       fin_last = fin_last_kept t (ticked t) (tick_keeps (λ (q : Sending). q.fin_sent) t (λ i r. refl)) (tick_keeps (λ (q : Sending). q.closed) t (λ i r. refl)) sent
-          between.fin_last;
+          between.bounds.order (omega (arith, una)) (omega (arith, una, held)) between.fin_last;
       told = refl;
       again = due e.again _ between.again ∙ ap (λ v. v && is_unacknowledged t) runs_out;
       probe = due e.probe _ between.probe ∙ ap (λ v. v && not (is_unacknowledged t)) runs_out;
       probes = probed_by_tick e between.probe between.bounds between.shut;
       answer = ap answer_segments between.answer;
       target = λ h. omega (arith, tick_keeps target t (λ i r. refl));
-      una = omega (arith, tick_keeps (λ (q : Sending). q.una) t (λ i r. refl));
+      una = omega (arith, una);
     }
 
 -- all kinds

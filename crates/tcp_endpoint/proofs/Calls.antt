@@ -14,9 +14,9 @@ use Rattle.tcp_endpoint.specs.Turn.{Call, called, used, MayCall, MayUse}
 use Rattle.tcp_endpoint.specs.Turn.Call.{Reads, Writes, Closes}
 use Rattle.tcp_endpoint.proofs.Bounding.{bounded_by_read, bounded_by_more}
 
--- a FIN is sent last, by a user who has closed
+-- a FIN is sent last, behind all that was written, by a user who has closed
 abbrev pub FinIsLast : Sending → Type 0
-FinIsLast s = s.fin_sent ≡ true → (s.closed ≡ true) × (1 ≤ s.sent)
+FinIsLast s = s.fin_sent ≡ true → (s.closed ≡ true) × (1 ≤ s.sent) × (length s.held ≡ s.sent - 1 - s.una)
 
 -- the sending half of u is that of m, but for what was written and the close
 pub record SendsAs (m u : Sending) : Type 0 where
@@ -32,6 +32,7 @@ pub record SendsAs (m u : Sending) : Type 0 where
   pub interval : u.interval ≡ m.interval
   pub rest : u.rest ≡ m.rest
   pub closed : m.closed ≡ true → u.closed ≡ true
+  pub held : m.closed ≡ true → length u.held ≡ length m.held
   pub target : target m ≤ target u
 
 -- u is m, but for the user's calls
@@ -65,6 +66,7 @@ sends_same s = record {
   interval = refl;
   rest = refl;
   closed = λ h. h;
+  held = λ h. refl;
   target = omega arith;
 }
 
@@ -82,6 +84,7 @@ sends_on m n u a b = record {
   interval = b.interval ∙ a.interval;
   rest = b.rest ∙ a.rest;
   closed = λ h. b.closed (a.closed h);
+  held = λ h. b.held (a.closed h) ∙ a.held h;
   target = omega (arith, a.target, b.target);
 }
 
@@ -94,8 +97,8 @@ target_grows false true false una len len' sent more keeps = absurd (false≢tru
 target_grows false false c' una len len' sent more keeps = omega (arith, more)
 
 sends_written : (s : Sending) (held : List ℕ) (closed : Bool) → length s.held ≤ length held → (s.closed ≡ true → closed ≡ true)
-    → SendsAs s (record s { held = held; closed = closed })
-sends_written s held closed more keeps = record {
+    → (s.closed ≡ true → length held ≡ length s.held) → SendsAs s (record s { held = held; closed = closed })
+sends_written s held closed more keeps same = record {
   iss = refl;
   opened = refl;
   una = refl;
@@ -108,6 +111,7 @@ sends_written s held closed more keeps = record {
   interval = refl;
   rest = refl;
   closed = keeps;
+  held = same;
   target = target_grows s.fin_sent s.closed closed s.una (length s.held) (length held) s.sent more keeps;
 }
 
@@ -166,6 +170,12 @@ read_on n read fetched all unread h =
     let places : read + n + fetched ≡ read + fetched + n = omega arith
     in ap (λ k. drop k all) places ∙ sym (drop-drop n (read + fetched) all) ∙ ap (drop n) h
 
+-- nothing is written once the user has closed
+none_behind : (c r : Bool) (len bytes : ℕ) {all : ℕ} → c ≡ true → bytes ≤ (if c || r then 0 else 65535 - len) → all ≡ len + bytes → all ≡ len
+none_behind true r len bytes h room is = omega (arith, room, is)
+none_behind false r len bytes h room is = absurd (false≢true h)
+
+-- one call
 used_call : (call : Call) (m : Tcb) → MayCall call m → IsUsed m (called call m)
 used_call (Reads n) m may = record {
   local = refl;
@@ -191,7 +201,8 @@ used_call (Writes bytes) m may = record {
   taken = refl;
   fin = refl;
   unread = λ all fetched h. h;
-  sends = sends_written m.sending (m.sending.held ++ bytes) m.sending.closed (omega (arith, length-append m.sending.held bytes)) (λ h. h);
+  sends = sends_written m.sending (m.sending.held ++ bytes) m.sending.closed (omega (arith, length-append m.sending.held bytes)) (λ h. h)
+      (λ h. none_behind m.sending.closed m.reset (length m.sending.held) (length bytes) h may.0 (length-append m.sending.held bytes));
   told = refl;
   owed = refl;
   again = refl;
@@ -207,7 +218,7 @@ used_call Closes m may = record {
   taken = refl;
   fin = refl;
   unread = λ all fetched h. h;
-  sends = sends_written m.sending m.sending.held true (omega arith) (λ h. refl);
+  sends = sends_written m.sending m.sending.held true (omega arith) (λ h. refl) (λ h. refl);
   told = refl;
   owed = refl;
   again = refl;
@@ -246,7 +257,11 @@ bounded_call Closes m may last b = record {
 
 pub last_used : (m u : Sending) → SendsAs m u → FinIsLast m → FinIsLast u
 last_used m u a last = λ h.
-    let before = last (sym a.fin_sent ∙ h) in (a.closed before.0, omega (arith, before.1, a.sent))
+    let before = last (sym a.fin_sent ∙ h) in (
+      a.closed before.0,
+      omega (arith, before.1, a.sent),
+      a.held before.0 ∙ before.2 ∙ (λ i. sym a.sent i - 1 - sym a.una i),
+    )
 
 -- any number of calls
 pub used_is : (calls : List Call) (m : Tcb) → MayUse calls m → IsUsed m (used calls m)

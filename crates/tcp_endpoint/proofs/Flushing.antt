@@ -1,5 +1,5 @@
 -- An endpoint before the flush of a turn that leads from one point of `ft_model` to another.
-use Rattle.std.specs.Prelude.{◌≡◌, ◌≤◌, Bool, true, ◌&&◌, ◌||◌, not, nat_lt}
+use Rattle.std.specs.Prelude.{◌≡◌, ◌-◌, ◌≤◌, Bool, true, ◌&&◌, ◌||◌, not, nat_lt, length}
 use Rattle.server_trait.specs.Service.{Machine}
 use Rattle.ft_model.specs.Point.{Point}
 use Rattle.ft_model.specs.News.{News}
@@ -18,7 +18,7 @@ pub record Flushes {State : Type 0} (service : Machine State) (news : News) (bef
   pub begun : has_begun u.name ≡ true
   pub bounds : IsBounded u
   pub probes : ProbesRightly u
-  pub fin_last : u.sending.fin_sent ≡ true → (u.sending.closed ≡ true) × (1 ≤ u.sending.sent)
+  pub fin_last : u.sending.fin_sent ≡ true → (u.sending.closed ≡ true) × (1 ≤ u.sending.sent) × (length u.sending.held ≡ u.sending.sent - 1 - u.sending.una)
   pub ip : after.key.ip ≡ u.remote.ip
   pub port : after.key.port ≡ u.remote.port
   pub receives : ReceivesAt after u

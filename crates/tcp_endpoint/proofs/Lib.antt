@@ -17,4 +17,5 @@ pub mod TurnEnd
 pub mod SegmentsLaw
 pub mod TimerAt
 pub mod Turns
+pub mod Points
 pub mod Beginning

@@ -72,7 +72,7 @@ numbered {service = service} {after = after} {u = u} f = record {
   flight = f.bounds.flight;
   unopened = f.bounds.unopened;
   shut = f.bounds.shut;
-  closes = f.fin_last;
+  closes = λ h. ((f.fin_last h).0, (f.fin_last h).1);
 }
 
 -- the bytes that are sent for the first time

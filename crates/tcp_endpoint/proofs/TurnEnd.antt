@@ -1,5 +1,5 @@
 -- The end of a turn: what the flush leaves of the sending half, and when the timer runs.
-use Rattle.std.proofs.Common.{◌≡◌, ℕ, ◌≤◌, ◌+◌, ◌-◌, Bool, true, false, not, length, max, refl, sym, ap, arith, ◌∙◌}
+use Rattle.std.proofs.Common.{◌≡◌, ℕ, ◌≤◌, ◌+◌, ◌-◌, Bool, true, false, not, length, max, min, refl, sym, ap, arith, ◌∙◌}
 use Rattle.std.specs.Prelude.{pos, ◌+ℤ◌, ◌==◌, ◌&&◌, ◌||◌, nat_lt, if◌then◌else◌}
 use Rattle.std.proofs.lemmas.Bool.{false≢true}
 use Rattle.seq_arith.specs.Number.{offset_of}
@@ -71,11 +71,11 @@ last_if : (b : Bool) (x y : Sending) → (b ≡ true → FinIsLast x) → (b ≡
 last_if true x y p q = p refl
 last_if false x y p q = q refl
 
-last_sent : (s : Sending) (n : ℕ) → FinIsLast s → FinIsLast (with_sent s n)
-last_sent s n last = λ h. let k = last h in (k.0, omega (arith, k.1))
+last_sent : (s : Sending) (n : ℕ) → (s.fin_sent ≡ true → n ≡ 0) → FinIsLast s → FinIsLast (with_sent s n)
+last_sent s n none last = λ h. let k = last h in (k.0, omega (arith, k.1), omega (arith, k.2, none h))
 
-last_fin : (s : Sending) → s.closed ≡ true → FinIsLast (with_fin_sent s)
-last_fin s is_closed = λ h. (is_closed, omega arith)
+last_fin : (s : Sending) → s.closed ≡ true → length s.held ≡ s.sent - s.una → FinIsLast (with_fin_sent s)
+last_fin s is_closed all_sent = λ h. (is_closed, omega arith, omega (arith, all_sent))
 
 off_four : (c d t u : Bool) → (false && c && not d && t && u) ≡ true → false ≡ true
 off_four c d t u h = h
@@ -89,15 +89,35 @@ closed_of true true false d t u h = absurd (false≢true (off_three d t u h))
 closed_of true false c d t u h = absurd (false≢true (off_four c d t u h))
 closed_of false o c d t u h = absurd (false≢true h)
 
-last_steps : (begun pt pf : Bool) (s : Sending) → (pf ≡ true → s.closed ≡ true) → FinIsLast s → FinIsLast (after_steps begun pt pf s)
-last_steps begun pt pf s ends last =
+-- it goes out where all bytes were sent
+all_sent_of : (b o c d u : Bool) (una len sent : ℕ) → (b && (o && c && not d && (sent == una + len) && u)) ≡ true → len ≡ sent - una
+all_sent_of true true true false u una len sent h = grind arith
+all_sent_of true true true true u una len sent h = absurd (false≢true h)
+all_sent_of true true false d u una len sent h = absurd (false≢true (off_three d (sent == una + len) u h))
+all_sent_of true false c d u una len sent h = absurd (false≢true (off_four c d (sent == una + len) u h))
+all_sent_of false o c d u una len sent h = absurd (false≢true h)
+
+-- behind it no text goes out
+none_sendable : (b o f : Bool) (n : ℕ) → f ≡ true → (if b then (if o && not f then n else 0) else 0) ≡ 0
+none_sendable true true true n h = refl
+none_sendable true false true n h = refl
+none_sendable false o true n h = refl
+none_sendable b o false n h = absurd (false≢true h)
+
+last_steps : (begun pt pf : Bool) (s : Sending) → (pt ≡ true → s.fin_sent ≡ false) → (pf ≡ true → (s.closed ≡ true) × (length s.held ≡ s.sent - s.una))
+    → FinIsLast s → FinIsLast (after_steps begun pt pf s)
+last_steps begun pt pf s unsent ends last =
     let probed : Sending = if pt then with_sent s 1 else (if pf then with_fin_sent s else s) in
     let texted : Sending = with_sent probed (if begun then sendable probed else 0) in
     let probed_last : FinIsLast probed =
-    last_if pt (with_sent s 1) _ (λ h. last_sent s 1 last) (λ h. last_if pf (with_fin_sent s) s (λ k. last_fin s (ends k)) (λ k. last)) in
-    let texted_last : FinIsLast texted = last_sent probed _ probed_last in
+    last_if pt (with_sent s 1) _ (λ h. last_sent s 1 (λ k. absurd (false≢true (sym (unsent h) ∙ k))) last)
+    (λ h. last_if pf (with_fin_sent s) s (λ k. last_fin s (ends k).0 (ends k).1) (λ k. last)) in
+    let texted_last : FinIsLast texted =
+    last_sent probed _ (λ h. none_sendable begun probed.opened probed.fin_sent (min (probed.una + length probed.held) probed.edge - probed.sent) h) probed_last in
     last_if (begun && sends_fin texted) (with_fin_sent texted) texted
-    (λ h. last_fin texted (closed_of begun texted.opened texted.closed texted.fin_sent (texted.sent == texted.una + length texted.held) (nat_lt texted.sent texted.edge) h))
+    (λ h. last_fin texted
+    (closed_of begun texted.opened texted.closed texted.fin_sent (texted.sent == texted.una + length texted.held) (nat_lt texted.sent texted.edge) h)
+    (all_sent_of begun texted.opened texted.closed texted.fin_sent (nat_lt texted.sent texted.edge) texted.una (length texted.held) texted.sent h))
     (λ h. texted_last)
 
 right_of : (a b : Bool) → (a && b) ≡ true → b ≡ true
@@ -108,11 +128,36 @@ last_timed : (runs : Bool) (s : Sending) → FinIsLast s → FinIsLast (timed ru
 last_timed true s last = last_if (s.rest == 0) (record s { interval = 1; rest = 1 }) s (λ h. last) (λ h. last)
 last_timed false s last = last
 
-pub last_flushed : (u : Tcb) → FinIsLast u.sending → FinIsLast (flushed u).sending
+-- a probe goes out where no FIN was sent, and the FIN as one where no byte waits to be sent
+unsent_of : (p b o f t : Bool) → (p && b && o && not f && t) ≡ true → f ≡ false
+unsent_of p b o false t h = refl
+unsent_of p b o true t h = grind arith
+
+left_of : (a b : Bool) → (a && b) ≡ true → a ≡ true
+left_of true b h = refl
+left_of false b h = absurd (false≢true h)
+
+none_waiting : (f : Bool) (una len sent : ℕ) → una ≤ sent → sent ≤ una + len + one_if f → f ≡ false → not (nat_lt (sent - una) len) ≡ true → len ≡ sent - una
+none_waiting true una len sent order flight unsent none = absurd (false≢true (sym unsent))
+none_waiting false una len sent order flight unsent none = grind arith
+
+ends_of : (p b o f c : Bool) (una len sent : ℕ) → una ≤ sent → sent ≤ una + len + one_if f → (p && b && o && not f && not (nat_lt (sent - una) len) && c) ≡ true
+    → (c ≡ true) × (len ≡ sent - una)
+ends_of p b o f c una len sent order flight h =
+    let none : Bool = not (nat_lt (sent - una) len) in
+    let probed : (p && b && o && not f && none) ≡ true = left_of (p && b && o && not f && none) c h in (
+      right_of (p && b && o && not f && none) c h,
+      none_waiting f una len sent order flight (unsent_of p b o f none probed) (right_of (p && b && o && not f) none probed),
+    )
+
+pub last_flushed : (u : Tcb) → IsBounded u → FinIsLast u.sending → FinIsLast (flushed u).sending
 unfolding flushed settled announced after_full with_fin_out with_text_sent with_probe
-last_flushed u last =
+last_flushed u b last =
+    let s : Sending = u.sending in
     last_timed _ (after_steps (has_begun u.name) (probes_text u) (probes_fin u) u.sending)
-    (last_steps (has_begun u.name) (probes_text u) (probes_fin u) u.sending (λ h. right_of _ u.sending.closed h) last)
+    (last_steps (has_begun u.name) (probes_text u) (probes_fin u) s
+    (λ h. unsent_of u.probe (has_begun u.name) s.opened s.fin_sent (nat_lt (s.sent - s.una) (length s.held)) h)
+    (λ h. ends_of u.probe (has_begun u.name) s.opened s.fin_sent s.closed s.una (length s.held) s.sent b.order b.flight h) last)
 
 -- the timer runs only where it must
 runs_if : (b : Bool) (s : Sending) → must_run s ≡ true → 1 ≤ (if b then record s { interval = 1; rest = 1 } else s).rest
@@ -139,7 +184,7 @@ target_by false c una len sent last = refl
 pub target_at : {State : Type 0} (service : Machine State) (p : Point) (u : Tcb) → IsUsedAt service p u → FinIsLast u.sending → point.target service p ≡ target u.sending
 target_at service p u used last =
     let s : Sending = u.sending in
-    (λ i. used.written i + one_if (used.closed i)) ∙ target_by s.fin_sent s.closed s.una (length s.held) s.sent last
+    (λ i. used.written i + one_if (used.closed i)) ∙ target_by s.fin_sent s.closed s.una (length s.held) s.sent (λ h. ((last h).0, (last h).1))
 
 full_target : (u : Tcb) → has_begun u.name ≡ true → IsBounded u → target (after_full u).sending ≡ target u.sending
 unfolding after_full with_fin_out with_text_sent with_probe

@@ -1,6 +1,6 @@
 -- A turn of an endpoint, from one flush to the next: the turn's news come, the user makes calls, and one flush ends it. A turn without a
 -- segment and without a tick has news for the user alone.
-use Rattle.std.specs.Prelude.{◌≡◌, ℕ, true, false, ◌+◌, ◌≤◌, ◌^◌, List, [], ◌∷◌, length, None}
+use Rattle.std.specs.Prelude.{◌≡◌, ℕ, true, false, ◌+◌, ◌-◌, ◌≤◌, ◌^◌, List, [], ◌∷◌, length, None}
 use Rattle.seq_arith.specs.Packet.{Segment}
 use Rattle.ft_model.specs.News.{News}
 use Rattle.ft_model.specs.News.News.{Comes, Ticks}
@@ -68,7 +68,8 @@ pub record IsBetweenTurns (e : Tcb) : Type 0 where
   pub again : e.again ≡ false
   pub probe : e.probe ≡ false
   pub answer : e.answer ≡ None
-  pub fin_last : e.sending.fin_sent ≡ true → (e.sending.closed ≡ true) × (1 ≤ e.sending.sent)  -- a FIN is sent behind all, by a user who closed
+  -- a FIN is sent behind all that was written, by a user who closed
+  pub fin_last : e.sending.fin_sent ≡ true → (e.sending.closed ≡ true) × (1 ≤ e.sending.sent) × (length e.sending.held ≡ e.sending.sent - 1 - e.sending.una)
   pub shut : IsShut e.sending
   pub interval : 1 ≤ e.sending.interval
   pub runs : 1 ≤ e.sending.rest → must_run e.sending ≡ true  -- the timer runs only where it must

@@ -14,7 +14,7 @@ ghost use Rattle.tcp_endpoint.specs.Leaving.{bare_segment, full_out, leaving, af
 ghost use Rattle.tcp_endpoint.specs.Turning.{after_tick, after_read, after_write, closing};
 ghost use Rattle.tcp_endpoint.specs.declared.states.StateName.TheVariants.{Listen, SynSent};
 ghost use Rattle.ft_io.specs.declared.Addr.{Addr};
-ghost use Rattle.server_trait.specs.Service.{machine};
+ghost use Rattle.server_trait.specs.Service.{Machine, machine};
 ghost use Rattle.ft_model.specs.News.{News};
 ghost use Rattle.ft_model.specs.News.News.{Comes};
 ghost use Rattle.ft_model.specs.Opening.{is_syn};
@@ -148,6 +148,14 @@ pub fn turns_lead_from_point_to_point<S: Service>()
         → MeetsLaws (machine (S.started kind) S.after) news before after
         → IsUsedAt (machine (S.started kind) S.after) after (before_flush news calls e)
         → LeadsTo (machine (S.started kind) S.after) news before after e calls }
+{}
+
+/// There always is such a point: whatever comes and whatever the user does, some service reads and writes as the user.
+pub fn turns_have_points()
+    ensures { (news : News) (calls : List Call) (before : Point) (e : Tcb)
+        → has_begun e.name ≡ true → IsBetweenTurns e → StandsAt before e → IsUsualNews news e → MayUse calls (arrived news e)
+        → has_begun (before_flush news calls e).name ≡ true
+        → (service : Machine ℕ) × (after : Point) × MeetsLaws service news before after × IsUsedAt service after (before_flush news calls e) }
 {}
 
 /// So over a whole run: an endpoint of `listen` meets the laws Taken and Sending of `ft_model`, with the timer's, from its SYN on and until it
