@@ -13,7 +13,7 @@ use Rattle.ft_model.specs.News.News.{Comes}
 use Rattle.ft_model.specs.Segments.{syn_ack, or_bare}
 use Rattle.tcp_endpoint.specs.States.{is_syn_sent, has_begun}
 use Rattle.tcp_endpoint.specs.Receiving.{Receiving, taken}
-use Rattle.tcp_endpoint.specs.Sending.{Sending, segment_size, target, resent_length}
+use Rattle.tcp_endpoint.specs.Sending.{Sending, segment_size, is_unacknowledged, target, resent_length}
 use Rattle.tcp_endpoint.specs.Tcb.{Tcb, listening}
 use Rattle.tcp_endpoint.specs.Arrival.{source, received, in_listen, begun, refusing}
 use Rattle.tcp_endpoint.specs.Leaving.{announced, settled, with_fin_out, fin_at, text_at, answer_segments, answer_out, again_segment, opening_segment, again_out, probe_out, with_probe, text_out, with_text_sent, fin_out, full_out, is_owed, bare_segment, leaving, after_full, is_timed, flushed}
@@ -137,6 +137,9 @@ sends_begun local iss limit cisn fetched syn m u o a = record {
 only_the_first : (owed : Bool) (bare first : Segment) → or_bare owed bare (first ∷ []) ≡ first ∷ []
 only_the_first owed bare first = refl
 
+unsent_syn : (u : Tcb) → u.sending.opened ≡ false → is_unacknowledged u.sending ≡ true
+unsent_syn u h = ap (λ o. not o || nat_lt u.sending.una u.sending.sent) h
+
 syn_ack_leaves : (p : Point) (u : Tcb) → Tells p u → has_begun u.name ≡ true → u.again ≡ true → u.probe ≡ false → u.answer ≡ None → u.sending.opened ≡ false
     → u.sending.edge ≤ u.sending.sent → leaving u ≡ syn_ack u.local p ∷ []
 unfolding leaving full_out answer_out again_segment
@@ -149,7 +152,7 @@ syn_ack_leaves p u t begun again probe answer unopened shut =
     (full_out_is (answer_out u) (again_out u) (probe_out u) (text_out (with_probe u)) (fin_out (with_text_sent (with_probe u)))
     [] (syn_ack u.local p ∷ []) [] []
     (ap answer_segments answer)
-    ((λ i. once_again u begun again i ++ probe_by u false false (no_text_probe u probe) (no_fin_probe u probe) i) ∙ ap (λ s. s ∷ []) first)
+    ((λ i. once_again u begun again (unsent_syn u unopened) i ++ probe_by u false false (no_text_probe u probe) (no_fin_probe u probe) i) ∙ ap (λ s. s ∷ []) first)
     (no_text_out (with_probe u) still)
     (no_fin_out (with_probe u) still))
 

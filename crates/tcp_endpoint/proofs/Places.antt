@@ -20,6 +20,10 @@ pub is_next : (irs number next : ℕ) → number < 2 ^ 32 → next ≤ 2 ^ 30 + 
     → nat_eq number (number_at irs next) ≡ int_eq (offset_of irs number) (pos next)
 is_next irs number next small near = grind (arith, ints, offset_leads irs number small)
 
+pub ends_there : (irs number len place : ℕ) → number < 2 ^ 32 → len ≤ 2 ^ 16 → place ≤ 2 ^ 30 + 1
+    → nat_eq ((number + len) % 2 ^ 32) (number_at irs place) ≡ int_eq (offset_of irs number +ℤ pos len) (pos place)
+ends_there irs number len place small short near = grind (arith, ints, offset_leads irs number small)
+
 pub is_later : (irs number next : ℕ) → number < 2 ^ 32 → next ≤ 2 ^ 30 + 1 → IsNearFirst (offset_of irs number)
     → precedes (number_at irs next) number ≡ int_lt (pos next) (offset_of irs number)
 is_later irs number next small near first = grind (arith, ints, offset_leads irs number small)

@@ -17,7 +17,7 @@ use Rattle.tcp_endpoint.specs.declared.states.StateName.{StateName}
 use Rattle.tcp_endpoint.specs.declared.states.StateName.TheVariants.{Closed, Listen, SynSent, SynReceived, Established, FinWait1, FinWait2, CloseWait, Closing, LastAck, TimeWait}
 use Rattle.tcp_endpoint.specs.States.{is_closed, is_syn_sent, has_begun}
 use Rattle.tcp_endpoint.specs.Receiving.{Receiving, next, window}
-use Rattle.tcp_endpoint.specs.Sending.{Sending, sendable, sends_fin, resent_length, with_sent, with_fin_sent}
+use Rattle.tcp_endpoint.specs.Sending.{Sending, is_unacknowledged, sendable, sends_fin, resent_length, with_sent, with_fin_sent}
 use Rattle.tcp_endpoint.specs.Tcb.{Tcb}
 use Rattle.tcp_endpoint.specs.Leaving.{head_at, opening_segment, text_at, fin_at, texts, answer_out, again_segment, again_out, probes, probes_text, probes_fin, probe_out, with_probe, new_length, text_out, with_text_sent, fin_out, with_fin_out, full_out, after_full, bare_segment}
 use Rattle.tcp_endpoint.specs.Standing.{ReceivesAt, refusals}
@@ -204,6 +204,10 @@ waiting false b h is = absurd (false≢true (sym is))
 same_place : (una all : ℕ) → (una == all) ≡ true → una + 0 ≡ all
 same_place una all h = grind arith
 
+waits_here : {State : Type 0} {service : Machine State} {news : News} {before after : Point} {u : Tcb} → Flushes service news before after u
+    → waits_for_ack before after ≡ true → is_unacknowledged u.sending ≡ true
+waits_here f waits = (λ i. not (sym f.sends.counted i) || nat_lt (sym f.sends.una i) (sym f.sent i)) ∙ waits
+
 -- what goes out again
 again_is : {State : Type 0} {service : Machine State} {news : News} {before after : Point} {u : Tcb} → Flushes service news before after u
     → waits_for_ack before after ≡ true → again_segment u ≡ model.first_unacknowledged service u.local before after
@@ -212,12 +216,11 @@ again_is {service = service} {before = before} {after = after} {u = u} f waits =
     let s : Sending = u.sending in
     let all : ℕ = released service after in
     let n : Numbered s.opened s.closed s.fin_sent s.una (length s.held) s.edge s.sent all = numbered f in
-    let waits_here : (not s.opened || nat_lt s.una s.sent) ≡ true = (λ i. not (sym f.sends.counted i) || nat_lt (sym f.sends.una i) (sym f.sent i)) ∙ waits in
     let again_length : resent_length s ≡ model.resent_length service before after =
     again_bytes s.mss s.una (length s.held) s.edge s.sent all n.held
     ∙ (λ i. min (sym f.sends.mss i) (min (min (sym f.sent i) all - sym f.sends.una i) (max 1 (sym f.sends.edge i - sym f.sends.una i)))) in
     let last : not s.opened ≡ false → (length s.held == 0) ≡ (s.una == all) =
-    λ o. last_is_fin s.opened s.closed s.fin_sent s.una (length s.held) s.edge s.sent all n (waiting s.opened (nat_lt s.una s.sent) waits_here o) in
+    λ o. last_is_fin s.opened s.closed s.fin_sent s.una (length s.held) s.edge s.sent all n (waiting s.opened (nat_lt s.una s.sent) (waits_here f waits) o) in
     let fin : Segment = model.fin_segment service u.local after in
     let text : Segment = model.text_at service u.local after after.una (model.resent_length service before after) in
     if_when (not s.opened) (opening_segment u) (model.syn_ack u.local after) (if length s.held == 0 then fin_at u 0 else text_at u 0 (resent_length s))
@@ -262,11 +265,11 @@ fin_out_is {service = service} {before = before} {after = after} {u = u} f =
 -- what the endpoint's timer makes it send
 no_again : (u : Tcb) → u.again ≡ false → again_out u ≡ []
 unfolding again_out
-no_again u is = ap (λ b. if b && not (is_closed u.name) then again_segment u ∷ [] else []) is
+no_again u is = ap (λ b. if b && not (is_closed u.name) && is_unacknowledged u.sending then again_segment u ∷ [] else []) is
 
-pub once_again : (u : Tcb) → has_begun u.name ≡ true → u.again ≡ true → again_out u ≡ again_segment u ∷ []
+pub once_again : (u : Tcb) → has_begun u.name ≡ true → u.again ≡ true → is_unacknowledged u.sending ≡ true → again_out u ≡ again_segment u ∷ []
 unfolding again_out
-once_again u begun is = λ i. if is i && not (begun_open u.name begun i) then again_segment u ∷ [] else []
+once_again u begun is waits = λ i. if is i && not (begun_open u.name begun i) && waits i then again_segment u ∷ [] else []
 
 pub no_text_probe : (u : Tcb) → u.probe ≡ false → probes_text u ≡ false
 no_text_probe u is = ap (λ b. b && has_begun u.name && u.sending.opened && not u.sending.fin_sent && nat_lt (u.sending.sent - u.sending.una) (length u.sending.held)) is
@@ -416,7 +419,7 @@ again_by : {State : Type 0} {service : Machine State} {news : News} {before afte
 again_by {service = service} {news = news} {before = before} {after = after} {u = u} f false w expiry wait unprobed =
     no_again u (f.again ∙ ap (λ b. b && waits_for_ack before after) expiry) ∙ sym (resent_by service u.local news before after false w expiry wait)
 again_by {service = service} {news = news} {before = before} {after = after} {u = u} f true true expiry wait unprobed =
-    once_again u f.begun (f.again ∙ (λ i. expiry i && wait i)) ∙ ap (λ s. s ∷ []) (again_is f wait) ∙ sym (resent_by service u.local news before after true true expiry wait)
+    once_again u f.begun (f.again ∙ (λ i. expiry i && wait i)) (waits_here f wait) ∙ ap (λ s. s ∷ []) (again_is f wait) ∙ sym (resent_by service u.local news before after true true expiry wait)
 again_by f true false expiry wait unprobed = absurd (false≢true (sym unprobed))
 
 unprobed_is : {State : Type 0} {service : Machine State} {news : News} {before after : Point} {u : Tcb} → Flushes service news before after u

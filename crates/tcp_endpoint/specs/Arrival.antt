@@ -1,15 +1,15 @@
 -- What a segment that arrives makes of an endpoint: the checks of RFC 9293, 3.10.7, in their order, one definition a check.
-use Rattle.std.specs.Prelude.{◌≡◌, ℕ, ℤ, Bool, true, pos, ◌+◌, ◌%◌, ◌^◌, ◌&&◌, ◌||◌, not, nat_lt, int_lt, None, Some, if◌then◌else◌}
+use Rattle.std.specs.Prelude.{◌≡◌, ℕ, ℤ, Bool, true, pos, ◌+◌, ◌%◌, ◌^◌, ◌&&◌, ◌||◌, not, nat_lt, int_lt, None, Some, if◌then◌else◌, ◌+ℤ◌, length}
 use Rattle.seq_arith.specs.Arrival.{int_eq, is_acceptable}
 use Rattle.seq_arith.specs.Packet.{Segment, has_fin, has_syn, has_rst, has_ack}
 use Rattle.ft_io.specs.declared.Addr.{Addr}
-use Rattle.ft_model.specs.Offset.{first_of, ack_of, length_of}
+use Rattle.ft_model.specs.Offset.{first_of, ack_of, fin_of, length_of}
 use Rattle.segment_codec.specs.declared.Head.{Head}
 use Rattle.tcp_buffers.specs.Near.{is_ahead}
 use Rattle.tcp_endpoint.specs.declared.states.StateName.{StateName}
 use Rattle.tcp_endpoint.specs.declared.states.StateName.TheVariants.{Closed, Listen, SynSent, SynReceived, Established}
 use Rattle.tcp_endpoint.specs.States.{opened, after_fin_acked, after_fin, is_time_wait}
-use Rattle.tcp_endpoint.specs.Receiving.{next, window, with_segment}
+use Rattle.tcp_endpoint.specs.Receiving.{taken, next, window, with_segment}
 use Rattle.tcp_endpoint.specs.Sending.{segment_size, opened_by, acknowledged, fin_acked}
 use Rattle.tcp_endpoint.specs.Tcb.{Tcb}
 
@@ -129,9 +129,13 @@ check_syn e p = if has_syn p then owing_if true e else check_ack (owing_if (nat_
 unfoldable pub check_rst : Tcb → Segment → Tcb
 check_rst e p = if has_rst p then (if int_eq (first e p) (pos (next e.receiving)) then killed e else owing_if true e) else check_syn e p
 
--- a FIN that comes again starts TIME-WAIT again
+-- the peer's FIN comes again: it stands where all bytes end that are taken
+abbrev pub repeats_fin : Tcb → Segment → Bool
+repeats_fin e p = fin_of p && int_eq (first e p +ℤ pos (length p.payload)) (pos (taken e.receiving))
+
+-- it starts TIME-WAIT again
 unfoldable pub waiting_again : Tcb → Segment → Tcb
-waiting_again e p = record e { wait = if is_time_wait e.name && has_fin p && not (has_rst p) then 4 else e.wait }
+waiting_again e p = record e { wait = if is_time_wait e.name && repeats_fin e p then 4 else e.wait }
 
 -- first check: an unacceptable segment is owed an answer, unless it is a RST
 unfoldable pub check_place : Tcb → Segment → Tcb

@@ -8,7 +8,7 @@ use Rattle.segment_codec.specs.declared.Head as codec
 use Rattle.ft_model.specs.Segments.{or_bare}
 use Rattle.tcp_endpoint.specs.States.{is_closed, is_syn_sent, has_begun}
 use Rattle.tcp_endpoint.specs.Receiving.{next, window, announced_edge}
-use Rattle.tcp_endpoint.specs.Sending.{in_flight, must_run, timed, sendable, sends_fin, resent_length, with_sent, with_fin_sent}
+use Rattle.tcp_endpoint.specs.Sending.{in_flight, is_unacknowledged, must_run, timed, sendable, sends_fin, resent_length, with_sent, with_fin_sent}
 use Rattle.tcp_endpoint.specs.Tcb.{Tcb}
 
 -- the head of every segment but a RST that answers: it acknowledges all that is taken, and announces the window
@@ -67,7 +67,7 @@ again_segment e =
     else (if length e.sending.held == 0 then fin_at e 0 else text_at e 0 (resent_length e.sending))
 
 unfoldable pub again_out : Tcb → List Segment
-again_out e = if e.again && not (is_closed e.name) then again_segment e ∷ [] else []
+again_out e = if e.again && not (is_closed e.name) && is_unacknowledged e.sending then again_segment e ∷ [] else []
 
 -- a probe goes out at SND.NXT: one byte, or the FIN where no byte waits
 abbrev pub probes : Tcb → Bool

@@ -249,12 +249,14 @@ impl Endpoint {
         }
     }
 
-    /// A FIN that comes again starts TIME-WAIT again.
+    /// The peer's FIN that comes again starts TIME-WAIT again.
     #[tactic(auto, unfolding(crate::specs::Arrival::waiting_again))]
     fn wait_again(&mut self, p: PacketRef<'_>)
+        requires { length p.payload.now ≤ 65535 }
         ensures { self.new ≡ waiting_again self.old (segment_of p.entry) }
     {
-        if self.name.is_time_wait() && has_fin(p) && !has_rst(p) {
+        let is_fin = has_fin(p) && !has_syn(p) && !has_rst(p);
+        if self.name.is_time_wait() && is_fin && self.receiver.ends(p.head.seq, p.payload.len() as u32) {
             self.wait = 4;
         }
     }

@@ -137,7 +137,7 @@ impl Endpoint {
         ensures count { length out.new ≤ length out.old + 1 }
         ensures bytes { byte_count out.new ≤ byte_count out.old + 1500 }
     {
-        if !self.again || self.name.is_closed() {
+        if !self.again || self.name.is_closed() || !self.sender.is_unacknowledged() {
             return;
         }
         if !self.sender.is_opened() {

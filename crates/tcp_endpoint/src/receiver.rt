@@ -182,6 +182,16 @@ impl Receiver {
         self.irs.add(1).add(self.taken())
     }
 
+    /// Whether a text of this length ends where the bytes taken do.
+    #[tactic(auto, using(crate::proofs::Places::ends_there))]
+    pub(crate) fn ends(&self, seq: Seq, len: u32) -> bool
+        requires { len ≤ 2 ^ 16 }
+        ensures { result ≡ int_eq (offset_of self.now.irs seq.0 +ℤ pos len) (pos (taken self.now)) }
+    {
+        self.ranges(seq);
+        seq.add(len) == self.taken_number()
+    }
+
     /// Whether a text begins past the bytes taken.
     #[tactic(auto, using(crate::proofs::Places::is_later))]
     fn is_past(&self, seq: Seq) -> bool
