@@ -4,7 +4,6 @@ use Rattle.std.specs.Prelude.{◌==◌, ◌&&◌, ◌||◌, nat_lt, if◌then◌
 use Rattle.std.proofs.lemmas.Bool.{false≢true}
 use Rattle.std.proofs.Math.Seq.{drop-length}
 use Rattle.ft_io.specs.declared.Addr.{Addr}
-use Rattle.server_trait.specs.Service.{Machine}
 use Rattle.seq_arith.specs.Packet.{Segment, has_syn, has_rst, has_ack}
 use Rattle.ft_model.specs.Opening as opening
 use Rattle.ft_model.specs.Offset.{one_if}
@@ -231,19 +230,18 @@ begins_law local iss limit cisn fetched syn calls whole is number may =
     record { begun = flushed_name (used calls m) (a.begun o.begun); between = done.0; stands = done.1; segments = done.2 }
 
 -- turn by turn
-runs_on : {State : Type 0} (service : Machine State) (steps : List Step) (before : Point) (e : Tcb) → has_begun e.name ≡ true → IsBetweenTurns e → StandsAt before e
-    → RunsByLaws service before e steps
-runs_on service [] before e begun between stands = tt
-runs_on service (step ∷ steps) before e begun between stands = λ s.
-    let led : LeadsTo service step.news before step.after e step.calls =
-    leads_law service step.news step.calls before step.after e begun between stands s.usual s.may s.begun s.laws s.user in
-    (led, runs_on service steps step.after (turned step.news step.calls e) (flushed_name (before_flush step.news step.calls e) s.begun) led.between led.stands)
+runs_on : (steps : List Step) (before : Point) (e : Tcb) → has_begun e.name ≡ true → IsBetweenTurns e → StandsAt before e → RunsByLaws before e steps
+runs_on [] before e begun between stands = tt
+runs_on (step ∷ steps) before e begun between stands = λ s.
+    let led : LeadsTo step.user step.news before step.after e step.calls =
+    leads_law step.user step.news step.calls before step.after e begun between stands s.usual s.may s.begun s.laws s.used in
+    (led, runs_on steps step.after (turned step.news step.calls e) (flushed_name (before_flush step.news step.calls e) s.begun) led.between led.stands)
 
-pub run_law : {State : Type 0} (service : Machine State) (local : Addr) (iss limit cisn : ℕ) (fetched : List ℕ) (syn : Segment) (calls : List Call) (steps : List Step)
+pub run_law : (local : Addr) (iss limit cisn : ℕ) (fetched : List ℕ) (syn : Segment) (calls : List Call) (steps : List Step)
     → limit + length fetched ≡ 2 ^ 24 → opening.is_syn syn ≡ true → syn.head.seq ≡ (cisn + length fetched) % 2 ^ 32
     → MayUse calls (received (listening local iss limit) syn)
     → BeginsAt (point_begun fetched (numbers_with cisn iss syn)) (listening local iss limit) syn calls
-    × RunsByLaws service (point_begun fetched (numbers_with cisn iss syn)) (turned (Comes syn) calls (listening local iss limit)) steps
-run_law service local iss limit cisn fetched syn calls steps whole is number may =
+    × RunsByLaws (point_begun fetched (numbers_with cisn iss syn)) (turned (Comes syn) calls (listening local iss limit)) steps
+run_law local iss limit cisn fetched syn calls steps whole is number may =
     let b = begins_law local iss limit cisn fetched syn calls whole is number may in
-    (b, runs_on service steps (point_begun fetched (numbers_with cisn iss syn)) (turned (Comes syn) calls (listening local iss limit)) b.begun b.between b.stands)
+    (b, runs_on steps (point_begun fetched (numbers_with cisn iss syn)) (turned (Comes syn) calls (listening local iss limit)) b.begun b.between b.stands)

@@ -42,6 +42,7 @@ bounded_at_listen local iss limit small = record {
   wl1_fits = omega arith;
   wl2 = omega arith;
   edge = omega arith;
+  reach = omega arith;
 }
 
 -- the bounds say nothing of a peer's number before the SYN is acknowledged
@@ -59,6 +60,7 @@ unopened_irs r s irs mss unopened b = record {
   wl1_fits = b.wl1_fits;
   wl2 = b.wl2;
   edge = b.edge;
+  reach = b.reach;
 }
 
 bounded_if : (b : Bool) (x y : Tcb) → IsBounded x → IsBounded y → IsBounded (if b then x else y)
@@ -123,6 +125,7 @@ later_bounds r s seq window z b near fits small is_opened r' limit within irs =
       wl1_fits = choice_within seq s.wl1 (2 ^ 32 - 1) (moves_edge s seq z) (λ h. omega (arith, fits)) b.wl1_fits;
       wl2 = choice_within (nat_abs z) s.wl2 una (moves_edge s seq z) (λ h. (moved h).0) (omega (arith, b.wl2, not_less s.una s.sent z));
       edge = choice_within (nat_abs z + window) s.edge (2 ^ 24 + 2 ^ 16 + 1) (moves_edge s seq z) (λ h. grind (arith, moved h, b.sent)) b.edge;
+      reach = choice_within (nat_abs z + window) s.edge (una + 65535) (moves_edge s seq z) (λ h. omega (arith, (moved h).0, small)) (omega (arith, b.reach, not_less s.una s.sent z));
     }
 
 first_bounds : (r : Receiving) (s : Sending) (seq window : ℕ) → Bounds r s → IsNearFirst (offset_of r.irs seq) → seq < 2 ^ 32 → window ≤ 65535 → s.opened ≡ false
@@ -142,6 +145,7 @@ first_bounds r s seq window b near fits small unopened r' limit within irs =
       wl1_fits = omega (arith, fits);
       wl2 = omega arith;
       edge = omega (arith, small);
+      reach = omega (arith, small);
     }
 
 other_bounds : (r : Receiving) (s : Sending) → Bounds r s → (r' : Receiving) → r'.limit ≤ 2 ^ 24 → taken r' ≤ r'.limit → r'.irs ≡ r.irs → Bounds r' s
@@ -158,6 +162,7 @@ other_bounds r s b r' limit within irs = record {
   wl1_fits = b.wl1_fits;
   wl2 = b.wl2;
   edge = b.edge;
+  reach = b.reach;
 }
 
 chosen_bounds : (r : Receiving) (x y z : Sending) (c o : Bool) → (c ≡ true → o ≡ true → Bounds r x) → (c ≡ true → o ≡ false → Bounds r y) → Bounds r z
@@ -195,6 +200,7 @@ sent_more r s n b flight sent unopened = record {
   wl1_fits = b.wl1_fits;
   wl2 = b.wl2;
   edge = b.edge;
+  reach = b.reach;
 }
 
 fin_more : (r : Receiving) (s : Sending) → Bounds r s → s.fin_sent ≡ false → s.opened ≡ true → Bounds r (with_fin_sent s)
@@ -214,6 +220,7 @@ fin_more r s b unsent is_opened =
       wl1_fits = b.wl1_fits;
       wl2 = b.wl2;
       edge = b.edge;
+      reach = b.reach;
     }
 
 timer_bounds : (r : Receiving) (s : Sending) (interval rest : ℕ) → Bounds r s → Bounds r (record s { interval = interval; rest = rest })
@@ -230,6 +237,7 @@ timer_bounds r s interval rest b = record {
   wl1_fits = b.wl1_fits;
   wl2 = b.wl2;
   edge = b.edge;
+  reach = b.reach;
 }
 
 bounds_if : (r : Receiving) (b : Bool) (x y : Sending) → (b ≡ true → Bounds r x) → (b ≡ false → Bounds r y) → Bounds r (if b then x else y)
@@ -263,6 +271,7 @@ bounded_by_more e bytes few b =
       wl1_fits = b.wl1_fits;
       wl2 = b.wl2;
       edge = b.edge;
+      reach = b.reach;
     }
 
 pub bounded_by_write : (e : Tcb) (bytes : List ℕ) → e.sending.una + length e.sending.held + length bytes ≤ 2 ^ 24 → IsBounded e → IsBounded (after_write e bytes)
@@ -391,6 +400,7 @@ answered_bounds r s seq window mss b fits small unopened =
       wl1_fits = omega (arith, fits);
       wl2 = omega arith;
       edge = omega (arith, small);
+      reach = omega (arith, small);
     }
 
 in_syn_sent_bounded : (e : Tcb) (p : Segment) → e.sending.opened ≡ false → IsBounded e → p.head.seq < 2 ^ 32 → p.head.window ≤ 65535 → IsBounded (in_syn_sent e p)

@@ -253,6 +253,7 @@ bounded_call Closes m may last b = record {
   wl1_fits = b.wl1_fits;
   wl2 = b.wl2;
   edge = b.edge;
+  reach = b.reach;
 }
 
 pub last_used : (m u : Sending) → SendsAs m u → FinIsLast m → FinIsLast u

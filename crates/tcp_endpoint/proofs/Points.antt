@@ -1,9 +1,9 @@
 -- Each turn of an endpoint has a point after it, and a service that reads and writes as its user.
-use Rattle.std.proofs.Common.{◌≡◌, ℕ, ◌≤◌, ◌+◌, ◌-◌, Bool, true, false, List, [], ◌∷◌, ◌++◌, length, drop, max, refl, ap, arith, length-append, ◌∙◌}
+use Rattle.std.proofs.Common.{◌≡◌, ℕ, ◌≤◌, ◌+◌, ◌-◌, Bool, true, false, List, [], ◌∷◌, ◌++◌, length, take, drop, max, refl, ap, arith, length-append, inl, ◌∙◌}
 use Rattle.std.specs.Prelude.{if◌then◌else◌}
 use Rattle.std.proofs.Math.ListN.{replicate}
 use Rattle.std.proofs.Math.Seq.{drop-append_seam}
-use Rattle.std.proofs.lemmas.List.{length-replicate, drop_all}
+use Rattle.std.proofs.lemmas.List.{length-replicate, drop_all, take_all}
 use Rattle.server_trait.specs.Service.{Machine, reference}
 use Rattle.ft_model.specs.Offset.{one_if}
 use Rattle.ft_model.specs.Point.{Point, answered_run}
@@ -105,9 +105,9 @@ after_is_used news before u last =
     let run = after_has_written bytes u.sending.closed news before (u.receiving.read + before.fetched) in
     record {
       read = read_so_far u.receiving.read before.fetched;
-      output = ap (λ r. drop u.sending.una r.output) run ∙ written_held u.sending last;
-      written = ap (λ r. length r.output) run ∙ written_length u.sending last;
-      closed = ap (λ r. r.closed) run;
+      output = ap (λ r. take (length u.sending.held) (drop u.sending.una r.output)) run ∙ ap (take (length u.sending.held)) (written_held u.sending last)
+          ∙ take_all (length u.sending.held) u.sending.held (omega arith);
+      written = inl (record { written = ap (λ r. length r.output) run ∙ written_length u.sending last; closed = ap (λ r. r.closed) run });
       answered = omega arith;
     }
 

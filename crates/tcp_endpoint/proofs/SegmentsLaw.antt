@@ -1,6 +1,7 @@
 -- What leaves at the end of a turn, but for a bare segment, is what the laws of `ft_model` want of the points before and after it.
-use Rattle.std.proofs.Common.{◌≡◌, ℕ, zero, suc, ◌≤◌, ◌+◌, ◌-◌, ◌%◌, ◌^◌, Bool, true, false, not, List, [], ◌∷◌, ◌++◌, length, take, drop, max, min, Some, None, refl, sym, ap, arith, append_assoc, append-nil, length-drop, drop-drop, ◌∙◌}
-use Rattle.std.specs.Prelude.{◌==◌, ◌&&◌, ◌||◌, nat_lt, nat_le, if◌then◌else◌}
+use Rattle.std.proofs.Common.{◌≡◌, ℕ, zero, suc, ◌<◌, ◌≤◌, ◌+◌, ◌-◌, ◌%◌, ◌^◌, Bool, true, false, not, List, [], ◌∷◌, ◌++◌, length, take, drop, max, min, Some, None, refl, sym, ap, arith, append_assoc, append-nil, drop-drop, ⊎_elim, inl, inr, ◌∙◌}
+use Rattle.std.specs.Prelude.{◌==◌, ◌&&◌, ◌||◌, ◌⊎◌, nat_lt, nat_le, if◌then◌else◌}
+use Rattle.std.proofs.lemmas.List.{drop-take, take-take}
 use Rattle.std.proofs.lemmas.Bool.{false≢true}
 use Rattle.seq_arith.specs.Number.{number_at}
 use Rattle.seq_arith.specs.Packet.{Segment}
@@ -20,10 +21,11 @@ use Rattle.tcp_endpoint.specs.Receiving.{Receiving, next, window}
 use Rattle.tcp_endpoint.specs.Sending.{Sending, is_unacknowledged, sendable, sends_fin, resent_length, with_sent, with_fin_sent}
 use Rattle.tcp_endpoint.specs.Tcb.{Tcb}
 use Rattle.tcp_endpoint.specs.Leaving.{head_at, opening_segment, text_at, fin_at, texts, answer_out, again_segment, again_out, probes, probes_text, probes_fin, probe_out, with_probe, new_length, text_out, with_text_sent, fin_out, with_fin_out, full_out, after_full, bare_segment}
-use Rattle.tcp_endpoint.specs.Standing.{ReceivesAt, refusals}
+use Rattle.tcp_endpoint.specs.Standing.{ReceivesAt, HasWrittenAll, HasFilled, refusals}
 use Rattle.tcp_endpoint.proofs.TakenLaw.{if_when, window_is}
 use Rattle.tcp_endpoint.proofs.StandingLaw.{next_is, room_is}
 use Rattle.tcp_endpoint.proofs.TurnLaw.{after_steps, fin_unsent, waits_fin, probing, nothing_held}
+use Rattle.tcp_endpoint.proofs.Calls.{FinIsLast}
 use Rattle.tcp_endpoint.proofs.Flushing.{Flushes, waits_for_ack}
 
 -- the state of a connection that has begun is neither CLOSED nor SYN-SENT
@@ -53,62 +55,173 @@ begun_answers Closing h = refl
 begun_answers LastAck h = refl
 begun_answers TimeWait h = refl
 
--- where the output stands: what is acknowledged, held, sent and released
-record Numbered (o c f : Bool) (una len edge sent all : ℕ) : Type 0 where
-  order : una ≤ sent
+-- where the output stands: what is acknowledged, held, sent and released, and whether the service has closed. All of it is written ..
+record WrittenAll (c f ends : Bool) (una len sent all : ℕ) : Type 0 where
   written : all ≡ (if f then sent - 1 else una + len)
-  held : len ≡ all - una
+  closed : ends ≡ c
+
+-- .. or the buffer is full
+record Filled (c f : Bool) (una len all : ℕ) : Type 0 where
+  full : len ≡ 65535
+  open_still : c ≡ false
+  unsent : f ≡ false
+  written : una + len ≤ all
+
+record Numbered (o c f ends : Bool) (una len edge sent all : ℕ) : Type 0 where
+  order : una ≤ sent
+  written : WrittenAll c f ends una len sent all ⊎ Filled c f una len all
   flight : sent ≤ una + len + one_if f
   unopened : o ≡ false → sent ≡ 0
   shut : o ≡ false → edge ≡ 0
-  closes : f ≡ true → (c ≡ true) × (1 ≤ sent)
+  reach : edge ≤ una + 65535
+  closes : f ≡ true → (c ≡ true) × (1 ≤ sent) × (len ≡ sent - 1 - una)
+
+unsent_of : (f c : Bool) → (f ≡ true → c ≡ true) → c ≡ false → f ≡ false
+unsent_of true c ends h = absurd (false≢true (sym h ∙ ends refl))
+unsent_of false c ends h = refl
+
+bytes_of : (f : Bool) (x y : ℕ) → f ≡ false → (if f then x else y) ≡ y
+bytes_of f x y h = ap (λ v. if v then x else y) h
+
+how_written : {State : Type 0} (service : Machine State) (p : Point) (s : Sending) → FinIsLast s → HasWrittenAll service p s ⊎ HasFilled service p s
+    → WrittenAll s.closed s.fin_sent (answered_run service p).closed s.una (length s.held) s.sent (released service p)
+    ⊎ Filled s.closed s.fin_sent s.una (length s.held) (released service p)
+how_written service p s last (inl w) = inl (record { written = w.written; closed = w.closed })
+how_written service p s last (inr w) =
+    let unsent : s.fin_sent ≡ false = unsent_of s.fin_sent s.closed (λ h. (last h).0) w.open_still in
+    inr (record {
+      full = w.full;
+      open_still = w.open_still;
+      unsent = unsent;
+      written = omega (arith, w.written, bytes_of s.fin_sent (s.sent - 1) (s.una + length s.held) unsent);
+    })
 
 numbered : {State : Type 0} {service : Machine State} {news : News} {before after : Point} {u : Tcb} → Flushes service news before after u
-    → Numbered u.sending.opened u.sending.closed u.sending.fin_sent u.sending.una (length u.sending.held) u.sending.edge u.sending.sent (released service after)
+    → Numbered u.sending.opened u.sending.closed u.sending.fin_sent (answered_run service after).closed u.sending.una (length u.sending.held) u.sending.edge u.sending.sent
+    (released service after)
 numbered {service = service} {after = after} {u = u} f = record {
   order = f.bounds.order;
-  written = f.used.written;
-  held = sym (ap length f.used.output) ∙ length-drop u.sending.una (answered_run service after).output;
+  written = how_written service after u.sending f.fin_last f.used.written;
   flight = f.bounds.flight;
   unopened = f.bounds.unopened;
   shut = f.bounds.shut;
-  closes = λ h. ((f.fin_last h).0, (f.fin_last h).1);
+  reach = f.bounds.reach;
+  closes = f.fin_last;
 }
 
 -- the bytes that are sent for the first time
-new_bytes : (o c f : Bool) (una len edge sent all : ℕ) → Numbered o c f una len edge sent all
+all_bytes : (o c f : Bool) (una len edge sent all : ℕ) → all ≡ (if f then sent - 1 else una + len) → sent ≤ una + len + one_if f
+    → (o ≡ false → sent ≡ 0) → (o ≡ false → edge ≡ 0) → (f ≡ true → 1 ≤ sent)
     → (if o && not f then min (una + len) edge - sent else 0) ≡ min (max sent (min (all + one_if c) edge)) all - sent
-new_bytes false c f una len edge sent all n = omega (arith, n.unopened refl, n.shut refl)
-new_bytes true c true una len edge sent all n = omega (arith, n.written, (n.closes refl).1)
-new_bytes true c false una len edge sent all n = omega (arith, n.written, n.flight)
+all_bytes false c f una len edge sent all w flight unopened shut closes = omega (arith, unopened refl, shut refl)
+all_bytes true c true una len edge sent all w flight unopened shut closes = omega (arith, w, closes refl)
+all_bytes true c false una len edge sent all w flight unopened shut closes = omega (arith, w, flight)
+
+filled_bytes : (o c f : Bool) (una len edge sent all : ℕ) → f ≡ false → len ≡ 65535 → una + len ≤ all → edge ≤ una + 65535
+    → (o ≡ false → sent ≡ 0) → (o ≡ false → edge ≡ 0)
+    → (if o && not f then min (una + len) edge - sent else 0) ≡ min (max sent (min (all + one_if c) edge)) all - sent
+filled_bytes false c f una len edge sent all none full w reach unopened shut = omega (arith, unopened refl, shut refl)
+filled_bytes true c true una len edge sent all none full w reach unopened shut = absurd (false≢true (sym none))
+filled_bytes true c false una len edge sent all none full w reach unopened shut = omega (arith, full, w, reach)
+
+new_bytes : (o c f ends : Bool) (una len edge sent all : ℕ) → Numbered o c f ends una len edge sent all
+    → (if o && not f then min (una + len) edge - sent else 0) ≡ min (max sent (min (all + one_if ends) edge)) all - sent
+new_bytes o c f ends una len edge sent all n =
+    ⊎_elim
+    (λ w. all_bytes o ends f una len edge sent all w.written n.flight n.unopened n.shut (λ h. (n.closes h).1))
+    (λ w. filled_bytes o ends f una len edge sent all w.unsent w.full w.written n.reach n.unopened n.shut)
+    n.written
 
 -- the FIN is sent for the first time
-first_fin : (o c f : Bool) (una len edge sent all : ℕ) → Numbered o c f una len edge sent all
+all_fin : (o c f : Bool) (una len edge sent all : ℕ) → all ≡ (if f then sent - 1 else una + len) → sent ≤ una + len + one_if f
+    → (o ≡ false → sent ≡ 0) → (o ≡ false → edge ≡ 0) → (f ≡ true → 1 ≤ sent)
     → (o && c && not f && (sent + (if o && not f then min (una + len) edge - sent else 0) == una + len)
     && nat_lt (sent + (if o && not f then min (una + len) edge - sent else 0)) edge)
     ≡ (nat_lt all (max sent (min (all + one_if c) edge)) && nat_le sent all)
-first_fin false c f una len edge sent all n = grind (arith, n.unopened refl, n.shut refl)
-first_fin true c true una len edge sent all n = grind (arith, n.written, (n.closes refl).1)
-first_fin true true false una len edge sent all n = grind (arith, n.written, n.flight)
-first_fin true false false una len edge sent all n = grind (arith, n.written, n.flight)
+all_fin false c f una len edge sent all w flight unopened shut closes = grind (arith, unopened refl, shut refl)
+all_fin true c true una len edge sent all w flight unopened shut closes = grind (arith, w, closes refl)
+all_fin true true false una len edge sent all w flight unopened shut closes = grind (arith, w, flight)
+all_fin true false false una len edge sent all w flight unopened shut closes = grind (arith, w, flight)
+
+no_fin_yet : (o c t u v : Bool) → c ≡ false → (o && c && t && u && v) ≡ false
+no_fin_yet true true t u v h = absurd (false≢true (sym h))
+no_fin_yet true false t u v h = refl
+no_fin_yet false c t u v h = refl
+
+-- no room behind all output
+within_all : (ends : Bool) (una len edge sent all : ℕ) → len ≡ 65535 → una + len ≤ all → edge ≤ una + 65535 → sent ≤ una + len
+    → (nat_lt all (max sent (min (all + one_if ends) edge)) && nat_le sent all) ≡ false
+within_all true una len edge sent all full w reach flight = grind arith
+within_all false una len edge sent all full w reach flight = grind arith
+
+sent_within : (f : Bool) (sent una len : ℕ) → f ≡ false → sent ≤ una + len + one_if f → sent ≤ una + len
+sent_within true sent una len none h = absurd (false≢true (sym none))
+sent_within false sent una len none h = omega (arith, h)
+
+first_fin : (o c f ends : Bool) (una len edge sent all : ℕ) → Numbered o c f ends una len edge sent all
+    → (o && c && not f && (sent + (if o && not f then min (una + len) edge - sent else 0) == una + len)
+    && nat_lt (sent + (if o && not f then min (una + len) edge - sent else 0)) edge)
+    ≡ (nat_lt all (max sent (min (all + one_if ends) edge)) && nat_le sent all)
+first_fin o c f ends una len edge sent all n =
+    let places : ℕ = sent + (if o && not f then min (una + len) edge - sent else 0) in
+    ⊎_elim
+    (λ w. all_fin o c f una len edge sent all w.written n.flight n.unopened n.shut (λ h. (n.closes h).1)
+    ∙ ap (λ v. nat_lt all (max sent (min (all + one_if v) edge)) && nat_le sent all) (sym w.closed))
+    (λ w. no_fin_yet o c (not f) (places == una + len) (nat_lt places edge) w.open_still
+    ∙ sym (within_all ends una len edge sent all w.full w.written n.reach (sent_within f sent una len w.unsent n.flight)))
+    n.written
 
 -- .. and where it is, it stands behind all bytes
-fin_place : (o c f : Bool) (una len edge sent all : ℕ) → Numbered o c f una len edge sent all
+all_place : (o c f : Bool) (una len edge sent all : ℕ) → all ≡ (if f then sent - 1 else una + len) → una ≤ sent → sent ≤ una + len + one_if f
+    → (o ≡ false → sent ≡ 0) → (o ≡ false → edge ≡ 0) → (f ≡ true → 1 ≤ sent)
     → (nat_lt all (max sent (min (all + one_if c) edge)) && nat_le sent all) ≡ true
     → all ≡ una + (sent + (if o && not f then min (una + len) edge - sent else 0) - una)
-fin_place false c f una len edge sent all n h = grind (arith, n.unopened refl, n.shut refl)
-fin_place true c true una len edge sent all n h = grind (arith, n.written, (n.closes refl).1)
-fin_place true true false una len edge sent all n h = grind (arith, n.written, n.flight)
-fin_place true false false una len edge sent all n h = grind (arith, n.written, n.flight)
+all_place false c f una len edge sent all w order flight unopened shut closes h = grind (arith, unopened refl, shut refl)
+all_place true c true una len edge sent all w order flight unopened shut closes h = grind (arith, w, closes refl)
+all_place true true false una len edge sent all w order flight unopened shut closes h = grind (arith, w, flight)
+all_place true false false una len edge sent all w order flight unopened shut closes h = grind (arith, w, flight)
+
+fin_place : (o c f ends : Bool) (una len edge sent all : ℕ) → Numbered o c f ends una len edge sent all
+    → (nat_lt all (max sent (min (all + one_if ends) edge)) && nat_le sent all) ≡ true
+    → all ≡ una + (sent + (if o && not f then min (una + len) edge - sent else 0) - una)
+fin_place o c f ends una len edge sent all n h =
+    ⊎_elim
+    (λ w. all_place o ends f una len edge sent all w.written n.order n.flight n.unopened n.shut (λ k. (n.closes k).1) h)
+    (λ w. absurd (false≢true (sym (within_all ends una len edge sent all w.full w.written n.reach (sent_within f sent una len w.unsent n.flight)) ∙ h)))
+    n.written
 
 -- what was sent and is unacknowledged: the FIN alone where no byte is held
-last_is_fin : (o c f : Bool) (una len edge sent all : ℕ) → Numbered o c f una len edge sent all → nat_lt una sent ≡ true → (len == 0) ≡ (una == all)
-last_is_fin o c true una len edge sent all n h = grind (arith, n.written, n.held, n.closes refl)
-last_is_fin o c false una len edge sent all n h = grind (arith, n.written, n.held, n.flight)
+all_last : (f : Bool) (una len sent all : ℕ) → all ≡ (if f then sent - 1 else una + len) → una ≤ sent → (f ≡ true → (1 ≤ sent) × (len ≡ sent - 1 - una))
+    → nat_lt una sent ≡ true → (len == 0) ≡ (una == all)
+all_last true una len sent all w order closes h = grind (arith, w, closes refl)
+all_last false una len sent all w order closes h = grind (arith, w)
 
-again_bytes : (mss una len edge sent all : ℕ) → len ≡ all - una
+filled_last : (una len all : ℕ) → len ≡ 65535 → una + len ≤ all → (len == 0) ≡ (una == all)
+filled_last una len all full w = grind arith
+
+last_is_fin : (o c f ends : Bool) (una len edge sent all : ℕ) → Numbered o c f ends una len edge sent all → nat_lt una sent ≡ true → (len == 0) ≡ (una == all)
+last_is_fin o c f ends una len edge sent all n h =
+    ⊎_elim
+    (λ w. all_last f una len sent all w.written n.order (λ k. ((n.closes k).1, (n.closes k).2)) h)
+    (λ w. filled_last una len all w.full w.written)
+    n.written
+
+all_again : (f : Bool) (mss una len edge sent all : ℕ) → all ≡ (if f then sent - 1 else una + len) → una ≤ sent → (f ≡ true → (1 ≤ sent) × (len ≡ sent - 1 - una))
     → min mss (min (min (sent - una) len) (max 1 (edge - una))) ≡ min mss (min (min sent all - una) (max 1 (edge - una)))
-again_bytes mss una len edge sent all h = omega (arith, h)
+all_again true mss una len edge sent all w order closes = omega (arith, w, closes refl)
+all_again false mss una len edge sent all w order closes = omega (arith, w)
+
+filled_again : (mss una len edge sent all : ℕ) → una + len ≤ all → sent ≤ una + len
+    → min mss (min (min (sent - una) len) (max 1 (edge - una))) ≡ min mss (min (min sent all - una) (max 1 (edge - una)))
+filled_again mss una len edge sent all w flight = omega (arith, w, flight)
+
+again_bytes : (o c f ends : Bool) (mss una len edge sent all : ℕ) → Numbered o c f ends una len edge sent all
+    → min mss (min (min (sent - una) len) (max 1 (edge - una))) ≡ min mss (min (min sent all - una) (max 1 (edge - una)))
+again_bytes o c f ends mss una len edge sent all n =
+    ⊎_elim
+    (λ w. all_again f mss una len edge sent all w.written n.order (λ k. ((n.closes k).1, (n.closes k).2)))
+    (λ w. filled_again mss una len edge sent all w.written (sent_within f sent una len w.unsent n.flight))
+    n.written
 
 -- the head: what is acknowledged, and the window
 ack_number : (cisn irs upper fetched : ℕ) → irs ≡ (cisn + fetched) % 2 ^ 32 → number_at irs upper ≡ number_at cisn (upper + fetched)
@@ -168,15 +281,25 @@ opening_is : {State : Type 0} {service : Machine State} {news : News} {before af
     → opening_segment u ≡ model.syn_ack u.local after
 opening_is {after = after} {u = u} f = opening_at after u (tells f) f.begun
 
--- text at a place behind what is acknowledged
+-- text at a place behind what is acknowledged, within what is held
+shorter_front : (n k : ℕ) (xs : List ℕ) → take n (take (n + k) xs) ≡ take n xs
+shorter_front n k xs = take-take n (n + k) xs (omega arith)
+
+part_of_front : (place n l : ℕ) (xs held : List ℕ) → take l xs ≡ held → place + n ≤ l → take n (drop place held) ≡ take n (drop place xs)
+part_of_front place n l xs held is within =
+    let whole : l ≡ place + (n + (l - place - n)) = omega (arith, within) in
+    ap (λ ys. take n (drop place ys)) (sym is) ∙ ap (λ k. take n (drop place (take k xs))) whole
+    ∙ ap (take n) (drop-take place (n + (l - place - n)) xs) ∙ shorter_front n (l - place - n) (drop place xs)
+
 text_is : {State : Type 0} {service : Machine State} {news : News} {before after : Point} {u : Tcb} → Flushes service news before after u
-    → (place offset n : ℕ) → u.sending.una + place ≡ offset → text_at u place n ≡ model.text_at service u.local after offset n
+    → (place offset n : ℕ) → u.sending.una + place ≡ offset → place + n ≤ length u.sending.held → text_at u place n ≡ model.text_at service u.local after offset n
 unfolding text_at
-text_is {service = service} {after = after} {u = u} f place offset n h =
+text_is {service = service} {after = after} {u = u} f place offset n h within =
     let out : List ℕ = (answered_run service after).output in
-    let behind : drop place u.sending.held ≡ drop offset out =
-    ap (drop place) (sym f.used.output) ∙ drop-drop place u.sending.una out ∙ ap (λ k. drop k out) h in
-    λ i. record { head = head_is f (number_at (sym f.sends.sisn i) (h i)) 16 i; payload = take n (behind i) }
+    let behind : take n (drop place u.sending.held) ≡ take n (drop offset out) =
+    part_of_front place n (length u.sending.held) (drop u.sending.una out) u.sending.held f.used.output within
+    ∙ ap (take n) (drop-drop place u.sending.una out) ∙ ap (λ k. take n (drop k out)) h in
+    λ i. record { head = head_is f (number_at (sym f.sends.sisn i) (h i)) 16 i; payload = behind i }
 
 -- the FIN behind all bytes
 fin_is : {State : Type 0} {service : Machine State} {news : News} {before after : Point} {u : Tcb} → Flushes service news before after u
@@ -185,16 +308,24 @@ unfolding fin_at
 fin_is {u = u} f place h = λ i. record { head = head_is f (number_at (sym f.sends.sisn i) (h i)) 17 i; payload = [] }
 
 -- segment by segment
+text_or_none : (k left : ℕ) (xs ys : List Segment) (x y : Segment) → (nat_lt 0 left ≡ true → x ∷ xs ≡ y ∷ ys) → (if nat_lt 0 left then x ∷ xs else []) ≡ (if nat_lt 0 left then y ∷ ys else [])
+text_or_none k left xs ys x y same = if_when (nat_lt 0 left) (x ∷ xs) (y ∷ ys) [] [] same (λ h. refl)
+
 texts_are : {State : Type 0} {service : Machine State} {news : News} {before after : Point} {u : Tcb} → Flushes service news before after u
-    → (k place offset left : ℕ) → u.sending.una + place ≡ offset → texts k u place left ≡ model.texts service u.local after k offset left
+    → (k place offset left : ℕ) → u.sending.una + place ≡ offset → (0 < left → place + left ≤ length u.sending.held)
+    → texts k u place left ≡ model.texts service u.local after k offset left
 unfolding texts
-texts_are f zero place offset left h = refl
-texts_are {after = after} {u = u} f (suc k) place offset left h =
+texts_are f zero place offset left h within = refl
+texts_are {service = service} {after = after} {u = u} f (suc k) place offset left h within =
     let mss : u.sending.mss ≡ after.mss = sym f.sends.mss in
-    let further : (n : ℕ) → u.sending.una + (place + n) ≡ offset + n = λ n. omega (arith, h) in
-    λ i. if nat_lt 0 left
-    then text_is f place offset (min left (mss i)) h i ∷ texts_are f k (place + min left (mss i)) (offset + min left (mss i)) (left - min left (mss i)) (further (min left (mss i))) i
-    else []
+    let n : ℕ = min left u.sending.mss in
+    let further : u.sending.una + (place + n) ≡ offset + n = omega (arith, h) in
+    text_or_none k left (texts k u (place + n) (left - n)) (model.texts service u.local after k (offset + n) (left - n)) (text_at u place n) (model.text_at service u.local after offset n)
+    (λ some. let more : place + left ≤ length u.sending.held = within (grind (arith, some)) in
+    λ i. text_is f place offset n h (omega (arith, more)) i ∷ texts_are f k (place + n) (offset + n) (left - n) further (λ rest. omega (arith, more)) i)
+    ∙ (λ i. if nat_lt 0 left
+    then model.text_at service u.local after offset (min left (mss i)) ∷ model.texts service u.local after k (offset + min left (mss i)) (left - min left (mss i))
+    else [])
 
 -- something sent is unacknowledged: the SYN, or else text or the FIN
 waiting : (o b : Bool) → (not o || b) ≡ true → not o ≡ false → b ≡ true
@@ -215,21 +346,33 @@ unfolding again_segment
 again_is {service = service} {before = before} {after = after} {u = u} f waits =
     let s : Sending = u.sending in
     let all : ℕ = released service after in
-    let n : Numbered s.opened s.closed s.fin_sent s.una (length s.held) s.edge s.sent all = numbered f in
+    let ends : Bool = (answered_run service after).closed in
+    let n : Numbered s.opened s.closed s.fin_sent ends s.una (length s.held) s.edge s.sent all = numbered f in
     let again_length : resent_length s ≡ model.resent_length service before after =
-    again_bytes s.mss s.una (length s.held) s.edge s.sent all n.held
+    again_bytes s.opened s.closed s.fin_sent ends s.mss s.una (length s.held) s.edge s.sent all n
     ∙ (λ i. min (sym f.sends.mss i) (min (min (sym f.sent i) all - sym f.sends.una i) (max 1 (sym f.sends.edge i - sym f.sends.una i)))) in
     let last : not s.opened ≡ false → (length s.held == 0) ≡ (s.una == all) =
-    λ o. last_is_fin s.opened s.closed s.fin_sent s.una (length s.held) s.edge s.sent all n (waiting s.opened (nat_lt s.una s.sent) (waits_here f waits) o) in
+    λ o. last_is_fin s.opened s.closed s.fin_sent ends s.una (length s.held) s.edge s.sent all n (waiting s.opened (nat_lt s.una s.sent) (waits_here f waits) o) in
     let fin : Segment = model.fin_segment service u.local after in
     let text : Segment = model.text_at service u.local after after.una (model.resent_length service before after) in
     if_when (not s.opened) (opening_segment u) (model.syn_ack u.local after) (if length s.held == 0 then fin_at u 0 else text_at u 0 (resent_length s))
     (if after.una == all then fin else text) (λ h. opening_is f)
     (λ o. if_when (length s.held == 0) (fin_at u 0) fin (text_at u 0 (resent_length s)) text
     (λ h. fin_is f 0 (same_place s.una all (sym (last o) ∙ h)))
-    (λ h. text_is f 0 after.una (resent_length s) (omega (arith, f.sends.una)) ∙ ap (λ m. model.text_at service u.local after after.una m) again_length)
+    (λ h. text_is f 0 after.una (resent_length s) (omega (arith, f.sends.una)) (omega arith) ∙ ap (λ m. model.text_at service u.local after after.una m) again_length)
     ∙ ap (λ b. if b then fin else text) (last o ∙ ap (λ k. k == all) (sym f.sends.una)))
     ∙ ap (λ b. if not b then model.syn_ack u.local after else (if after.una == all then fin else text)) (sym f.sends.counted)
+
+-- new text is held
+held_by : (o f : Bool) (una len edge sent : ℕ) → una ≤ sent → 0 < (if o && not f then min (una + len) edge - sent else 0)
+    → sent - una + (if o && not f then min (una + len) edge - sent else 0) ≤ len
+held_by true true una len edge sent order some = absurd (omega (arith, some))
+held_by true false una len edge sent order some = omega (arith, order, some)
+held_by false f una len edge sent order some = absurd (omega (arith, some))
+
+held_on : (begun : Bool) (s : Sending) → s.una ≤ s.sent → 0 < (if begun then sendable s else 0) → s.sent - s.una + (if begun then sendable s else 0) ≤ length s.held
+held_on true s order some = held_by s.opened s.fin_sent s.una (length s.held) s.edge s.sent order some
+held_on false s order some = absurd (omega (arith, some))
 
 -- what is sent for the first time, where nothing is probed
 text_out_is : {State : Type 0} {service : Machine State} {news : News} {before after : Point} {u : Tcb} → Flushes service news before after u
@@ -239,10 +382,10 @@ text_out_is {service = service} {before = before} {after = after} {u = u} f =
     let s : Sending = u.sending in
     let all : ℕ = released service after in
     let bytes : new_length u ≡ model.new_length service before after =
-    ap (λ b. if b then sendable s else 0) f.begun ∙ new_bytes s.opened s.closed s.fin_sent s.una (length s.held) s.edge s.sent all (numbered f)
-    ∙ (λ i. min (max (sym f.sent i) (min (all + one_if (sym f.used.closed i)) (sym f.sends.edge i))) all - sym f.sent i) in
-    (λ i. texts (bytes i) u (s.sent - s.una) (bytes i))
-    ∙ texts_are f (model.new_length service before after) (s.sent - s.una) before.sent (model.new_length service before after) (omega (arith, f.bounds.order, f.sent))
+    ap (λ b. if b then sendable s else 0) f.begun ∙ new_bytes s.opened s.closed s.fin_sent (answered_run service after).closed s.una (length s.held) s.edge s.sent all (numbered f)
+    ∙ (λ i. min (max (sym f.sent i) (min (all + one_if (answered_run service after).closed) (sym f.sends.edge i))) all - sym f.sent i) in
+    texts_are f (new_length u) (s.sent - s.una) before.sent (new_length u) (omega (arith, f.bounds.order, f.sent)) (held_on (has_begun u.name) s f.bounds.order)
+    ∙ (λ i. model.texts service u.local after (bytes i) before.sent (bytes i))
 
 fin_out_is : {State : Type 0} {service : Machine State} {news : News} {before after : Point} {u : Tcb} → Flushes service news before after u
     → fin_out (with_text_sent u) ≡ model.new_fin service u.local before after
@@ -250,17 +393,18 @@ unfolding fin_out fin_at head_at with_text_sent model.new_fin sender.sent_at_onc
 fin_out_is {service = service} {before = before} {after = after} {u = u} f =
     let s : Sending = u.sending in
     let all : ℕ = released service after in
-    let n : Numbered s.opened s.closed s.fin_sent s.una (length s.held) s.edge s.sent all = numbered f in
+    let ends : Bool = (answered_run service after).closed in
+    let n : Numbered s.opened s.closed s.fin_sent ends s.una (length s.held) s.edge s.sent all = numbered f in
     let bytes : new_length u ≡ sendable s = ap (λ b. if b then sendable s else 0) f.begun in
     let fin : Segment = model.fin_segment service u.local after in
-    let test : Bool = nat_lt all (max s.sent (min (all + one_if s.closed) s.edge)) && nat_le s.sent all in
+    let test : Bool = nat_lt all (max s.sent (min (all + one_if ends) s.edge)) && nat_le s.sent all in
     ap (λ b. if b then fin_at (with_text_sent u) (s.sent + new_length u - s.una) ∷ [] else [])
-    ((λ i. f.begun i && sends_fin (with_sent s (bytes i))) ∙ first_fin s.opened s.closed s.fin_sent s.una (length s.held) s.edge s.sent all n)
+    ((λ i. f.begun i && sends_fin (with_sent s (bytes i))) ∙ first_fin s.opened s.closed s.fin_sent ends s.una (length s.held) s.edge s.sent all n)
     ∙ if_when test (fin_at (with_text_sent u) (s.sent + new_length u - s.una) ∷ []) (fin ∷ []) [] []
     (λ h i. fin_is f (s.sent + new_length u - s.una)
-    (ap (λ k. s.una + (s.sent + k - s.una)) bytes ∙ sym (fin_place s.opened s.closed s.fin_sent s.una (length s.held) s.edge s.sent all n h)) i ∷ [])
+    (ap (λ k. s.una + (s.sent + k - s.una)) bytes ∙ sym (fin_place s.opened s.closed s.fin_sent ends s.una (length s.held) s.edge s.sent all n h)) i ∷ [])
     (λ h. refl)
-    ∙ (λ i. if nat_lt all (max (sym f.sent i) (min (all + one_if (sym f.used.closed i)) (sym f.sends.edge i))) && nat_le (sym f.sent i) all then fin ∷ [] else [])
+    ∙ (λ i. if nat_lt all (max (sym f.sent i) (min (all + one_if ends) (sym f.sends.edge i))) && nat_le (sym f.sent i) all then fin ∷ [] else [])
 
 -- what the endpoint's timer makes it send
 no_again : (u : Tcb) → u.again ≡ false → again_out u ≡ []
@@ -364,6 +508,22 @@ kept P more fin begun pt pf s h =
 probe_test : (una len sent all : ℕ) → una ≡ sent → all ≡ una + len → nat_lt (sent - una) len ≡ nat_lt sent all
 probe_test una len sent all is h = grind arith
 
+filled_test : (una len sent all : ℕ) → una ≡ sent → len ≡ 65535 → una + len ≤ all → nat_lt (sent - una) len ≡ nat_lt sent all
+filled_test una len sent all is full w = grind arith
+
+probe_waits : {State : Type 0} (service : Machine State) (p : Point) (s : Sending) → s.una ≡ s.sent → s.fin_sent ≡ false → HasWrittenAll service p s ⊎ HasFilled service p s
+    → nat_lt (s.sent - s.una) (length s.held) ≡ nat_lt s.sent (released service p)
+probe_waits service p s is unsent (inl w) =
+    probe_test s.una (length s.held) s.sent (released service p) is (w.written ∙ bytes_of s.fin_sent (s.sent - 1) (s.una + length s.held) unsent)
+probe_waits service p s is unsent (inr w) =
+    filled_test s.una (length s.held) s.sent (released service p) is w.full (omega (arith, w.written, bytes_of s.fin_sent (s.sent - 1) (s.una + length s.held) unsent))
+
+probe_place : {State : Type 0} (service : Machine State) (p : Point) (s : Sending) → s.una ≡ s.sent → length s.held ≡ 0 → s.fin_sent ≡ false
+    → HasWrittenAll service p s ⊎ HasFilled service p s → s.una + (s.sent - s.una) ≡ released service p
+probe_place service p s is none unsent (inl w) =
+    omega (arith, is, none, w.written ∙ bytes_of s.fin_sent (s.sent - 1) (s.una + length s.held) unsent)
+probe_place service p s is none unsent (inr w) = absurd (omega (arith, none, w.full))
+
 probed_is : {State : Type 0} {service : Machine State} {news : News} {before after : Point} {u : Tcb} → Flushes service news before after u
     → (t : Bool) → u.probe ≡ true → nat_lt (u.sending.sent - u.sending.una) (length u.sending.held) ≡ t
     → probe_out u ≡ model.probe service u.local before after ∷ []
@@ -373,11 +533,9 @@ probed_is {service = service} {before = before} {after = after} {u = u} f true i
     let unsent : s.fin_sent ≡ false = fin_unsent s.fin_sent s.closed s.una (length s.held) s.sent (f.probes.all_acked is) (f.probes.waits is) in
     let on : probes u ≡ true = probing u f.begun (f.probes.opened is) unsent is in
     let text : probes_text u ≡ true = ap (λ b. b && nat_lt (s.sent - s.una) (length s.held)) on ∙ waits in
-    let end : all ≡ s.una + length s.held = f.used.written ∙ ap (λ b. if b then s.sent - 1 else s.una + length s.held) unsent in
-    let test : nat_lt before.sent all ≡ true =
-    ap (λ k. nat_lt k all) f.sent ∙ sym (probe_test s.una (length s.held) s.sent all (f.probes.all_acked is) end) ∙ waits in
+    let test : nat_lt before.sent all ≡ true = ap (λ k. nat_lt k all) f.sent ∙ sym (probe_waits service after s (f.probes.all_acked is) unsent f.used.written) ∙ waits in
     probe_by u true (probes_fin u) text refl
-    ∙ (λ i. text_is f (s.sent - s.una) before.sent 1 (omega (arith, f.bounds.order, f.sent)) i ∷ [])
+    ∙ (λ i. text_is f (s.sent - s.una) before.sent 1 (omega (arith, f.bounds.order, f.sent)) (grind (arith, waits)) i ∷ [])
     ∙ ap (λ b. (if b then model.text_at service u.local after before.sent 1 else model.fin_segment service u.local after) ∷ []) (sym test)
 probed_is {service = service} {before = before} {after = after} {u = u} f false is waits =
     let s : Sending = u.sending in
@@ -389,10 +547,8 @@ probed_is {service = service} {before = before} {after = after} {u = u} f false 
     let no_text : probes_text u ≡ false = ap (λ b. b && nat_lt (s.sent - s.una) (length s.held)) on ∙ waits in
     let fin : probes_fin u ≡ true =
     ap (λ b. b && not (nat_lt (s.sent - s.una) (length s.held)) && s.closed) on ∙ ap (λ b. true && not b && s.closed) waits ∙ closes in
-    let end : all ≡ s.una + length s.held = f.used.written ∙ ap (λ b. if b then s.sent - 1 else s.una + length s.held) unsent in
-    let test : nat_lt before.sent all ≡ false =
-    ap (λ k. nat_lt k all) f.sent ∙ sym (probe_test s.una (length s.held) s.sent all (f.probes.all_acked is) end) ∙ waits in
-    let place : s.una + (s.sent - s.una) ≡ all = omega (arith, f.probes.all_acked is, none, end) in
+    let test : nat_lt before.sent all ≡ false = ap (λ k. nat_lt k all) f.sent ∙ sym (probe_waits service after s (f.probes.all_acked is) unsent f.used.written) ∙ waits in
+    let place : s.una + (s.sent - s.una) ≡ all = probe_place service after s (f.probes.all_acked is) none unsent f.used.written in
     probe_by u false true no_text fin
     ∙ (λ i. fin_is f (s.sent - s.una) place i ∷ [])
     ∙ ap (λ b. (if b then model.text_at service u.local after before.sent 1 else model.fin_segment service u.local after) ∷ []) (sym test)

@@ -1,5 +1,5 @@
 -- The end of a turn: what the flush leaves of the sending half, and when the timer runs.
-use Rattle.std.proofs.Common.{◌≡◌, ℕ, ◌≤◌, ◌+◌, ◌-◌, Bool, true, false, not, length, max, min, refl, sym, ap, arith, ◌∙◌}
+use Rattle.std.proofs.Common.{◌≡◌, ℕ, ◌≤◌, ◌+◌, ◌-◌, Bool, true, false, not, length, max, min, refl, sym, ap, arith, ⊎_elim, ◌∙◌}
 use Rattle.std.specs.Prelude.{pos, ◌+ℤ◌, ◌==◌, ◌&&◌, ◌||◌, nat_lt, if◌then◌else◌}
 use Rattle.std.proofs.lemmas.Bool.{false≢true}
 use Rattle.seq_arith.specs.Number.{offset_of}
@@ -13,7 +13,7 @@ use Rattle.tcp_endpoint.specs.Sending.{Sending, target, must_run, timed, sendabl
 use Rattle.tcp_endpoint.specs.Tcb.{Tcb}
 use Rattle.tcp_endpoint.specs.Leaving.{probes_text, probes_fin, with_probe, with_text_sent, with_fin_out, after_full, announced, is_timed, settled, flushed}
 use Rattle.tcp_endpoint.specs.Laws.{IsBounded}
-use Rattle.tcp_endpoint.specs.Standing.{SendsAt, IsUsedAt}
+use Rattle.tcp_endpoint.specs.Standing.{SendsAt, HasWrittenAll, HasFilled, IsUsedAt}
 use Rattle.tcp_endpoint.proofs.TurnLaw.{after_steps, by_probe, timed_sent}
 use Rattle.tcp_endpoint.proofs.ToldLaw.{after_probe}
 use Rattle.tcp_endpoint.proofs.Calls.{FinIsLast}
@@ -175,16 +175,62 @@ runs_flushed u h =
     let v : Tcb = after_full u in
     runs_timed (is_timed v) v.sending (λ r. right_of (has_begun v.name || is_syn_sent v.name) (must_run v.sending) r) h
 
--- the target, and whether the timer must run, at the point
+-- the target, and whether the timer must run, at the point: behind a full buffer the rest of the output waits, which has no room
 target_by : (f c : Bool) (una len sent : ℕ) → (f ≡ true → (c ≡ true) × (1 ≤ sent)) → (if f then sent - 1 else una + len) + one_if c ≡ (if f then sent else una + len + one_if c)
 target_by true true una len sent last = omega (arith, (last refl).1)
 target_by true false una len sent last = absurd (false≢true (last refl).0)
 target_by false c una len sent last = refl
 
-pub target_at : {State : Type 0} (service : Machine State) (p : Point) (u : Tcb) → IsUsedAt service p u → FinIsLast u.sending → point.target service p ≡ target u.sending
-target_at service p u used last =
+all_target : {State : Type 0} (service : Machine State) (p : Point) (s : Sending) → FinIsLast s → HasWrittenAll service p s → point.target service p ≡ target s
+all_target service p s last w =
+    (λ i. w.written i + one_if (w.closed i)) ∙ target_by s.fin_sent s.closed s.una (length s.held) s.sent (λ h. ((last h).0, (last h).1))
+
+fin_unsent : (f c : Bool) → (f ≡ true → c ≡ true) → c ≡ false → f ≡ false
+fin_unsent true c ends h = absurd (false≢true (sym h ∙ ends refl))
+fin_unsent false c ends h = refl
+
+open_target : (f c : Bool) (una len sent : ℕ) → f ≡ false → c ≡ false → (if f then sent else una + len + one_if c) ≡ una + len
+open_target true c una len sent none h = absurd (false≢true (sym none))
+open_target false true una len sent none h = absurd (false≢true (sym h))
+open_target false false una len sent none h = omega arith
+
+-- what a full buffer says of the target
+record FilledTarget (una edge goal all : ℕ) : Type 0 where
+  full : goal ≡ una + 65535
+  within : goal ≤ all
+  reach : edge ≤ goal
+
+filled_target : {State : Type 0} (service : Machine State) (p : Point) (u : Tcb) → IsBounded u → FinIsLast u.sending → HasFilled service p u.sending
+    → FilledTarget u.sending.una u.sending.edge (target u.sending) (point.target service p)
+filled_target service p u b last w =
     let s : Sending = u.sending in
-    (λ i. used.written i + one_if (used.closed i)) ∙ target_by s.fin_sent s.closed s.una (length s.held) s.sent (λ h. ((last h).0, (last h).1))
+    let unsent : s.fin_sent ≡ false = fin_unsent s.fin_sent s.closed (λ h. (last h).0) w.open_still in
+    let goal : target s ≡ s.una + length s.held = open_target s.fin_sent s.closed s.una (length s.held) s.sent unsent w.open_still in
+    let written : s.una + length s.held ≤ point.released service p =
+    omega (arith, w.written, ap (λ v. if v then s.sent - 1 else s.una + length s.held) unsent) in
+    record { full = omega (arith, goal, w.full); within = omega (arith, goal, written); reach = omega (arith, goal, w.full, b.reach) }
+
+filled_sent : (una edge goal all sent : ℕ) → FilledTarget una edge goal all → max sent (min all edge) ≡ max sent (min goal edge)
+filled_sent una edge goal all sent f = omega (arith, f.within, f.reach)
+
+-- how far a turn sends
+pub sent_at : {State : Type 0} (service : Machine State) (p : Point) (u : Tcb) → IsBounded u → FinIsLast u.sending → IsUsedAt service p u
+    → max u.sending.sent (min (point.target service p) u.sending.edge) ≡ max u.sending.sent (min (target u.sending) u.sending.edge)
+sent_at service p u b last used =
+    ⊎_elim (λ w. ap (λ n. max u.sending.sent (min n u.sending.edge)) (all_target service p u.sending last w))
+    (λ w. filled_sent u.sending.una u.sending.edge (target u.sending) (point.target service p) u.sending.sent (filled_target service p u b last w))
+    used.written
+
+filled_runs : (una edge goal all sent : ℕ) → FilledTarget una edge goal all → nat_lt una (max sent goal) ≡ nat_lt una (max sent all)
+filled_runs una edge goal all sent f = grind (arith, f.full, f.within)
+
+-- whether something waits
+waits_at : {State : Type 0} (service : Machine State) (p : Point) (u : Tcb) (sent : ℕ) → IsBounded u → FinIsLast u.sending → IsUsedAt service p u
+    → nat_lt u.sending.una (max sent (target u.sending)) ≡ nat_lt u.sending.una (max sent (point.target service p))
+waits_at service p u sent b last used =
+    ⊎_elim (λ w. ap (λ n. nat_lt u.sending.una (max sent n)) (sym (all_target service p u.sending last w)))
+    (λ w. filled_runs u.sending.una u.sending.edge (target u.sending) (point.target service p) sent (filled_target service p u b last w))
+    used.written
 
 full_target : (u : Tcb) → has_begun u.name ≡ true → IsBounded u → target (after_full u).sending ≡ target u.sending
 unfolding after_full with_fin_out with_text_sent with_probe
@@ -203,15 +249,14 @@ pub runs_at : {State : Type 0} (service : Machine State) (p : Point) (u : Tcb) �
 unfolding timer.must_run
 runs_at service p u begun b last s used sent =
     let v : Tcb = after_full u in
-    let steady_opened : v.sending.opened ≡ u.sending.opened =
-    full_keeps (λ (q : Sending). q.opened) u (record { sends = λ s n. refl; ends = λ s. refl; times = λ s i r. refl }) in
-    let steady_una : v.sending.una ≡ u.sending.una =
+    let opened : v.sending.opened ≡ p.counted =
+    full_keeps (λ (q : Sending). q.opened) u (record { sends = λ s n. refl; ends = λ s. refl; times = λ s i r. refl }) ∙ sym s.counted in
+    let una : v.sending.una ≡ u.sending.una =
     full_keeps (λ (q : Sending). q.una) u (record { sends = λ s n. refl; ends = λ s. refl; times = λ s i r. refl }) in
-    let opened : v.sending.opened ≡ p.counted = steady_opened ∙ sym s.counted in
-    let una : v.sending.una ≡ p.una = steady_una ∙ sym s.una in
-    let goal : target v.sending ≡ point.target service p = full_target u begun b ∙ sym (target_at service p u used last) in
     ap (λ n. (n || is_syn_sent v.name) && must_run v.sending) (full_name u begun)
-    ∙ (λ i. not (opened i) || nat_lt (una i) (max (sym sent i) (goal i)))
+    ∙ (λ i. not (opened i) || nat_lt (una i) (max (sym sent i) (full_target u begun b i)))
+    ∙ ap (λ w. not p.counted || w) (waits_at service p u p.sent b last used)
+    ∙ ap (λ n. not p.counted || nat_lt n (max p.sent (point.target service p))) (sym s.una)
 
 -- where the timer must run before the flush, it must at the point after it
 more_sent : (o : Bool) (una sent sent' goal : ℕ) → sent ≤ sent' → (not o || nat_lt una (max sent goal)) ≡ true → (not o || nat_lt una (max sent' goal)) ≡ true
@@ -239,5 +284,6 @@ pub running_at : {State : Type 0} (service : Machine State) (before after : Poin
 unfolding timer.must_run
 running_at service before after u b last s used was sent must =
     let more : u.sending.sent ≤ after.sent = omega (arith, steps_grow u, sent) in
-    (λ i. not (s.counted i) || nat_lt (s.una i) (max after.sent (target_at service after u used last i)))
+    (λ i. not (s.counted i) || nat_lt (s.una i) (max after.sent (point.target service after)))
+    ∙ ap (λ w. not u.sending.opened || w) (sym (waits_at service after u after.sent b last used))
     ∙ more_sent u.sending.opened u.sending.una u.sending.sent after.sent (target u.sending) more must

@@ -9,6 +9,7 @@ use Rattle.ft_model.specs.Offset.{one_if}
 use Rattle.ft_model.specs.News.{News}
 use Rattle.ft_model.specs.News.News.{Comes, Logged, Ticks, Begins}
 use Rattle.ft_model.specs.Point.{Point, taken_units, announced_edge}
+use Rattle.ft_model.specs.Point as point
 use Rattle.ft_model.specs.Sending.{counted_after, acknowledged_after, sent_at_once, sent_after}
 use Rattle.ft_model.specs.Segments.{or_bare, bare_segment, resent, new_texts, new_fin}
 use Rattle.ft_model.specs.Timer as timer
@@ -29,7 +30,7 @@ use Rattle.tcp_endpoint.proofs.StandingLaw.{next_is, announced_is}
 use Rattle.tcp_endpoint.proofs.Calls.{FinIsLast, IsUsed, used_is, bounded_used, last_used, probes_used}
 use Rattle.tcp_endpoint.proofs.Arrivals.{moved, Arrived, arrives, owed_is}
 use Rattle.tcp_endpoint.proofs.Flushing.{Flushes, waits_for_ack}
-use Rattle.tcp_endpoint.proofs.TurnEnd.{flushed_sends, last_flushed, runs_flushed, target_at, flushed_sent, runs_at, running_at}
+use Rattle.tcp_endpoint.proofs.TurnEnd.{flushed_sends, last_flushed, runs_flushed, sent_at, flushed_sent, runs_at, running_at}
 use Rattle.tcp_endpoint.proofs.TimerAt.{Timed, timer_at}
 use Rattle.tcp_endpoint.proofs.SegmentsLaw.{full_is, bare_is}
 
@@ -103,7 +104,8 @@ sent_is service news before after e m u stands came a laws f =
     (λ i. timer.expires news before && stands.sends.counted i && not (nat_lt (stands.sends.una i) (stands.sent i)))
     ∙ sym (probes_by (timer.expires news before) e.sending.opened (nat_lt e.sending.una e.sending.sent)) ∙ sym (a.probe ∙ came.probe) in
     laws.sent
-    ∙ (λ i. max (f.sent i) (min (target_at service after u f.used f.fin_last i) (f.sends.edge i)) + one_if (probe i))
+    ∙ (λ i. max (f.sent i) (min (point.target service after) (f.sends.edge i)) + one_if (probe i))
+    ∙ ap (λ n. n + one_if u.probe) (sent_at service after u f.bounds f.fin_last f.used)
     ∙ sym (sent_law u f.begun f.bounds f.probes)
 
 -- a segment without data

@@ -90,6 +90,7 @@ pub record Bounds (r : Receiving) (s : Sending) : Type 0 where
   pub wl1_fits : s.wl1 ≤ 2 ^ 32 - 1
   pub wl2 : s.wl2 ≤ s.una
   pub edge : s.edge ≤ 2 ^ 24 + 2 ^ 16 + 1
+  pub reach : s.edge ≤ s.una + 65535
 
 abbrev pub IsBounded : Tcb → Type 0
 IsBounded e = Bounds e.receiving e.sending

@@ -1,8 +1,8 @@
--- An endpoint that stands at a point of `ft_model`, and what its turns are by the laws there. The point's connection was never restarted,
--- or the endpoint counts the peer's stream from behind the bytes that were fetched: its limit is what they leave of 2^24. So the limit of an
--- endpoint stands in the place of 2^24, and nothing is fetched where it is a whole stream. The bytes that the user has read are the
--- point's; the endpoint has forgotten them.
-use Rattle.std.specs.Prelude.{◌≡◌, ℕ, Bool, true, false, pos, ◌+◌, ◌≤◌, ◌%◌, ◌^◌, ◌+ℤ◌, ◌==◌, ◌&&◌, ◌||◌, not, max, List, [], ◌∷◌, ◌++◌, length, drop, sum, if◌then◌else◌}
+-- An endpoint that stands at a point of `ft_model`, and what its turns are by the laws there. Those laws know one limit, 2^24 bytes. An
+-- endpoint with a smaller one stands at a point whose peer's stream begins as many bytes further up, as if they had been fetched: so its
+-- limit stands in the place of 2^24, and where it is 2^24 nothing is fetched. The bytes that the user has read are the point's; the endpoint
+-- has forgotten them.
+use Rattle.std.specs.Prelude.{◌≡◌, ℕ, Bool, true, false, pos, ◌+◌, ◌≤◌, ◌%◌, ◌^◌, ◌+ℤ◌, ◌==◌, ◌&&◌, ◌||◌, not, max, List, [], ◌∷◌, ◌++◌, length, drop, sum, if◌then◌else◌, take, ◌⊎◌}
 use Rattle.ft_io.specs.declared.Addr.{Addr}
 use Rattle.seq_arith.specs.Number.{offset_of}
 use Rattle.seq_arith.specs.Packet.{Segment, has_syn, has_rst}
@@ -22,7 +22,7 @@ use Rattle.ft_model.specs.Refusal.{rst_at_ack}
 use Rattle.ft_model.specs.Segments.{syn_ack, bare_segment, resent, new_texts, new_fin, or_bare}
 use Rattle.tcp_endpoint.specs.States.{has_begun}
 use Rattle.tcp_endpoint.specs.Receiving.{taken}
-use Rattle.tcp_endpoint.specs.Sending.{bytes_end}
+use Rattle.tcp_endpoint.specs.Sending.{Sending, bytes_end}
 use Rattle.tcp_endpoint.specs.Tcb.{Tcb}
 use Rattle.tcp_endpoint.specs.Turn.{Call, MayUse, IsUsualNews, IsBetweenTurns, arrived, before_flush, turned, sent_in}
 
@@ -54,13 +54,23 @@ pub record StandsAt (p : Point) (e : Tcb) : Type 0 where
   pub interval : p.interval ≡ e.sending.interval
   pub rest : p.rest ≡ e.sending.rest
 
--- the user of an endpoint is the service at a point: it has read those bytes, has written its output, and has closed with it. TCP knows
--- of no log: all that is taken may be acknowledged
+-- all output of a service is written, and the user has closed where it has
+pub record HasWrittenAll {State : Type 0} (service : Machine State) (p : Point) (s : Sending) : Type 0 where
+  pub written : released service p ≡ bytes_end s
+  pub closed : (answered_run service p).closed ≡ s.closed
+
+-- .. or the send buffer is full, and the user hasn't closed yet
+pub record HasFilled {State : Type 0} (service : Machine State) (p : Point) (s : Sending) : Type 0 where
+  pub full : length s.held ≡ 65535
+  pub open_still : s.closed ≡ false
+  pub written : bytes_end s ≤ released service p
+
+-- the user of an endpoint is the service at a point: it has read those bytes, and written of its output, in order, as much as there was room
+-- for. TCP knows of no log: all that is taken may be acknowledged
 pub record IsUsedAt {State : Type 0} (service : Machine State) (p : Point) (e : Tcb) : Type 0 where
   pub read : max p.fetched (sum p.lengths) ≡ e.receiving.read + p.fetched
-  pub output : drop e.sending.una (answered_run service p).output ≡ e.sending.held
-  pub written : released service p ≡ bytes_end e.sending
-  pub closed : (answered_run service p).closed ≡ e.sending.closed
+  pub output : take (length e.sending.held) (drop e.sending.una (answered_run service p).output) ≡ e.sending.held
+  pub written : HasWrittenAll service p e.sending ⊎ HasFilled service p e.sending
   pub answered : taken_units p ≤ p.answered
 
 -- the laws Taken and Sending, with the timer's, of a turn: what `LiveTurn` asks of the point after it but for reads and log
@@ -122,24 +132,26 @@ pub record LeadsTo {State : Type 0} (service : Machine State) (news : News) (bef
   pub stands : StandsAt after (turned news calls e)
   pub segments : sent_in news calls e ≡ segments_by_laws service e.local news before after
 
--- a turn of a run, and the point after it
+-- a turn of a run: what comes, what the user does, a service that has read and written like the user up to then, and the point after it.
+-- Whatever a user writes, some service has written that, and only that counts: so the services of two turns need have nothing in common
 pub record Step : Type 0 where
   pub news : News
   pub calls : List Call
+  pub user : Machine ℕ
   pub after : Point
 
 -- what is asked of it: its segment is a usual one, the user's calls may be, the endpoint isn't CLOSED by it, and the point after it follows
--- from the one before by the laws, for a service that has read and written as the user
-pub record IsStep {State : Type 0} (service : Machine State) (before : Point) (e : Tcb) (step : Step) : Type 0 where
+-- from the one before by the laws
+pub record IsStep (before : Point) (e : Tcb) (step : Step) : Type 0 where
   pub usual : IsUsualNews step.news e
   pub may : MayUse step.calls (arrived step.news e)
   pub begun : has_begun (before_flush step.news step.calls e).name ≡ true
-  pub laws : MeetsLaws service step.news before step.after
-  pub user : IsUsedAt service step.after (before_flush step.news step.calls e)
+  pub laws : MeetsLaws step.user step.news before step.after
+  pub used : IsUsedAt step.user step.after (before_flush step.news step.calls e)
 
 -- each turn of a run leads to the point after it
-abbrev pub RunsByLaws : {State : Type 0} → Machine State → Point → Tcb → List Step → Type 0
-RunsByLaws service before e [] = Unit {0}
-RunsByLaws service before e (step ∷ steps) =
-    IsStep service before e step
-    → LeadsTo service step.news before step.after e step.calls × RunsByLaws service step.after (turned step.news step.calls e) steps
+abbrev pub RunsByLaws : Point → Tcb → List Step → Type 0
+RunsByLaws before e [] = Unit {0}
+RunsByLaws before e (step ∷ steps) =
+    IsStep before e step
+    → LeadsTo step.user step.news before step.after e step.calls × RunsByLaws step.after (turned step.news step.calls e) steps

@@ -160,12 +160,12 @@ pub fn turns_have_points()
 
 /// So over a whole run: an endpoint of `listen` meets the laws Taken and Sending of `ft_model`, with the timer's, from its SYN on and until it
 /// is CLOSED, for every initial number of both sides, every limit up to 2^24, and whatever comes and the user does in each turn.
-pub fn endpoints_run_by_the_laws<S: Service>()
-    ensures { (kind : ℕ) (local : Addr) (iss limit cisn : ℕ) (fetched : List ℕ) (syn : Segment) (calls : List Call) (steps : List Step)
+pub fn endpoints_run_by_the_laws()
+    ensures { (local : Addr) (iss limit cisn : ℕ) (fetched : List ℕ) (syn : Segment) (calls : List Call) (steps : List Step)
         → limit + length fetched ≡ 2 ^ 24 → is_syn syn ≡ true → syn.head.seq ≡ (cisn + length fetched) % 2 ^ 32
         → MayUse calls (received (listening local iss limit) syn)
         → BeginsAt (point_begun fetched (numbers_with cisn iss syn)) (listening local iss limit) syn calls
-        × RunsByLaws (machine (S.started kind) S.after) (point_begun fetched (numbers_with cisn iss syn)) (turned (Comes syn) calls (listening local iss limit)) steps }
+        × RunsByLaws (point_begun fetched (numbers_with cisn iss syn)) (turned (Comes syn) calls (listening local iss limit)) steps }
 {}
 
 /// The law on a segment without data, at the end of a turn with a segment: it goes out exactly where one is owed and no other segment does.
