@@ -1,5 +1,5 @@
 -- What is written of one event more, and of all that a run has played.
-use Rattle.std.proofs.Common.{◌≡◌, ◌∙◌, ℕ, suc, ◌+◌, Option, None, Some, List, [], ◌∷◌, ◌++◌, length, map, refl, sym, ap, subst, Ok, Err, Result, OnOk, IfErr, IsErrAnd, IfSome, take, ◌<◌, ◌≤◌, arith}
+use Rattle.std.proofs.Common.{◌≡◌, ◌∙◌, ℕ, suc, ◌+◌, Option, None, Some, List, [], ◌∷◌, ◌++◌, length, map, refl, sym, ap, subst, Ok, Err, Result, OnOk, IfErr, IsErrAnd, IfSome, take, ◌<◌, arith}
 use Rattle.std.proofs.lemmas.List.{length-append, append_assoc, append-nil, length-take-le}
 use Rattle.std.proofs.Math.ListN.{get_or}
 use Rattle.std.proofs.Math.Seq.{take-suc}

@@ -9,7 +9,7 @@ use Rattle.ft_model.specs.declared.schedule.Limit.{Limit}
 use Rattle.ft_model.specs.declared.schedule.Limit.TheVariants as limits
 use Rattle.sample_servers.specs.Echo.{echo_machine}
 use Rattle.replay_tool.specs.Ends.{code_of, is_code}
-use Rattle.replay_tool.specs.Causes.{IsInOrder, HasBadLine, HasBadEvent, IsPastLimit, IsStill, IsSettled}
+use Rattle.replay_tool.specs.Causes.{IsInOrder, HasBadLine, HasBadEvent, IsPastLimit, IsSettled}
 use Rattle.replay_tool.specs.Causes.IsPastLimit.{by_text, by_packets}
 use Rattle.replay_tool.specs.Played.{IsReported, IsReportedTill}
 use Rattle.replay_tool.specs.Stops.{StopsRun, ReportsTill}

@@ -1,18 +1,16 @@
 -- Why a run ends before its end: from the step of one event up to the status.
-use Rattle.std.proofs.Common.{◌≡◌, ◌∙◌, ◌⊎◌, ℕ, suc, ◌+◌, ◌-◌, ◌<◌, ◌≤◌, Bool, true, false, Option, None, Some, List, [], ◌∷◌, ◌++◌, length, take, drop, refl, sym, ap, subst, Ok, Err, Result, OnOk, IfErr, IfSome, nat_le, if◌then◌else◌, arith}
-use Rattle.std.proofs.lemmas.List.{length-append, append_assoc, length-take-le, take-append-drop}
+use Rattle.std.proofs.Common.{◌≡◌, ◌∙◌, ℕ, ◌+◌, ◌-◌, ◌<◌, false, Option, None, Some, List, [], ◌∷◌, ◌++◌, length, take, drop, refl, sym, ap, subst, Ok, Err, IfSome, nat_le, if◌then◌else◌, arith}
+use Rattle.std.proofs.lemmas.List.{append_assoc, length-take-le, take-append-drop}
 use Rattle.std.proofs.Math.ListN.{get_or}
 use Rattle.std.specs.List.{flat_map}
 use Rattle.std.specs.Io.KnownBytes.{Appends}
-use Rattle.ft_io.specs.Faults.{Rose}
 use Rattle.ft_model.specs.Schedule.{clients_of}
-use Rattle.ft_model.specs.World.{World as Seen, Moment, world_after}
-use Rattle.ft_model.specs.Legal.{start_of, refusal}
-use Rattle.ft_model.specs.Report.{header, event_lines, client_lines, log_line, end_line, report}
+use Rattle.ft_model.specs.World.{World as Seen, world_after}
+use Rattle.ft_model.specs.Legal.{start_of}
+use Rattle.ft_model.specs.Report.{header, event_lines, client_lines, log_line, end_line}
 use Rattle.ft_model.specs.Grammar.{read_text, read_lines, Refusal as reading}
 use Rattle.ft_model.specs.Words.{lines_of}
 use Rattle.ft_model.specs.declared.line.Draft.TheVariants.{Empty}
-use Rattle.ft_model.specs.Outcome.{IsPastPackets}
 use Rattle.ft_model.specs.declared.event.Event.{Event}
 use Rattle.ft_model.specs.declared.event.EventWhy.{EventWhy}
 use Rattle.ft_model.specs.declared.schedule.Schedule.{Schedule}
@@ -25,8 +23,8 @@ use Rattle.net_schedule.specs.declared.end.StepEnd.TheVariants as steps
 use Rattle.sample_servers.specs.Echo.{echo_machine}
 use Rattle.sample_servers.specs.declared.echo.Echo.{Echo}
 use Rattle.replay_tool.specs.Ends.{end_of_step, end_of_read}
-use Rattle.replay_tool.specs.Played.{Reaches, IsPlayedTill}
-use Rattle.replay_tool.specs.Stops.{StopsReading, StopsWriting, StopsEvent, StandsAt, StopsEvents, StopsPlaying, StopsRun}
+use Rattle.replay_tool.specs.Played.{Reaches}
+use Rattle.replay_tool.specs.Stops.{StopsEvent, StandsAt, StopsEvents, StopsPlaying, StopsRun}
 use Rattle.replay_tool.specs.declared.status.TooMuch.TheVariants.{Text, Events, Packets}
 use Rattle.replay_tool.specs.declared.status.RunEnd.{RunEnd}
 use Rattle.replay_tool.specs.declared.status.RunEnd.TheVariants.{Usage, NoMemory, ReadFault, WriteFault, BadLine, BadEvent, TooLong}
@@ -96,16 +94,6 @@ event_stops schedule events event i w w' start old new NoMemory all within same 
 event_stops schedule events event i w w' start old new ReadFault all within same r stops = tt
 event_stops schedule events event i w w' start old new WriteFault all within same r stops = tt
 
--- a part of the report that isn't written ends the playing
-pub writing_stops : (schedule : Schedule) (old new : Option (List ℕ)) (end : RunEnd) → StopsWriting end → StopsPlaying schedule old new end
-writing_stops schedule old new NoMemory s = tt
-writing_stops schedule old new WriteFault s = tt
-writing_stops schedule old new Usage s = absurd s
-writing_stops schedule old new ReadFault s = absurd s
-writing_stops schedule old new (BadLine line why) s = absurd s
-writing_stops schedule old new (BadEvent number why) s = absurd s
-writing_stops schedule old new (TooLong what) s = absurd s
-
 -- an event that is refused ends the playing, with the report of the events before it
 pub closes_till : (schedule : Schedule) (number : ℕ) (why : EventWhy) (w : Kept Echo) (old mid new : Option (List ℕ)) → AlwaysMasked → StandsAt schedule number why w old mid
     → Appends mid new (client_lines 1 w.clients ++ (flat_map log_line w.log.entries ++ end_line (number - 1))) → StopsPlaying schedule old new (BadEvent number why)
@@ -146,21 +134,7 @@ source_stops (Some text) old new reads.NoMemory h = tt
 source_stops (Some text) old new reads.Fault h = tt
 source_stops (Some text) old new reads.TooLong h = too_long text (h refl)
 
--- the reading of the text ends the run
-pub reading_stops : (left : Option (List ℕ)) (text : List ℕ) (old new : Option (List ℕ)) (end : RunEnd) → IfSome left (λ whole. text ≡ whole) → StopsReading text end
-    → IfSome left (λ whole. StopsRun whole old new end)
-reading_stops None text old new end same s = tt
-reading_stops (Some whole) text old new (BadLine line why) same s = ap read_text (sym same) ∙ s
-reading_stops (Some whole) text old new (TooLong Text) same s = ap read_text (sym same) ∙ s
-reading_stops (Some whole) text old new (TooLong Events) same s = ap read_text (sym same) ∙ s
-reading_stops (Some whole) text old new (TooLong Packets) same s = absurd s
-reading_stops (Some whole) text old new (BadEvent number why) same s = absurd s
-reading_stops (Some whole) text old new Usage same s = tt
-reading_stops (Some whole) text old new NoMemory same s = tt
-reading_stops (Some whole) text old new ReadFault same s = tt
-reading_stops (Some whole) text old new WriteFault same s = tt
-
--- and so does the playing
+-- the playing ends the run
 pub playing_stops : (left : Option (List ℕ)) (text : List ℕ) (schedule : Schedule) (old new : Option (List ℕ)) (end : RunEnd) → IfSome left (λ whole. text ≡ whole)
     → read_text text ≡ Ok schedule → StopsPlaying schedule old new end → IfSome left (λ whole. StopsRun whole old new end)
 playing_stops None text schedule old new end same spelled s = tt

@@ -1,5 +1,5 @@
 -- What a run of a schedule has done: the events that it played, and what it wrote of them.
-use Rattle.std.specs.Prelude.{◌≡◌, ℕ, ◌+◌, ◌≤◌, Option, Some, Result, Ok, List, [], ◌∷◌, ◌++◌, length, map}
+use Rattle.std.specs.Prelude.{◌≡◌, ℕ, ◌+◌, ◌≤◌, Option, Ok, List, ◌++◌, length, map}
 use Rattle.std.specs.Io.KnownBytes.{Appends}
 use Rattle.sample_servers.specs.Echo.{echo_machine}
 use Rattle.sample_servers.specs.declared.echo.Echo.{Echo}
@@ -8,7 +8,7 @@ use Rattle.ft_model.specs.World.{World as Seen, Moment, world_after}
 use Rattle.ft_model.specs.Legal.{start_of, IsLegalFor, Legal}
 use Rattle.ft_model.specs.Masked.{Masked}
 use Rattle.ft_model.specs.Outcome.{packets_sent, IsRefused}
-use Rattle.ft_model.specs.Report.{header, event_line, packet_lines, packet_count, event_lines, closing_lines, report}
+use Rattle.ft_model.specs.Report.{header, event_line, packet_lines, packet_count, event_lines, report}
 use Rattle.ft_model.specs.Grammar.{read_text}
 use Rattle.ft_model.specs.declared.event.Event.{Event}
 use Rattle.ft_model.specs.declared.schedule.Schedule.{Schedule}

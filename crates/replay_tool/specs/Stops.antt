@@ -15,7 +15,7 @@ use Rattle.sample_servers.specs.declared.echo.Echo.{Echo}
 use Rattle.replay_tool.specs.Played.{Reaches, IsPlayedTill}
 use Rattle.replay_tool.specs.declared.status.TooMuch.TheVariants.{Text, Events, Packets}
 use Rattle.replay_tool.specs.declared.status.RunEnd.{RunEnd}
-use Rattle.replay_tool.specs.declared.status.RunEnd.TheVariants.{Usage, NoMemory, ReadFault, WriteFault, BadLine, BadEvent, TooLong}
+use Rattle.replay_tool.specs.declared.status.RunEnd.TheVariants.{NoMemory, WriteFault, BadLine, BadEvent, TooLong}
 
 -- the reading of a text
 abbrev pub StopsReading : List ℕ → RunEnd → Type 0

@@ -1,7 +1,7 @@
-use Rattle.std.proofs.Common.{◌∙◌, ap, subst, arith, length, ◌++◌}
+use Rattle.std.proofs.Common.{ap, subst, length, ◌++◌}
 use Rattle.replay_tool.proofs.Playing.{reaches_none, closes, on_ok}
 use Rattle.replay_tool.proofs.play.play.Goals as goal
-use Rattle.replay_tool.proofs.Stopping.{writing_stops, others_stop, closes_till}
+use Rattle.replay_tool.proofs.Stopping.{others_stop, closes_till}
 use Rattle.replay_tool.specs.Stops.{StopsEvents}
 use Rattle.std.specs.List.{flat_map}
 use Rattle.std.specs.Io.KnownBytes.{Appends}

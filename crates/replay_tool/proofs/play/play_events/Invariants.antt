@@ -1,16 +1,5 @@
-use Rattle.std.proofs.Common.{Option, take, ◌≡◌, ℕ, ◌+◌, ◌<◌, ◌≤◌, ◌^◌, true, Some, List, [], ◌++◌, length, OnOk, IfOk, IsErrOf, ◌-◌, ◌*◌}
-use Rattle.std.specs.List.{AllByRecursion, flat_map}
-use Rattle.std.specs.Io.KnownBytes.{Appends}
-use Rattle.ft_io.specs.Faults.{Rose}
-use Rattle.ft_model.specs.Network.{Packet as Seen}
-use Rattle.ft_model.specs.Network.{packet_at}
-use Rattle.ft_model.specs.Log.{Entry}
-use Rattle.ft_model.specs.Legal.{start_of}
-use Rattle.ft_model.specs.Playable.{IsPlayable, is_played}
-use Rattle.ft_model.specs.Report.{header, packet_line, packet_lines, way_of, client_lines, log_line, end_line}
-use Rattle.net_schedule.specs.Standing.{WorldStands}
-use Rattle.sample_servers.specs.Echo.{echo_machine}
-use Rattle.replay_tool.specs.Played.{PlaysEvent, Reaches, IsPlayed}
+use Rattle.std.proofs.Common.{Option, take, ℕ, ◌≤◌, List, []}
+use Rattle.replay_tool.specs.Played.{Reaches}
 use Rattle.replay_tool.proofs.play.play_events.Given as goal
 
 abbrev pub invariant-loop-i : goal.invariant-loop-i

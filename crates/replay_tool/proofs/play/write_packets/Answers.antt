@@ -1,7 +1,4 @@
-use Rattle.std.proofs.Common.{◌≡◌, ◌∙◌, sym, ap, ℕ, ◌+◌, ◌++◌, ◌∷◌, Some, List, length, drop, arith}
-use Rattle.std.proofs.Math.ListN.{get_or}
-use Rattle.ft_model.specs.Network.{Packet, packet_at}
-use Rattle.ft_model.specs.Report.{packet_lines, packet_line, way_of}
+use Rattle.std.proofs.Common.{arith}
 use Rattle.replay_tool.proofs.Following.{next_packet}
 use Rattle.replay_tool.proofs.play.write_packets.Goals as goal
 

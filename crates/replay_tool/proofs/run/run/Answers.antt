@@ -3,7 +3,7 @@ use Rattle.replay_tool.specs.Stops.{StopsRun}
 use Rattle.ft_model.specs.Grammar.{read_text}
 use Rattle.replay_tool.proofs.Playing.{on_ok, on_err, if_err, reports}
 use Rattle.replay_tool.proofs.run.run.Goals as goal
-use Rattle.replay_tool.proofs.Stopping.{source_stops, reading_stops, playing_stops}
+use Rattle.replay_tool.proofs.Stopping.{source_stops, playing_stops}
 
 pub returns-clause-done : goal.returns-clause-done
 returns-clause-done g c =

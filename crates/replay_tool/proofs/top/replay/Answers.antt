@@ -1,4 +1,4 @@
-use Rattle.std.proofs.Common.{◌≡◌, ◌∙◌, ℕ, refl, sym, ap, true, false, true≢false, Err, ⊎_elim}
+use Rattle.std.proofs.Common.{◌≡◌, ◌∙◌, ℕ, refl, sym, ap, true≢false, Err, ⊎_elim}
 use Rattle.replay_tool.proofs.top.replay.Goals as goal
 use Rattle.replay_tool.proofs.Settling.{where_told, of_told, when_told, in_order, past_limit, settles, settles_end}
 
