@@ -118,6 +118,7 @@ with_ack e p =
     then owing_if true e
     else with_text_and_fin (with_fin_acked (record e { sending = acknowledged e.sending p.head.seq (ack_at e p) p.head.window })) p
 
+-- .. as the SYN is acknowledged or not: until then the state is SYN-RECEIVED
 unfoldable pub check_ack : Tcb → Segment → Tcb
 check_ack e p = if has_ack p then (if e.sending.opened then with_ack e p else with_first_ack e p) else e
 

@@ -1,6 +1,7 @@
--- The laws Taken, Sending, Owed and Timer of `ft_model`, of an endpoint: one definition a sentence, in the words of those laws and not of the
--- checks in `Arrival` and `Leaving`. Nothing is fetched here, the receive edge keeps to the endpoint's limit in place of 2^24, and the
--- target is the bytes written, and one more once the user has closed.
+-- What a segment and a flush make of an endpoint, in its own words, one definition a sentence of the model's laws and not of the checks in
+-- `Arrival` and `Leaving`: Taken and Sending, when a segment without data is owed, and the timer. `Standing` leads from here to the model's own
+-- definitions, for passive opens; these hold of active ones too. The receive edge keeps to the endpoint's limit in place of 2^24, and the target
+-- is the bytes written, and one more once the user has closed.
 use Rattle.std.specs.Prelude.{◌≡◌, ℕ, Bool, true, false, pos, ◌+◌, ◌-◌, ◌*◌, ◌^◌, ◌<◌, ◌≤◌, ◌+ℤ◌, ◌-ℤ◌, ◌≤ℤ◌, ◌==◌, ◌&&◌, ◌||◌, not, nat_lt, int_lt, int_le, max, min, nat_abs, List, ◌++◌, length, take, drop, if◌then◌else◌}
 use Rattle.seq_arith.specs.Number.{offset_of}
 use Rattle.seq_arith.specs.Arrival.{int_eq, is_acceptable, below, una_after, updates_window}

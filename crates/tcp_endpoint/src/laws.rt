@@ -175,8 +175,8 @@ pub fn bare_segments_go_out_where_owed()
         → leaving u ≡ or_bare (asks (owes e p) u) (bare_segment (after_full u)) (full_out u) }
 {}
 
-/// The same, at the end of a turn in which no segment came.
-pub fn bare_segments_go_out_where_news_are()
+/// The same, at the end of a turn in which no segment came: where the acknowledgement or the edge has changed.
+pub fn bare_segments_tell_changes()
     ensures { (u : Tcb) → has_begun u.name ≡ true → u.owed ≡ false
         → leaving u ≡ or_bare (asks false u) (bare_segment (after_full u)) (full_out u) }
 {}

@@ -1,6 +1,6 @@
 use Rattle.tcp_endpoint.proofs.ToldLaw.{leaving_by}
 use Rattle.std.specs.Prelude.{false}
-use Rattle.tcp_endpoint.proofs.laws.bare_segments_go_out_where_news_are.Goals as goal
+use Rattle.tcp_endpoint.proofs.laws.bare_segments_tell_changes.Goals as goal
 
 pub returns : goal.returns
 returns c = λ u begun none. leaving_by u false begun none
