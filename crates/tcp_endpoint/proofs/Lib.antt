@@ -19,3 +19,4 @@ pub mod TimerAt
 pub mod Turns
 pub mod Points
 pub mod Beginning
+pub mod EndingLaw

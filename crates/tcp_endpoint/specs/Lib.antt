@@ -10,3 +10,4 @@ pub mod Laws
 pub mod Lending
 pub mod Turn
 pub mod Standing
+pub mod Ending

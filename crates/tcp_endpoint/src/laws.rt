@@ -21,6 +21,10 @@ ghost use Rattle.ft_model.specs.Opening.{is_syn};
 ghost use Rattle.ft_model.specs.Point.{Point};
 ghost use Rattle.tcp_endpoint.specs.Turn.{Call, MayUse, IsUsualNews, IsBetweenTurns, arrived, before_flush, turned};
 ghost use Rattle.tcp_endpoint.specs.Standing.{StandsAt, MeetsLaws, IsUsedAt, LeadsTo, BeginsAt, Step, RunsByLaws, numbers_with, point_begun};
+ghost use Rattle.std.specs.Prelude.{◌⊎◌, ◌||◌, []};
+ghost use Rattle.tcp_endpoint.specs.declared.states.StateName.TheVariants.{Closed};
+ghost use Rattle.tcp_endpoint.specs.Turn.{sent_in};
+ghost use Rattle.tcp_endpoint.specs.Ending.{IsNamedRightly, resets, is_over};
 
 use server_trait::Service;
 
@@ -209,4 +213,36 @@ pub fn turns_end_shut()
 #[tactic(auto, using(crate::proofs::ToldLaw::shut_by_write))]
 pub fn writes_leave_shut()
     ensures { (e : Tcb) (bytes : List ℕ) → IsShut e.sending → IsShut (after_write e bytes).sending }
+{}
+
+/// From its SYN on an endpoint of `listen` is in the state that its halves tell of: by whether its SYN is acknowledged, its user has closed, the
+/// peer's FIN is taken, and the own FIN is acknowledged.
+pub fn syns_name_rightly()
+    ensures { (local : Addr) (iss limit : ℕ) (syn : Segment) (calls : List Call) → is_syn syn ≡ true
+        → IsNamedRightly (turned (Comes syn) calls (listening local iss limit)) }
+{}
+
+/// Each turn keeps it in that state, whatever comes and the user does.
+pub fn turns_name_rightly()
+    ensures { (news : News) (calls : List Call) (e : Tcb) → has_begun e.name ≡ true → IsBetweenTurns e → IsNamedRightly e
+        → IsNamedRightly (turned news calls e) }
+{}
+
+/// So a connection that has begun stays so, until a RST comes at exactly the next number, or the peer's FIN is taken and the own one is
+/// acknowledged.
+pub fn connections_end_by_resets_or_fins()
+    ensures { (news : News) (calls : List Call) (e : Tcb) → has_begun e.name ≡ true → IsBetweenTurns e → IsNamedRightly e
+        → has_begun (before_flush news calls e).name ≡ false → (resets news e ≡ true) ⊎ (is_over (before_flush news calls e) ≡ true) }
+{}
+
+/// A connection that has begun is reset in exactly the turns in which a RST comes at exactly the next number, ..
+pub fn connections_are_reset_at_the_next_number()
+    ensures { (news : News) (calls : List Call) (e : Tcb) → has_begun e.name ≡ true
+        → (before_flush news calls e).reset ≡ (e.reset || resets news e) }
+{}
+
+/// .. and then it is CLOSED, and nothing leaves.
+pub fn resets_close_in_silence()
+    ensures { (news : News) (calls : List Call) (e : Tcb) → has_begun e.name ≡ true → IsBetweenTurns e → resets news e ≡ true
+        → ((before_flush news calls e).name ≡ Closed) × (sent_in news calls e ≡ []) }
 {}

@@ -1,0 +1,41 @@
+-- How a connection that has begun ends: the state that it is in tells what has come to pass (RFC 9293, 3.3.2, figure 5), and it is CLOSED by
+-- a RST at exactly the next number, or once the FINs of both sides are through.
+use Rattle.std.specs.Prelude.{◌≡◌, Bool, true, false, pos, ◌&&◌}
+use Rattle.seq_arith.specs.Arrival.{int_eq}
+use Rattle.seq_arith.specs.Packet.{has_rst}
+use Rattle.ft_model.specs.News.{News}
+use Rattle.ft_model.specs.News.News.{Comes}
+use Rattle.tcp_endpoint.specs.declared.states.StateName.{StateName}
+use Rattle.tcp_endpoint.specs.declared.states.StateName.TheVariants.{Closed, Listen, SynSent, SynReceived, Established, FinWait1, FinWait2, CloseWait, Closing, LastAck, TimeWait}
+use Rattle.tcp_endpoint.specs.Receiving.{next}
+use Rattle.tcp_endpoint.specs.Sending.{fin_acked}
+use Rattle.tcp_endpoint.specs.Tcb.{Tcb}
+use Rattle.tcp_endpoint.specs.Arrival.{first}
+
+-- the state of a connection that has begun, by whether its SYN is acknowledged, the user has closed, the peer's FIN is taken, and the own
+-- FIN is acknowledged. Nothing is taken before the SYN is acknowledged
+abbrev pub IsNamed : StateName → (opened closed fin acked : Bool) → Type 0
+IsNamed Closed opened closed fin acked = Unit {0}
+IsNamed Listen opened closed fin acked = Unit {0}
+IsNamed SynSent opened closed fin acked = Unit {0}
+IsNamed SynReceived opened closed fin acked = (opened ≡ false) × (fin ≡ false)
+IsNamed Established opened closed fin acked = (opened ≡ true) × (closed ≡ false) × (fin ≡ false)
+IsNamed CloseWait opened closed fin acked = (opened ≡ true) × (closed ≡ false) × (fin ≡ true)
+IsNamed FinWait1 opened closed fin acked = (opened ≡ true) × (closed ≡ true) × (fin ≡ false) × (acked ≡ false)
+IsNamed FinWait2 opened closed fin acked = (opened ≡ true) × (closed ≡ true) × (fin ≡ false) × (acked ≡ true)
+IsNamed Closing opened closed fin acked = (opened ≡ true) × (closed ≡ true) × (fin ≡ true) × (acked ≡ false)
+IsNamed LastAck opened closed fin acked = (opened ≡ true) × (closed ≡ true) × (fin ≡ true) × (acked ≡ false)
+IsNamed TimeWait opened closed fin acked = (opened ≡ true) × (closed ≡ true) × (fin ≡ true) × (acked ≡ true)
+
+-- an endpoint in the state that its halves tell of
+abbrev pub IsNamedRightly : Tcb → Type 0
+IsNamedRightly e = IsNamed e.name e.sending.opened e.sending.closed e.receiving.fin (fin_acked e.sending)
+
+-- a RST at exactly the next number comes
+abbrev pub resets : News → Tcb → Bool
+resets (Comes segment) e = has_rst segment && int_eq (first e segment) (pos (next e.receiving))
+resets _ e = false
+
+-- the peer's FIN is taken, and the own one is acknowledged
+abbrev pub is_over : Tcb → Bool
+is_over e = e.receiving.fin && fin_acked e.sending
