@@ -20,3 +20,4 @@ pub mod Turns
 pub mod Points
 pub mod Beginning
 pub mod EndingLaw
+pub mod Announced

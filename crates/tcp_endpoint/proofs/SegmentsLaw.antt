@@ -42,7 +42,7 @@ begun_open Closing h = refl
 begun_open LastAck h = refl
 begun_open TimeWait h = refl
 
-begun_answers : (name : StateName) → has_begun name ≡ true → is_syn_sent name ≡ false
+pub begun_answers : (name : StateName) → has_begun name ≡ true → is_syn_sent name ≡ false
 begun_answers SynSent h = absurd (false≢true h)
 begun_answers Closed h = refl
 begun_answers Listen h = refl

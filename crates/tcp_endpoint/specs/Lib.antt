@@ -11,3 +11,4 @@ pub mod Lending
 pub mod Turn
 pub mod Standing
 pub mod Ending
+pub mod Announcing

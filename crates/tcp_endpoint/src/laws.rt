@@ -21,10 +21,12 @@ ghost use Rattle.ft_model.specs.Opening.{is_syn};
 ghost use Rattle.ft_model.specs.Point.{Point};
 ghost use Rattle.tcp_endpoint.specs.Turn.{Call, MayUse, IsUsualNews, IsBetweenTurns, arrived, before_flush, turned};
 ghost use Rattle.tcp_endpoint.specs.Standing.{StandsAt, MeetsLaws, IsUsedAt, LeadsTo, BeginsAt, Step, RunsByLaws, numbers_with, point_begun};
-ghost use Rattle.std.specs.Prelude.{◌⊎◌, ◌||◌, []};
+ghost use Rattle.std.specs.Prelude.{◌⊎◌, ◌||◌, [], None};
+ghost use Rattle.std.specs.List.{AllByRecursion};
 ghost use Rattle.tcp_endpoint.specs.declared.states.StateName.TheVariants.{Closed};
 ghost use Rattle.tcp_endpoint.specs.Turn.{sent_in};
 ghost use Rattle.tcp_endpoint.specs.Ending.{IsNamedRightly, resets, is_over};
+ghost use Rattle.tcp_endpoint.specs.Announcing.{Announces, is_told};
 
 use server_trait::Service;
 
@@ -245,4 +247,21 @@ pub fn connections_are_reset_at_the_next_number()
 pub fn resets_close_in_silence()
     ensures { (news : News) (calls : List Call) (e : Tcb) → has_begun e.name ≡ true → IsBetweenTurns e → resets news e ≡ true
         → ((before_flush news calls e).name ≡ Closed) × (sent_in news calls e ≡ []) }
+{}
+
+/// Every endpoint acknowledges all that it took: each segment that leaves a connection that has begun, but for a RST, has ACK, acknowledges
+/// just what is taken, and announces the window.
+pub fn segments_acknowledge_all_that_is_taken()
+    ensures { (news : News) (calls : List Call) (e : Tcb) → has_begun e.name ≡ true → IsBetweenTurns e → IsUsualNews news e → MayUse calls (arrived news e)
+        → has_begun (before_flush news calls e).name ≡ true → AllByRecursion (Announces (before_flush news calls e)) (sent_in news calls e) }
+{}
+
+/// And nothing that is taken stays untold: where more is taken in a turn a segment leaves that isn't a RST, and so tells it. The same where the
+/// edge moves, unless a RST answers.
+pub fn what_is_taken_is_told()
+    ensures { (news : News) (calls : List Call) (e : Tcb) → has_begun e.name ≡ true → IsBetweenTurns e → IsUsualNews news e → MayUse calls (arrived news e)
+        → has_begun (before_flush news calls e).name ≡ true
+        → (next (before_flush news calls e).receiving ≡ next e.receiving → ⊥)
+        ⊎ (((before_flush news calls e).answer ≡ None) × (announced_edge (before_flush news calls e).receiving ≡ announced_edge e.receiving → ⊥))
+        → is_told (sent_in news calls e) ≡ true }
 {}
