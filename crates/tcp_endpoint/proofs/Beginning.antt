@@ -1,4 +1,4 @@
--- From its SYN on an endpoint of `listen` stands at a point: in the SYN's turn at the new connection's.
+-- From its SYN on an endpoint that listened stands at a point: in the SYN's turn at the new connection's.
 use Rattle.std.proofs.Common.{◌≡◌, ℕ, ◌≤◌, ◌+◌, ◌%◌, ◌^◌, Bool, true, false, not, List, [], ◌∷◌, ◌++◌, length, drop, max, min, Option, None, Some, refl, sym, ap, subst, arith, ◌∙◌}
 use Rattle.std.specs.Prelude.{◌==◌, ◌&&◌, ◌||◌, nat_lt, if◌then◌else◌}
 use Rattle.std.proofs.lemmas.Bool.{false≢true}
@@ -10,16 +10,19 @@ use Rattle.ft_model.specs.Offset.{one_if}
 use Rattle.ft_model.specs.Point.{Point}
 use Rattle.ft_model.specs.News.News.{Comes}
 use Rattle.ft_model.specs.Segments.{syn_ack, or_bare}
+use Rattle.tcp_endpoint.specs.declared.states.StateName.TheVariants.{Listen}
 use Rattle.tcp_endpoint.specs.States.{is_syn_sent, has_begun}
 use Rattle.tcp_endpoint.specs.Receiving.{Receiving, taken}
 use Rattle.tcp_endpoint.specs.Sending.{Sending, segment_size, is_unacknowledged, target, resent_length}
-use Rattle.tcp_endpoint.specs.Tcb.{Tcb, listening}
-use Rattle.tcp_endpoint.specs.Arrival.{source, received, in_listen, begun, refusing}
+use Rattle.tcp_endpoint.specs.Tcb.{Tcb}
+use Rattle.tcp_endpoint.specs.Arrival.{source, received, received_in, in_listen, begun, refusing}
 use Rattle.tcp_endpoint.specs.Leaving.{announced, settled, with_fin_out, fin_at, text_at, answer_segments, answer_out, again_segment, opening_segment, again_out, probe_out, with_probe, text_out, with_text_sent, fin_out, full_out, is_owed, bare_segment, leaving, after_full, is_timed, flushed}
 use Rattle.tcp_endpoint.specs.Laws.{IsBounded, ProbesRightly}
 use Rattle.tcp_endpoint.specs.Turn.{Call, MayUse, IsBetweenTurns, used, before_flush, turned}
+use Rattle.tcp_endpoint.specs.Listening.{IsListening}
 use Rattle.tcp_endpoint.specs.Standing.{ReceivesAt, SendsAt, StandsAt, LeadsTo, BeginsAt, Step, RunsByLaws, numbers_with, point_begun}
-use Rattle.tcp_endpoint.proofs.Bounding.{bounded_at_listen, bounded_in_listen}
+use Rattle.tcp_endpoint.proofs.Bounding.{bounded_in_listen}
+use Rattle.tcp_endpoint.proofs.Listening.{bounded_listening}
 use Rattle.tcp_endpoint.proofs.TurnLaw.{sent_law, flushed_timer}
 use Rattle.tcp_endpoint.proofs.Calls.{FinIsLast, IsUsed, used_is, bounded_used}
 use Rattle.tcp_endpoint.proofs.Arrivals.{no_probe}
@@ -60,33 +63,36 @@ syn_facts true true rst h = absurd (false≢true (off_one rst h))
 syn_facts false ack rst h = absurd (false≢true (off_two ack rst h))
 
 -- LISTEN takes the SYN
-begun_by : (local : Addr) (iss limit : ℕ) (syn : Segment) → opening.is_syn syn ≡ true → received (listening local iss limit) syn ≡ begun (listening local iss limit) syn
-unfolding received listening in_listen
-begun_by local iss limit syn is =
-    let e : Tcb = listening local iss limit in
+in_listen_by : (e : Tcb) (syn : Segment) → opening.is_syn syn ≡ true → in_listen e syn ≡ begun e syn
+unfolding in_listen
+in_listen_by e syn is =
     let f = syn_facts (has_syn syn) (has_ack syn) (has_rst syn) is in
     λ i. if f.2 i then e else (if f.1 i then refusing e syn else (if f.0 i then begun e syn else e))
 
-opened_by_syn : (local : Addr) (iss limit : ℕ) (syn : Segment) → Opened local iss limit syn (begun (listening local iss limit) syn)
-unfolding listening begun
-opened_by_syn local iss limit syn = record {
+begun_by : (e : Tcb) (syn : Segment) → e.name ≡ Listen → opening.is_syn syn ≡ true → received e syn ≡ begun e syn
+unfolding received
+begun_by e syn name is = ap (λ n. received_in n e syn) name ∙ in_listen_by e syn is
+
+opened_by_syn : (e : Tcb) (iss limit : ℕ) (syn : Segment) → IsListening iss limit e → Opened e.local iss limit syn (begun e syn)
+unfolding begun
+opened_by_syn e iss limit syn l = record {
   local_is = refl;
   remote = refl;
   begun = refl;
-  receiving = refl;
-  iss_is = refl;
+  receiving = ap (λ (r : Receiving). record r { irs = syn.head.seq }) l.receiving;
+  iss_is = ap (λ (s : Sending). s.iss) l.sending;
   mss = refl;
-  opened = refl;
-  una = refl;
-  sent = refl;
-  edge = refl;
-  wl2 = refl;
-  fin_sent = refl;
-  interval = refl;
-  rest = refl;
+  opened = ap (λ (s : Sending). s.opened) l.sending;
+  una = ap (λ (s : Sending). s.una) l.sending;
+  sent = ap (λ (s : Sending). s.sent) l.sending;
+  edge = ap (λ (s : Sending). s.edge) l.sending;
+  wl2 = ap (λ (s : Sending). s.wl2) l.sending;
+  fin_sent = ap (λ (s : Sending). s.fin_sent) l.sending;
+  interval = ap (λ (s : Sending). s.interval) l.sending;
+  rest = ap (λ (s : Sending). s.rest) l.sending;
   again = refl;
-  probe = refl;
-  answer = refl;
+  probe = l.probe;
+  answer = l.answer;
 }
 
 none_more : (n : ℕ) → 0 + n ≡ n
@@ -213,20 +219,18 @@ flushed_name u begun = begun
 limit_small : (limit fetched : ℕ) → limit + fetched ≡ 2 ^ 24 → limit ≤ 2 ^ 24
 limit_small limit fetched h = omega (arith, h)
 
-pub begins_law : (local : Addr) (iss limit cisn : ℕ) (fetched : List ℕ) (syn : Segment) (calls : List Call)
-    → limit + length fetched ≡ 2 ^ 24 → opening.is_syn syn ≡ true → syn.head.seq ≡ (cisn + length fetched) % 2 ^ 32
-    → MayUse calls (received (listening local iss limit) syn)
-    → BeginsAt (point_begun fetched (numbers_with cisn iss syn)) (listening local iss limit) syn calls
-unfolding listening
-begins_law local iss limit cisn fetched syn calls whole is number may =
-    let e : Tcb = listening local iss limit in
+pub begins_law : (e : Tcb) (iss limit cisn : ℕ) (fetched : List ℕ) (syn : Segment) (calls : List Call) → IsListening iss limit e
+    → limit + length fetched ≡ 2 ^ 24 → opening.is_syn syn ≡ true → syn.head.seq ≡ (cisn + length fetched) % 2 ^ 32 → MayUse calls (received e syn)
+    → BeginsAt (point_begun fetched (numbers_with cisn iss syn)) e syn calls
+begins_law e iss limit cisn fetched syn calls l whole is number may =
     let m : Tcb = received e syn in
-    let P : Tcb → Type 0 = λ t. Opened local iss limit syn t in
-    let o : Opened local iss limit syn m = subst P (sym (begun_by local iss limit syn is)) (opened_by_syn local iss limit syn) in
+    let P : Tcb → Type 0 = λ t. Opened e.local iss limit syn t in
+    let o : Opened e.local iss limit syn m = subst P (sym (begun_by e syn l.name is)) (opened_by_syn e iss limit syn l) in
     let last : FinIsLast m.sending = λ h. absurd (false≢true (sym o.fin_sent ∙ h)) in
-    let b : IsBounded m = bounded_in_listen e syn refl refl (bounded_at_listen local iss limit (limit_small limit (length fetched) whole)) in
+    let b : IsBounded m =
+    bounded_in_listen e syn l.name (ap (λ (s : Sending). s.opened) l.sending) (bounded_listening iss limit e (limit_small limit (length fetched) whole) l) in
     let a : IsUsed m (used calls m) = used_is calls m may in
-    let done = opened_turn local iss limit cisn fetched syn m (used calls m) o a (bounded_used calls m may last b) whole number in
+    let done = opened_turn e.local iss limit cisn fetched syn m (used calls m) o a (bounded_used calls m may last b) whole number in
     record { begun = flushed_name (used calls m) (a.begun o.begun); between = done.0; stands = done.1; segments = done.2 }
 
 -- turn by turn
@@ -237,11 +241,10 @@ runs_on (step ∷ steps) before e begun between stands = λ s.
     leads_law step.user step.news step.calls before step.after e begun between stands s.usual s.may s.begun s.laws s.used in
     (led, runs_on steps step.after (turned step.news step.calls e) (flushed_name (before_flush step.news step.calls e) s.begun) led.between led.stands)
 
-pub run_law : (local : Addr) (iss limit cisn : ℕ) (fetched : List ℕ) (syn : Segment) (calls : List Call) (steps : List Step)
-    → limit + length fetched ≡ 2 ^ 24 → opening.is_syn syn ≡ true → syn.head.seq ≡ (cisn + length fetched) % 2 ^ 32
-    → MayUse calls (received (listening local iss limit) syn)
-    → BeginsAt (point_begun fetched (numbers_with cisn iss syn)) (listening local iss limit) syn calls
-    × RunsByLaws (point_begun fetched (numbers_with cisn iss syn)) (turned (Comes syn) calls (listening local iss limit)) steps
-run_law local iss limit cisn fetched syn calls steps whole is number may =
-    let b = begins_law local iss limit cisn fetched syn calls whole is number may in
-    (b, runs_on steps (point_begun fetched (numbers_with cisn iss syn)) (turned (Comes syn) calls (listening local iss limit)) b.begun b.between b.stands)
+pub run_law : (e : Tcb) (iss limit cisn : ℕ) (fetched : List ℕ) (syn : Segment) (calls : List Call) (steps : List Step) → IsListening iss limit e
+    → limit + length fetched ≡ 2 ^ 24 → opening.is_syn syn ≡ true → syn.head.seq ≡ (cisn + length fetched) % 2 ^ 32 → MayUse calls (received e syn)
+    → BeginsAt (point_begun fetched (numbers_with cisn iss syn)) e syn calls
+    × RunsByLaws (point_begun fetched (numbers_with cisn iss syn)) (turned (Comes syn) calls e) steps
+run_law e iss limit cisn fetched syn calls steps l whole is number may =
+    let b = begins_law e iss limit cisn fetched syn calls l whole is number may in
+    (b, runs_on steps (point_begun fetched (numbers_with cisn iss syn)) (turned (Comes syn) calls e) b.begun b.between b.stands)

@@ -18,6 +18,7 @@ pub mod SegmentsLaw
 pub mod TimerAt
 pub mod Turns
 pub mod Points
+pub mod Listening
 pub mod Beginning
 pub mod EndingLaw
 pub mod Announced

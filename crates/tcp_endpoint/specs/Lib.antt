@@ -9,6 +9,7 @@ pub mod Turning
 pub mod Laws
 pub mod Lending
 pub mod Turn
+pub mod Listening
 pub mod Standing
 pub mod Ending
 pub mod Announcing

@@ -20,6 +20,7 @@ ghost use Rattle.ft_model.specs.News.News.{Comes};
 ghost use Rattle.ft_model.specs.Opening.{is_syn};
 ghost use Rattle.ft_model.specs.Point.{Point};
 ghost use Rattle.tcp_endpoint.specs.Turn.{Call, MayUse, IsUsualNews, IsBetweenTurns, arrived, before_flush, turned};
+ghost use Rattle.tcp_endpoint.specs.Listening.{IsListening, brings_syn};
 ghost use Rattle.tcp_endpoint.specs.Standing.{StandsAt, MeetsLaws, IsUsedAt, LeadsTo, BeginsAt, Step, RunsByLaws, numbers_with, point_begun};
 ghost use Rattle.std.specs.Prelude.{◌⊎◌, ◌||◌, [], None};
 ghost use Rattle.std.specs.List.{AllByRecursion};
@@ -135,13 +136,28 @@ pub fn ticks_time_by_law()
         → IsTimedBy (flushed u).sending (ticked_interval (is_timed (after_full u)) e.sending) (ticked_rest (is_timed (after_full u)) e.sending) }
 {}
 
-/// An endpoint of `listen` stands at a point of `ft_model` from its SYN on: at the new connection's, whose SYN-ACK is all that leaves. The
-/// fetched bytes are as many as the endpoint's limit leaves of 2^24, and none for the limit of a whole stream.
+/// A passive open listens: nothing is received or sent yet, and nothing is due.
+#[tactic(auto, using(crate::proofs::Listening::listens_at_listen))]
+pub fn passive_opens_listen()
+    ensures { (local : Addr) (iss limit : ℕ) → IsListening iss limit (listening local iss limit) }
+{}
+
+/// It still listens, at the same address, after each turn in which no SYN comes that opens a connection and the user doesn't close: what else
+/// comes is dropped or gets a RST, the timer doesn't run, and what the user writes waits.
+pub fn listening_goes_on()
+    ensures { (iss limit : ℕ) (news : News) (calls : List Call) (e : Tcb) → IsListening iss limit e → brings_syn news ≡ false
+        → MayUse calls (arrived news e) → (before_flush news calls e).name ≡ Listen
+        → IsListening iss limit (turned news calls e) × ((turned news calls e).local ≡ e.local) }
+{}
+
+/// An endpoint that listens stands at a point of `ft_model` from its SYN on, whatever came and was written before: at the new connection's,
+/// whose SYN-ACK is all that leaves. The fetched bytes are as many as the endpoint's limit leaves of 2^24, and none for the limit of a whole
+/// stream.
 pub fn syns_lead_to_points()
-    ensures { (local : Addr) (iss limit cisn : ℕ) (fetched : List ℕ) (syn : Segment) (calls : List Call)
-        → limit + length fetched ≡ 2 ^ 24 → is_syn syn ≡ true → syn.head.seq ≡ (cisn + length fetched) % 2 ^ 32
-        → MayUse calls (received (listening local iss limit) syn)
-        → BeginsAt (point_begun fetched (numbers_with cisn iss syn)) (listening local iss limit) syn calls }
+    ensures { (e : Tcb) (iss limit cisn : ℕ) (fetched : List ℕ) (syn : Segment) (calls : List Call)
+        → IsListening iss limit e → limit + length fetched ≡ 2 ^ 24 → is_syn syn ≡ true → syn.head.seq ≡ (cisn + length fetched) % 2 ^ 32
+        → MayUse calls (received e syn)
+        → BeginsAt (point_begun fetched (numbers_with cisn iss syn)) e syn calls }
 {}
 
 /// From there on each turn, until the endpoint is CLOSED, leads from the point at which it stands to the point that the laws Taken and
@@ -164,14 +180,14 @@ pub fn turns_have_points()
         → (service : Machine ℕ) × (after : Point) × MeetsLaws service news before after × IsUsedAt service after (before_flush news calls e) }
 {}
 
-/// So over a whole run: an endpoint of `listen` meets the laws Taken and Sending of `ft_model`, with the timer's, from its SYN on and until it
-/// is CLOSED, for every initial number of both sides, every limit up to 2^24, and whatever comes and the user does in each turn.
+/// So over a whole run: an endpoint that listens meets the laws Taken and Sending of `ft_model`, with the timer's, from its SYN on and until
+/// it is CLOSED, for every initial number of both sides, every limit up to 2^24, and whatever comes and the user does in each turn.
 pub fn endpoints_run_by_the_laws()
-    ensures { (local : Addr) (iss limit cisn : ℕ) (fetched : List ℕ) (syn : Segment) (calls : List Call) (steps : List Step)
-        → limit + length fetched ≡ 2 ^ 24 → is_syn syn ≡ true → syn.head.seq ≡ (cisn + length fetched) % 2 ^ 32
-        → MayUse calls (received (listening local iss limit) syn)
-        → BeginsAt (point_begun fetched (numbers_with cisn iss syn)) (listening local iss limit) syn calls
-        × RunsByLaws (point_begun fetched (numbers_with cisn iss syn)) (turned (Comes syn) calls (listening local iss limit)) steps }
+    ensures { (e : Tcb) (iss limit cisn : ℕ) (fetched : List ℕ) (syn : Segment) (calls : List Call) (steps : List Step)
+        → IsListening iss limit e → limit + length fetched ≡ 2 ^ 24 → is_syn syn ≡ true → syn.head.seq ≡ (cisn + length fetched) % 2 ^ 32
+        → MayUse calls (received e syn)
+        → BeginsAt (point_begun fetched (numbers_with cisn iss syn)) e syn calls
+        × RunsByLaws (point_begun fetched (numbers_with cisn iss syn)) (turned (Comes syn) calls e) steps }
 {}
 
 /// The law on a segment without data, at the end of a turn with a segment: it goes out exactly where one is owed and no other segment does.

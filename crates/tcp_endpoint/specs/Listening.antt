@@ -1,0 +1,25 @@
+-- An endpoint of `listen` before its SYN has come, and the news that bring it no SYN.
+use Rattle.std.specs.Prelude.{◌≡◌, ℕ, Bool, false, ◌≤◌, ◌^◌, length, None}
+use Rattle.ft_model.specs.News.{News}
+use Rattle.ft_model.specs.News.News.{Comes}
+use Rattle.ft_model.specs.Opening.{is_syn}
+use Rattle.tcp_endpoint.specs.declared.states.StateName.TheVariants.{Listen}
+use Rattle.tcp_endpoint.specs.Receiving.{receiving_up_to}
+use Rattle.tcp_endpoint.specs.Sending.{sending_from}
+use Rattle.tcp_endpoint.specs.Tcb.{Tcb, kept_limit}
+
+-- between two turns of an endpoint in LISTEN nothing is due, and nothing is received or sent yet. The user may have written, but not closed
+pub record IsListening (iss limit : ℕ) (e : Tcb) : Type 0 where
+  pub name : e.name ≡ Listen
+  pub receiving : e.receiving ≡ receiving_up_to (kept_limit limit)
+  pub sending : e.sending ≡ record (sending_from iss) { held = e.sending.held }
+  pub written : length e.sending.held ≤ 2 ^ 24
+  pub owed : e.owed ≡ false
+  pub again : e.again ≡ false
+  pub probe : e.probe ≡ false
+  pub answer : e.answer ≡ None
+
+-- whether a SYN comes that opens a connection: one without ACK and RST
+abbrev pub brings_syn : News → Bool
+brings_syn (Comes segment) = is_syn segment
+brings_syn _ = false
