@@ -1,6 +1,7 @@
 -- From its SYN on an endpoint that listened stands at a point: in the SYN's turn at the new connection's.
 use Rattle.std.proofs.Common.{◌≡◌, ℕ, ◌≤◌, ◌+◌, ◌%◌, ◌^◌, Bool, true, false, not, List, [], ◌∷◌, ◌++◌, length, drop, max, min, Option, None, Some, refl, sym, ap, subst, arith, ◌∙◌}
 use Rattle.std.specs.Prelude.{◌==◌, ◌&&◌, ◌||◌, nat_lt, if◌then◌else◌}
+use Rattle.std.specs.Bool.{MatchBool}
 use Rattle.std.proofs.lemmas.Bool.{false≢true}
 use Rattle.std.proofs.Math.Seq.{drop-length}
 use Rattle.ft_io.specs.declared.Addr.{Addr}
@@ -21,8 +22,10 @@ use Rattle.tcp_endpoint.specs.Laws.{IsBounded, ProbesRightly}
 use Rattle.tcp_endpoint.specs.Turn.{Call, MayUse, IsBetweenTurns, used, before_flush, turned}
 use Rattle.tcp_endpoint.specs.Listening.{IsListening}
 use Rattle.tcp_endpoint.specs.Standing.{ReceivesAt, SendsAt, StandsAt, LeadsTo, BeginsAt, Step, RunsByLaws, numbers_with, point_begun}
+use Rattle.tcp_endpoint.specs.Ending.{IsNamedRightly}
+use Rattle.tcp_endpoint.proofs.EndingLaw.{named_law, ending_law, begun_named_law}
 use Rattle.tcp_endpoint.proofs.Bounding.{bounded_in_listen}
-use Rattle.tcp_endpoint.proofs.Listening.{bounded_listening}
+use Rattle.tcp_endpoint.proofs.Listening.{bounded_listening, begun_by}
 use Rattle.tcp_endpoint.proofs.TurnLaw.{sent_law, flushed_timer}
 use Rattle.tcp_endpoint.proofs.Calls.{FinIsLast, IsUsed, used_is, bounded_used}
 use Rattle.tcp_endpoint.proofs.Arrivals.{no_probe}
@@ -50,29 +53,7 @@ record Opened (local : Addr) (iss limit : ℕ) (syn : Segment) (m : Tcb) : Type 
   probe : m.probe ≡ false
   answer : m.answer ≡ None
 
-off_one : (rst : Bool) → (false && not rst) ≡ true → false ≡ true
-off_one rst h = h
-
-off_two : (ack rst : Bool) → (false && not ack && not rst) ≡ true → false ≡ true
-off_two ack rst h = h
-
-syn_facts : (syn ack rst : Bool) → (syn && not ack && not rst) ≡ true → (syn ≡ true) × (ack ≡ false) × (rst ≡ false)
-syn_facts true false false h = (refl, refl, refl)
-syn_facts true false true h = absurd (false≢true h)
-syn_facts true true rst h = absurd (false≢true (off_one rst h))
-syn_facts false ack rst h = absurd (false≢true (off_two ack rst h))
-
 -- LISTEN takes the SYN
-in_listen_by : (e : Tcb) (syn : Segment) → opening.is_syn syn ≡ true → in_listen e syn ≡ begun e syn
-unfolding in_listen
-in_listen_by e syn is =
-    let f = syn_facts (has_syn syn) (has_ack syn) (has_rst syn) is in
-    λ i. if f.2 i then e else (if f.1 i then refusing e syn else (if f.0 i then begun e syn else e))
-
-begun_by : (e : Tcb) (syn : Segment) → e.name ≡ Listen → opening.is_syn syn ≡ true → received e syn ≡ begun e syn
-unfolding received
-begun_by e syn name is = ap (λ n. received_in n e syn) name ∙ in_listen_by e syn is
-
 opened_by_syn : (e : Tcb) (iss limit : ℕ) (syn : Segment) → IsListening iss limit e → Opened e.local iss limit syn (begun e syn)
 unfolding begun
 opened_by_syn e iss limit syn l = record {
@@ -234,12 +215,20 @@ begins_law e iss limit cisn fetched syn calls l whole is number may =
     record { begun = flushed_name (used calls m) (a.begun o.begun); between = done.0; stands = done.1; segments = done.2 }
 
 -- turn by turn
-runs_on : (steps : List Step) (before : Point) (e : Tcb) → has_begun e.name ≡ true → IsBetweenTurns e → StandsAt before e → RunsByLaws before e steps
-runs_on [] before e begun between stands = tt
-runs_on (step ∷ steps) before e begun between stands = λ s.
-    let led : LeadsTo step.user step.news before step.after e step.calls =
-    leads_law step.user step.news step.calls before step.after e begun between stands s.usual s.may s.begun s.laws s.used in
-    (led, runs_on steps step.after (turned step.news step.calls e) (flushed_name (before_flush step.news step.calls e) s.begun) led.between led.stands)
+by_test : (b : Bool) (P Q : Type 0) → (b ≡ true → P) → (b ≡ false → Q) → MatchBool b P Q
+by_test true P Q p q = p refl
+by_test false P Q p q = q refl
+
+runs_on : (steps : List Step) (before : Point) (e : Tcb) → has_begun e.name ≡ true → IsBetweenTurns e → IsNamedRightly e → StandsAt before e
+    → RunsByLaws before e steps
+runs_on [] before e begun between named stands = tt
+runs_on (step ∷ steps) before e begun between named stands = λ s.
+    by_test (has_begun (before_flush step.news step.calls e).name) _ _
+    (λ begun_after. let led : LeadsTo step.user step.news before step.after e step.calls =
+    leads_law step.user step.news step.calls before step.after e begun between stands s.usual s.may begun_after s.laws s.used in
+    (led, runs_on steps step.after (turned step.news step.calls e) (flushed_name (before_flush step.news step.calls e) begun_after) led.between
+    (named_law step.news step.calls e begun between named) led.stands))
+    (λ ended. ending_law step.news step.calls e begun between named ended)
 
 pub run_law : (e : Tcb) (iss limit cisn : ℕ) (fetched : List ℕ) (syn : Segment) (calls : List Call) (steps : List Step) → IsListening iss limit e
     → limit + length fetched ≡ 2 ^ 24 → opening.is_syn syn ≡ true → syn.head.seq ≡ (cisn + length fetched) % 2 ^ 32 → MayUse calls (received e syn)
@@ -247,4 +236,4 @@ pub run_law : (e : Tcb) (iss limit cisn : ℕ) (fetched : List ℕ) (syn : Segme
     × RunsByLaws (point_begun fetched (numbers_with cisn iss syn)) (turned (Comes syn) calls e) steps
 run_law e iss limit cisn fetched syn calls steps l whole is number may =
     let b = begins_law e iss limit cisn fetched syn calls l whole is number may in
-    (b, runs_on steps (point_begun fetched (numbers_with cisn iss syn)) (turned (Comes syn) calls e) b.begun b.between b.stands)
+    (b, runs_on steps (point_begun fetched (numbers_with cisn iss syn)) (turned (Comes syn) calls e) b.begun b.between (begun_named_law e iss limit syn calls l is) b.stands)

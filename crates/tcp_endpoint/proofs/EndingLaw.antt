@@ -24,7 +24,9 @@ use Rattle.tcp_endpoint.specs.Turning.{after_tick, timer_ticked, waited}
 use Rattle.tcp_endpoint.specs.Turn.{Call, called, used, IsBetweenTurns, arrived, before_flush, turned, sent_in}
 use Rattle.tcp_endpoint.specs.Turn.Call.{Reads, Writes, Closes}
 use Rattle.tcp_endpoint.specs.Ending.{IsNamed, IsNamedRightly, resets, is_over}
+use Rattle.tcp_endpoint.specs.Listening.{IsListening}
 use Rattle.tcp_endpoint.proofs.TakenLaw.{begun_is}
+use Rattle.tcp_endpoint.proofs.Listening.{begun_by}
 use Rattle.tcp_endpoint.proofs.TurnLaw.{after_steps}
 
 -- the states of a connection that no RST has reset: CLOSED only once all is through
@@ -524,33 +526,21 @@ ending_law news calls e begun between named ended =
     (λ h. inr (over_of u.name u.sending.opened u.sending.closed u.receiving.fin (fin_acked u.sending) ended (unreset_follows news calls e begun between named h).placed))
 
 -- a SYN's turn leaves SYN-RECEIVED
-off_one : (rst : Bool) → (false && not rst) ≡ true → false ≡ true
-off_one rst h = h
+begun_follows : (e : Tcb) (iss limit : ℕ) (syn : Segment) → IsListening iss limit e → FollowsAt (begun e syn)
+unfolding begun
+begun_follows e iss limit syn l =
+    let opened : e.sending.opened ≡ false = ap (λ (s : Sending). s.opened) l.sending in
+    let fin : e.receiving.fin ≡ false = ap (λ (r : Receiving). r.fin) l.receiving in
+    let una : e.sending.una ≡ 0 = ap (λ (s : Sending). s.una) l.sending in
+    let unsent : e.sending.fin_sent ≡ false = ap (λ (s : Sending). s.fin_sent) l.sending in
+    record { placed = (opened, fin); ends = λ k. absurd (false≢true (sym unsent ∙ k)); order = omega (arith, una); unsent = λ k. unsent }
 
-syn_facts : (syn ack rst : Bool) → (syn && not ack && not rst) ≡ true → (syn ≡ true) × (ack ≡ false) × (rst ≡ false)
-syn_facts true false false h = (refl, refl, refl)
-syn_facts true false true h = absurd (false≢true h)
-syn_facts true true rst h = absurd (false≢true (off_one rst h))
-syn_facts false ack rst h = absurd (false≢true (left_true false (not ack) (left_true (false && not ack) (not rst) h)))
-
-begun_by : (local : Addr) (iss limit : ℕ) (syn : Segment) → is_syn syn ≡ true → received (listening local iss limit) syn ≡ begun (listening local iss limit) syn
-unfolding received listening in_listen
-begun_by local iss limit syn is =
-    let e : Tcb = listening local iss limit in
-    let f = syn_facts (has_syn syn) (has_ack syn) (has_rst syn) is in
-    λ i. if f.2 i then e else (if f.1 i then refusing e syn else (if f.0 i then begun e syn else e))
-
-begun_follows : (local : Addr) (iss limit : ℕ) (syn : Segment) → FollowsAt (begun (listening local iss limit) syn)
-unfolding listening begun
-begun_follows local iss limit syn = record { placed = (refl, refl); ends = λ k. absurd (false≢true k); order = omega arith; unsent = λ k. refl }
-
-pub begun_named_law : (local : Addr) (iss limit : ℕ) (syn : Segment) (calls : List Call) → is_syn syn ≡ true
-    → IsNamedRightly (turned (Comes syn) calls (listening local iss limit))
-begun_named_law local iss limit syn calls is =
-    let e : Tcb = listening local iss limit in
+pub begun_named_law : (e : Tcb) (iss limit : ℕ) (syn : Segment) (calls : List Call) → IsListening iss limit e → is_syn syn ≡ true
+    → IsNamedRightly (turned (Comes syn) calls e)
+begun_named_law e iss limit syn calls l is =
     let m : Tcb = received e syn in
     let P : Tcb → Type 0 = λ t. FollowsAt t in
-    let h : FollowsAt m = subst P (sym (begun_by local iss limit syn is)) (begun_follows local iss limit syn) in
+    let h : FollowsAt m = subst P (sym (begun_by e syn l.name is)) (begun_follows e iss limit syn l) in
     named_at (flushed (used calls m)) (flush_follows (used calls m) (used_follows calls m h))
 
 -- no other check resets

@@ -6,6 +6,7 @@ use Rattle.ft_io.specs.declared.Addr.{Addr}
 use Rattle.seq_arith.specs.Packet.{Segment, has_syn, has_rst, has_ack}
 use Rattle.ft_model.specs.News.{News}
 use Rattle.ft_model.specs.News.News.{Comes, Logged, Ticks, Begins}
+use Rattle.ft_model.specs.Opening.{is_syn}
 use Rattle.tcp_endpoint.specs.declared.states.StateName.{StateName}
 use Rattle.tcp_endpoint.specs.declared.states.StateName.TheVariants.{Closed, Listen}
 use Rattle.tcp_endpoint.specs.States.{after_close, is_closed}
@@ -195,3 +196,27 @@ pub listening_law : (iss limit : ℕ) (news : News) (calls : List Call) (e : Tcb
 listening_law iss limit news calls e l none may still =
     listens_flushed e.local iss limit (used calls (arrived news e))
     (listens_used e.local iss limit calls (arrived news e) may still (listens_arrived iss limit news e none l))
+
+-- what a SYN is
+off_one : (rst : Bool) → (false && not rst) ≡ true → false ≡ true
+off_one rst h = h
+
+off_two : (ack rst : Bool) → (false && not ack && not rst) ≡ true → false ≡ true
+off_two ack rst h = h
+
+syn_facts : (syn ack rst : Bool) → (syn && not ack && not rst) ≡ true → (syn ≡ true) × (ack ≡ false) × (rst ≡ false)
+syn_facts true false false h = (refl, refl, refl)
+syn_facts true false true h = absurd (false≢true h)
+syn_facts true true rst h = absurd (false≢true (off_one rst h))
+syn_facts false ack rst h = absurd (false≢true (off_two ack rst h))
+
+-- LISTEN takes the SYN
+in_listen_by : (e : Tcb) (syn : Segment) → is_syn syn ≡ true → in_listen e syn ≡ begun e syn
+unfolding in_listen
+in_listen_by e syn is =
+    let f = syn_facts (has_syn syn) (has_ack syn) (has_rst syn) is in
+    λ i. if f.2 i then e else (if f.1 i then refusing e syn else (if f.0 i then begun e syn else e))
+
+pub begun_by : (e : Tcb) (syn : Segment) → e.name ≡ Listen → is_syn syn ≡ true → received e syn ≡ begun e syn
+unfolding received
+begun_by e syn name is = ap (λ n. received_in n e syn) name ∙ in_listen_by e syn is

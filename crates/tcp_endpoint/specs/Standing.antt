@@ -3,6 +3,7 @@
 -- limit stands in the place of 2^24, and where it is 2^24 nothing is fetched. The bytes that the user has read are the point's; the endpoint
 -- has forgotten them.
 use Rattle.std.specs.Prelude.{◌≡◌, ℕ, Bool, true, false, pos, ◌+◌, ◌≤◌, ◌%◌, ◌^◌, ◌+ℤ◌, ◌==◌, ◌&&◌, ◌||◌, not, max, List, [], ◌∷◌, ◌++◌, length, drop, sum, if◌then◌else◌, take, ◌⊎◌}
+use Rattle.std.specs.Bool.{MatchBool}
 use Rattle.ft_io.specs.declared.Addr.{Addr}
 use Rattle.seq_arith.specs.Number.{offset_of}
 use Rattle.seq_arith.specs.Packet.{Segment, has_syn, has_rst}
@@ -24,6 +25,7 @@ use Rattle.tcp_endpoint.specs.States.{has_begun}
 use Rattle.tcp_endpoint.specs.Receiving.{taken}
 use Rattle.tcp_endpoint.specs.Sending.{Sending, bytes_end}
 use Rattle.tcp_endpoint.specs.Tcb.{Tcb}
+use Rattle.tcp_endpoint.specs.Ending.{resets, is_over}
 use Rattle.tcp_endpoint.specs.Turn.{Call, MayUse, IsUsualNews, IsBetweenTurns, arrived, before_flush, turned, sent_in}
 
 -- the receiving half
@@ -140,18 +142,22 @@ pub record Step : Type 0 where
   pub user : Machine ℕ
   pub after : Point
 
--- what is asked of it: its segment is a usual one, the user's calls may be, the endpoint isn't CLOSED by it, and the point after it follows
--- from the one before by the laws
+-- what is asked of it: its segment is a usual one, the user's calls may be, and the point after it follows from the one before by the laws
 pub record IsStep (before : Point) (e : Tcb) (step : Step) : Type 0 where
   pub usual : IsUsualNews step.news e
   pub may : MayUse step.calls (arrived step.news e)
-  pub begun : has_begun (before_flush step.news step.calls e).name ≡ true
   pub laws : MeetsLaws step.user step.news before step.after
   pub used : IsUsedAt step.user step.after (before_flush step.news step.calls e)
 
--- each turn of a run leads to the point after it
+-- a turn that leaves the endpoint CLOSED: a RST came at exactly the next number, or both FINs are through
+abbrev pub Ends : News → List Call → Tcb → Type 0
+Ends news calls e = (resets news e ≡ true) ⊎ (is_over (before_flush news calls e) ≡ true)
+
+-- each turn of a run leads to the point after it, or ends the connection
 abbrev pub RunsByLaws : Point → Tcb → List Step → Type 0
 RunsByLaws before e [] = Unit {0}
 RunsByLaws before e (step ∷ steps) =
     IsStep before e step
-    → LeadsTo step.user step.news before step.after e step.calls × RunsByLaws step.after (turned step.news step.calls e) steps
+    → MatchBool (has_begun (before_flush step.news step.calls e).name)
+    (LeadsTo step.user step.news before step.after e step.calls × RunsByLaws step.after (turned step.news step.calls e) steps)
+    (Ends step.news step.calls e)

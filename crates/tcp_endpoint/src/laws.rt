@@ -180,8 +180,9 @@ pub fn turns_have_points()
         → (service : Machine ℕ) × (after : Point) × MeetsLaws service news before after × IsUsedAt service after (before_flush news calls e) }
 {}
 
-/// So over a whole run: an endpoint that listens meets the laws Taken and Sending of `ft_model`, with the timer's, from its SYN on and until
-/// it is CLOSED, for every initial number of both sides, every limit up to 2^24, and whatever comes and the user does in each turn.
+/// So over a whole run: from its SYN on an endpoint of `listen` meets the laws Taken and Sending of `ft_model`, with the timer's, turn by turn,
+/// until a RST at exactly the next number comes, or both FINs are through and it is CLOSED: for every initial number of both sides, every limit up
+/// to 2^24, and every user.
 pub fn endpoints_run_by_the_laws()
     ensures { (e : Tcb) (iss limit cisn : ℕ) (fetched : List ℕ) (syn : Segment) (calls : List Call) (steps : List Step)
         → IsListening iss limit e → limit + length fetched ≡ 2 ^ 24 → is_syn syn ≡ true → syn.head.seq ≡ (cisn + length fetched) % 2 ^ 32
@@ -236,8 +237,8 @@ pub fn writes_leave_shut()
 /// From its SYN on an endpoint of `listen` is in the state that its halves tell of: by whether its SYN is acknowledged, its user has closed, the
 /// peer's FIN is taken, and the own FIN is acknowledged.
 pub fn syns_name_rightly()
-    ensures { (local : Addr) (iss limit : ℕ) (syn : Segment) (calls : List Call) → is_syn syn ≡ true
-        → IsNamedRightly (turned (Comes syn) calls (listening local iss limit)) }
+    ensures { (e : Tcb) (iss limit : ℕ) (syn : Segment) (calls : List Call) → IsListening iss limit e → is_syn syn ≡ true
+        → IsNamedRightly (turned (Comes syn) calls e) }
 {}
 
 /// Each turn keeps it in that state, whatever comes and the user does.
