@@ -11,8 +11,6 @@ use Rattle.ft_model.specs.Offset.{one_if}
 use Rattle.ft_model.specs.News.{News}
 use Rattle.ft_model.specs.News.News.{Comes, Logged, Ticks, Begins}
 use Rattle.ft_model.specs.Segments.{or_bare}
-use Rattle.tcp_endpoint.specs.declared.states.StateName.{StateName}
-use Rattle.tcp_endpoint.specs.declared.states.StateName.TheVariants.{Closed, Listen, SynSent, SynReceived, Established, FinWait1, FinWait2, CloseWait, Closing, LastAck, TimeWait}
 use Rattle.tcp_endpoint.specs.States.{is_closed, is_syn_sent, has_begun}
 use Rattle.tcp_endpoint.specs.Receiving.{next, window, announced_edge}
 use Rattle.tcp_endpoint.specs.Sending.{in_flight, is_unacknowledged}
@@ -197,7 +195,6 @@ asks_where_changed e u heard (inl other) =
     asks_for_next u.owed u.told_next (next u.receiving) u.told_edge (announced_edge u.receiving) (λ h. other (h ∙ ap (λ t. t.0) heard))
 asks_where_changed e u heard (inr other) =
     asks_for_edge u.owed u.told_next (next u.receiving) u.told_edge (announced_edge u.receiving) (λ h. other (h ∙ ap (λ t. t.1) heard))
-
 
 -- nothing is taken of a segment that is refused
 below_or_not : (z : ℤ) → int_le (pos 0) z ≡ not (int_lt z (pos 0))

@@ -1,22 +1,21 @@
 -- From its SYN on an endpoint that listened stands at a point: in the SYN's turn at the new connection's.
-use Rattle.std.proofs.Common.{◌≡◌, ℕ, ◌≤◌, ◌+◌, ◌%◌, ◌^◌, Bool, true, false, not, List, [], ◌∷◌, ◌++◌, length, drop, max, min, Option, None, Some, refl, sym, ap, subst, arith, ◌∙◌}
+use Rattle.std.proofs.Common.{◌≡◌, ℕ, ◌≤◌, ◌+◌, ◌%◌, ◌^◌, Bool, true, false, not, List, [], ◌∷◌, ◌++◌, length, drop, max, min, None, refl, sym, ap, subst, arith, ◌∙◌}
 use Rattle.std.specs.Prelude.{◌==◌, ◌&&◌, ◌||◌, nat_lt, if◌then◌else◌}
 use Rattle.std.specs.Bool.{MatchBool}
 use Rattle.std.proofs.lemmas.Bool.{false≢true}
 use Rattle.std.proofs.Math.Seq.{drop-length}
 use Rattle.ft_io.specs.declared.Addr.{Addr}
-use Rattle.seq_arith.specs.Packet.{Segment, has_syn, has_rst, has_ack}
+use Rattle.seq_arith.specs.Packet.{Segment}
 use Rattle.ft_model.specs.Opening as opening
 use Rattle.ft_model.specs.Offset.{one_if}
 use Rattle.ft_model.specs.Point.{Point}
 use Rattle.ft_model.specs.News.News.{Comes}
 use Rattle.ft_model.specs.Segments.{syn_ack, or_bare}
-use Rattle.tcp_endpoint.specs.declared.states.StateName.TheVariants.{Listen}
 use Rattle.tcp_endpoint.specs.States.{is_syn_sent, has_begun}
 use Rattle.tcp_endpoint.specs.Receiving.{Receiving, taken}
-use Rattle.tcp_endpoint.specs.Sending.{Sending, segment_size, is_unacknowledged, target, resent_length}
+use Rattle.tcp_endpoint.specs.Sending.{Sending, is_unacknowledged, target, resent_length}
 use Rattle.tcp_endpoint.specs.Tcb.{Tcb}
-use Rattle.tcp_endpoint.specs.Arrival.{source, received, received_in, in_listen, begun, refusing}
+use Rattle.tcp_endpoint.specs.Arrival.{source, received, begun}
 use Rattle.tcp_endpoint.specs.Leaving.{announced, settled, with_fin_out, fin_at, text_at, answer_segments, answer_out, again_segment, opening_segment, again_out, probe_out, with_probe, text_out, with_text_sent, fin_out, full_out, is_owed, bare_segment, leaving, after_full, is_timed, flushed}
 use Rattle.tcp_endpoint.specs.Laws.{IsBounded, ProbesRightly}
 use Rattle.tcp_endpoint.specs.Turn.{Call, MayUse, IsBetweenTurns, used, before_flush, turned}
@@ -40,7 +39,7 @@ record Opened (local : Addr) (iss limit : ℕ) (syn : Segment) (m : Tcb) : Type 
   begun : has_begun m.name ≡ true
   receiving : m.receiving ≡ record { irs = syn.head.seq; read = 0; unread = []; fin = false; limit = min limit (2 ^ 30) }
   iss_is : m.sending.iss ≡ iss
-  mss : m.sending.mss ≡ segment_size syn.head.mss
+  mss : m.sending.mss ≡ opening.segment_size syn.head.mss
   opened : m.sending.opened ≡ false
   una : m.sending.una ≡ 0
   sent : m.sending.sent ≡ 0
@@ -103,15 +102,11 @@ receives_begun local iss limit cisn fetched syn m u o a whole number =
       fin = sym (a.fin ∙ ap (λ (r : Receiving). r.fin) o.receiving);
     }
 
-size_is : (mss : Option ℕ) → opening.segment_size mss ≡ segment_size mss
-size_is None = refl
-size_is (Some mss) = omega arith
-
 sends_begun : (local : Addr) (iss limit cisn : ℕ) (fetched : List ℕ) (syn : Segment) (m u : Tcb) → Opened local iss limit syn m → IsUsed m u
     → SendsAt (point_begun fetched (numbers_with cisn iss syn)) u
 sends_begun local iss limit cisn fetched syn m u o a = record {
   sisn = sym (a.sends.iss ∙ o.iss_is);
-  mss = size_is syn.head.mss ∙ sym (a.sends.mss ∙ o.mss);
+  mss = sym (a.sends.mss ∙ o.mss);
   counted = sym (a.sends.opened ∙ o.opened);
   una = sym (a.sends.una ∙ o.una);
   edge = sym (a.sends.edge ∙ o.edge);
@@ -225,9 +220,11 @@ runs_on [] before e begun between named stands = tt
 runs_on (step ∷ steps) before e begun between named stands = λ s.
     by_test (has_begun (before_flush step.news step.calls e).name) _ _
     (λ begun_after. let led : LeadsTo step.user step.news before step.after e step.calls =
-    leads_law step.user step.news step.calls before step.after e begun between stands s.usual s.may begun_after s.laws s.used in
-    (led, runs_on steps step.after (turned step.news step.calls e) (flushed_name (before_flush step.news step.calls e) begun_after) led.between
-    (named_law step.news step.calls e begun between named) led.stands))
+    leads_law step.user step.news step.calls before step.after e begun between stands s.usual s.may begun_after s.laws s.used in (
+      led,
+      runs_on steps step.after (turned step.news step.calls e) (flushed_name (before_flush step.news step.calls e) begun_after) led.between
+          (named_law step.news step.calls e begun between named) led.stands,
+    ))
     (λ ended. ending_law step.news step.calls e begun between named ended)
 
 pub run_law : (e : Tcb) (iss limit cisn : ℕ) (fetched : List ℕ) (syn : Segment) (calls : List Call) (steps : List Step) → IsListening iss limit e

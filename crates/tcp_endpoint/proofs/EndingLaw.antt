@@ -3,7 +3,6 @@ use Rattle.std.proofs.Common.{◌≡◌, ◌⊎◌, inl, inr, ℕ, ◌≤◌, �
 use Rattle.std.specs.Prelude.{ℤ, pos, ◌+ℤ◌, ◌==◌, ◌&&◌, ◌||◌, nat_abs, nat_lt, int_lt, if◌then◌else◌}
 use Rattle.std.proofs.lemmas.Int.{ints}
 use Rattle.std.proofs.lemmas.Bool.{false≢true}
-use Rattle.ft_io.specs.declared.Addr.{Addr}
 use Rattle.seq_arith.specs.Arrival.{int_eq, is_acceptable, is_new_ack}
 use Rattle.seq_arith.specs.Packet.{Segment, has_fin, has_syn, has_rst, has_ack}
 use Rattle.segment_codec.specs.declared.Head.{Head}
@@ -17,8 +16,8 @@ use Rattle.tcp_endpoint.specs.declared.states.StateName.TheVariants.{Closed, Lis
 use Rattle.tcp_endpoint.specs.States.{opened, after_close, after_fin, after_fin_acked, is_time_wait, has_begun}
 use Rattle.tcp_endpoint.specs.Receiving.{Receiving, next, taken, window, with_text, with_fin, with_segment}
 use Rattle.tcp_endpoint.specs.Sending.{Sending, opened_by, acknowledged, fin_acked, sendable, sends_fin, timed, expires, with_sent, with_fin_sent}
-use Rattle.tcp_endpoint.specs.Tcb.{Tcb, listening}
-use Rattle.tcp_endpoint.specs.Arrival.{first, ack_at, owing_if, killed, entering, refusing, begun, in_listen, with_text_and_fin, with_fin_acked, with_first_ack, with_ack, check_ack, check_syn, check_rst, waiting_again, check_place, in_others, received}
+use Rattle.tcp_endpoint.specs.Tcb.{Tcb}
+use Rattle.tcp_endpoint.specs.Arrival.{first, ack_at, owing_if, killed, entering, refusing, begun, with_text_and_fin, with_fin_acked, with_first_ack, with_ack, check_ack, check_syn, check_rst, waiting_again, check_place, in_others, received}
 use Rattle.tcp_endpoint.specs.Leaving.{probes_text, probes_fin, with_probe, with_text_sent, with_fin_out, after_full, announced, settled, flushed, answer_out, again_out, probe_out, text_out, texts, fin_out, full_out, is_owed, leaving}
 use Rattle.tcp_endpoint.specs.Turning.{after_tick, timer_ticked, waited}
 use Rattle.tcp_endpoint.specs.Turn.{Call, called, used, IsBetweenTurns, arrived, before_flush, turned, sent_in}

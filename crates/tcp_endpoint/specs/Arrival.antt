@@ -1,8 +1,9 @@
 -- What a segment that arrives makes of an endpoint: the checks of RFC 9293, 3.10.7, in their order, one definition a check.
-use Rattle.std.specs.Prelude.{◌≡◌, ℕ, ℤ, Bool, true, pos, ◌+◌, ◌%◌, ◌^◌, ◌&&◌, ◌||◌, not, nat_lt, int_lt, None, Some, if◌then◌else◌, ◌+ℤ◌, length}
+use Rattle.std.specs.Prelude.{ℕ, ℤ, Bool, true, pos, ◌+◌, ◌%◌, ◌^◌, ◌&&◌, ◌||◌, not, nat_lt, int_lt, None, Some, if◌then◌else◌, ◌+ℤ◌, length}
 use Rattle.seq_arith.specs.Arrival.{int_eq, is_acceptable}
 use Rattle.seq_arith.specs.Packet.{Segment, has_fin, has_syn, has_rst, has_ack}
 use Rattle.ft_io.specs.declared.Addr.{Addr}
+use Rattle.ft_model.specs.Opening.{segment_size}
 use Rattle.ft_model.specs.Offset.{first_of, ack_of, fin_of, length_of}
 use Rattle.segment_codec.specs.declared.Head.{Head}
 use Rattle.tcp_buffers.specs.Near.{is_ahead}
@@ -10,7 +11,7 @@ use Rattle.tcp_endpoint.specs.declared.states.StateName.{StateName}
 use Rattle.tcp_endpoint.specs.declared.states.StateName.TheVariants.{Closed, Listen, SynSent, SynReceived, Established}
 use Rattle.tcp_endpoint.specs.States.{opened, after_fin_acked, after_fin, is_time_wait}
 use Rattle.tcp_endpoint.specs.Receiving.{taken, next, window, with_segment}
-use Rattle.tcp_endpoint.specs.Sending.{segment_size, opened_by, acknowledged, fin_acked}
+use Rattle.tcp_endpoint.specs.Sending.{opened_by, acknowledged, fin_acked}
 use Rattle.tcp_endpoint.specs.Tcb.{Tcb}
 
 -- SEG.SEQ and SEG.ACK as offsets

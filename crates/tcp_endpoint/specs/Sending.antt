@@ -1,6 +1,6 @@
 -- The sending half of a connection, in offsets of the own stream: byte k has the offset k, and a FIN counts as one more (RFC 9293,
 -- 3.3.1, send sequence variables, and 3.10.7.4, fifth check).
-use Rattle.std.specs.Prelude.{ℕ, ℤ, Bool, true, false, pos, ◌+◌, ◌-◌, ◌*◌, ◌%◌, ◌^◌, ◌<◌, ◌≤◌, ◌==◌, ◌&&◌, ◌||◌, not, nat_lt, nat_le, int_le, min, max, nat_abs, List, [], length, drop, Option, None, Some, if◌then◌else◌}
+use Rattle.std.specs.Prelude.{ℕ, ℤ, Bool, true, false, pos, ◌+◌, ◌-◌, ◌*◌, ◌%◌, ◌^◌, ◌<◌, ◌≤◌, ◌==◌, ◌&&◌, ◌||◌, not, nat_lt, nat_le, int_le, min, max, nat_abs, List, [], length, drop, if◌then◌else◌}
 use Rattle.seq_arith.specs.Arrival.{is_new_ack}
 use Rattle.seq_arith.specs.Number.{distance, precedes}
 use Rattle.tcp_buffers.specs.SendNumbers.{edge_of}
@@ -41,11 +41,6 @@ sending_from iss = record {
   interval = 1;
   rest = 0;
 }
-
--- the segment size, from the option of the peer's SYN (3.7.1): 64 to 1,460 bytes, and 536 without the option
-abbrev pub segment_size : Option ℕ → ℕ
-segment_size None = 536
-segment_size (Some mss) = max 64 (min mss 1460)
 
 -- the acknowledgement of the SYN, which alone is sent, by the segment of that number (3.10.7.3, fourth check; 3.10.7.4, fifth check)
 abbrev pub opened_by : Sending → ℕ → ℕ → Sending

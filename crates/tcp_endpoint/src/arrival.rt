@@ -256,7 +256,10 @@ impl Endpoint {
         ensures { self.new ≡ waiting_again self.old (segment_of p.entry) }
     {
         let is_fin = has_fin(p) && !has_syn(p) && !has_rst(p);
-        if self.name.is_time_wait() && is_fin && self.receiver.ends(p.head.seq, p.payload.len() as u32) {
+        if self.name.is_time_wait()
+            && is_fin
+            && self.receiver.ends(p.head.seq, p.payload.len() as u32)
+        {
             self.wait = 4;
         }
     }

@@ -4,8 +4,9 @@
 ghost use Rattle.std.specs.Prelude.{◌≡◌, ℕ, ◌+◌, ◌-◌, ◌%◌, ◌^◌, ◌<◌, ◌≤◌, ◌==◌, ◌&&◌, pos, int_le, Bool, false, true, not, List, [], ◌++◌, length, min, take, drop, if◌then◌else◌};
 ghost use Rattle.seq_arith.specs.Number.{number_at, offset_of};
 ghost use Rattle.seq_arith.specs.Arrival.{int_eq};
+ghost use Rattle.ft_model.specs.Opening.{segment_size};
 ghost use Rattle.tcp_buffers.specs.Near.{is_ahead};
-ghost use Rattle.tcp_endpoint.specs.Sending.{sending_from, segment_size, opened_by, acknowledged, fin_acked, in_flight, is_unacknowledged, expires, ticked, must_run, timed, sendable, sends_fin, resent_length, with_sent, with_fin_sent, units_of, was_sent, NumbersFit, IsShort};
+ghost use Rattle.tcp_endpoint.specs.Sending.{sending_from, opened_by, acknowledged, fin_acked, in_flight, is_unacknowledged, expires, ticked, must_run, timed, sendable, sends_fin, resent_length, with_sent, with_fin_sent, units_of, was_sent, NumbersFit, IsShort};
 
 use seq_arith::Seq;
 use std::marker::Model;
