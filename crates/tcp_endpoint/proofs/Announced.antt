@@ -121,7 +121,7 @@ refusal_announces : (u : Tcb) (refused : Bool) (head : Head) → head.flags ≡ 
 refusal_announces u true head flags = (λ h. absurd (false≢true (sym h ∙ ap (λ (n : ℕ). n / 4 % 2 == 1) flags)), tt)
 refusal_announces u false head flags = tt
 
-none_announces : (u : Tcb) (answer : Option Head) → answer ≡ None → AllByRecursion (Announces u) (answer_segments answer)
+pub none_announces : (u : Tcb) (answer : Option Head) → answer ≡ None → AllByRecursion (Announces u) (answer_segments answer)
 none_announces u answer none =
     let P : Option Head → Type 0 = λ a. AllByRecursion (Announces u) (answer_segments a) in
     subst P (sym none) tt
@@ -158,7 +158,7 @@ full_all u P weaker begun answer =
 announcing : (u : Tcb) (segment : Segment) → Tells u segment → Announces u segment
 announcing u segment tells = λ h. (tells.1, tells.2, tells.3)
 
-leaving_announces : (u : Tcb) → has_begun u.name ≡ true → AllByRecursion (Announces u) (answer_out u) → AllByRecursion (Announces u) (leaving u)
+pub leaving_announces : (u : Tcb) → has_begun u.name ≡ true → AllByRecursion (Announces u) (answer_out u) → AllByRecursion (Announces u) (leaving u)
 unfolding leaving
 leaving_announces u begun answer =
     all_or_bare (Announces u) (is_owed (after_full u)) (bare_segment (after_full u)) (full_out u) (announcing u (bare_segment (after_full u)) (bare_tells u))
@@ -264,7 +264,7 @@ some_told : (bare : Segment) (segments : List Segment) → has_rst bare ≡ fals
 some_told bare [] plain all = ap (λ b. not b || false) plain
 some_told bare (segment ∷ segments) plain all = ap (λ b. not b || is_told segments) all.0
 
-unanswered_tells : (u : Tcb) → has_begun u.name ≡ true → u.answer ≡ None → asks u.owed u ≡ true → is_told (leaving u) ≡ true
+pub unanswered_tells : (u : Tcb) → has_begun u.name ≡ true → u.answer ≡ None → asks u.owed u ≡ true → is_told (leaving u) ≡ true
 unfolding answer_out
 unanswered_tells u begun none asked =
     let Plain : Segment → Type 0 = λ segment. has_rst segment ≡ false in

@@ -29,7 +29,7 @@ use Rattle.tcp_endpoint.proofs.Listening.{begun_by}
 use Rattle.tcp_endpoint.proofs.TurnLaw.{after_steps}
 
 -- the states of a connection that no RST has reset: CLOSED only once all is through
-abbrev IsPlaced : StateName → (opened closed fin acked : Bool) → Type 0
+abbrev pub IsPlaced : StateName → (opened closed fin acked : Bool) → Type 0
 IsPlaced Closed o c f a = (o ≡ true) × (c ≡ true) × (f ≡ true) × (a ≡ true)
 IsPlaced Listen o c f a = ⊥
 IsPlaced SynSent o c f a = ⊥
@@ -168,16 +168,16 @@ over_of LastAck o c f a ended h = absurd (false≢true (sym ended))
 over_of TimeWait o c f a ended h = absurd (false≢true (sym ended))
 
 -- what every step keeps: the state, and of the own FIN that only a user who has closed sends it, and only behind the SYN's acknowledgement
-record Follows (name : StateName) (fin : Bool) (s : Sending) : Type 0 where
-  placed : IsPlaced name s.opened s.closed fin (fin_acked s)
-  ends : s.fin_sent ≡ true → s.closed ≡ true
-  order : s.una ≤ s.sent
-  unsent : s.opened ≡ false → s.fin_sent ≡ false
+pub record Follows (name : StateName) (fin : Bool) (s : Sending) : Type 0 where
+  pub placed : IsPlaced name s.opened s.closed fin (fin_acked s)
+  pub ends : s.fin_sent ≡ true → s.closed ≡ true
+  pub order : s.una ≤ s.sent
+  pub unsent : s.opened ≡ false → s.fin_sent ≡ false
 
-abbrev FollowsAt : Tcb → Type 0
+abbrev pub FollowsAt : Tcb → Type 0
 FollowsAt e = Follows e.name e.receiving.fin e.sending
 
-holds_if : {X : Type 0} (P : X → Type 0) (b : Bool) (x y : X) → (b ≡ true → P x) → (b ≡ false → P y) → P (if b then x else y)
+pub holds_if : {X : Type 0} (P : X → Type 0) (b : Bool) (x y : X) → (b ≡ true → P x) → (b ≡ false → P y) → P (if b then x else y)
 holds_if P true x y p q = p refl
 holds_if P false x y p q = q refl
 
@@ -345,7 +345,7 @@ call_follows Closes e h =
       unsent = h.unsent;
     }
 
-used_follows : (calls : List Call) (e : Tcb) → FollowsAt e → FollowsAt (used calls e)
+pub used_follows : (calls : List Call) (e : Tcb) → FollowsAt e → FollowsAt (used calls e)
 used_follows [] e h = h
 used_follows (call ∷ calls) e h = used_follows calls (called call e) (call_follows call e h)
 
@@ -425,7 +425,7 @@ timed_follows name fin true s h =
     (λ k. record { placed = h.placed; ends = h.ends; order = h.order; unsent = h.unsent }) (λ k. h)
 timed_follows name fin false s h = record { placed = h.placed; ends = h.ends; order = h.order; unsent = h.unsent }
 
-flush_follows : (u : Tcb) → FollowsAt u → FollowsAt (flushed u)
+pub flush_follows : (u : Tcb) → FollowsAt u → FollowsAt (flushed u)
 unfolding flushed settled announced after_full with_fin_out with_text_sent with_probe
 flush_follows u h =
     let s : Sending = u.sending in
@@ -490,7 +490,7 @@ stays_closed (Closes ∷ calls) u h = stays_closed calls (called Closes u) (ap a
 reset_closed : (news : News) (calls : List Call) (e : Tcb) → has_begun e.name ≡ true → resets news e ≡ true → (before_flush news calls e).name ≡ Closed
 reset_closed news calls e begun h = stays_closed calls (arrived news e) (ap (λ (t : Tcb). t.name) (arrived_reset news e begun h).1)
 
-flushed_name : (u : Tcb) → (flushed u).name ≡ u.name
+pub flushed_name : (u : Tcb) → (flushed u).name ≡ u.name
 unfolding flushed settled announced after_full with_fin_out with_text_sent with_probe
 flushed_name u = refl
 
@@ -502,7 +502,7 @@ by_cases true p q = p refl
 by_cases false p q = q refl
 
 -- a turn keeps the state right
-named_at : (e : Tcb) → FollowsAt e → IsNamedRightly e
+pub named_at : (e : Tcb) → FollowsAt e → IsNamedRightly e
 named_at e h = named_of e.name e.sending.opened e.sending.closed e.receiving.fin (fin_acked e.sending) h.placed
 
 unreset_follows : (news : News) (calls : List Call) (e : Tcb) → has_begun e.name ≡ true → IsBetweenTurns e → IsNamedRightly e → resets news e ≡ false

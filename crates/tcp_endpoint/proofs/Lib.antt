@@ -22,3 +22,4 @@ pub mod Listening
 pub mod Beginning
 pub mod EndingLaw
 pub mod Announced
+pub mod Connecting

@@ -135,7 +135,7 @@ not_both : (name : StateName) → name ≡ Closed → name ≡ Listen → ⊥
 not_both name closed listens = false≢true (ap is_closed (sym listens ∙ closed))
 
 -- the other calls read nothing, and add to what is written
-read_none : (limit n : ℕ) → n ≤ length (receiving_up_to limit).unread → read_out (receiving_up_to limit) n ≡ receiving_up_to limit
+pub read_none : (limit n : ℕ) → n ≤ length (receiving_up_to limit).unread → read_out (receiving_up_to limit) n ≡ receiving_up_to limit
 read_none limit n none =
     let nothing : n ≡ 0 = omega (arith, none) in ap (read_out (receiving_up_to limit)) nothing
 

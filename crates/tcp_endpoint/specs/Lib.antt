@@ -13,3 +13,4 @@ pub mod Listening
 pub mod Standing
 pub mod Ending
 pub mod Announcing
+pub mod Connecting

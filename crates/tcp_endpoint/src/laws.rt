@@ -28,6 +28,10 @@ ghost use Rattle.tcp_endpoint.specs.declared.states.StateName.TheVariants.{Close
 ghost use Rattle.tcp_endpoint.specs.Turn.{sent_in};
 ghost use Rattle.tcp_endpoint.specs.Ending.{IsNamedRightly, resets, is_over};
 ghost use Rattle.tcp_endpoint.specs.Announcing.{Announces, is_told};
+ghost use Rattle.std.specs.Prelude.{◌∷◌};
+ghost use Rattle.tcp_endpoint.specs.Leaving.{opening_segment};
+ghost use Rattle.tcp_endpoint.specs.Turn.{used};
+ghost use Rattle.tcp_endpoint.specs.Connecting.{IsConnecting, FieldsFit};
 
 use server_trait::Service;
 
@@ -281,4 +285,36 @@ pub fn what_is_taken_is_told()
         → (next (before_flush news calls e).receiving ≡ next e.receiving → ⊥)
         ⊎ (((before_flush news calls e).answer ≡ None) × (announced_edge (before_flush news calls e).receiving ≡ announced_edge e.receiving → ⊥))
         → is_told (sent_in news calls e) ≡ true }
+{}
+
+/// An active open connects: whatever its user writes before the first flush, the SYN is all that leaves. Its timer runs from then on, and nothing
+/// else is due.
+pub fn active_opens_connect()
+    ensures { (local remote : Addr) (iss limit : ℕ) (calls : List Call) → MayUse calls (connecting local remote iss limit)
+        → (used calls (connecting local remote iss limit)).name ≡ SynSent
+        → IsConnecting iss limit (flushed (used calls (connecting local remote iss limit)))
+        × (leaving (used calls (connecting local remote iss limit)) ≡ opening_segment (connecting local remote iss limit) ∷ []) }
+{}
+
+/// It still connects, between the same addresses, after each turn that leaves it in SYN-SENT: what comes and doesn't answer the SYN is dropped or
+/// gets a RST, the SYN goes out again where the timer expires, and what the user writes waits.
+pub fn connecting_goes_on()
+    ensures { (iss limit : ℕ) (news : News) (calls : List Call) (e : Tcb) → IsConnecting iss limit e → MayUse calls (arrived news e)
+        → (before_flush news calls e).name ≡ SynSent
+        → IsConnecting iss limit (turned news calls e) × ((turned news calls e).local ≡ e.local) × ((turned news calls e).remote ≡ e.remote) }
+{}
+
+/// The turn in which its SYN is answered leaves it as a connection that has begun has to be between two turns, in the state that its halves tell of:
+/// all that the laws on such connections ask.
+pub fn answers_begin()
+    ensures { (iss limit : ℕ) (news : News) (calls : List Call) (e : Tcb) → IsConnecting iss limit e → limit ≤ 2 ^ 24 → FieldsFit news
+        → MayUse calls (arrived news e) → has_begun (before_flush news calls e).name ≡ true
+        → IsBetweenTurns (turned news calls e) × IsNamedRightly (turned news calls e) × (has_begun (turned news calls e).name ≡ true) }
+{}
+
+/// In that turn a segment leaves that isn't a RST, and each such segment has ACK, acknowledges just what is taken, and announces the window.
+pub fn answers_are_acknowledged()
+    ensures { (iss limit : ℕ) (news : News) (calls : List Call) (e : Tcb) → IsConnecting iss limit e → limit ≤ 2 ^ 24 → FieldsFit news
+        → MayUse calls (arrived news e) → has_begun (before_flush news calls e).name ≡ true
+        → AllByRecursion (Announces (before_flush news calls e)) (sent_in news calls e) × (is_told (sent_in news calls e) ≡ true) }
 {}
