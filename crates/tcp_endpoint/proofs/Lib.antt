@@ -23,3 +23,4 @@ pub mod Beginning
 pub mod EndingLaw
 pub mod Announced
 pub mod Connecting
+pub mod Anywhere

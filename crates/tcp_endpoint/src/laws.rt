@@ -270,6 +270,12 @@ pub fn resets_close_in_silence()
         → ((before_flush news calls e).name ≡ Closed) × (sent_in news calls e ≡ []) }
 {}
 
+/// What the laws ask of a connection that has begun, passive or active, holds after each turn again, until it is CLOSED.
+pub fn turns_keep_what_laws_ask()
+    ensures { (news : News) (calls : List Call) (e : Tcb) → e.receiving.irs < 2 ^ 32 → has_begun e.name ≡ true → IsBetweenTurns e → IsUsualNews news e
+        → MayUse calls (arrived news e) → has_begun (before_flush news calls e).name ≡ true → IsBetweenTurns (turned news calls e) }
+{}
+
 /// Every endpoint acknowledges all that it took: each segment that leaves a connection that has begun, but for a RST, has ACK, acknowledges
 /// just what is taken, and announces the window.
 pub fn segments_acknowledge_all_that_is_taken()
@@ -296,8 +302,7 @@ pub fn active_opens_connect()
         × (leaving (used calls (connecting local remote iss limit)) ≡ opening_segment (connecting local remote iss limit) ∷ []) }
 {}
 
-/// It still connects, between the same addresses, after each turn that leaves it in SYN-SENT: what comes and doesn't answer the SYN is dropped or
-/// gets a RST, the SYN goes out again where the timer expires, and what the user writes waits.
+/// It still connects, between the same addresses, after each turn that leaves it in SYN-SENT: nothing is received, and nothing but the SYN is sent.
 pub fn connecting_goes_on()
     ensures { (iss limit : ℕ) (news : News) (calls : List Call) (e : Tcb) → IsConnecting iss limit e → MayUse calls (arrived news e)
         → (before_flush news calls e).name ≡ SynSent
