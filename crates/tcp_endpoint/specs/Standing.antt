@@ -89,7 +89,7 @@ pub record MeetsLaws {State : Type 0} (service : Machine State) (news : News) (b
   pub interval : after.interval ≡ interval_after news before after
   pub rest : after.rest ≡ rest_after service news before after
 
--- Owed: TCP owes a segment without data to the one that came, or the acknowledgement or the edge changes in this turn
+-- TCP owes a segment without data to the one that came, or the acknowledgement or the edge changes in this turn
 abbrev pub owes_to : News → Point → Bool
 owes_to (Comes segment) before = owes before segment
 owes_to _ before = false
@@ -98,7 +98,7 @@ abbrev pub is_owed : News → (before after : Point) → Bool
 is_owed news before after =
     owes_to news before || not (taken_units before == taken_units after) || not (announced_edge before == announced_edge after)
 
--- Owed: while the SYN is unacknowledged, the RST that answers an acceptable segment which acknowledges less
+-- while the SYN is unacknowledged: the RST that answers an acceptable segment which acknowledges less
 abbrev pub refuses : Point → Segment → Bool
 refuses before segment = accepts before segment && not (has_rst segment) && not (has_syn segment) && is_refused before segment
 
@@ -107,7 +107,8 @@ refusals server (Comes segment) before = if refuses before segment then rst_at_a
 refusals server _ before = []
 
 -- what leaves in a turn: that RST; what is sent again or probed; text and FIN; else a segment without data where one is owed. The model's
--- wrapped connection sends the same, but that it keeps TCP's RST to itself, and answers besides to what only it knows of
+-- wrapped connection sends the same, but that it keeps TCP's RST to itself, answers a repeated SYN with the kept SYN-ACK, and owes answers besides
+-- to what only it knows of: what is logged, and that it has become live or is over
 abbrev pub segments_by_laws : {State : Type 0} → Machine State → Addr → News → (before after : Point) → List Segment
 segments_by_laws service server news before after =
     or_bare (is_owed news before after) (bare_segment server after)

@@ -119,7 +119,7 @@ pub fn turns_send_up_to_the_edge()
     ensures { (e : Tcb) → has_begun e.name ≡ true → IsBounded e → ProbesRightly e → (flushed e).sending.sent ≡ sent_by_law e }
 {}
 
-/// The law Owed: when an answer is owed to a segment. It goes out where no other segment does.
+/// When an answer is owed to a segment. It goes out where no other segment does.
 #[tactic(auto, using(crate::proofs::OwedLaw::owed_law))]
 pub fn segments_are_owed_answers_by_law()
     ensures { (e : Tcb) (p : Segment) → has_begun e.name ≡ true → IsBounded e → IsUsual e p → e.owed ≡ false → is_refused e p ≡ false
@@ -146,8 +146,8 @@ pub fn passive_opens_listen()
     ensures { (local : Addr) (iss limit : ℕ) → IsListening iss limit (listening local iss limit) }
 {}
 
-/// It still listens, at the same address, after each turn in which no SYN comes that opens a connection and the user doesn't close: what else
-/// comes is dropped or gets a RST, the timer doesn't run, and what the user writes waits.
+/// It still listens, at the same address, after each turn in which no SYN comes that opens a connection and the user doesn't close: nothing is
+/// received, the timer doesn't run, and what the user writes waits.
 pub fn listening_goes_on()
     ensures { (iss limit : ℕ) (news : News) (calls : List Call) (e : Tcb) → IsListening iss limit e → brings_syn news ≡ false
         → MayUse calls (arrived news e) → (before_flush news calls e).name ≡ Listen
