@@ -1,5 +1,6 @@
 -- What a TCP packet says: the value that its bytes spell (RFC 791, 3.1; RFC 9293, 3.1).
 use Rattle.std.specs.Prelude.{ℕ, Bool, Option, List, ◌/◌, ◌%◌, ◌==◌}
+use Rattle.seq_arith.specs.declared.flags.TheConstants.{FIN, SYN, RST, ACK}
 
 -- the fields of the two headers that this project keeps. Numbers are modulo 2^32
 pub record Head : Type 0 where
@@ -18,21 +19,25 @@ pub record Segment : Type 0 where
   pub head : Head
   pub payload : List ℕ
 
--- whether a flag is set, by its value in the octet of flags
-abbrev pub is_flagged : ℕ → ℕ → Bool
-is_flagged flag flags = flags / flag % 2 == 1
+-- whether an octet of control bits has a flag, which is given by its value there
+abbrev pub has : (flags flag : ℕ) → Bool
+has flags flag = flags / flag % 2 == 1
+
+-- the same, the flag first
+abbrev pub is_flagged : (flag flags : ℕ) → Bool
+is_flagged flag flags = has flags flag
 
 abbrev pub has_fin : Segment → Bool
-has_fin segment = is_flagged 1 segment.head.flags
+has_fin segment = has segment.head.flags FIN
 
 abbrev pub has_syn : Segment → Bool
-has_syn segment = is_flagged 2 segment.head.flags
+has_syn segment = has segment.head.flags SYN
 
 abbrev pub has_rst : Segment → Bool
-has_rst segment = is_flagged 4 segment.head.flags
+has_rst segment = has segment.head.flags RST
 
 abbrev pub has_ack : Segment → Bool
-has_ack segment = is_flagged 16 segment.head.flags
+has_ack segment = has segment.head.flags ACK
 
 -- the same segment with one field changed
 abbrev pub with_seq : ℕ → Segment → Segment

@@ -6,9 +6,11 @@ ghost use Rattle.std.specs.Prelude.{◌≡◌, ◌+◌, ◌%◌, ◌^◌};
 ghost use Rattle.seq_arith.specs.Number.{distance, gap, precedes, precedes_or_is, is_in_window};
 
 pub use checksum::{Sum16, patch16};
+pub use flags::{ACK, CWR, ECE, FIN, PSH, RST, SYN, URG, has};
 pub use kinds::{BadMsg, Field, Kind};
 
 mod checksum;
+mod flags;
 mod kinds;
 pub mod laws;
 #[cfg(test)]
