@@ -6,3 +6,5 @@ pub mod Checksum
 pub mod Bytes
 pub mod PacketGrammar
 pub mod MessageGrammar
+pub mod Generator
+pub mod Damage

@@ -6,11 +6,15 @@ ghost use Rattle.std.specs.Prelude.{◌≡◌, ◌+◌, ◌%◌, ◌^◌};
 ghost use Rattle.seq_arith.specs.Number.{distance, gap, precedes, precedes_or_is, is_in_window};
 
 pub use checksum::{Sum16, patch16};
+pub use damage::flip;
 pub use flags::{ACK, CWR, ECE, FIN, PSH, RST, SYN, URG, has};
+pub use generator::Generator;
 pub use kinds::{BadMsg, Field, Kind};
 
 mod checksum;
+mod damage;
 mod flags;
+mod generator;
 mod kinds;
 pub mod laws;
 #[cfg(test)]

@@ -1,0 +1,37 @@
+//! Numbers that look random and follow from a seed, for schedules and tests that a seed makes.
+
+ghost use Rattle.std.specs.Prelude.{◌≡◌, ◌<◌, ◌^◌};
+ghost use Rattle.seq_arith.specs.Generator.{stepped, drawn};
+
+/// The linear congruential generator of Knuth's MMIX. A seed is a first state.
+#[derive(Clone, Copy, Debug)]
+pub struct Generator {
+    pub state: u64,
+}
+
+impl Generator {
+    pub fn new(seed: u64) -> Generator
+        ensures { result.state ≡ seed }
+    {
+        Generator { state: seed }
+    }
+
+    /// The next number, which is below 2^31.
+    pub fn draw(&mut self) -> u32
+        ensures steps { self.new.state ≡ stepped self.old.state }
+        ensures shows { result ≡ drawn self.new.state }
+        ensures bound { result < 2 ^ 31 }
+    {
+        self.state = step(self.state);
+        (self.state >> 33) as u32
+    }
+}
+
+#[tactic(auto, unfolding(crate::specs::Generator::stepped))]
+fn step(state: u64) -> u64
+    ensures { result ≡ stepped state }
+{
+    state
+        .wrapping_mul(6_364_136_223_846_793_005)
+        .wrapping_add(1_442_695_040_888_963_407)
+}
