@@ -5,4 +5,5 @@ pub mod Transfer
 pub mod Meter
 pub mod AnyService
 pub mod Lengths
+pub mod WrittenBytes
 pub mod Cuts

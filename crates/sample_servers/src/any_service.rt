@@ -19,6 +19,7 @@ pub enum AnyService {
 impl Service for AnyService {
     ghost use Rattle.sample_servers.specs.AnyService.{any_started, any_after};
     ghost use Rattle.sample_servers.specs.Lengths.{closed-any_after, length-any_after-le};
+    ghost use Rattle.sample_servers.specs.WrittenBytes.{bytes-any};
 
     ghost started = { any_started };
 
@@ -45,4 +46,6 @@ impl Service for AnyService {
     ghost closes = { closed-any_after };
 
     ghost is_short = { length-any_after-le };
+
+    ghost writes_bytes = { bytes-any };
 }

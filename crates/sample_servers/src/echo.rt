@@ -13,6 +13,7 @@ pub struct Echo;
 impl Service for Echo {
     ghost use Rattle.std.proofs.Common.{rules};
     ghost use Rattle.sample_servers.specs.Echo.{echo_started, echo_after};
+    ghost use Rattle.sample_servers.specs.WrittenBytes.{bytes-echo};
 
     ghost started = { λ _. echo_started };
 
@@ -34,4 +35,6 @@ impl Service for Echo {
     ghost closes = { λ _. Prim.search rules };
 
     ghost is_short = { λ _ _ short. Prim.search rules };
+
+    ghost writes_bytes = { λ _. bytes-echo };
 }

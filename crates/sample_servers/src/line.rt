@@ -148,6 +148,7 @@ fn write_line(number: u64, front: &[u8], back: &[u8], out: &mut Vec<u8>) -> Resu
 impl Service for Line {
     ghost use Rattle.sample_servers.specs.Line.{line_started, line_after};
     ghost use Rattle.sample_servers.specs.Lengths.{length-line_after-le, closed-line_after};
+    ghost use Rattle.sample_servers.specs.WrittenBytes.{bytes-line};
 
     ghost started = { λ _. line_started };
 
@@ -170,6 +171,8 @@ impl Service for Line {
     ghost closes = { closed-line_after };
 
     ghost is_short = { length-line_after-le };
+
+    ghost writes_bytes = { λ _. bytes-line };
 }
 
 #[cfg(test)]

@@ -15,6 +15,7 @@ impl Service for Meter {
     ghost use Rattle.std.proofs.Common.{arith, rules};
     ghost use Rattle.sample_servers.specs.Meter.{meter_started, meter_after};
     ghost use Rattle.sample_servers.specs.Lengths.{length-length_line-le};
+    ghost use Rattle.sample_servers.specs.WrittenBytes.{bytes-meter};
 
     ghost started = { λ _. meter_started };
 
@@ -37,4 +38,6 @@ impl Service for Meter {
     ghost closes = { λ _. Prim.search rules };
 
     ghost is_short = { λ _ chunk short. Prim.omega (arith, length-length_line-le chunk short) };
+
+    ghost writes_bytes = { λ _. bytes-meter };
 }

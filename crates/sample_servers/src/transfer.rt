@@ -117,6 +117,7 @@ impl Service for Transfer {
     ghost use Rattle.std.proofs.Common.{rules};
     ghost use Rattle.sample_servers.specs.Transfer.{transfer_started, transfer_after};
     ghost use Rattle.sample_servers.specs.Lengths.{length-transfer_after-le};
+    ghost use Rattle.sample_servers.specs.WrittenBytes.{bytes-transfer};
 
     ghost started = { λ _. transfer_started };
 
@@ -139,4 +140,6 @@ impl Service for Transfer {
     ghost closes = { λ _. Prim.search rules };
 
     ghost is_short = { length-transfer_after-le };
+
+    ghost writes_bytes = { λ _. bytes-transfer };
 }

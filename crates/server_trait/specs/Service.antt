@@ -1,6 +1,7 @@
 -- The server that never fails: a deterministic service fed with its input in chunks (FT-TCP, INFOCOM 2001: the server as a state
 -- machine whose only freedom is how long each read is).
-use Rattle.std.specs.Prelude.{ℕ, Bool, false, true, ◌≡◌, ◌≢◌, ◌≤◌, List, [], ◌∷◌, ◌++◌, take, drop, length, sum, if◌then◌else◌}
+use Rattle.std.specs.Prelude.{ℕ, Bool, false, ◌≢◌, ◌<◌, ◌≤◌, List, [], ◌∷◌, ◌++◌, take, drop, length, sum, if◌then◌else◌}
+use Rattle.std.specs.List.{AllByRecursion}
 use Rattle.server_trait.specs.declared.Next.{Next}
 use Rattle.server_trait.specs.declared.Next.TheVariants.{Go, Close}
 
@@ -43,6 +44,14 @@ fold_from service run (chunk ∷ chunks) = fold_from service (fed service run ch
 -- the run of a service over its chunks
 abbrev pub fold : {State : Type 0} → Machine State → List (List ℕ) → Run State
 fold service chunks = fold_from service (begun service) chunks
+
+-- every one of the numbers is a byte
+abbrev pub AreBytes : List ℕ → Type 0
+AreBytes numbers = AllByRecursion (λ n. n < 256) numbers
+
+-- from its first state on, a service that is given bytes writes bytes
+abbrev pub WritesBytes : {State : Type 0} → Machine State → Type 0
+WritesBytes service = (chunks : List (List ℕ)) → AllByRecursion AreBytes chunks → AreBytes (fold service chunks).output
 
 -- the front of the bytes, in pieces of these lengths
 abbrev pub cut : List ℕ → List ℕ → List (List ℕ)

@@ -21,7 +21,7 @@ pub enum Next {
 
 /// A deterministic service. An empty chunk is the end of input.
 pub trait Service: Drop {
-    ghost use Rattle.server_trait.specs.Service.{Served, next_of};
+    ghost use Rattle.server_trait.specs.Service.{Served, machine, WritesBytes, next_of};
 
     /// The state in which a service of this kind starts.
     ghost started: { ℕ → Self };
@@ -45,4 +45,7 @@ pub trait Service: Drop {
 
     /// The output of one chunk is at most a mebibyte.
     ghost is_short: { (s : Self) (chunk : List ℕ) → length chunk ≤ 2048 → length (after s chunk).output ≤ 2 ^ 20 };
+
+    /// A service of any kind that is given bytes from its start on writes bytes.
+    ghost writes_bytes: { (kind : ℕ) → WritesBytes (machine (started kind) after) };
 }
