@@ -73,3 +73,5 @@ pub mod Resets
 pub mod EarlyAcknowledgement
 pub mod ResetWhileRestarting
 pub mod UnloggedRead
+pub mod Unfenced
+pub mod NeverStuck

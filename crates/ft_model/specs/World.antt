@@ -13,7 +13,7 @@ use Rattle.ft_model.specs.Log.{Log, empty_log, log_after, answer_to}
 use Rattle.ft_model.specs.Network.{Packet, packet_at, destination_of}
 use Rattle.ft_model.specs.Network.Packet.{To_server, To_client, To_logger, From_logger}
 use Rattle.ft_model.specs.Node.{Node, Input, booted}
-use Rattle.ft_model.specs.Node.Input.{Packet_comes, Message_comes, Tick_comes}
+use Rattle.ft_model.specs.Node.Input.{Packet_comes, Message_comes, Noise_comes, Tick_comes}
 use Rattle.ft_model.specs.Lawful.{LawfulTurn, hello}
 use Rattle.ft_model.specs.declared.event.Event.{Event}
 use Rattle.ft_model.specs.declared.event.Event.TheVariants.{Boot, Crash, Tick, Deliver, Flip, Begin, Send, Fin, Ack, Reset}
@@ -53,6 +53,17 @@ Delivered service before (To_logger message) sent after =
     (sent ≡ option_to_list (option_map From_logger (answer_to before.log message)))
     × (after ≡ record before { log = log_after before.log message; packets = before.packets ++ sent })
 Delivered service before (From_logger message) sent after = ServerMoves service (Message_comes message) before sent after
+
+-- a packet of this world: it may be delivered next
+abbrev pub WasSent : World → Packet → Type 0
+WasSent w packet = (number : ℕ) × (packet_at w.packets number ≡ Some packet)
+
+-- what may come to the server next: what was sent to it, noise, or a tick
+abbrev pub MayCome : World → Input → Type 0
+MayCome w (Packet_comes segment) = WasSent w (To_server segment)
+MayCome w (Message_comes message) = WasSent w (From_logger message)
+MayCome w Noise_comes = Unit {0}
+MayCome w Tick_comes = Unit {0}
 
 -- a client makes a move
 pub record Moves (before : World) (number : ℕ) (sent : List Packet) (after : World) : Type 0 where

@@ -1,6 +1,6 @@
 //! The headline: crashes and restarts of the server can't be seen from outside. Nothing here runs; each function is a theorem.
 
-ghost use Rattle.std.specs.Prelude.{◌≡◌, ℕ, ◌+◌, ◌<◌, ◌≤◌, true, List, ◌∷◌, ◌++◌, length};
+ghost use Rattle.std.specs.Prelude.{◌≡◌, ℕ, ◌+◌, ◌<◌, ◌≤◌, true, false, None, Some, IfSome, List, ◌∷◌, ◌++◌, length};
 ghost use Rattle.server_trait.specs.Service.{CanCut, machine};
 ghost use Rattle.seq_arith.specs.Message.{Message};
 ghost use Rattle.ft_model.specs.Offset.{one_if};
@@ -11,7 +11,10 @@ ghost use Rattle.ft_model.specs.Masked.{SeesFront, AcknowledgesLogged, RestartIs
 ghost use Rattle.ft_model.specs.Resets.{ResetsNoLogged};
 ghost use Rattle.std.specs.List.{AllByRecursion};
 ghost use Rattle.ft_io.specs.Key.{key_eq};
-ghost use Rattle.ft_model.specs.World.{World, Moment, Joint, world_after};
+ghost use Rattle.ft_model.specs.World.{World, Moment, MayCome, Joint, world_after};
+ghost use Rattle.ft_model.specs.Network.{Packet};
+ghost use Rattle.ft_model.specs.Node.{Node, Input};
+ghost use Rattle.ft_model.specs.Lawful.{LawfulTurn, fence, is_fenced};
 
 use server_trait::Service;
 
@@ -87,4 +90,20 @@ pub fn acknowledged_output_was_made<S: Service>()
 pub fn no_logged_connection_is_reset<S: Service>()
     ensures { (kind : ℕ) (start : World) (trace : List Moment) → Joint (machine (S.started kind) S.after) start trace
         → AllByRecursion (ResetsNoLogged (world_after start trace).log) (world_after start trace).packets }
+{}
+
+/// No server of a joint trace is ever fenced, since no Stale under way names a boot beyond the newest incarnation's; and nothing that may come
+/// next fences it.
+pub fn no_server_is_fenced<S: Service>()
+    ensures stage { (kind : ℕ) (start : World) (trace : List Moment) → Joint (machine (S.started kind) S.after) start trace
+        → IfSome (world_after start trace).node (λ node. is_fenced node.stage ≡ false) }
+    ensures input { (kind : ℕ) (start : World) (trace : List Moment) (node : Node) (input : Input) → Joint (machine (S.started kind) S.after) start trace
+        → (world_after start trace).node ≡ Some node → MayCome (world_after start trace) input → fence node input ≡ None }
+{}
+
+/// A server of a joint trace never gets stuck: whatever comes to it, it has a turn.
+pub fn servers_have_turns<S: Service>()
+    ensures { (kind : ℕ) (start : World) (trace : List Moment) (node : Node) (input : Input) → Joint (machine (S.started kind) S.after) start trace
+        → (world_after start trace).node ≡ Some node
+        → (after : Node) × (sent : List Packet) × LawfulTurn (machine (S.started kind) S.after) node input sent after }
 {}
