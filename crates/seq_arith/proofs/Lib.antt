@@ -4,3 +4,5 @@ pub mod Sums
 pub mod Passing
 pub mod Spelling
 pub mod MessageSpelling
+pub mod Damaged
+pub mod Refused

@@ -1,10 +1,11 @@
 //! Laws of the words in `specs`, each the clause of a function that does nothing: what a crate above may cite. Most say that a test on
 //! numbers or on offsets stays as it is where both its sides move by one number.
 
-ghost use Rattle.std.specs.Prelude.{◌≡◌, ◌<◌, ◌≤◌, ◌+◌, ◌-◌, ◌*◌, ◌/◌, ◌%◌, ◌^◌, ℕ, ℤ, pos, ◌+ℤ◌, ◌-ℤ◌, ◌≤ℤ◌, Bool, false, List, ◌∷◌, ◌++◌, length, Ok};
+ghost use Rattle.std.specs.Prelude.{◌≡◌, ◌<◌, ◌≤◌, ◌+◌, ◌-◌, ◌*◌, ◌/◌, ◌%◌, ◌^◌, ℕ, ℤ, pos, ◌+ℤ◌, ◌-ℤ◌, ◌≤ℤ◌, Bool, false, List, ◌∷◌, ◌++◌, length, take, Ok, IsErr};
 ghost use Rattle.seq_arith.specs.Number.{gap, number_at, offset_of};
 ghost use Rattle.seq_arith.specs.Arrival.{is_acceptable, below, is_new_ack, is_beyond, una_after, updates_window};
 ghost use Rattle.seq_arith.specs.Checksum.{word_sum, odd_after, check_of, Summed, with_bytes};
+ghost use Rattle.seq_arith.specs.Damage.{flipped};
 ghost use Rattle.seq_arith.specs.Packet.{Segment};
 ghost use Rattle.seq_arith.specs.PacketGrammar.{IsSpellable, reading, spelling};
 ghost use Rattle.seq_arith.specs.Message.{Message};
@@ -95,4 +96,34 @@ pub fn spelling_is_read()
 /// The spelling of a message says that message.
 pub fn message_is_read()
     ensures { (message : Message) → IsSpellableMessage message → message_reading (message_spelling message) ≡ Ok message }
+{}
+
+/// A packet with one bit inverted is refused.
+pub fn flipped_packet_is_refused()
+    ensures { (bit : ℕ) (bytes : List ℕ) (segment : Segment) → reading bytes ≡ Ok segment → bit < 8 * length bytes → IsErr (reading (flipped bit bytes)) }
+{}
+
+/// So is a packet that lost bytes at its end.
+pub fn shortened_packet_is_refused()
+    ensures { (n : ℕ) (bytes : List ℕ) (segment : Segment) → reading bytes ≡ Ok segment → n < length bytes → IsErr (reading (take n bytes)) }
+{}
+
+/// And one with further bytes behind it.
+pub fn lengthened_packet_is_refused()
+    ensures { (bytes behind : List ℕ) (segment : Segment) → reading bytes ≡ Ok segment → 0 < length behind → IsErr (reading (bytes ++ behind)) }
+{}
+
+/// A message with one bit inverted is refused.
+pub fn flipped_message_is_refused()
+    ensures { (bit : ℕ) (bytes : List ℕ) (message : Message) → message_reading bytes ≡ Ok message → bit < 8 * length bytes → IsErr (message_reading (flipped bit bytes)) }
+{}
+
+/// So is a message that lost bytes at its end.
+pub fn shortened_message_is_refused()
+    ensures { (n : ℕ) (bytes : List ℕ) (message : Message) → message_reading bytes ≡ Ok message → n < length bytes → IsErr (message_reading (take n bytes)) }
+{}
+
+/// And one with further bytes behind it.
+pub fn lengthened_message_is_refused()
+    ensures { (bytes behind : List ℕ) (message : Message) → message_reading bytes ≡ Ok message → 0 < length behind → IsErr (message_reading (bytes ++ behind)) }
 {}
