@@ -1,19 +1,15 @@
 -- The law Opening: how a connection comes to be (RFC 9293, 3.10.7.2; FT-TCP, INFOCOM 2001: the initial numbers are logged before the
 -- SYN-ACK leaves).
-use Rattle.std.specs.Prelude.{ℕ, Bool, false, pos, ◌+◌, ◌*◌, ◌%◌, ◌^◌, ◌&&◌, not, max, min, Option, Some, None, []}
+use Rattle.std.specs.Prelude.{ℕ, Bool, false, pos, ◌+◌, ◌*◌, ◌%◌, ◌^◌, ◌&&◌, not, []}
 use Rattle.seq_arith.specs.Packet.{Segment, has_syn, has_rst, has_ack}
 use Rattle.seq_arith.specs.Message.{Numbers}
+pub use Rattle.seq_arith.specs.Packet.{segment_size}
 use Rattle.ft_model.specs.Network.{source_of}
 use Rattle.ft_model.specs.Point.{Point}
 
 -- a SYN that opens: without ACK and RST
 abbrev pub is_syn : Segment → Bool
 is_syn segment = has_syn segment && not (has_ack segment) && not (has_rst segment)
-
--- RFC 9293, 3.7.1: the segment size is the SYN's option, brought into 64 to 1,460, or 536 without it
-abbrev pub segment_size : Option ℕ → ℕ
-segment_size (Some mss) = max 64 (min 1460 mss)
-segment_size None = 536
 
 -- the initial number of the nth connection, from 0, that an incarnation restarts or opens
 abbrev pub initial_number : (isn n : ℕ) → ℕ

@@ -1,6 +1,7 @@
 pub mod Number
 pub mod Arrival
 pub mod Packet
+pub mod Offset
 pub mod Message
 pub mod Checksum
 pub mod Bytes

@@ -1,5 +1,5 @@
 -- What a TCP packet says: the value that its bytes spell (RFC 791, 3.1; RFC 9293, 3.1).
-use Rattle.std.specs.Prelude.{ℕ, Bool, Option, List, ◌/◌, ◌%◌, ◌==◌}
+use Rattle.std.specs.Prelude.{ℕ, Bool, Option, None, Some, List, ◌/◌, ◌%◌, ◌==◌, max, min}
 use Rattle.seq_arith.specs.declared.flags.TheConstants.{FIN, SYN, RST, ACK}
 
 -- the fields of the two headers that this project keeps. Numbers are modulo 2^32
@@ -38,6 +38,11 @@ has_rst segment = has segment.head.flags RST
 
 abbrev pub has_ack : Segment → Bool
 has_ack segment = has segment.head.flags ACK
+
+-- RFC 9293, 3.7.1: the segment size that a SYN asks for is the one that it offers, brought into 64 to 1,460, or 536 where it offers none
+abbrev pub segment_size : Option ℕ → ℕ
+segment_size (Some mss) = max 64 (min 1460 mss)
+segment_size None = 536
 
 -- the same segment with one field changed
 abbrev pub with_seq : ℕ → Segment → Segment

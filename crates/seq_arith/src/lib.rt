@@ -10,6 +10,7 @@ pub use damage::flip;
 pub use flags::{ACK, CWR, ECE, FIN, PSH, RST, SYN, URG, has};
 pub use generator::Generator;
 pub use kinds::{BadMsg, Field, Kind};
+pub use options::segment_size;
 
 mod checksum;
 mod damage;
@@ -17,6 +18,7 @@ mod flags;
 mod generator;
 mod kinds;
 pub mod laws;
+mod options;
 #[cfg(test)]
 mod tests;
 
