@@ -1,5 +1,5 @@
 -- The author of the logged reads is kept by every moment of a trace.
-use Rattle.std.proofs.Common.{length-append, eqb-true, leb-true, sum, ◌≡◌, ℕ, ◌+◌, ◌-◌, ◌≤◌, true, false, ◌==◌, ◌&&◌, ◌||◌, not, nat_lt, nat_le, le_refl, refl, sym, ap, ◌∙◌, subst, true≢false, inl, inr, ⊎_elim, Option, Some, None, option_to_list, List, [], ◌∷◌, ◌++◌, map, length, drop, slice_get, arith, if◌then◌else◌, max, le_trans}
+use Rattle.std.proofs.Common.{length-append, eqb-true, leb-true, sum, ◌≡◌, ℕ, ◌+◌, ◌-◌, ◌≤◌, true, false, ◌==◌, ◌&&◌, ◌||◌, not, nat_lt, nat_le, le_refl, refl, sym, ap, ◌∙◌, subst, true≢false, inl, inr, ⊎_elim, Option, Some, None, option_to_list, List, [], ◌∷◌, ◌++◌, map, length, drop, slice_get, arith, if◌then◌else◌}
 use Rattle.std.specs.List.{AllByRecursion, list_any}
 use Rattle.ft_io.specs.declared.Key.{Key}
 use Rattle.ft_io.specs.Key.{key_eq}
@@ -17,24 +17,24 @@ use Rattle.ft_model.specs.Lawful.{asked, held}
 use Rattle.ft_model.specs.Growth.{IsPrefix, LogGrows}
 use Rattle.ft_model.specs.World.{World}
 use Rattle.ft_model.proofs.Lists.{of_choice, both, all_both, all_weaker, all_map, all_append, all_find, same_key}
-use Rattle.ft_model.proofs.Grows.{log_grows, part_grows}
+use Rattle.ft_model.proofs.Grows.{log_grows}
 use Rattle.ft_model.proofs.LogAnswers.{LogWent, log_went, all_answers}
 use Rattle.ft_model.proofs.LogAnswers.LogWent.{ignored, raised, changed}
 use Rattle.ft_model.proofs.Happened.{IsUnderWay, all_sent, answers}
 use Rattle.ft_model.proofs.Fenced.{IsFenced}
 use Rattle.server_trait.specs.Service.{Run}
 use Rattle.ft_model.specs.Growth.{logged_lengths}
-use Rattle.ft_model.proofs.Authored.{ReadFits, Speaks, Follows, AckFits, run_units, logged_run}
+use Rattle.ft_model.proofs.Authored.{ReadFits, Speaks, Follows}
 use Rattle.ft_model.specs.Log.{may_follow, with_bytes, with_its_fin}
 use Rattle.seq_arith.specs.Message.{Part}
 use Rattle.ft_model.proofs.Keys.{front_more}
 use Rattle.ft_model.proofs.Grows.{found_later, logged_lengths_grow}
 use Rattle.ft_model.proofs.Resumed.{get_left}
 use Rattle.ft_model.proofs.Fenced.{IsOurs, IsNoChange, HasBoot, is_change}
-use Rattle.ft_model.proofs.Services.{reads_go_on, sum_append, units_go_on}
+use Rattle.ft_model.proofs.Services.{reads_go_on, sum_append}
 use Rattle.ft_model.proofs.Authored.{IsSpoken, CarriesOutput, carries_later, logged_run}
 use Rattle.ft_model.proofs.FaithfulOver.{IsHeadOf}
-use Rattle.ft_model.proofs.AuthorOver.{ReadOf, EntryOf, StageRuns, HasAuthor, AckOf, IsBacked}
+use Rattle.ft_model.proofs.AuthorOver.{ReadOf, EntryOf, StageRuns, HasAuthor}
 
 pub read_later : (author later : Key → List ℕ) → ((key : Key) → IsPrefix (author key) (later key)) → (body : Body) → ReadFits author body → ReadFits later body
 read_later author later g (ReadMsg key index n) f = subst (λ l. slice_get l index ≡ Some n) (g key).1 (get_left (author key) (g key).0 index n f)
@@ -66,16 +66,6 @@ quiet_reads author boot logged (To_client segment) o q = tt
 quiet_reads author boot logged (To_server segment) o q = tt
 quiet_reads author boot logged (From_logger message) o q = tt
 
-no_ack : {State : Type 0} (service : Machine State) (script : Key → List ℕ) (log : Log) (body : Body) → is_change body ≡ false → AckFits service script log body
-no_ack service script log (DataMsg part) c = absurd (true≢false c)
-no_ack service script log _ c = tt
-
-pub quiet_acks : {State : Type 0} (service : Machine State) (script : Key → List ℕ) (log : Log) (boot : ℕ) (packet : Packet) → IsOurs boot packet → IsNoChange boot packet → AckOf service script log packet
-quiet_acks service script log boot (To_logger message) o q = no_ack service script log message.body (q o)
-quiet_acks service script log boot (To_client segment) o q = tt
-quiet_acks service script log boot (To_server segment) o q = tt
-quiet_acks service script log boot (From_logger message) o q = tt
-
 -- before a restart ends, no Read of its boot is under way
 pub restart_reads : (author : Key → List ℕ) (boot logged : ℕ) → logged ≡ boot → (packet : Packet) → IsNoChange boot packet → ReadOf author logged packet
 restart_reads author boot logged own (To_logger message) q = λ e. no_read author message.body (q (e ∙ own))
@@ -102,23 +92,7 @@ spoken_later service script before after g (To_server segment) s = tt
 spoken_later service script before after g (To_logger message) s = tt
 spoken_later service script before after g (From_logger message) s = tt
 
-units_later : {State : Type 0} (service : Machine State) (script : Key → List ℕ) (before after : Log) (key : Key) → LogGrows before after
-    → run_units (logged_run service script before key) ≤ run_units (logged_run service script after key)
-units_later service script before after key g =
-    units_go_on (logged_run service script before key) (logged_run service script after key)
-    (reads_go_on service (script key) (logged_lengths key before) (logged_lengths key after) (logged_lengths_grow key before after g))
-
-body_ack_later : {State : Type 0} (service : Machine State) (script : Key → List ℕ) (before after : Log) → LogGrows before after → (body : Body) → AckFits service script before body → AckFits service script after body
-body_ack_later service script before after g (DataMsg part) f = le_trans f (units_later service script before after part.key g)
-body_ack_later service script before after g _ f = tt
-
-ack_later : {State : Type 0} (service : Machine State) (script : Key → List ℕ) (before after : Log) → LogGrows before after → (packet : Packet) → AckOf service script before packet → AckOf service script after packet
-ack_later service script before after g (To_logger message) f = body_ack_later service script before after g message.body f
-ack_later service script before after g (To_server segment) f = tt
-ack_later service script before after g (To_client segment) f = tt
-ack_later service script before after g (From_logger message) f = tt
-
-change_all : (Q : Entry → Type 0) (key : Key) (change : Entry → Entry) (es : List Entry) → ((e : Entry) → e.key ≡ key → Q e → Q (change e)) → AllByRecursion Q es
+pub change_all : (Q : Entry → Type 0) (key : Key) (change : Entry → Entry) (es : List Entry) → ((e : Entry) → e.key ≡ key → Q e → Q (change e)) → AllByRecursion Q es
     → AllByRecursion Q (map (λ e. if key_eq e.key key then change e else e) es)
 change_all Q key change es g a =
     all_map Q (λ e. if key_eq e.key key then change e else e) es
@@ -156,27 +130,6 @@ kept_of_author author (ReadMsg key index n) log r a = change_all (EntryOf author
 kept_of_author author (DoneMsg key) log r a = change_all (EntryOf author) key (λ e. record e { done = true }) log.entries (λ e k f. f) a
 kept_of_author author _ log r a = a
 
-kept_backed : {State : Type 0} (service : Machine State) (script : Key → List ℕ) (body : Body) (log : Log) → AckFits service script log body → AllByRecursion (IsBacked service script log) log.entries
-    → AllByRecursion (IsBacked service script log) (kept body log).entries
-kept_backed service script (OpenMsg n) log r a =
-    of_choice (λ l. AllByRecursion (IsBacked service script log) l.entries) (list_any (λ e. key_eq e.key n.key) log.entries || nat_le 64 (length log.entries)) log
-    (record log { entries = log.entries ++ new_entry n ∷ [] }) (λ t. a) (λ t. all_append (IsBacked service script log) log.entries (new_entry n ∷ []) a (omega arith, tt))
-kept_backed service script (DataMsg part) log r a =
-    change_all (IsBacked service script log) part.key (with_part part) log.entries
-    (λ e k f. subst (λ x. max e.acknowledged part.acked ≤ run_units (logged_run service script log x)) (sym (part_grows part e).key)
-    (let own : part.acked ≤ run_units (logged_run service script log e.key) = subst (λ x. part.acked ≤ run_units (logged_run service script log x)) (sym k) r in omega (arith, f, own))) a
-kept_backed service script (ReadMsg key index n) log r a =
-    change_all (IsBacked service script log) key (with_read index n) log.entries
-    (λ e k f. of_choice (IsBacked service script log) (is_next_read e index n) (record e { lengths = e.lengths ++ n ∷ [] }) e (λ t. f) (λ t. f)) a
-kept_backed service script (DoneMsg key) log r a = change_all (IsBacked service script log) key (λ e. record e { done = true }) log.entries (λ e k f. f) a
-kept_backed service script _ log r a = a
-
-backed_after : {State : Type 0} (service : Machine State) (script : Key → List ℕ) (log : Log) (message : Message) (after : Log) → LogWent log message after → AckFits service script log message.body
-    → AllByRecursion (IsBacked service script log) log.entries → AllByRecursion (IsBacked service script log) after.entries
-backed_after service script log message after (ignored e) r a = subst (λ l. AllByRecursion (IsBacked service script log) l.entries) (sym e) a
-backed_after service script log message after (raised h b e) r a = subst (λ l. AllByRecursion (IsBacked service script log) l.entries) (sym e) a
-backed_after service script log message after (changed b e) r a = subst (λ l. AllByRecursion (IsBacked service script log) l.entries) (sym e) (kept_backed service script message.body log r a)
-
 entries_of : (author : Key → List ℕ) (log : Log) (message : Message) (after : Log) → LogWent log message after → ReadOf author log.boot (To_logger message)
     → AllByRecursion (EntryOf author) log.entries → AllByRecursion (EntryOf author) after.entries
 entries_of author log message after (ignored e) r a = subst (λ l. AllByRecursion (EntryOf author) l.entries) (sym e) a
@@ -198,27 +151,19 @@ heard_author service script w message f a under =
       spoken = all_append (Speaks service script (log_after w.log message)) w.packets (answers w.log message)
           (all_weaker (Speaks service script w.log) _ w.packets (spoken_later service script w.log (log_after w.log message) g) a.spoken)
           (all_answers (Speaks service script (log_after w.log message)) w.log message (λ body x. tt));
-      acks = all_append (AckOf service script (log_after w.log message)) w.packets (answers w.log message)
-          (all_weaker (AckOf service script w.log) _ w.packets (ack_later service script w.log (log_after w.log message) g) a.acks)
-          (all_answers (AckOf service script (log_after w.log message)) w.log message (λ body x. tt));
-      backed = all_weaker (IsBacked service script w.log) (IsBacked service script (log_after w.log message)) (log_after w.log message).entries
-          (λ e x. le_trans x (units_later service script w.log (log_after w.log message) e.key g))
-          (backed_after service script w.log message (log_after w.log message) (log_went w.log message) (all_sent (AckOf service script w.log) w (To_logger message) a.acks under) a.backed);
       stage = a.stage;
     }
 
 -- packets that no connection sends
 pub author_still : {State : Type 0} (service : Machine State) (script : Key → List ℕ) (w : World) (clients : List Client) (boot : ℕ) (up : Option Node) (sent : List Packet) → (a : HasAuthor service script w)
-    → AllByRecursion (ReadOf a.author w.log.boot) sent → AllByRecursion (Speaks service script w.log) sent → AllByRecursion (AckOf service script w.log) sent → ((n : Node) → up ≡ Some n → StageRuns service a.author n.stage)
+    → AllByRecursion (ReadOf a.author w.log.boot) sent → AllByRecursion (Speaks service script w.log) sent → ((n : Node) → up ≡ Some n → StageRuns service a.author n.stage)
     → HasAuthor service script (record w { clients = clients; boot = boot; node = up; packets = w.packets ++ sent })
-author_still service script w clients boot up sent a r s k stage = record {
+author_still service script w clients boot up sent a r s stage = record {
   author = a.author;
   entries = a.entries;
   short = a.short;
   reads = all_append (ReadOf a.author w.log.boot) w.packets sent a.reads r;
   spoken = all_append (Speaks service script w.log) w.packets sent a.spoken s;
-  acks = all_append (AckOf service script w.log) w.packets sent a.acks k;
-  backed = a.backed;
   stage = stage;
 }
 
@@ -243,7 +188,7 @@ held_speaks service script log node fetched segment heads =
     (λ f e. all_find (IsHeadOf log) (λ x. key_eq x.head.key (source_of segment) && not x.head.done) fetched f heads e)) (λ t. tt)
 
 pub follows_read : {State : Type 0} (service : Machine State) (script author : Key → List ℕ) (log : Log) (boot : ℕ) (packet : Packet) → Follows service script author log packet → ReadOf author boot packet
-follows_read service script author log boot (To_logger message) f = λ e. f.0
+follows_read service script author log boot (To_logger message) f = λ e. f
 follows_read service script author log boot (To_client segment) f = tt
 follows_read service script author log boot (To_server segment) f = tt
 follows_read service script author log boot (From_logger message) f = tt
@@ -253,9 +198,3 @@ follows_speaks service script author log (To_client segment) f = f
 follows_speaks service script author log (To_logger message) f = tt
 follows_speaks service script author log (To_server segment) f = tt
 follows_speaks service script author log (From_logger message) f = tt
-
-pub follows_acks : {State : Type 0} (service : Machine State) (script author : Key → List ℕ) (log : Log) (packet : Packet) → Follows service script author log packet → AckOf service script log packet
-follows_acks service script author log (To_logger message) f = f.1
-follows_acks service script author log (To_client segment) f = tt
-follows_acks service script author log (To_server segment) f = tt
-follows_acks service script author log (From_logger message) f = tt

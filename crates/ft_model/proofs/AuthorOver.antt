@@ -28,7 +28,7 @@ use Rattle.ft_model.specs.Node.{key_of}
 use Rattle.ft_model.specs.Growth.{logged_lengths, lengths_in}
 use Rattle.ft_model.proofs.StageTurns.{either_turn}
 use Rattle.ft_model.proofs.Running.{HasSmallOutputs}
-use Rattle.ft_model.proofs.Authored.{ReadFits, Speaks, Follows, PlaceRuns, IsAuthor, entry_runs, AckFits, run_units, logged_run}
+use Rattle.ft_model.proofs.Authored.{ReadFits, Speaks, Follows, PlaceRuns, IsAuthor, entry_runs}
 use Rattle.ft_model.proofs.FaithfulOver.{points_fit, restored_all, revives_fit}
 use Rattle.ft_model.proofs.Keys.{has_key, found_has_key}
 use Rattle.ft_model.proofs.Resumed.{restored_keys, restored_length, length_map}
@@ -119,15 +119,6 @@ ReadOf author boot _ = Unit {0}
 abbrev pub EntryOf : (Key → List ℕ) → Entry → Type 0
 EntryOf author e = IsPrefix e.lengths (author e.key) × (sum e.lengths ≤ length e.bytes)
 
--- what a message says is acknowledged was sent
-abbrev pub AckOf : {State : Type 0} → Machine State → (Key → List ℕ) → Log → Packet → Type 0
-AckOf service script log (To_logger message) = AckFits service script log message.body
-AckOf service script log _ = Unit {0}
-
--- .. and so what the log says
-abbrev pub IsBacked : {State : Type 0} → Machine State → (Key → List ℕ) → Log → Entry → Type 0
-IsBacked service script log e = e.acknowledged ≤ run_units (logged_run service script log e.key)
-
 abbrev pub StageRuns : {State : Type 0} → Machine State → (Key → List ℕ) → Stage → Type 0
 StageRuns service author (Serving opened places) = AllByRecursion (PlaceRuns service author) places × OnlySettled author places
 StageRuns service author _ = Unit {0}
@@ -138,6 +129,4 @@ pub record HasAuthor {State : Type 0} (service : Machine State) (script : Key �
   pub short : (key : Key) → length (reference service (script key) (author key)).output ≤ 2 ^ 24
   pub reads : AllByRecursion (ReadOf author w.log.boot) w.packets
   pub spoken : AllByRecursion (Speaks service script w.log) w.packets
-  pub acks : AllByRecursion (AckOf service script w.log) w.packets
-  pub backed : AllByRecursion (IsBacked service script w.log) w.log.entries
   pub stage : (node : Node) → w.node ≡ Some node → StageRuns service author node.stage

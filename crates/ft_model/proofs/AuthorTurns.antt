@@ -150,7 +150,7 @@ finds_after service script isn old log places key a place e =
 
 run_place : {State : Type 0} (service : Machine State) (places : List Place) (old : Key → List ℕ) (place : Place) → place_at (key_of place) places ≡ Some place → PlaceRan service old place
     → PlaceRuns service (new_author places old) place
-run_place service places old (Lives p) e r = (ap (λ o. author_at o (old p.key)) e, r.1, r.2)
+run_place service places old (Lives p) e r = (ap (λ o. author_at o (old p.key)) e, r.1)
 run_place service places old (Opens n) e r = ap (λ o. author_at o (old n.key)) e ∙ r
 run_place service places old (Ended k) e r = tt
 
@@ -162,7 +162,7 @@ settled_by key (x ∷ xs) place e s =
     (λ t f. or_right (settles key x) (is_settled key xs) (settled_by key xs place f s)) e
 
 ran_of : {State : Type 0} (service : Machine State) (old : Key → List ℕ) (place : Place) → PlaceRuns service old place → PlaceRan service old place
-ran_of service old (Lives p) r = (([], append-nil (old p.key) ∙ r.0), r.1, r.2)
+ran_of service old (Lives p) r = (([], append-nil (old p.key) ∙ r.0), r.1)
 ran_of service old (Opens n) r = r
 ran_of service old (Ended k) r = tt
 
@@ -191,7 +191,7 @@ opens_follow : {State : Type 0} (service : Machine State) (script author : Key �
 opens_follow service script author log node input [] = tt
 opens_follow service script author log node input (Opens n ∷ places) =
     all_append (Follows service script author log) (opens_at node input (Opens n)) _
-    (of_choice (AllByRecursion (Follows service script author log)) (is_asked node input n) (told_by node.boot (OpenMsg n) ∷ []) [] (λ t. ((tt, tt), tt)) (λ t. tt)) (opens_follow service script author log node input places)
+    (of_choice (AllByRecursion (Follows service script author log)) (is_asked node input n) (told_by node.boot (OpenMsg n) ∷ []) [] (λ t. (tt, tt)) (λ t. tt)) (opens_follow service script author log node input places)
 opens_follow service script author log node input (Lives p ∷ places) = opens_follow service script author log node input places
 opens_follow service script author log node input (Ended k ∷ places) = opens_follow service script author log node input places
 

@@ -34,10 +34,10 @@ use Rattle.ft_model.proofs.Fenced.{IsOurs, IsNoChange, turn_ours, turn_quiet, pr
 use Rattle.ft_model.proofs.Services.{reads_go_on, prefix_length}
 use Rattle.ft_model.proofs.FaithfulOver.{heads_of}
 use Rattle.ft_model.proofs.AuthorTurns.{Before, TurnRuns, serving_runs}
-use Rattle.ft_model.proofs.AuthorOver.{ReadOf, EntryOf, StageRuns, HasAuthor, resuming_runs, AckOf, IsBacked}
+use Rattle.ft_model.proofs.AuthorOver.{ReadOf, EntryOf, StageRuns, HasAuthor, resuming_runs}
 use Rattle.ft_model.proofs.Fenced.{was_restarting}
 use Rattle.ft_model.proofs.Asked.{StageAgrees}
-use Rattle.ft_model.proofs.AuthorKept.{packet_read_later, quiet_reads, restart_reads, heard_author, author_still, asked_speaks, held_speaks, follows_read, follows_speaks, quiet_acks, follows_acks}
+use Rattle.ft_model.proofs.AuthorKept.{packet_read_later, quiet_reads, restart_reads, heard_author, author_still, asked_speaks, held_speaks, follows_read, follows_speaks}
 
 no_runs : {State : Type 0} (service : Machine State) (author : Key → List ℕ) (stage : Stage) → is_restarting stage ≡ true → StageRuns service author stage
 no_runs service author Asking r = tt
@@ -45,7 +45,7 @@ no_runs service author (Fetching count fetched) r = tt
 no_runs service author (Serving opened places) r = absurd (true≢false (sym r))
 no_runs service author (Fenced newer) r = tt
 
-front_of : (author : Key → List ℕ) (log : Log) (key : Key) (o : Option Entry) → AllByRecursion (EntryOf author) log.entries → entry_of key log ≡ o → IsPrefix (lengths_in o) (author key)
+pub front_of : (author : Key → List ℕ) (log : Log) (key : Key) (o : Option Entry) → AllByRecursion (EntryOf author) log.entries → entry_of key log ≡ o → IsPrefix (lengths_in o) (author key)
 front_of author log key (Some e) a found =
     let same : e.key ≡ key = same_key e.key key (found_passes (λ x. key_eq x.key key) log.entries e found) in
     subst (λ k. IsPrefix e.lengths (author k)) same (all_find (EntryOf author) (λ x. key_eq x.key key) log.entries e a found).0
@@ -62,8 +62,6 @@ resting service script w node later input sent a r s went =
     author_still service script w w.clients w.boot (Some later) sent a
     (all_both (IsOurs node.boot) (IsNoChange node.boot) (ReadOf a.author w.log.boot) sent (quiet_reads a.author node.boot w.log.boot) (turn_ours service node input sent later.stage went)
     (turn_quiet service node input sent later.stage r went).1) s
-    (all_both (IsOurs node.boot) (IsNoChange node.boot) (AckOf service script w.log) sent (quiet_acks service script w.log node.boot) (turn_ours service node input sent later.stage went)
-    (turn_quiet service node input sent later.stage r went).1)
     (still_node service a.author later (no_runs service a.author later.stage r))
 
 turned_author : {State : Type 0} (service : Machine State) (script : Key → List ℕ) (isn : Key → ℕ) (w : World) (node later : Node) (input : Input) (sent : List Packet)
@@ -72,7 +70,7 @@ turned_author : {State : Type 0} (service : Machine State) (script : Key → Lis
     → HasAuthor service script (record w { node = Some later; packets = w.packets ++ sent })
 turned_author service script isn w node later input sent small short f k fit d a e brought stage is (was_fenced newer g s) =
     author_still service script w w.clients w.boot (Some later) sent a (subst (AllByRecursion (ReadOf a.author w.log.boot)) (sym s) tt) (subst (AllByRecursion (Speaks service script w.log)) (sym s) tt)
-    (subst (AllByRecursion (AckOf service script w.log)) (sym s) tt) (still_node service a.author later (subst (StageRuns service a.author) (sym (is ∙ g)) tt))
+    (still_node service a.author later (subst (StageRuns service a.author) (sym (is ∙ g)) tt))
 turned_author service script isn w node later input sent small short f k fit d a e brought stage is (waited r g s) =
     resting service script w node later input sent a (ap is_restarting (is ∙ g) ∙ r)
     (⊎_elim (λ x. subst (AllByRecursion (Speaks service script w.log)) (sym x) (tt, tt)) (λ x. subst (AllByRecursion (Speaks service script w.log)) (sym x.1) (asked_speaks service script w.log node x.0)) s)
@@ -104,8 +102,6 @@ turned_author service script isn w node later input sent small short f k fit d a
           (all_weaker (IsNoChange node.boot) _ w.packets (restart_reads runs.author node.boot w.log.boot own) ((f.node node e).quiet (was_restarting node input count fetched p)))
           (all_weaker (Follows service script runs.author w.log) _ sent (follows_read service script runs.author w.log w.log.boot) runs.follows);
       spoken = all_append (Speaks service script w.log) w.packets sent a.spoken (all_weaker (Follows service script runs.author w.log) _ sent (follows_speaks service script runs.author w.log) runs.follows);
-      acks = all_append (AckOf service script w.log) w.packets sent a.acks (all_weaker (Follows service script runs.author w.log) _ sent (follows_acks service script runs.author w.log) runs.follows);
-      backed = a.backed;
       stage = still_node service runs.author later (subst (StageRuns service runs.author) (sym (is ∙ g)) (runs.runs, runs.only));
     }
 turned_author service script isn w node later input sent small short f k fit d a e brought stage is (served opened places next b g t) =
@@ -124,8 +120,6 @@ turned_author service script isn w node later input sent small short f k fit d a
       reads = all_append (ReadOf runs.author w.log.boot) w.packets sent (all_weaker (ReadOf a.author w.log.boot) _ w.packets (packet_read_later a.author runs.author w.log.boot runs.later) a.reads)
           (all_weaker (Follows service script runs.author w.log) _ sent (follows_read service script runs.author w.log w.log.boot) runs.follows);
       spoken = all_append (Speaks service script w.log) w.packets sent a.spoken (all_weaker (Follows service script runs.author w.log) _ sent (follows_speaks service script runs.author w.log) runs.follows);
-      acks = all_append (AckOf service script w.log) w.packets sent a.acks (all_weaker (Follows service script runs.author w.log) _ sent (follows_acks service script runs.author w.log) runs.follows);
-      backed = a.backed;
       stage = still_node service runs.author later (subst (StageRuns service runs.author) (sym (is ∙ g)) (runs.runs, runs.only));
     }
 
@@ -137,11 +131,11 @@ author_goes_on service script isn before sent after small short f k fit d a (log
 author_goes_on service script isn before sent after small short f k fit d a (client_heard segment under s e) =
     subst (HasAuthor service script) (sym e)
     (author_still service script before (with_client (destination_of segment) (λ c. received c segment) before.clients) before.boot before.node sent a
-    (subst (AllByRecursion (ReadOf a.author before.log.boot)) (sym s) tt) (subst (AllByRecursion (Speaks service script before.log)) (sym s) tt) (subst (AllByRecursion (AckOf service script before.log)) (sym s) tt) a.stage)
+    (subst (AllByRecursion (ReadOf a.author before.log.boot)) (sym s) tt) (subst (AllByRecursion (Speaks service script before.log)) (sym s) tt) a.stage)
 author_goes_on service script isn before sent after small short f k fit d a (client_moved number m) =
     subst (HasAuthor service script) (sym m.after_is)
     (author_still service script before (with_client m.client.key (λ x. m.later) before.clients) before.boot before.node sent a
-    (subst (AllByRecursion (ReadOf a.author before.log.boot)) (sym m.sent_is) (tt, tt)) (subst (AllByRecursion (Speaks service script before.log)) (sym m.sent_is) (tt, tt)) (subst (AllByRecursion (AckOf service script before.log)) (sym m.sent_is) (tt, tt)) a.stage)
+    (subst (AllByRecursion (ReadOf a.author before.log.boot)) (sym m.sent_is) (tt, tt)) (subst (AllByRecursion (Speaks service script before.log)) (sym m.sent_is) (tt, tt)) a.stage)
 author_goes_on service script isn before sent after small short f k fit d a (server_turned input node later brought is turn e) =
     subst (HasAuthor service script) (sym e)
     (turned_author service script isn before node later input sent small short f k fit d a is brought later.stage refl (stage_went service node later input sent turn))
@@ -149,12 +143,11 @@ author_goes_on service script isn before sent after small short f k fit d a (ser
     subst (HasAuthor service script) (sym e)
     (author_still service script before before.clients boot (Some (booted before.server boot isn0)) sent a
     (subst (AllByRecursion (ReadOf a.author before.log.boot)) (sym s) ((λ x. tt), tt)) (subst (AllByRecursion (Speaks service script before.log)) (sym s) (tt, tt))
-    (subst (AllByRecursion (AckOf service script before.log)) (sym s) (tt, tt))
     (still_node service a.author (booted before.server boot isn0) tt))
 author_goes_on service script isn before sent after small short f k fit d a (server_down s e) =
     subst (HasAuthor service script) (sym e)
     (author_still service script before before.clients before.boot None sent a
-    (subst (AllByRecursion (ReadOf a.author before.log.boot)) (sym s) tt) (subst (AllByRecursion (Speaks service script before.log)) (sym s) tt) (subst (AllByRecursion (AckOf service script before.log)) (sym s) tt) (λ n g. none_is_some n g))
+    (subst (AllByRecursion (ReadOf a.author before.log.boot)) (sym s) tt) (subst (AllByRecursion (Speaks service script before.log)) (sym s) tt) (λ n g. none_is_some n g))
 
 pub start_author : {State : Type 0} (service : Machine State) (script : Key → List ℕ) (w : World) → IsStart w → HasAuthor service script w
 unfolding reference
@@ -164,7 +157,5 @@ start_author service script w s = record {
   short = λ key. omega arith;
   reads = subst (AllByRecursion (ReadOf (λ key. []) w.log.boot)) (sym s.packets) tt;
   spoken = subst (AllByRecursion (Speaks service script w.log)) (sym s.packets) tt;
-  acks = subst (AllByRecursion (AckOf service script w.log)) (sym s.packets) tt;
-  backed = subst (λ l. AllByRecursion (IsBacked service script w.log) l.entries) (sym s.log) tt;
   stage = λ n e. none_is_some n (sym s.node ∙ e);
 }

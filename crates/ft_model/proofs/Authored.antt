@@ -1,6 +1,5 @@
 -- The reads that are logged are those of the incarnation whose boot the log has, and what leaves is a part of the output over logged reads.
-use Rattle.std.proofs.Common.{◌≡◌, ℕ, zero, suc, ◌+◌, ◌<◌, ◌≤◌, ◌^◌, pos, Bool, true, false, nat_lt, sum, le_refl, le_trans, refl, sym, ap, ◌∙◌, subst, true≢false, inl, inr, ◌⊎◌, ⊎_elim, Some, List, [], ◌∷◌, ◌++◌, map, length, take, drop, slice_get, arith, ltb-true, ltb-false, append-nil, ◌||◌, if◌then◌else◌}
-use Rattle.ft_model.specs.News.News.{Comes, Logged, Ticks, Begins}
+use Rattle.std.proofs.Common.{◌≡◌, ℕ, zero, suc, ◌+◌, ◌<◌, ◌≤◌, ◌^◌, pos, Bool, true, false, nat_lt, sum, le_refl, le_trans, refl, sym, ap, ◌∙◌, subst, true≢false, inl, inr, ◌⊎◌, ⊎_elim, Some, List, [], ◌∷◌, ◌++◌, map, length, take, drop, slice_get, arith, ltb-true, ltb-false, append-nil}
 use Rattle.std.specs.List.{AllByRecursion}
 use Rattle.std.proofs.lemmas.List.{take-append-le}
 use Rattle.ft_io.specs.declared.Addr.{Addr}
@@ -11,7 +10,7 @@ use Rattle.seq_arith.specs.Message.{Numbers, Body}
 use Rattle.seq_arith.specs.Message.Body.{DataMsg, ReadMsg, DoneMsg}
 use Rattle.seq_arith.proofs.Shifts.{offset_of_number}
 use Rattle.server_trait.specs.Service.{Machine, Run, reference}
-use Rattle.ft_model.specs.Offset.{first_of, text_of, fin_of, one_if}
+use Rattle.ft_model.specs.Offset.{first_of, text_of, fin_of}
 use Rattle.ft_model.specs.Log.{Log, Entry, entry_of}
 use Rattle.ft_model.specs.Network.{Packet, destination_of}
 use Rattle.ft_model.specs.Network.Packet.{To_client, To_logger}
@@ -19,11 +18,11 @@ use Rattle.ft_model.specs.News.{News}
 use Rattle.ft_model.specs.Point.{Point, released, answered_run}
 use Rattle.ft_model.specs.Opening.{point_opened}
 use Rattle.ft_model.specs.Segments.{text_at, fin_segment, segments_of}
-use Rattle.ft_model.specs.Copy.{copies, copied_text, copies_fin, copied_part, una_part}
+use Rattle.ft_model.specs.Copy.{copies}
 use Rattle.ft_model.specs.Reads.{reads_told, read_messages, first_told}
-use Rattle.ft_model.specs.Ending.{dones, tells_done, reset_after}
+use Rattle.ft_model.specs.Ending.{dones, tells_done}
 use Rattle.ft_model.specs.Connection.{ResetTurn, LiveTurn, ConnectionTurn, told_by}
-use Rattle.ft_model.specs.Restart.{point_of, run_of}
+use Rattle.ft_model.specs.Restart.{point_of}
 use Rattle.ft_model.specs.Node.{Place}
 use Rattle.ft_model.specs.Node.Place.{Opens, Lives, Ended}
 use Rattle.ft_model.specs.Growth.{IsPrefix, lengths_in, logged_lengths}
@@ -31,11 +30,11 @@ use Rattle.ft_model.proofs.Lists.{take_first, of_choice, all_weaker, all_map, al
 use Rattle.ft_model.proofs.Stands.{nothing_first, drop_prefix}
 use Rattle.ft_model.proofs.Scripts.{HasTaken, DataFits}
 use Rattle.ft_model.proofs.Faithful.{IsKnown, PlaceFits}
-use Rattle.ft_model.proofs.Spoken.{Spoken, SendsFin, segments_spoken}
+use Rattle.ft_model.proofs.Spoken.{Spoken, segments_spoken}
 use Rattle.ft_model.proofs.Spoken.Spoken.{spoken_syn, spoken_text, spoken_fin, spoken_bare}
-use Rattle.ft_model.proofs.Services.{GoesOn, reads_go_on, more_bytes, prefix_length, sum_take, units_go_on}
-use Rattle.ft_model.proofs.Running.{HasSmallOutputs, ReadsWithin, SendsWithin, reset_within, live_within, live_sends, fin_closed}
-use Rattle.ft_model.proofs.ToldLast.{by_reset, was_not_reset}
+use Rattle.ft_model.proofs.Services.{GoesOn, reads_go_on, more_bytes, prefix_length, sum_take}
+use Rattle.ft_model.proofs.Running.{HasSmallOutputs, ReadsWithin, reset_within, live_within}
+use Rattle.ft_model.proofs.StageTurns.{either_turn}
 
 -- a Read of the log's own boot is its author's
 abbrev pub ReadFits : (Key → List ℕ) → Body → Type 0
@@ -45,15 +44,6 @@ ReadFits author _ = Unit {0}
 -- the run over the logged reads of a client
 abbrev pub logged_run : {State : Type 0} → Machine State → (Key → List ℕ) → Log → Key → Run State
 logged_run service script log key = reference service (script key) (logged_lengths key log)
-
--- the units of a run: its output, and one more where it has closed
-abbrev pub run_units : {State : Type 0} → Run State → ℕ
-run_units run = length run.output + one_if run.closed
-
--- what a client has acknowledged, it was sent
-abbrev pub AckFits : {State : Type 0} → Machine State → (Key → List ℕ) → Log → Body → Type 0
-AckFits service script log (DataMsg part) = part.acked ≤ run_units (logged_run service script log part.key)
-AckFits service script log _ = Unit {0}
 
 -- a part of this run's output, or its FIN
 abbrev pub CarriesOutput : {State : Type 0} → Run State → ℕ → Segment → Type 0
@@ -72,19 +62,19 @@ Speaks service script log (To_client segment) = has_rst segment ≡ false → Is
 Speaks service script log _ = Unit {0}
 
 abbrev pub Follows : {State : Type 0} → Machine State → (Key → List ℕ) → (Key → List ℕ) → Log → Packet → Type 0
-Follows service script author log (To_logger message) = ReadFits author message.body × AckFits service script log message.body
+Follows service script author log (To_logger message) = ReadFits author message.body
 Follows service script author log (To_client segment) = Speaks service script log (To_client segment)
 Follows service script author log _ = Unit {0}
 
 -- what is known of a point before a turn, by the author of the reads so far ..
 abbrev pub PlaceRuns : {State : Type 0} → Machine State → (Key → List ℕ) → Place → Type 0
-PlaceRuns service author (Lives p) = (author p.key ≡ p.lengths) × ReadsWithin service p × (p.reset ≡ false → SendsWithin service p)
+PlaceRuns service author (Lives p) = (author p.key ≡ p.lengths) × ReadsWithin service p
 PlaceRuns service author (Opens n) = author n.key ≡ []
 PlaceRuns service author (Ended key) = Unit {0}
 
 -- .. and after it
 abbrev pub PlaceRan : {State : Type 0} → Machine State → (Key → List ℕ) → Place → Type 0
-PlaceRan service author (Lives p) = IsPrefix (author p.key) p.lengths × ReadsWithin service p × (p.reset ≡ false → SendsWithin service p)
+PlaceRan service author (Lives p) = IsPrefix (author p.key) p.lengths × ReadsWithin service p
 PlaceRan service author (Opens n) = author n.key ≡ []
 PlaceRan service author (Ended key) = Unit {0}
 
@@ -138,10 +128,10 @@ empty_or n offset output h = by_past n offset output (nat_lt offset (2 ^ 31)) re
 
 spoken_so : {State : Type 0} (service : Machine State) (server : Addr) (news : News) (p q : Point) (segment : Segment) (script : Key → List ℕ) (log : Log) → IsKnown log q
     → length (answered_run service q).output ≤ 2 ^ 24 → GoesOn (answered_run service q) (logged_run service script log q.key)
-    → (SendsFin service news p q → (answered_run service q).closed ≡ true) → Spoken service server news p q segment → IsSpoken service script log (destination_of segment) segment
-spoken_so service server news p q segment script log k small g fin (spoken_syn e) =
+    → Spoken service server news p q segment → IsSpoken service script log (destination_of segment) segment
+spoken_so service server news p q segment script log k small g (spoken_syn e) =
     subst (λ s. IsSpoken service script log (destination_of s) s) (sym e) (record { entry = k.entry; found = k.found; syn = λ x. sym k.sisn; text = inr (refl, refl) })
-spoken_so service server news p q segment script log k small g fin (spoken_text offset n e) =
+spoken_so service server news p q segment script log k small g (spoken_text offset n e) =
     subst (λ s. IsSpoken service script log (destination_of s) s) (sym e)
     (record {
       entry = k.entry;
@@ -152,7 +142,7 @@ spoken_so service server news p q segment script log k small g fin (spoken_text 
           (offset, ap (λ s. offset_of s (number_at q.sisn offset)) k.sisn ∙ offset_of_number q.sisn offset x, take_first n (drop offset (answered_run service q).output), λ f. absurd (true≢false (sym f)))))
           (empty_or n offset (answered_run service q).output small);
     })
-spoken_so service server news p q segment script log k small g fin (spoken_fin f e) =
+spoken_so service server news p q segment script log k small g (spoken_fin closed e) =
     subst (λ s. IsSpoken service script log (destination_of s) s) (sym e)
     (record {
       entry = k.entry;
@@ -162,10 +152,10 @@ spoken_so service server news p q segment script log k small g fin (spoken_fin f
         released service q,
         ap (λ s. offset_of s (number_at q.sisn (released service q))) k.sisn ∙ offset_of_number q.sisn (released service q) (omega (arith, small)),
         nothing_first (drop (released service q) (answered_run service q).output),
-        λ x. (fin f, refl, refl),
+        λ x. (closed, refl, refl),
       ));
     })
-spoken_so service server news p q segment script log k small g fin (spoken_bare offset e) =
+spoken_so service server news p q segment script log k small g (spoken_bare offset e) =
     subst (λ s. IsSpoken service script log (destination_of s) s) (sym e) (record { entry = k.entry; found = k.found; syn = λ x. absurd (true≢false (sym x)); text = inr (refl, refl) })
 
 -- the messages of reads
@@ -200,37 +190,8 @@ unfolding dones
 dones_follow author news p q = of_choice (AllByRecursion (ReadFits author)) (tells_done news p q) (DoneMsg q.key ∷ []) [] (λ t. (tt, tt)) (λ t. tt)
 
 pub bodies_follow : {State : Type 0} (service : Machine State) (script author : Key → List ℕ) (log : Log) (boot : ℕ) (bodies : List Body) → AllByRecursion (ReadFits author) bodies
-    → AllByRecursion (AckFits service script log) bodies → AllByRecursion (Follows service script author log) (map (told_by boot) bodies)
-bodies_follow service script author log boot [] a k = tt
-bodies_follow service script author log boot (body ∷ bodies) a k = ((a.0, k.0), bodies_follow service script author log boot bodies a.1 k.1)
-
-dones_acked : {State : Type 0} (service : Machine State) (script : Key → List ℕ) (log : Log) (news : News) (p q : Point) → AllByRecursion (AckFits service script log) (dones news p q)
-unfolding dones
-dones_acked service script log news p q = of_choice (AllByRecursion (AckFits service script log)) (tells_done news p q) (DoneMsg q.key ∷ []) [] (λ t. (tt, tt)) (λ t. tt)
-
-messages_acked : {State : Type 0} (service : Machine State) (script : Key → List ℕ) (log : Log) (key : Key) (index : ℕ) (lengths : List ℕ) → AllByRecursion (AckFits service script log) (read_messages key index lengths)
-messages_acked service script log key index [] = tt
-messages_acked service script log key index (n ∷ lengths) = (tt, messages_acked service script log key (index + 1) lengths)
-
-reads_acked : {State : Type 0} (service : Machine State) (script : Key → List ℕ) (log : Log) (news : News) (p q : Point) → AllByRecursion (AckFits service script log) (reads_told news p q)
-unfolding reads_told
-reads_acked service script log news p q = messages_acked service script log q.key (first_told news p q) (drop (first_told news p q) q.lengths)
-
--- every Data carries SND.UNA
-copies_acked : {State : Type 0} (service : Machine State) (script : Key → List ℕ) (log : Log) (news : News) (p q : Point) → q.una ≤ run_units (logged_run service script log q.key)
-    → AllByRecursion (AckFits service script log) (copies news p q)
-unfolding copies
-copies_acked service script log (Comes segment) p q h =
-    of_choice (AllByRecursion (AckFits service script log)) (nat_lt 0 (length (copied_text q segment)) || copies_fin q segment) (DataMsg (copied_part q segment) ∷ [])
-    (if nat_lt p.una q.una then DataMsg (una_part q) ∷ [] else []) (λ t. (h, tt))
-    (λ t. of_choice (AllByRecursion (AckFits service script log)) (nat_lt p.una q.una) (DataMsg (una_part q) ∷ []) [] (λ x. (h, tt)) (λ x. tt))
-copies_acked service script log (Logged kept) p q h = tt
-copies_acked service script log Ticks p q h = tt
-copies_acked service script log Begins p q h = tt
-
-all_taken : (xs : List ℕ) → take (length xs) xs ≡ xs
-all_taken [] = refl
-all_taken (x ∷ xs) = ap (λ l. x ∷ l) (all_taken xs)
+    → AllByRecursion (Follows service script author log) (map (told_by boot) bodies)
+bodies_follow service script author log boot bodies a = all_map (Follows service script author log) (told_by boot) bodies a
 
 live_prefix : {State : Type 0} (service : Machine State) (server : Addr) (old : Key → List ℕ) (boot : ℕ) (news : News) (p q : Point) (sent : List Packet)
     → old p.key ≡ p.lengths → LiveTurn service server boot news p q sent → IsPrefix (old q.key) q.lengths
@@ -241,15 +202,15 @@ reset_runs : {State : Type 0} (service : Machine State) (script old author : Key
 reset_runs service script old author log boot news p q sent r t =
     let lengths : q.lengths ≡ p.lengths = ap (λ x. x.lengths) t.point in
     let key : q.key ≡ p.key = ap (λ x. x.key) t.point in (
-      (([], append-nil (old q.key) ∙ (ap old key ∙ (r.0 ∙ sym lengths))), reset_within service boot news p q sent r.1 t, λ x. absurd (true≢false (sym (ap (λ x. x.reset) t.point) ∙ x))),
-      subst (AllByRecursion (Follows service script author log)) (sym t.packets) (bodies_follow service script author log boot (dones news p q) (dones_follow author news p q) (dones_acked service script log news p q)),
+      (([], append-nil (old q.key) ∙ (ap old key ∙ (r.0 ∙ sym lengths))), reset_within service boot news p q sent r.1 t),
+      subst (AllByRecursion (Follows service script author log)) (sym t.packets) (bodies_follow service script author log boot (dones news p q) (dones_follow author news p q)),
     )
 
 live_runs : {State : Type 0} (service : Machine State) (server : Addr) (script old author : Key → List ℕ) (isn : Key → ℕ) (log : Log) (boot : ℕ) (news : News) (p q : Point) (sent : List Packet)
     → HasSmallOutputs service → ((key : Key) → IsPrefix (logged_lengths key log) (old key)) → AllByRecursion (DataFits script) (copies news p q) → PlaceFits script isn log (Lives q)
-    → PlaceRuns service old (Lives p) → p.reset ≡ false → IsAuthor author (Lives q) → LiveTurn service server boot news p q sent
+    → PlaceRuns service old (Lives p) → IsAuthor author (Lives q) → LiveTurn service server boot news p q sent
     → AllByRecursion (Follows service script author log) sent
-live_runs service server script old author isn log boot news p q sent small front datas fits r live is t =
+live_runs service server script old author isn log boot news p q sent small front datas fits r is t =
     let lengths : IsPrefix (old q.key) q.lengths = live_prefix service server old boot news p q sent r.0 t in
     let within : ReadsWithin service q = live_within service server boot news p q sent small r.1 t in
     let goes : GoesOn (answered_run service q) (logged_run service script log q.key) =
@@ -259,29 +220,20 @@ live_runs service server script old author isn log boot news p q sent small fron
     (reads_go_on service q.taken (take q.reads_answered q.lengths) q.lengths (take_first q.reads_answered q.lengths)).output) within.short in
     let segments : AllByRecursion (λ s. Follows service script author log (To_client s)) (segments_of service server news p q) =
     all_weaker (Spoken service server news p q) (λ s. Follows service script author log (To_client s)) (segments_of service server news p q)
-    (λ s spoken. λ rst. spoken_so service server news p q s script log fits.1 less goes (fin_closed service server boot news p q sent r.1 (r.2 live) t) spoken)
-    (segments_spoken service server boot news p q t.una t.counted) in
+    (λ s spoken. λ rst. spoken_so service server news p q s script log fits.1 less goes spoken)
+    (segments_spoken service server news p q) in
     let bodies : AllByRecursion (ReadFits author) (copies news p q ++ (reads_told news p q ++ dones news p q)) =
     all_append (ReadFits author) (copies news p q) _ (all_weaker (DataFits script) (ReadFits author) (copies news p q) (data_follows script author) datas)
     (all_append (ReadFits author) (reads_told news p q) (dones news p q) (told_reads_follow author news p q is) (dones_follow author news p q)) in
-    let sends : SendsWithin service q = live_sends service server boot news p q sent r.1 (r.2 live) t in
-    let units : run_units (answered_run service q) ≤ run_units (logged_run service script log q.key) = units_go_on (answered_run service q) (logged_run service script log q.key) goes in
-    let una : q.una ≤ run_units (logged_run service script log q.key) = le_trans sends.una (le_trans sends.sent units) in
-    let acks : AllByRecursion (AckFits service script log) (copies news p q ++ (reads_told news p q ++ dones news p q)) =
-    all_append (AckFits service script log) (copies news p q) _ (copies_acked service script log news p q una)
-    (all_append (AckFits service script log) (reads_told news p q) (dones news p q) (reads_acked service script log news p q) (dones_acked service script log news p q)) in
     subst (AllByRecursion (Follows service script author log)) (sym t.packets)
     (all_append (Follows service script author log) (map To_client (segments_of service server news p q)) _
     (all_map (Follows service script author log) To_client (segments_of service server news p q) segments)
-    (bodies_follow service script author log boot (copies news p q ++ (reads_told news p q ++ dones news p q)) bodies acks))
+    (bodies_follow service script author log boot (copies news p q ++ (reads_told news p q ++ dones news p q)) bodies))
 
 live_ran : {State : Type 0} (service : Machine State) (server : Addr) (old : Key → List ℕ) (boot : ℕ) (news : News) (p q : Point) (sent : List Packet)
-    → HasSmallOutputs service → PlaceRuns service old (Lives p) → p.reset ≡ false → LiveTurn service server boot news p q sent → PlaceRan service old (Lives q)
-live_ran service server old boot news p q sent small r live t = (
-  live_prefix service server old boot news p q sent r.0 t,
-  live_within service server boot news p q sent small r.1 t,
-  λ x. live_sends service server boot news p q sent r.1 (r.2 live) t,
-)
+    → HasSmallOutputs service → PlaceRuns service old (Lives p) → LiveTurn service server boot news p q sent → PlaceRan service old (Lives q)
+live_ran service server old boot news p q sent small r t =
+    (live_prefix service server old boot news p q sent r.0 t, live_within service server boot news p q sent small r.1 t)
 
 -- one turn of a connection: where it stands after it, and that what it sends follows the author that agrees with that
 pub connection_runs : {State : Type 0} (service : Machine State) (server : Addr) (script old author : Key → List ℕ) (isn : Key → ℕ) (log : Log) (boot : ℕ) (news : News) (p q : Point) (sent : List Packet)
@@ -289,35 +241,23 @@ pub connection_runs : {State : Type 0} (service : Machine State) (server : Addr)
     → PlaceRuns service old (Lives p) → ConnectionTurn service server boot news p q sent
     → PlaceRan service old (Lives q) × (IsAuthor author (Lives q) → AllByRecursion (Follows service script author log) sent)
 connection_runs service server script old author isn log boot news p q sent small front datas fits r =
-    by_reset service server boot news p q sent (reset_after news p) refl
+    either_turn service server boot news p q sent
     (λ t. let x = reset_runs service script old author log boot news p q sent r t in (x.0, λ is. x.1))
-    (λ e t. let live : p.reset ≡ false = was_not_reset news p e in (
-      live_ran service server old boot news p q sent small r live t,
-      λ is. live_runs service server script old author isn log boot news p q sent small front datas fits r live is t,
+    (λ t. (
+      live_ran service server old boot news p q sent small r t,
+      λ is. live_runs service server script old author isn log boot news p q sent small front datas fits r is t,
     ))
 
 -- the point of an entry
 pub entry_runs : {State : Type 0} (service : Machine State) (script author : Key → List ℕ) (e : Entry) → IsPrefix e.bytes (script e.key) → sum e.lengths ≤ length e.bytes
     → length (reference service (script e.key) e.lengths).output ≤ 2 ^ 24 → author e.key ≡ e.lengths → PlaceRuns service author (Lives (point_of service e))
 entry_runs service script author e front enough small is =
-    let same : reference service (script e.key) e.lengths ≡ reference service e.bytes e.lengths = more_bytes service e.bytes (script e.key) e.lengths front enough in
-    let run : answered_run service (point_of service e) ≡ run_of service e = ap (reference service e.bytes) (all_taken e.lengths) in
-    let size : length (answered_run service (point_of service e)).output ≡ length (run_of service e).output = ap (λ x. length x.output) run in (
+    let same : reference service (script e.key) e.lengths ≡ reference service e.bytes e.lengths = more_bytes service e.bytes (script e.key) e.lengths front enough in (
       is,
       record { enough = enough; fetched = le_refl (length e.bytes); short = subst (λ x. length x.output ≤ 2 ^ 24) same small; counts = le_refl (length e.lengths) },
-      λ x. record {
-        una = le_refl (point_of service e).una;
-        sent = omega (arith, size);
-        edge = omega arith;
-        timer = λ one. absurd (omega (arith, one));
-      },
     )
 
 -- a new point
 pub opened_runs : {State : Type 0} (service : Machine State) (author : Key → List ℕ) (n : Numbers) → author n.key ≡ [] → PlaceRuns service author (Lives (point_opened n))
 unfolding reference
-opened_runs service author n is = (
-  is,
-  record { enough = le_refl 0; fetched = le_refl 0; short = omega arith; counts = le_refl 0 },
-  λ x. record { una = le_refl 0; sent = omega arith; edge = omega arith; timer = λ one. absurd (omega (arith, one)) },
-)
+opened_runs service author n is = (is, record { enough = le_refl 0; fetched = le_refl 0; short = omega arith; counts = le_refl 0 })

@@ -48,11 +48,11 @@ first_4 : Happens row.first_3.node row.first_4
 unfolding laws
 first_4 = serves echo 1 5000 row.first_4.input row.begun row.opened row.first_4.sent refl refl refl (row.opened, refl, goes echo server 1 (Comes row.first_ack) row.begun row.opened row.first_4.sent refl refl refl refl)
 
-first_5 : Happens row.first_4.node row.first_5
+pub first_5 : Happens row.first_4.node row.first_5
 unfolding laws
 first_5 = serves echo 1 5000 row.first_5.input row.opened row.taken row.first_5.sent refl refl refl (row.taken, refl, goes echo server 1 (Comes row.fin) row.opened row.taken row.first_5.sent refl refl refl refl)
 
-first_6 : Happens row.first_5.node row.first_6
+pub first_6 : Happens row.first_5.node row.first_6
 unfolding laws
 first_6 = serves echo 1 5000 row.first_6.input row.taken row.logged row.first_6.sent refl refl refl (row.logged, refl, goes echo server 1 (Logged (kept_with 0 true 0)) row.taken row.logged row.first_6.sent refl refl refl refl)
 

@@ -262,7 +262,7 @@ live_fits service server script isn log boot news p q sent short entries nf n f 
     all_weaker (Spoken service server news p q) (λ s. IsFit script isn log (To_client s)) (segments_of service server news p q)
     (λ s spoken. let h : IsHeaded q s = headed service server news p q s spoken in
     (tt, acknowledges_units script isn log s q.key known.entry (acknowledgement q) q.cisn short entries known.found (omega (arith, known.answered)) taken.cisn h.destination h.ack))
-    (segments_spoken service server boot news p q t.una t.counted) in
+    (segments_spoken service server news p q) in
     let bodies : AllByRecursion (BodyFits script isn) (copies news p q ++ (reads_told news p q ++ dones news p q)) =
     all_append (BodyFits script isn) (copies news p q) _
     (all_weaker (DataFits script) (BodyFits script isn) (copies news p q) (data_fits script isn) (copies_fit script (isn q.key) news p q nfq taken))

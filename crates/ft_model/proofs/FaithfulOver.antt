@@ -151,15 +151,15 @@ turned_faithful service script isn w node later input sent f stage fit = record 
   stage = λ n e. subst (λ x. StageFits script isn w.log x.stage) (some_is later n e) stage;
 }
 
-client_there : (script : Key → List ℕ) (isn : Key → ℕ) (clients : List Client) (number : ℕ) (c : Client) → AllByRecursion (ClientFits script isn) clients
-    → client_at clients number ≡ Some c → ClientFits script isn c
-client_there script isn clients zero c a e = none_is_some c e
-client_there script isn clients (suc n) c a e = all_slice_get (ClientFits script isn) clients n c a e
+-- what all clients have, the one of a number has
+pub client_there : (P : Client → Type 0) (clients : List Client) (number : ℕ) (c : Client) → AllByRecursion P clients → client_at clients number ≡ Some c → P c
+client_there P clients zero c a e = none_is_some c e
+client_there P clients (suc n) c a e = all_slice_get P clients n c a e
 
 moved_faithful : (script : Key → List ℕ) (isn : Key → ℕ) (w after : World) (number : ℕ) (sent : List Packet) → IsFaithful script isn w → Moves w number sent after → IsFaithful script isn after
 moved_faithful script isn w after number sent f m =
     let c : Client = m.client in
-    let fits : ClientFits script isn c = client_there script isn w.clients number c f.clients m.is_there in
+    let fits : ClientFits script isn c = client_there (ClientFits script isn) w.clients number c f.clients m.is_there in
     let source : source_of m.segment ≡ c.key = ap source_of m.move.segment_is in
     let same : IsSameClient c m.later = subst (IsSameClient c) (sym m.move.after_is) (record { key = refl; isn = refl; script = refl }) in
     let segment : FitsScript (script (source_of m.segment)) (isn (source_of m.segment)) m.segment =

@@ -233,7 +233,7 @@ live_formed service start server boot news p q sent writes at b n h s t =
     let segments : AllByRecursion (λ x. PacketFormed start (To_client x)) (segments_of service server news p q) =
     all_weaker (Spoken service server news p q) _ (segments_of service server news p q)
     (λ x spoken. segment_formed service start server news p q x writes at point.key point.sisn s.bytes spoken)
-    (segments_spoken service server boot news p q t.una t.counted) in
+    (segments_spoken service server news p q) in
     let bodies : AllByRecursion (BodyFormed start) (copies news p q ++ (reads_told news p q ++ dones news p q)) =
     all_append (BodyFormed start) (copies news p q) _ (copies_formed start news p q n point.key point.una s)
     (all_append (BodyFormed start) (reads_told news p q) (dones news p q) (reads_formed start news p q point s) (dones_formed start news p q point.key)) in (

@@ -1,5 +1,5 @@
 -- The headline: every joint trace is masked.
-use Rattle.std.proofs.Common.{◌≡◌, ℕ, zero, suc, Bool, true, false, ◌==◌, ◌&&◌, refl, sym, ap, ◌∙◌, subst, true≢false, ◌⊎◌, Option, Some, None, List, [], ◌∷◌, if◌then◌else◌, ◌+◌, ◌≤◌, length}
+use Rattle.std.proofs.Common.{◌≡◌, ℕ, Bool, true, false, ◌==◌, ◌&&◌, refl, sym, ap, ◌∙◌, subst, true≢false, ◌⊎◌, Option, Some, None, List, [], ◌∷◌, if◌then◌else◌, ◌+◌, ◌≤◌, length}
 use Rattle.ft_model.proofs.Services.{more_bytes}
 use Rattle.ft_model.proofs.Scripts.{EntryFits}
 use Rattle.ft_model.proofs.Keys.{finds_itself, all_from_get}
@@ -17,7 +17,7 @@ use Rattle.ft_model.specs.Network.{Packet, destination_of}
 use Rattle.ft_model.specs.Network.Packet.{To_client}
 use Rattle.ft_model.specs.Growth.{IsPrefix, logged_lengths, lengths_in}
 use Rattle.ft_model.specs.Masked.{SeesFront, unfailing, Masked}
-use Rattle.ft_model.specs.World.{World, Moment, Joint, IsStart, IsNewClient, client_at, world_after}
+use Rattle.ft_model.specs.World.{World, Moment, Joint, IsStart, IsNewClient, world_after}
 use Rattle.ft_model.proofs.Lists.{of_choice, all_both, all_weaker, all_slice_get, none_is_some, some_is}
 use Rattle.ft_model.proofs.Grows.{log_grows}
 use Rattle.ft_model.proofs.Happened.{Happened, holds_after, all_sent}
@@ -26,14 +26,16 @@ use Rattle.ft_model.proofs.Fenced.{IsFenced, start_fenced, fenced_goes_on}
 use Rattle.ft_model.proofs.Asked.{IsAsked, start_asked, asked_goes_on}
 use Rattle.ft_model.proofs.Exact.{exact_after}
 use Rattle.ft_model.proofs.FaithfulKept.{ClientFits, IsFaithful, received_same, clients_fit}
-use Rattle.ft_model.proofs.FaithfulOver.{script_of, isn_of, faithful_goes_on}
+use Rattle.ft_model.proofs.FaithfulOver.{script_of, isn_of, client_there, faithful_goes_on}
 use Rattle.ft_model.proofs.Acknowledged.{start_is, short_scripts, start_faithful, acknowledged_after}
 use Rattle.ft_model.proofs.Distinct.{IsDistinct, distinct_after}
 use Rattle.ft_model.proofs.ToldOver.{told_after}
 use Rattle.ft_model.proofs.Running.{HasSmallOutputs}
 use Rattle.ft_model.proofs.Authored.{Speaks, IsSpoken, CarriesOutput, logged_run}
-use Rattle.ft_model.proofs.AuthorOver.{HasAuthor, EntryOf, IsBacked}
+use Rattle.ft_model.proofs.AuthorOver.{HasAuthor, EntryOf}
 use Rattle.ft_model.proofs.AuthorWorld.{author_goes_on, start_author}
+use Rattle.ft_model.proofs.Backed.{EntryBacked, IsBacked}
+use Rattle.ft_model.proofs.BackedOver.{start_backed, backed_goes_on}
 use Rattle.ft_model.proofs.Seen.{Sees, IsSeen, SaysRun, seen_later, received_sees, moved_seen}
 
 opened_closed : (c : Client) (segment : Segment) → has_rst segment ≡ true → is_open c.phase ≡ false → is_open (opened_by c segment).phase ≡ false
@@ -98,11 +100,6 @@ received_seen service script log c segment k speaks s =
 abbrev pub AllSee : {State : Type 0} → Machine State → (Key → List ℕ) → World → Type 0
 AllSee service script w = AllByRecursion (IsSeen service script w.log) w.clients
 
-pub client_of : {State : Type 0} (service : Machine State) (script : Key → List ℕ) (log : Log) (clients : List Client) (number : ℕ) (c : Client) → AllByRecursion (IsSeen service script log) clients
-    → client_at clients number ≡ Some c → IsSeen service script log c
-client_of service script log clients zero c a e = none_is_some c e
-client_of service script log clients (suc n) c a e = all_slice_get (IsSeen service script log) clients n c a e
-
 sees_on : {State : Type 0} (service : Machine State) (script : Key → List ℕ) (before : World) (sent : List Packet) (after : World)
     → HasAuthor service script before → AllSee service script before → Happened service before sent after → AllSee service script after
 sees_on service script before sent after a s (log_heard message under t e) =
@@ -113,7 +110,7 @@ sees_on service script before sent after a s (client_heard segment under t e) =
     (clients_fit (IsSeen service script before.log) (destination_of segment) (λ c. received c segment) before.clients
     (λ c k x. received_seen service script before.log c segment k (all_sent (Speaks service script before.log) before (To_client segment) a.spoken under) x) s)
 sees_on service script before sent after a s (client_moved number m) =
-    let was : IsSeen service script before.log m.client = client_of service script before.log before.clients number m.client s m.is_there in
+    let was : IsSeen service script before.log m.client = client_there (IsSeen service script before.log) before.clients number m.client s m.is_there in
     let now : IsSeen service script before.log m.later = subst (IsSeen service script before.log) (sym m.move.after_is) (moved_seen service script before.log m.client m.move.move m.move.window was) in
     subst (AllSee service script) (sym m.after_is) (clients_fit (IsSeen service script before.log) m.client.key (λ x. m.later) before.clients (λ c k x. now) s)
 sees_on service script before sent after a s (server_turned input node later brought is turn e) = subst (AllSee service script) (sym e) s
@@ -134,6 +131,7 @@ pub record IsSound {State : Type 0} (service : Machine State) (start w : World) 
   pub distinct : IsDistinct w
   pub author : HasAuthor service (script_of start) w
   pub sees : AllSee service (script_of start) w
+  pub backed : IsBacked service (script_of start) w
 
 pub start_sound : {State : Type 0} (service : Machine State) (start : World) → IsStart start → IsSound service start start
 start_sound service start x = record {
@@ -143,6 +141,7 @@ start_sound service start x = record {
   distinct = λ n e. none_is_some n (sym x.node ∙ e);
   author = start_author service (script_of start) start x;
   sees = start_sees service (script_of start) start x;
+  backed = start_backed service (script_of start) start x;
 }
 
 pub sound_goes_on : {State : Type 0} (service : Machine State) → HasSmallOutputs service → (start before : World) (sent : List Packet) (after : World)
@@ -154,6 +153,7 @@ sound_goes_on service small start before sent after s o h = record {
   distinct = distinct_after service before sent after o.asked o.distinct h;
   author = author_goes_on service (script_of start) (isn_of start) before sent after small (short_scripts start s) o.fenced o.asked o.faithful o.distinct o.author h;
   sees = sees_on service (script_of start) before sent after o.author o.sees h;
+  backed = backed_goes_on service (script_of start) (isn_of start) before sent after o.asked o.faithful o.author o.sees o.backed h;
 }
 
 pub sound_after : {State : Type 0} (service : Machine State) → HasSmallOutputs service → (start : World) (trace : List Moment) → Joint service start trace → IsSound service start (world_after start trace)
@@ -183,7 +183,7 @@ backed_entries service small start trace j =
     all_from_get (λ e. e.acknowledged ≤ length (run_of service e).output + one_if (run_of service e).closed) log.entries
     (λ i e at. let f : EntryFits (script_of start e.key) (isn_of start e.key) e = all_slice_get (λ x. EntryFits (script_of start x.key) (isn_of start x.key) x) log.entries i e o.faithful.entries at in
     let g : EntryOf o.author.author e = all_slice_get (EntryOf o.author.author) log.entries i e o.author.entries at in
-    let k : IsBacked service (script_of start) log e = all_slice_get (IsBacked service (script_of start) log) log.entries i e o.author.backed at in
+    let k : EntryBacked service (script_of start) log e = all_slice_get (EntryBacked service (script_of start) log) log.entries i e o.backed.entries at in
     let found : entry_of e.key log ≡ Some e = finds_itself (λ x. x.key) log.entries i e o.asked.distinct at in
     let same : logged_run service (script_of start) log e.key ≡ run_of service e =
     ap (λ x. reference service (script_of start e.key) (lengths_in x)) found ∙ more_bytes service e.bytes (script_of start e.key) e.lengths f.front g.1 in

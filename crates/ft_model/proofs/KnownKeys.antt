@@ -206,7 +206,7 @@ connection_plain service log server boot news p q sent =
     (λ t. subst (AllByRecursion (IsPlain log)) (sym t.packets) (bodies_plain log boot (dones news p q) (dones_plain news p q)))
     (λ t. let segments : AllByRecursion (λ s. IsPlain log (To_client s)) (segments_of service server news p q) =
     all_weaker (Spoken service server news p q) (λ s. IsPlain log (To_client s)) (segments_of service server news p q)
-    (λ s spoken. (λ r. absurd (true≢false (sym r ∙ (headed service server news p q s spoken).no_rst)), tt)) (segments_spoken service server boot news p q t.una t.counted) in
+    (λ s spoken. (λ r. absurd (true≢false (sym r ∙ (headed service server news p q s spoken).no_rst)), tt)) (segments_spoken service server news p q) in
     subst (AllByRecursion (IsPlain log)) (sym t.packets)
     (all_append (IsPlain log) (map To_client (segments_of service server news p q)) _ (all_map (IsPlain log) To_client (segments_of service server news p q) segments)
     (bodies_plain log boot (copies news p q ++ (reads_told news p q ++ dones news p q))

@@ -39,6 +39,7 @@ pub mod Exact
 pub mod Stands
 pub mod Scripts
 pub mod Spoken
+pub mod FinsClosed
 pub mod Faithful
 pub mod FaithfulKept
 pub mod FaithfulOver
@@ -56,6 +57,8 @@ pub mod AuthorOver
 pub mod AuthorKept
 pub mod AuthorWorld
 pub mod Seen
+pub mod Backed
+pub mod BackedOver
 pub mod JointMasked
 pub mod OneTrace
 pub mod Outcomes

@@ -37,10 +37,11 @@ use Rattle.ft_model.proofs.Asked.{IsAsked, entry_keys, progress_agrees}
 use Rattle.ft_model.proofs.Resumed.{nothing_missing, restored_keys, restored_length, length_map, revived_keys}
 use Rattle.ft_model.proofs.Faithful.{StageFits}
 use Rattle.ft_model.proofs.FaithfulKept.{IsFaithful, input_fits}
-use Rattle.ft_model.proofs.FaithfulOver.{IsHeadOf, heads_of, script_of, isn_of}
+use Rattle.ft_model.proofs.FaithfulOver.{IsHeadOf, heads_of, script_of, isn_of, client_there}
+use Rattle.ft_model.proofs.Seen.{IsSeen}
 use Rattle.ft_model.proofs.Acknowledged.{start_is}
 use Rattle.ft_model.proofs.Running.{HasSmallOutputs}
-use Rattle.ft_model.proofs.JointMasked.{IsSound, start_sound, sound_goes_on, client_of}
+use Rattle.ft_model.proofs.JointMasked.{IsSound, start_sound, sound_goes_on}
 use Rattle.ft_model.proofs.Refused.{ResetsEnded, HasCaller, resets_later, caller_later, Says, KeysGo, keys_go, says_later, answers_say}
 use Rattle.ft_model.proofs.KnownKeys.{AsksFor, Asks, PlaceEnds, StageKnows, KnowsLog, stage_hears, IsPlain, connection_plain, input_says, input_calls, IsFair, plain_fair, Goes, knows_after, serving_knows}
 
@@ -217,7 +218,7 @@ turned_knowing service script isn w node later input sent f a fa k e brought t =
 open_logged : {State : Type 0} (service : Machine State) (start w : World) (number : ℕ) (c : Client) → IsSound service start w → client_at w.clients number ≡ Some c
     → is_open c.phase ≡ true → has_key c.key (entry_keys w.log) ≡ true
 open_logged service start w number c o at open_ =
-    let e = (client_of service (script_of start) w.log w.clients number c o.sees at).sisn open_ in
+    let e = (client_there (IsSeen service (script_of start) w.log) w.clients number c o.sees at).sisn open_ in
     found_has_key (λ x. x.key) c.key w.log.entries e.0 e.1
 
 moved_knowing : {State : Type 0} (service : Machine State) (start w : World) (number : ℕ) (sent : List Packet) (after : World) → IsSound service start w → KnowsLog w → Moves w number sent after → KnowsLog after

@@ -114,7 +114,7 @@ live_only : {State : Type 0} (service : Machine State) (server : Addr) (boot : �
 live_only service server boot news p q sent t other e =
     let bodies : List Body = copies news p q ++ (reads_told news p q ++ dones news p q) in
     let heads : AllByRecursion (IsHeaded q) (segments_of service server news p q) =
-    all_weaker (Spoken service server news p q) (IsHeaded q) (segments_of service server news p q) (headed service server news p q) (segments_spoken service server boot news p q t.una t.counted) in
+    all_weaker (Spoken service server news p q) (IsHeaded q) (segments_of service server news p q) (headed service server news p q) (segments_spoken service server news p q) in
     ap (last_told other) t.packets
     ∙ silent_append other (map To_client (segments_of service server news p q)) (map (message_by boot) bodies) (segments_only q (segments_of service server news p q) heads other e)
     (messages_silent other boot bodies)
@@ -127,7 +127,7 @@ live_tells service server boot news p q sent t =
     let segments : List Segment = segments_of service server news p q in
     let bodies : List Body = copies news p q ++ (reads_told news p q ++ dones news p q) in
     let heads : AllByRecursion (IsHeaded q) segments =
-    all_weaker (Spoken service server news p q) (IsHeaded q) segments (headed service server news p q) (segments_spoken service server boot news p q t.una t.counted) in
+    all_weaker (Spoken service server news p q) (IsHeaded q) segments (headed service server news p q) (segments_spoken service server news p q) in
     ⊎_elim
     (λ n. let quiet : list_any is_segment sent ≡ false =
     ap (list_any is_segment) (t.packets ∙ ap (λ l. map To_client l ++ map (message_by boot) bodies) n) ∙ no_messages boot bodies in

@@ -1,5 +1,5 @@
 -- Every turn of a live connection tells its client what is taken and logged, or has nothing new to tell; and it leaves no read to make.
-use Rattle.std.proofs.Common.{◌≡◌, ℕ, zero, suc, ◌+◌, ◌-◌, ◌≤◌, Bool, true, false, not, nat_lt, nat_le, min, ◌==◌, ◌&&◌, ◌||◌, refl, sym, ap, ap₂, ◌∙◌, subst, true≢false, None, List, [], ◌∷◌, ◌++◌, map, arith, append-nil, append_assoc, if◌then◌else◌}
+use Rattle.std.proofs.Common.{◌≡◌, ℕ, zero, suc, ◌+◌, ◌-◌, ◌≤◌, Bool, true, false, not, nat_lt, min, ◌==◌, ◌||◌, refl, sym, ap, ap₂, ◌∙◌, subst, true≢false, None, List, [], ◌∷◌, ◌++◌, map, arith, append-nil, append_assoc, if◌then◌else◌}
 use Rattle.std.specs.List.{AllByRecursion, list_any}
 use Rattle.ft_io.specs.declared.Addr.{Addr}
 use Rattle.seq_arith.specs.Number.{number_at}
@@ -10,12 +10,11 @@ use Rattle.ft_model.specs.Network.{Packet}
 use Rattle.ft_model.specs.Network.Packet.{To_client}
 use Rattle.ft_model.specs.News.{News}
 use Rattle.ft_model.specs.News.News.{Logged, Begins}
-use Rattle.ft_model.specs.Point.{Point, taken_units, acknowledgement, announced_edge, released}
-use Rattle.ft_model.specs.Sending.{sent_at_once}
+use Rattle.ft_model.specs.Point.{Point, taken_units, acknowledgement, announced_edge, answered_run, released}
 use Rattle.ft_model.specs.Answered.{answered_after}
 use Rattle.ft_model.specs.Reads.{Makes, next_read, with_read}
 use Rattle.ft_model.specs.Owed.{is_owed, asks}
-use Rattle.ft_model.specs.Segments.{window, new_length, texts, syn_acks, syn_ack, opens_with, first_unacknowledged, probe, resent, new_texts, new_fin, full_segments, or_bare, bare_segment, segments_of, text_at, fin_segment}
+use Rattle.ft_model.specs.Segments.{window, new_length, texts, syn_acks, syn_ack, opens_with, fin_if_closed, first_unacknowledged, probe, probed_length, is_unacknowledged, resent, new_texts, sends_fin, new_fin, full_segments, or_bare, bare_segment, segments_of, text_at, fin_segment}
 use Rattle.ft_model.specs.Copy.{copies}
 use Rattle.ft_model.specs.Reads.{reads_told}
 use Rattle.ft_model.specs.Ending.{dones}
@@ -43,13 +42,18 @@ texts_tell service server p (suc k) offset left =
     (text_at service server p offset (min left p.mss) ∷ texts service server p k (offset + min left p.mss) (left - min left p.mss)) []
     ((refl, refl), texts_tell service server p k (offset + min left p.mss) (left - min left p.mss)) tt
 
-first_tells : {State : Type 0} (service : Machine State) (server : Addr) (before after : Point) → TellsIn after (first_unacknowledged service server before after)
-first_tells service server before after =
-    either (TellsIn after) (not after.counted) _ _ (refl, refl) (either (TellsIn after) (after.una == _) _ _ (refl, refl) (refl, refl))
+fin_tells : {State : Type 0} (service : Machine State) (server : Addr) (p : Point) → AllByRecursion (TellsIn p) (fin_if_closed service server p)
+fin_tells service server p = one_or_none (TellsIn p) (answered_run service p).closed (fin_segment service server p) (refl, refl)
 
-probe_tells : {State : Type 0} (service : Machine State) (server : Addr) (before after : Point) → TellsIn after (probe service server before after)
+first_tells : {State : Type 0} (service : Machine State) (server : Addr) (before after : Point) → AllByRecursion (TellsIn after) (first_unacknowledged service server before after)
+first_tells service server before after =
+    let All : List Segment → Type 0 = AllByRecursion (TellsIn after) in
+    either All (not after.counted) _ _ ((refl, refl), tt) (either All (after.una == _) _ _ (fin_tells service server after) ((refl, refl), tt))
+
+probe_tells : {State : Type 0} (service : Machine State) (server : Addr) (before after : Point) → AllByRecursion (TellsIn after) (probe service server before after)
 probe_tells service server before after =
-    either (TellsIn after) (nat_lt before.sent (released service after)) (text_at service server after before.sent 1) (fin_segment service server after) (refl, refl) (refl, refl)
+    either (AllByRecursion (TellsIn after)) (nat_lt before.sent (released service after)) (text_at service server after before.sent probed_length ∷ []) (fin_if_closed service server after)
+    ((refl, refl), tt) (fin_tells service server after)
 
 or_bare_tells : (p : Point) (owed : Bool) (bare : Segment) (segments : List Segment) → TellsIn p bare → AllByRecursion (TellsIn p) segments
     → AllByRecursion (TellsIn p) (or_bare owed bare segments)
@@ -60,16 +64,15 @@ segments_tell : {State : Type 0} (service : Machine State) (server : Addr) (news
 unfolding segments_of full_segments resent new_texts new_fin
 segments_tell service server news before after =
     let syns : AllByRecursion (TellsIn after) (syn_acks server news before after) = one_or_none (TellsIn after) (opens_with news before) (syn_ack server after) (refl, refl) in
-    let again : AllByRecursion (TellsIn after) (resent service server news before after) =
-    one_or_none (TellsIn after) (expires news before)
-    (if not after.counted || nat_lt after.una before.sent then first_unacknowledged service server before after else probe service server before after)
-    (either (TellsIn after) (not after.counted || nat_lt after.una before.sent) (first_unacknowledged service server before after) (probe service server before after)
-    (first_tells service server before after) (probe_tells service server before after)) in
+    let All : List Segment → Type 0 = AllByRecursion (TellsIn after) in
+    let again : All (resent service server news before after) =
+    either All (expires news before) _ []
+    (either All (is_unacknowledged before after) (first_unacknowledged service server before after) (probe service server before after)
+    (first_tells service server before after) (probe_tells service server before after)) tt in
     let fresh : AllByRecursion (TellsIn after) (new_texts service server before after) =
     texts_tell service server after (new_length service before after) before.sent (new_length service before after) in
-    let last : AllByRecursion (TellsIn after) (new_fin service server before after) =
-    one_or_none (TellsIn after) (nat_lt (released service after) (sent_at_once service before after) && nat_le before.sent (released service after))
-    (fin_segment service server after) (refl, refl) in
+    let last : All (new_fin service server before after) =
+    either All (sends_fin service before after) (fin_if_closed service server after) [] (fin_tells service server after) tt in
     or_bare_tells after (is_owed service news before after) (bare_segment server after) (full_segments service server news before after) (refl, refl)
     (all_append (TellsIn after) (syn_acks server news before after) _ syns
     (all_append (TellsIn after) (resent service server news before after) _ again

@@ -18,21 +18,23 @@ use Rattle.ft_model.specs.Node.Place.{Opens}
 use Rattle.ft_model.specs.Lawful.{LawfulTurn}
 use Rattle.ft_model.specs.Rows.Common.{echo, server, numbers, IsRefused}
 use Rattle.ft_model.specs.Rows.FirstPath as row
+use Rattle.ft_model.specs.Rows.Closing as closing
 use Rattle.ft_model.specs.Rows.ZeroWindow as probe
 use Rattle.ft_model.specs.Rows.SegmentWhileRestarting as restart
 use Rattle.ft_model.proofs.TurnOnce.{turn_once}
 use Rattle.ft_model.proofs.FirstPath.{turn_5, turn_12, turn_14}
 use Rattle.ft_model.proofs.Turns.{laws, goes, serves}
+use Rattle.ft_model.proofs.Closing.{first_5, first_6}
 use Rattle.ft_model.proofs.ZeroWindow.{probe_7, probe_8, probe_9}
 use Rattle.ft_model.proofs.SegmentWhileRestarting.{restart_3, restart_5}
 
--- what tells packets apart: their count, and the kind, acknowledgement, length or index of each
+-- what tells packets apart: their count, and the kind, flags, acknowledgement, length or index of each
 abbrev mark_of_body : Body → ℕ
 mark_of_body (ReadMsg key index n) = index
 mark_of_body _ = 100
 
 abbrev mark : Packet → ℕ
-mark (To_client segment) = 1000 + segment.head.ack + 10 * length segment.payload
+mark (To_client segment) = 1000 + segment.head.ack + 10 * length segment.payload + 100000 * segment.head.flags
 mark (To_logger message) = mark_of_body message.body
 mark _ = 200
 
@@ -89,6 +91,13 @@ silent = refused echo (row.node_live row.taken_point) (row.node_live row.logged_
 -- a SYN-ACK before Opened
 pub answered_early : IsRefused (row.node_at (Serving 0 [])) row.syn_comes (row.packet_6 ∷ [])
 answered_early = refused echo (row.node_at (Serving 0 [])) (row.node_at (Serving 1 (Opens numbers ∷ []))) row.syn_comes row.moment_5.sent (row.packet_6 ∷ []) (turn_5 echo) refl refl
+
+-- the FIN before its read is logged
+pub fin_with_read : IsRefused closing.first_4.node closing.first_5.input closing.fin_with_read
+fin_with_read = refused echo closing.first_4.node closing.first_5.node closing.first_5.input closing.first_5.sent closing.fin_with_read first_5 refl refl
+
+pub fin_before_reads : IsRefused closing.first_5.node closing.first_6.input closing.fin_before_reads
+fin_before_reads = refused echo closing.first_5.node closing.first_6.node closing.first_6.input closing.first_6.sent closing.fin_before_reads first_6 refl refl
 
 -- Reads out of order: a tick sends the unanswered ones again by index
 reads_again : LawfulTurn echo (row.node_live row.twice_read_point) Tick_comes row.reads_again (row.node_live row.twice_read_point)

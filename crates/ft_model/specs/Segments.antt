@@ -1,5 +1,5 @@
 -- What a turn sends to the client of a live connection (RFC 9293, 3.8.1, 3.8.3, 3.8.6.1 and 3.10.7.4). The laws Acknowledgement and Window
--- are in the one head that all these segments share, the law Output in `text_at` and `fin_segment`.
+-- are in the one head that all these segments share, the law Output in `text_at` and `fin_if_closed`.
 use Rattle.std.specs.Prelude.{ℕ, Bool, false, zero, suc, ◌+◌, ◌-◌, ◌==◌, ◌&&◌, ◌||◌, not, nat_lt, nat_le, max, min, Option, Some, None, List, [], ◌∷◌, ◌++◌, take, drop, if◌then◌else◌}
 use Rattle.ft_io.specs.declared.Addr.{Addr}
 use Rattle.seq_arith.specs.Number.{number_at}
@@ -43,9 +43,13 @@ syn_ack server p = record { head = head_to server p p.sisn 18 (Some 1460); paylo
 abbrev pub text_at : {State : Type 0} → Machine State → Addr → Point → (offset n : ℕ) → Segment
 text_at service server p offset n = segment_at server p offset 16 (take n (drop offset (answered_run service p).output))
 
--- Output: the FIN stands behind all of it, in a segment of its own
+-- Output: the FIN stands behind all of it, in a segment of its own ..
 abbrev pub fin_segment : {State : Type 0} → Machine State → Addr → Point → Segment
 fin_segment service server p = segment_at server p (released service p) 17 []
+
+-- .. and goes out only where a logged read has closed the service. So it is new, sent again or probed
+abbrev pub fin_if_closed : {State : Type 0} → Machine State → Addr → Point → List Segment
+fin_if_closed service server p = if (answered_run service p).closed then fin_segment service server p ∷ [] else []
 
 -- a segment without data stands at SND.NXT
 abbrev pub bare_segment : Addr → Point → Segment
@@ -70,42 +74,61 @@ opens_with _ before = false
 abbrev pub syn_acks : Addr → News → Point → Point → List Segment
 syn_acks server news before after = if opens_with news before then syn_ack server after ∷ [] else []
 
+-- the text that was sent and isn't acknowledged, in bytes
+abbrev pub unacknowledged_text : {State : Type 0} → Machine State → Point → Point → ℕ
+unacknowledged_text service before after = min before.sent (released service after) - after.una
+
+-- the room below the client's right edge, but at least one byte
+abbrev pub room_or_one : Point → ℕ
+room_or_one p = max 1 (p.edge - p.una)
+
 -- how much is sent again: a segment's worth of what was sent, but no more than the client has room for, and at least one byte
 abbrev pub resent_length : {State : Type 0} → Machine State → Point → Point → ℕ
-resent_length service before after = min after.mss (min (min before.sent (released service after) - after.una) (max 1 (after.edge - after.una)))
+resent_length service before after = min after.mss (min (unacknowledged_text service before after) (room_or_one after))
 
 -- the first segment that is unacknowledged: the SYN-ACK, else the FIN where all output is acknowledged, else text from SND.UNA on
-abbrev pub first_unacknowledged : {State : Type 0} → Machine State → Addr → Point → Point → Segment
+abbrev pub first_unacknowledged : {State : Type 0} → Machine State → Addr → Point → Point → List Segment
 first_unacknowledged service server before after =
-    if not after.counted then syn_ack server after
-    else (if after.una == released service after then fin_segment service server after
-    else text_at service server after after.una (resent_length service before after))
+    if not after.counted then syn_ack server after ∷ []
+    else (if after.una == released service after then fin_if_closed service server after
+    else text_at service server after after.una (resent_length service before after) ∷ [])
+
+abbrev pub probed_length : ℕ
+probed_length = 1
 
 -- a probe stands at SND.NXT: one byte, or the FIN where no byte waits
-abbrev pub probe : {State : Type 0} → Machine State → Addr → Point → Point → Segment
+abbrev pub probe : {State : Type 0} → Machine State → Addr → Point → Point → List Segment
 probe service server before after =
-    if nat_lt before.sent (released service after) then text_at service server after before.sent 1 else fin_segment service server after
+    if nat_lt before.sent (released service after) then text_at service server after before.sent probed_length ∷ [] else fin_if_closed service server after
 
--- at a tick at which the timer expires, exactly one segment goes out besides: again what is unacknowledged, or else a probe
+-- something that was sent is unacknowledged: the SYN, or a unit of output
+abbrev pub is_unacknowledged : Point → Point → Bool
+is_unacknowledged before after = not after.counted || nat_lt after.una before.sent
+
+-- at a tick at which the timer expires, one segment goes out besides: again what is unacknowledged, or else a probe
 unfoldable pub resent : {State : Type 0} → Machine State → Addr → News → Point → Point → List Segment
 resent service server news before after =
     if expires news before
-    then (if not after.counted || nat_lt after.una before.sent then first_unacknowledged service server before after else probe service server before after) ∷ []
+    then (if is_unacknowledged before after then first_unacknowledged service server before after else probe service server before after)
     else []
+
+-- up to where text is sent now: all of what is sent but the FIN
+abbrev pub text_sent : {State : Type 0} → Machine State → Point → Point → ℕ
+text_sent service before after = min (sent_at_once service before after) (released service after)
 
 -- the bytes that are sent for the first time
 abbrev pub new_length : {State : Type 0} → Machine State → Point → Point → ℕ
-new_length service before after = min (sent_at_once service before after) (released service after) - before.sent
+new_length service before after = text_sent service before after - before.sent
 
 unfoldable pub new_texts : {State : Type 0} → Machine State → Addr → Point → Point → List Segment
 new_texts service server before after = texts service server after (new_length service before after) before.sent (new_length service before after)
 
--- the FIN is sent for the first time
+-- the unit behind all output, which is the FIN's, is sent for the first time
+abbrev pub sends_fin : {State : Type 0} → Machine State → Point → Point → Bool
+sends_fin service before after = nat_lt (released service after) (sent_at_once service before after) && nat_le before.sent (released service after)
+
 unfoldable pub new_fin : {State : Type 0} → Machine State → Addr → Point → Point → List Segment
-new_fin service server before after =
-    if nat_lt (released service after) (sent_at_once service before after) && nat_le before.sent (released service after)
-    then fin_segment service server after ∷ []
-    else []
+new_fin service server before after = if sends_fin service before after then fin_if_closed service server after else []
 
 -- all but the bare segment, in order
 unfoldable pub full_segments : {State : Type 0} → Machine State → Addr → News → Point → Point → List Segment

@@ -76,6 +76,13 @@ pub fn early_packets_are_refused()
     ensures syn_ack { IsRefused (FirstPath.node_at (Serving 0 [])) FirstPath.syn_comes (FirstPath.packet_6 ∷ []) }
 {}
 
+/// The server's FIN doesn't leave before the closing read is logged: not in the turn of that read, nor when the client's FIN is logged and
+/// the read isn't.
+pub fn early_fins_are_refused()
+    ensures with_the_read { IsRefused Closing.first_4.node Closing.first_5.input Closing.fin_with_read }
+    ensures before_its_answer { IsRefused Closing.first_5.node Closing.first_6.input Closing.fin_before_reads }
+{}
+
 /// A client without room is probed with the FIN where no byte waits in front of it.
 pub fn fin_probe_is_lawful()
     ensures { Lawful echo server 1 5000 (hello (booted server 1 5000)) ZeroWindow.fin_turns }

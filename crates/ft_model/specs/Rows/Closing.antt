@@ -4,6 +4,7 @@ use Rattle.std.specs.Prelude.{ℕ, pos, true, false, Some, None, List, [], ◌�
 use Rattle.seq_arith.specs.Packet.{Segment}
 use Rattle.seq_arith.specs.Message.{EntryHead}
 use Rattle.seq_arith.specs.Message.Body.{SummaryMsg, ListMsg, EntryMsg, CutsMsg, LensMsg, OpenMsg, OpenedMsg, DataMsg, StableMsg, ReadMsg, ReadsMsg, DoneMsg}
+use Rattle.ft_model.specs.Network.{Packet}
 use Rattle.ft_model.specs.Point.{Point}
 use Rattle.ft_model.specs.Opening.{point_opened}
 use Rattle.ft_model.specs.Restart.{Fetched}
@@ -89,6 +90,14 @@ first_7 = on_message 1 (ReadsMsg (kept_with 0 true 1)) (to_client 17 5001 1002 6
 -- what the client acknowledged is logged too
 abbrev pub first_8 : Turn
 first_8 = on_segment last_ack (to_log 1 (DataMsg (part_with 0 1 false [])) ∷ []) (serving_at 1 5000 over)
+
+-- Wrong turns: the server's FIN leaves in the turn of the closing read, ..
+abbrev pub fin_with_read : List Packet
+fin_with_read = to_client 17 5001 1001 65535 None [] ∷ to_log 1 (DataMsg (part_with 0 0 true [])) ∷ to_log 1 (ReadMsg key 0 0) ∷ []
+
+-- .. or when the client's FIN is logged, and the read isn't yet
+abbrev pub fin_before_reads : List Packet
+fin_before_reads = to_client 17 5001 1002 65535 None [] ∷ []
 
 -- the first incarnation's turns, newest first
 abbrev pub first_turns : List Turn
