@@ -7,6 +7,7 @@ pub use receive_queue::RecvQueue;
 pub use send_queue::SendQueue;
 pub use send_state::{AckKind, SendState};
 
+mod copying;
 pub mod laws;
 mod receive_queue;
 mod send_queue;

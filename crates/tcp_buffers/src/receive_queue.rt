@@ -3,6 +3,7 @@
 ghost use Rattle.std.specs.Prelude.{◌≡◌, ◌-◌, ◌≤◌, ◌==◌, List, [], ◌++◌, length, min, take, drop, IfOk};
 
 use crate::QUEUE_ROOM;
+use crate::copying::copy_behind;
 use circular_buffer::HeapCircularBuffer;
 use ft_io::NoMemory;
 use std::alloc::Global;
@@ -62,6 +63,15 @@ impl RecvQueue {
         ensures state { self.new ≡ drop result self.old }
     {
         self.bytes.read_into(buf)
+    }
+
+    /// Copies the bytes from place `from` on to the front of `out`, as many as are held and fit, and answers how many. None is taken, and
+    /// the rest of `out` stays.
+    pub fn peek(&self, from: usize, out: &mut [u8]) -> usize
+        ensures count { result ≡ min (length self.now - from) (length out.old) }
+        ensures bytes { out.new ≡ take result (drop from self.now) ++ drop result out.old }
+    {
+        copy_behind(&self.bytes, from, out)
     }
 
     /// Forgets all bytes.

@@ -4,6 +4,7 @@
 ghost use Rattle.std.specs.Prelude.{◌≡◌, ◌+◌, ◌-◌, ◌≤◌, ◌==◌, List, [], ◌++◌, length, min, take, drop, IfOk};
 
 use crate::QUEUE_ROOM;
+use crate::copying::copy_behind;
 use circular_buffer::HeapCircularBuffer;
 use ft_io::NoMemory;
 use std::alloc::Global;
@@ -69,12 +70,7 @@ impl SendQueue {
         ensures count { result ≡ min (length self.now - from) (length out.old) }
         ensures bytes { out.new ≡ take result (drop from self.now) ++ drop result out.old }
     {
-        let (front, back) = self.bytes.as_slices();
-        copy_across(
-            rest_of(front, from),
-            rest_of(back, from.saturating_sub(front.len())),
-            out,
-        )
+        copy_behind(&self.bytes, from, out)
     }
 
     /// Lets go of the `n` oldest bytes.
@@ -92,24 +88,4 @@ impl SendQueue {
     {
         self.bytes.clear();
     }
-}
-
-/// What stands from place `from` on.
-fn rest_of(bytes: &[u8], from: usize) -> &[u8]
-    ensures { result.now ≡ drop from bytes.now }
-{
-    &bytes[from.min(bytes.len())..]
-}
-
-/// Copies two slices, one behind the other, to the front of `out`, as much as fits, and answers how many bytes.
-fn copy_across(front: &[u8], back: &[u8], out: &mut [u8]) -> usize
-    ensures count { result ≡ min (length (front.now ++ back.now)) (length out.old) }
-    ensures bytes { out.new ≡ take result (front.now ++ back.now) ++ drop result out.old }
-{
-    let from_front = front.len().min(out.len());
-    let from_back = back.len().min(out.len() - from_front);
-    let count = from_front + from_back;
-    out[..from_front].copy_from_slice(&front[..from_front]);
-    out[from_front..count].copy_from_slice(&back[..from_back]);
-    count
 }

@@ -273,6 +273,14 @@ impl Receiver {
         self.read += count as u32;
         count
     }
+
+    /// Copies the unread bytes from place `from` on to the front of `out`, and takes none.
+    pub(crate) fn peek(&self, from: usize, out: &mut [u8]) -> usize
+        ensures count { result ≡ min (length self.now.unread - from) (length out.old) }
+        ensures bytes { out.new ≡ take result (drop from self.now.unread) ++ drop result out.old }
+    {
+        self.unread.peek(from, out)
+    }
 }
 
 /// The part of a text behind `known` bytes, at most `room` bytes.

@@ -1,6 +1,6 @@
 //! A tick, and the calls of the connection's user.
 
-ghost use Rattle.std.specs.Prelude.{◌≡◌, ℕ, List, length, min, take, drop, ◌++◌};
+ghost use Rattle.std.specs.Prelude.{◌≡◌, ◌-◌, ℕ, List, length, min, take, drop, ◌++◌};
 ghost use Rattle.tcp_endpoint.specs.Turning.{timer_ticked, waited, after_tick};
 
 use crate::endpoint::Endpoint;
@@ -40,6 +40,15 @@ impl Endpoint {
             self.name = StateName::Closed;
         }
         self.wait = self.wait.saturating_sub(1);
+    }
+
+    /// Copies the unread bytes from place `from` on to the front of `out`, as many as there are and fit, and answers how many. None is
+    /// taken: `read` still gives them all. The rest of `out` stays.
+    pub fn peek(&self, from: usize, out: &mut [u8]) -> usize
+        ensures count { result ≡ min (length self.now.receiving.unread - from) (length out.old) }
+        ensures bytes { out.new ≡ take result (drop from self.now.receiving.unread) ++ drop result out.old }
+    {
+        self.receiver.peek(from, out)
     }
 }
 
