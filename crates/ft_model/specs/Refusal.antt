@@ -1,28 +1,26 @@
 -- The law Reset and end, for RSTs: the three cases in which a client gets one (RFC 9293, 3.10.7.1 and 3.10.7.2). Every RST has window 0, and
 -- acknowledgement 0 where it has no ACK.
-use Rattle.std.specs.Prelude.{ℕ, ◌+◌, ◌%◌, ◌^◌, ◌&&◌, not, None, List, [], ◌∷◌, if◌then◌else◌}
+use Rattle.std.specs.Prelude.{ℕ, ◌+◌, ◌&&◌, not, List, [], ◌∷◌, if◌then◌else◌}
 use Rattle.ft_io.specs.declared.Addr.{Addr}
 use Rattle.ft_io.specs.declared.Key.{Key}
 use Rattle.seq_arith.specs.Number.{number_at}
+use Rattle.seq_arith.specs.declared.flags.TheConstants.{RST, ACK}
 use Rattle.seq_arith.specs.Packet.{Segment, has_rst, has_ack}
+use Rattle.seq_arith.specs.Reset.{reset, reset_at_ack, reset_behind}
 use Rattle.seq_arith.specs.Message.{Numbers}
 use Rattle.ft_model.specs.Offset.{length_of}
-use Rattle.ft_model.specs.Network.{source_of}
 
--- a RST (4), or a RST with ACK (20)
+-- a RST to a client
 abbrev pub rst_to : Addr → Key → (seq ack flags : ℕ) → Segment
-rst_to server key seq ack flags = record {
-  head = record { src = server.ip; dst = key.ip; sport = server.port; dport = key.port; seq = seq; ack = ack; flags = flags; window = 0; mss = None };
-  payload = [];
-}
+rst_to server key seq ack flags = record { head = reset server key seq ack flags; payload = [] }
 
 -- <SEQ=SEG.ACK><CTL=RST>
 abbrev pub rst_at_ack : Addr → Segment → Segment
-rst_at_ack server segment = rst_to server (source_of segment) segment.head.ack 0 4
+rst_at_ack server segment = record { head = reset_at_ack server segment.head; payload = [] }
 
 -- <SEQ=0><ACK=SEG.SEQ+SEG.LEN><CTL=RST,ACK>
 abbrev pub rst_behind : Addr → Segment → Segment
-rst_behind server segment = rst_to server (source_of segment) 0 ((segment.head.seq + length_of segment) % 2 ^ 32) 20
+rst_behind server segment = record { head = reset_behind server (length_of segment) segment.head; payload = [] }
 
 -- as LISTEN answers a segment of an unknown key: a RST to an acknowledgement, none to a RST
 abbrev pub as_listen : Addr → Segment → List Segment
@@ -34,4 +32,4 @@ as_closed server segment = if has_rst segment then [] else (if has_ack segment t
 
 -- the log is full: the SYN of the opening is refused
 abbrev pub full_rst : Addr → Numbers → Segment
-full_rst server numbers = rst_to server numbers.key 0 (number_at numbers.cisn 0) 20
+full_rst server numbers = rst_to server numbers.key 0 (number_at numbers.cisn 0) (RST + ACK)

@@ -2,22 +2,8 @@
 use Rattle.std.specs.Prelude.{Result, Ok, Err}
 use Rattle.seq_arith.specs.declared.BadPacket.{BadPacket}
 use Rattle.seq_arith.specs.Packet.{Segment}
-use Rattle.seq_arith.specs.Packet as packet
-use Rattle.segment_codec.specs.declared.Head.{Head}
+pub use Rattle.seq_arith.specs.Value.{said}
 use Rattle.segment_codec.specs.declared.PacketRef.{PacketRef}
-
-abbrev pub said : Head → packet.Head
-said head = record {
-  src = head.src;
-  dst = head.dst;
-  sport = head.sport;
-  dport = head.dport;
-  seq = head.seq.0;
-  ack = head.ack.0;
-  flags = head.flags;
-  window = head.window;
-  mss = head.mss;
-}
 
 abbrev pub segment_of : PacketRef → Segment
 segment_of packet = record { head = said packet.head; payload = packet.payload.now }

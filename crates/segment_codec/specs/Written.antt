@@ -5,7 +5,7 @@ use Rattle.seq_arith.specs.Checksum.{checksum}
 use Rattle.seq_arith.specs.Packet as packet
 use Rattle.seq_arith.specs.Packet.{Segment}
 use Rattle.seq_arith.specs.PacketGrammar.{mss_option}
-use Rattle.segment_codec.specs.declared.Head.{Head}
+use Rattle.seq_arith.specs.declared.head.Head.{Head}
 use Rattle.segment_codec.specs.Change.{put, sealed}
 use Rattle.segment_codec.specs.Value.{said}
 

@@ -2,6 +2,8 @@ pub mod Number
 pub mod Arrival
 pub mod Packet
 pub mod Offset
+pub mod Reset
+pub mod Value
 pub mod Message
 pub mod Checksum
 pub mod Bytes

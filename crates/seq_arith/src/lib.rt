@@ -9,6 +9,7 @@ pub use checksum::{Sum16, patch16};
 pub use damage::flip;
 pub use flags::{ACK, CWR, ECE, FIN, PSH, RST, SYN, URG, has};
 pub use generator::Generator;
+pub use head::Head;
 pub use kinds::{BadMsg, Field, Kind};
 pub use options::segment_size;
 
@@ -16,6 +17,7 @@ mod checksum;
 mod damage;
 mod flags;
 mod generator;
+mod head;
 mod kinds;
 pub mod laws;
 mod options;

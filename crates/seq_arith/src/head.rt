@@ -1,0 +1,69 @@
+//! The fields of a packet's headers as a value, and the RSTs that answer a segment.
+
+ghost use Rattle.std.specs.Prelude.{◌≡◌};
+ghost use Rattle.seq_arith.specs.Value.{said};
+ghost use Rattle.seq_arith.specs.Reset.{reset, reset_at_ack, reset_behind};
+
+use crate::Seq;
+use crate::flags::{ACK, RST};
+use ft_io::{Addr, Key};
+
+/// The fields of the two headers that are kept (RFC 791, 3.1; RFC 9293, 3.1). A packet has no options but the segment size where `mss` is
+/// given, in bytes.
+#[derive(Clone, Copy, Debug, PartialEq, Eq)]
+pub struct Head {
+    pub src: u32,
+    pub dst: u32,
+    pub sport: u16,
+    pub dport: u16,
+    pub seq: Seq,
+    pub ack: Seq,
+    /// The control bits, as `FIN` and the others name them.
+    pub flags: u8,
+    pub window: u16,
+    pub mss: Option<u16>,
+}
+
+impl Head {
+    /// A RST to a peer: without window and options.
+    pub fn reset(local: Addr, peer: Key, seq: Seq, ack: Seq, flags: u8) -> Head
+        ensures { said result ≡ reset local peer seq.0 ack.0 flags }
+    {
+        Head {
+            src: local.ip,
+            dst: peer.ip,
+            sport: local.port,
+            dport: peer.port,
+            seq,
+            ack,
+            flags,
+            window: 0,
+            mss: None,
+        }
+    }
+
+    /// The RST at this segment's acknowledgement: SEQ=SEG.ACK, CTL=RST (RFC 9293, 3.10.7.1).
+    pub fn reset_at_ack(&self, local: Addr) -> Head
+        ensures { said result ≡ reset_at_ack local (said self.now) }
+    {
+        Head::reset(local, self.sender(), self.ack, Seq(0), RST)
+    }
+
+    /// The RST that acknowledges this segment, whose length is `len`: SEQ=0, ACK=SEG.SEQ+SEG.LEN, CTL=RST,ACK (RFC 9293, 3.10.7.1).
+    pub fn reset_behind(&self, local: Addr, len: u32) -> Head
+        ensures { said result ≡ reset_behind local len (said self.now) }
+    {
+        let ack = self.seq.add(len);
+        Head::reset(local, self.sender(), Seq(0), ack, RST | ACK)
+    }
+
+    /// Where it comes from.
+    pub fn sender(&self) -> Key
+        ensures { result ≡ record { ip = self.now.src; port = self.now.sport } }
+    {
+        Key {
+            ip: self.src,
+            port: self.sport,
+        }
+    }
+}
