@@ -5,10 +5,9 @@ use Rattle.std.proofs.lemmas.List.{map-append}
 use Rattle.seq_arith.specs.Packet.{Segment}
 use Rattle.seq_arith.specs.PacketGrammar.{mss_option, packet_length, spelling}
 use Rattle.seq_arith.proofs.Spelling.{size}
-use Rattle.ft_model.specs.Segments.{or_bare}
 use Rattle.tcp_endpoint.specs.Packets.{byte_count}
 use Rattle.tcp_endpoint.specs.Tcb.{Tcb}
-use Rattle.tcp_endpoint.specs.Leaving.{text_at, texts, answer_out, again_out, probe_out, with_probe, text_out, with_text_sent, fin_out, full_out, after_full, is_owed, bare_segment, leaving, packets, or_packet}
+use Rattle.tcp_endpoint.specs.Leaving.{text_at, texts, answer_out, again_out, probe_out, with_probe, text_out, with_text_sent, fin_out, full_out, after_full, is_owed, bare_segment, leaving, packets, or_bare}
 
 pub byte_count_push : (ps : List (List ℕ)) (p : List ℕ) → byte_count (ps ++ p ∷ []) ≡ byte_count ps + length p
 byte_count_push [] p = omega arith
@@ -36,7 +35,7 @@ packets_append xs ys = map-append spelling xs ys
 pub packets_of_five : (a b c d f : List Segment) → packets (a ++ b ++ c ++ d ++ f) ≡ packets a ++ packets b ++ packets c ++ packets d ++ packets f
 packets_of_five a b c d f = simp packets_append
 
-pub packets_or : (owed : Bool) (bare : Segment) (full : List Segment) → packets (or_bare owed bare full) ≡ or_packet owed (spelling bare) (packets full)
+pub packets_or : (owed : Bool) (bare : Segment) (full : List Segment) → packets (or_bare owed bare full) ≡ or_bare owed (spelling bare) (packets full)
 unfolding packets
 packets_or true bare [] = refl
 packets_or false bare [] = refl
@@ -80,12 +79,12 @@ texts_end (suc k) e place = refl
 
 -- what the steps of a flush put out is what leaves
 pub leaving_is : (e : Tcb)
-    → or_packet (is_owed (after_full e)) (spelling (bare_segment (after_full e)))
+    → or_bare (is_owed (after_full e)) (spelling (bare_segment (after_full e)))
     (packets (answer_out e) ++ packets (again_out e) ++ packets (probe_out e) ++ packets (text_out (with_probe e)) ++ packets (fin_out (with_text_sent (with_probe e))))
     ≡ packets (leaving e)
 unfolding leaving full_out
 leaving_is e =
-    ap (or_packet (is_owed (after_full e)) (spelling (bare_segment (after_full e))))
+    ap (or_bare (is_owed (after_full e)) (spelling (bare_segment (after_full e))))
     (sym (packets_of_five (answer_out e) (again_out e) (probe_out e) (text_out (with_probe e)) (fin_out (with_text_sent (with_probe e)))))
     ∙ sym (packets_or (is_owed (after_full e)) (bare_segment (after_full e)) (full_out e))
 

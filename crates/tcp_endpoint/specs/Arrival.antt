@@ -3,8 +3,8 @@ use Rattle.std.specs.Prelude.{ℕ, ℤ, Bool, true, pos, ◌+◌, ◌%◌, ◌^�
 use Rattle.seq_arith.specs.Arrival.{int_eq, is_acceptable}
 use Rattle.seq_arith.specs.Packet.{Segment, has_fin, has_syn, has_rst, has_ack}
 use Rattle.ft_io.specs.declared.Addr.{Addr}
-use Rattle.ft_model.specs.Opening.{segment_size}
-use Rattle.ft_model.specs.Offset.{first_of, ack_of, fin_of, length_of}
+use Rattle.seq_arith.specs.Packet.{segment_size}
+use Rattle.seq_arith.specs.Offset.{first_of, ack_of, fin_of, length_of}
 use Rattle.segment_codec.specs.declared.Head.{Head}
 use Rattle.tcp_buffers.specs.Near.{is_ahead}
 use Rattle.tcp_endpoint.specs.declared.states.StateName.{StateName}

@@ -5,7 +5,6 @@ use Rattle.seq_arith.specs.Packet.{Head, Segment}
 use Rattle.seq_arith.specs.PacketGrammar.{spelling}
 use Rattle.segment_codec.specs.Value.{said}
 use Rattle.segment_codec.specs.declared.Head as codec
-use Rattle.ft_model.specs.Segments.{or_bare}
 use Rattle.tcp_endpoint.specs.States.{is_closed, is_syn_sent, has_begun}
 use Rattle.tcp_endpoint.specs.Receiving.{next, window, announced_edge}
 use Rattle.tcp_endpoint.specs.Sending.{in_flight, is_unacknowledged, must_run, timed, sendable, sends_fin, resent_length, with_sent, with_fin_sent}
@@ -123,6 +122,11 @@ is_owed e = has_begun e.name && (e.owed || not (e.told_next == next e.receiving)
 unfoldable pub bare_segment : Tcb → Segment
 bare_segment e = segment_at e (in_flight e.sending) 16 []
 
+-- what goes out where nothing else does: a segment without data, or its packet, where one is owed
+abbrev pub or_bare : {A : Type 0} → Bool → A → List A → List A
+or_bare owed bare [] = if owed then bare ∷ [] else []
+or_bare owed bare (first ∷ others) = first ∷ others
+
 -- what leaves, in order: a segment without data only where no other goes out
 unfoldable pub leaving : Tcb → List Segment
 leaving e = or_bare (is_owed (after_full e)) (bare_segment (after_full e)) (full_out e)
@@ -151,8 +155,3 @@ flushed e = settled (after_full e)
 -- the packets that leave, as bytes
 unfoldable pub packets : List Segment → List (List ℕ)
 packets segments = map spelling segments
-
--- a packet that goes out where it is owed and no other does
-abbrev pub or_packet : Bool → List ℕ → List (List ℕ) → List (List ℕ)
-or_packet owed bare [] = if owed then bare ∷ [] else []
-or_packet owed bare (packet ∷ packets) = packet ∷ packets

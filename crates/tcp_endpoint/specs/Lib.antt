@@ -6,11 +6,4 @@ pub mod Tcb
 pub mod Arrival
 pub mod Leaving
 pub mod Turning
-pub mod Laws
 pub mod Lending
-pub mod Turn
-pub mod Listening
-pub mod Standing
-pub mod Ending
-pub mod Announcing
-pub mod Connecting

@@ -2,7 +2,7 @@
 -- (RFC 9293, 3.3.1, receive sequence variables, and 3.10.7.4, first, seventh and eighth check).
 use Rattle.std.specs.Prelude.{ℕ, ℤ, Bool, false, pos, ◌+◌, ◌-◌, ◌^◌, ◌≤◌, ◌+ℤ◌, ◌&&◌, ◌||◌, nat_lt, int_lt, min, List, [], ◌++◌, length, take, drop, if◌then◌else◌}
 use Rattle.seq_arith.specs.Arrival.{int_eq, below}
-use Rattle.ft_model.specs.Offset.{one_if}
+use Rattle.seq_arith.specs.Offset.{one_if}
 
 pub record Receiving : Type 0 where
   pub irs : ℕ  -- the peer's initial number

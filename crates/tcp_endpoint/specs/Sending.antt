@@ -7,7 +7,7 @@ use Rattle.tcp_buffers.specs.SendNumbers.{edge_of}
 use Rattle.tcp_buffers.specs.declared.send_state.AckKind.{AckKind}
 use Rattle.tcp_buffers.specs.declared.send_state.AckKind.TheVariants.{New, Beyond}
 use Rattle.tcp_buffers.specs.declared.send_state.SendState.{SendState}
-use Rattle.ft_model.specs.Offset.{one_if}
+use Rattle.seq_arith.specs.Offset.{one_if}
 
 pub record Sending : Type 0 where
   pub iss : ℕ  -- the own initial number

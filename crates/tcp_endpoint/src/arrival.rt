@@ -3,7 +3,7 @@
 ghost use Rattle.std.specs.Prelude.{◌≡◌, ◌+◌, ◌/◌, ◌%◌, ◌^◌, ◌<◌, ◌≤◌, ◌==◌, ◌&&◌, not, nat_lt, Bool, true, false, length, if◌then◌else◌};
 ghost use Rattle.seq_arith.specs.Packet.{is_flagged, has_fin, has_syn, has_rst, has_ack};
 ghost use Rattle.segment_codec.specs.Value.{segment_of};
-ghost use Rattle.ft_model.specs.Offset.{length_of};
+ghost use Rattle.seq_arith.specs.Offset.{length_of};
 ghost use Rattle.tcp_buffers.specs.Near.{IsNearFirst};
 ghost use Rattle.tcp_endpoint.specs.Sending.{IsShort};
 ghost use Rattle.tcp_endpoint.specs.Arrival.{first, ack_at, refusing, refusing_without_ack, owing_if, killed, entering, in_closed, begun, in_listen, answered, in_syn_sent, with_text_and_fin, with_fin_acked, with_first_ack, with_ack, check_ack, check_syn, check_rst, waiting_again, check_place, in_others, received};

@@ -6,7 +6,7 @@ ghost use Rattle.segment_codec.specs.Value.{said};
 ghost use Rattle.segment_codec.specs.Written.{segment_with};
 ghost use Rattle.tcp_endpoint.specs.Packets.{byte_count};
 ghost use Rattle.tcp_endpoint.specs.Sending.{in_flight};
-ghost use Rattle.tcp_endpoint.specs.Leaving.{head_at, opening_segment, text_at, fin_at, texts, answer_out, again_out, probe_out, with_probe, text_out, with_text_sent, new_length, fin_out, with_fin_out, is_owed, bare_segment, leaving, announced, is_timed, settled, flushed, packets, or_packet};
+ghost use Rattle.tcp_endpoint.specs.Leaving.{head_at, opening_segment, text_at, fin_at, texts, answer_out, again_out, probe_out, with_probe, text_out, with_text_sent, new_length, fin_out, with_fin_out, is_owed, bare_segment, leaving, announced, is_timed, settled, flushed, packets, or_bare};
 
 use crate::endpoint::Endpoint;
 use crate::outbox::Outbox;
@@ -255,7 +255,7 @@ impl Endpoint {
     fn send_owed(&self, out: &mut Outbox)
         requires count { length out.old ≤ 1028 }
         requires bytes { byte_count out.old ≤ 108120 }
-        ensures sent { out.new ≡ or_packet (is_owed self.now) (spelling (bare_segment self.now)) out.old }
+        ensures sent { out.new ≡ or_bare (is_owed self.now) (spelling (bare_segment self.now)) out.old }
         ensures count { length out.new ≤ length out.old + 1 }
         ensures bytes { byte_count out.new ≤ byte_count out.old + 40 }
     {

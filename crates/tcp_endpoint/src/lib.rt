@@ -9,7 +9,6 @@ pub use states::{State, StateName};
 
 mod arrival;
 mod endpoint;
-pub mod laws;
 mod leaving;
 mod outbox;
 mod receiver;

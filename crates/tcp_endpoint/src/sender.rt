@@ -4,11 +4,11 @@
 ghost use Rattle.std.specs.Prelude.{◌≡◌, ℕ, ◌+◌, ◌-◌, ◌%◌, ◌^◌, ◌<◌, ◌≤◌, ◌==◌, ◌&&◌, pos, int_le, Bool, false, true, not, List, [], ◌++◌, length, min, take, drop, if◌then◌else◌};
 ghost use Rattle.seq_arith.specs.Number.{number_at, offset_of};
 ghost use Rattle.seq_arith.specs.Arrival.{int_eq};
-ghost use Rattle.ft_model.specs.Opening.{segment_size};
+ghost use Rattle.seq_arith.specs.Packet.{segment_size};
 ghost use Rattle.tcp_buffers.specs.Near.{is_ahead};
 ghost use Rattle.tcp_endpoint.specs.Sending.{sending_from, opened_by, acknowledged, fin_acked, in_flight, is_unacknowledged, expires, ticked, must_run, timed, sendable, sends_fin, resent_length, with_sent, with_fin_sent, units_of, was_sent, NumbersFit, IsShort};
 
-use seq_arith::Seq;
+use seq_arith::{Seq, segment_size};
 use std::marker::Model;
 use tcp_buffers::{AckKind, SendQueue, SendState};
 
@@ -348,17 +348,5 @@ fn units_of(kind: AckKind) -> usize
     match kind {
         AckKind::New { units } => units as usize,
         _ => 0,
-    }
-}
-
-/// The segment size from the option of the peer's SYN.
-fn segment_size(mss: Option<u16>) -> u16
-    ensures size { result ≡ segment_size mss }
-    ensures least { 64 ≤ result }
-    ensures most { result ≤ 1460 }
-{
-    match mss {
-        Some(mss) => mss.min(1_460).max(64),
-        None => 536,
     }
 }

@@ -1,0 +1,146 @@
+-- The RST that answers a segment, and what a segment leaves of what else is due.
+use Rattle.std.proofs.Common.{◌≡◌, ℕ, Bool, true, false, not, Some, refl, sym, ap, arith, ◌∙◌}
+use Rattle.std.specs.Prelude.{ℤ, pos, ◌≤ℤ◌, ◌&&◌, ◌||◌, nat_lt, int_lt, if◌then◌else◌}
+use Rattle.seq_arith.specs.Arrival.{int_eq, is_acceptable}
+use Rattle.seq_arith.specs.Packet.{Segment, has_syn, has_rst, has_ack}
+use Rattle.seq_arith.specs.Offset.{length_of}
+use Rattle.std.proofs.lemmas.Int.{ints}
+use Rattle.tcp_buffers.specs.Near.{is_ahead}
+use Rattle.tcp_endpoint.specs.declared.states.StateName.{StateName}
+use Rattle.tcp_endpoint.specs.States.{opened, after_fin, after_fin_acked, has_begun}
+use Rattle.tcp_endpoint.specs.Receiving.{Receiving, next}
+use Rattle.tcp_endpoint.specs.Sending.{Sending, opened_by, acknowledged, fin_acked}
+use Rattle.tcp_endpoint.specs.Tcb.{Tcb}
+use Rattle.tcp_endpoint.specs.Arrival.{first, ack_at, rst, killed, owing_if, entering, with_text_and_fin, with_fin_acked, with_first_ack, with_ack, waiting_again, received, refusing}
+use Rattle.endpoint_laws.specs.Laws.{accepts, acknowledges_less, is_refused, IsBounded, IsUsual}
+use Rattle.endpoint_laws.proofs.TakenLaw.{part_of_if, same_if, if_when, begun_is, Aside, at_ack, others_part, segment_taken, window_is}
+
+-- a part of the endpoint that only the checks on state, numbers and buffers leave
+pub record Beside {X : Type 0} (f : Tcb → X) : Type 0 where
+  pub aside : Aside f
+  pub text : (e : Tcb) (p : Segment) → f (with_text_and_fin e p) ≡ f e
+  pub acked : (e : Tcb) → f (with_fin_acked e) ≡ f e
+  pub using : (e : Tcb) (p : Segment) → f (record e { sending = acknowledged e.sending p.head.seq (ack_at e p) p.head.window }) ≡ f e
+  pub opening : (e : Tcb) (p : Segment) → f (record e { name = opened e.sending.closed; sending = opened_by e.sending p.head.seq p.head.window }) ≡ f e
+
+later_part : {X : Type 0} (f : Tcb → X) (e : Tcb) (p : Segment) → Beside f → f (with_ack e p) ≡ f e
+unfolding with_ack
+later_part f e p b =
+    let used : Tcb = record e { sending = acknowledged e.sending p.head.seq (ack_at e p) p.head.window } in
+    let beyond : Bool = is_ahead e.sending.sent (ack_at e p) in
+    part_of_if f beyond (owing_if true e) (with_text_and_fin (with_fin_acked used) p)
+    ∙ if_when beyond (f (owing_if true e)) (f e) (f (with_text_and_fin (with_fin_acked used) p)) (f e)
+    (λ h. b.aside.owing true e) (λ h. b.text (with_fin_acked used) p ∙ b.acked used ∙ b.using e p)
+    ∙ same_if beyond (f e)
+
+-- .. but for the first acknowledgement of less than the SYN, which is refused
+first_part : {X : Type 0} (f : Tcb → X) (e : Tcb) (p : Segment) → Beside f
+    → f (with_first_ack e p) ≡ (if int_eq (ack_at e p) (pos 0) then f e else f (refusing e p))
+unfolding with_first_ack
+first_part f e p b =
+    let opening : Tcb = record e { name = opened e.sending.closed; sending = opened_by e.sending p.head.seq p.head.window } in
+    let is_syn : Bool = int_eq (ack_at e p) (pos 0) in
+    part_of_if f is_syn (with_text_and_fin opening p) (refusing e p)
+    ∙ ap (λ x. if is_syn then x else f (refusing e p)) (b.text opening p ∙ b.opening e p)
+
+-- by all checks, in the law's one test
+refused_by : {X : Type 0} (acceptable rst syn ack opened acked less : Bool) (x y : X) → (ack ≡ true → opened ≡ false → acked ≡ not less) → (ack ≡ false → less ≡ false) → (opened ≡ true → less ≡ false)
+    → (if acceptable then (if rst then x else (if syn then x else (if ack then (if opened then x else (if acked then x else y)) else x))) else x)
+    ≡ (if acceptable && not rst && not syn && less then y else x)
+refused_by true true syn ack opened acked less x y same p q = refl
+refused_by true false true ack opened acked less x y same p q = refl
+refused_by true false false false opened acked less x y same p q = ap (λ v. if v then y else x) (sym (p refl))
+refused_by true false false true true acked less x y same p q = ap (λ v. if v then y else x) (sym (q refl))
+refused_by true false false true false acked true x y same p q = ap (λ v. if v then x else y) (same refl refl)
+refused_by true false false true false acked false x y same p q = ap (λ v. if v then x else y) (same refl refl)
+refused_by false rst syn ack opened acked less x y same p q = refl
+
+off_middle : (a b : Bool) → (a && false && b) ≡ false
+off_middle true b = refl
+off_middle false b = refl
+
+no_ack_less : (e : Tcb) (p : Segment) → has_ack p ≡ false → acknowledges_less e p ≡ false
+no_ack_less e p h =
+    ap (λ v. not e.sending.opened && v && int_lt (ack_at e p) (pos 0)) h ∙ off_middle (not e.sending.opened) (int_lt (ack_at e p) (pos 0))
+
+opened_not_less : (e : Tcb) (p : Segment) → e.sending.opened ≡ true → acknowledges_less e p ≡ false
+opened_not_less e p h = ap (λ v. not v && has_ack p && int_lt (ack_at e p) (pos 0)) h
+
+exactly : (z : ℤ) (sent : ℕ) → z ≤ℤ pos sent → sent ≡ 0 → int_eq z (pos 0) ≡ not (not false && true && int_lt z (pos 0))
+exactly z sent h none = grind (arith, ints)
+
+-- while the SYN is unacknowledged, what acknowledges not less acknowledges just it
+syn_or_less : (e : Tcb) (p : Segment) → IsBounded e → IsUsual e p → has_ack p ≡ true → e.sending.opened ≡ false
+    → int_eq (ack_at e p) (pos 0) ≡ not (acknowledges_less e p)
+syn_or_less e p b usual is_ack unopened =
+    exactly (ack_at e p) e.sending.sent (usual.sent is_ack) (b.unopened unopened)
+    ∙ ap (λ v. not (not v && true && int_lt (ack_at e p) (pos 0))) (sym unopened)
+    ∙ ap (λ v. not (not e.sending.opened && v && int_lt (ack_at e p) (pos 0))) (sym is_ack)
+
+-- what the checks leave of such a part
+pub beside_is : {X : Type 0} (f : Tcb → X) (e : Tcb) (p : Segment) → Beside f → has_begun e.name ≡ true → IsBounded e → IsUsual e p
+    → f (received e p) ≡ (if is_refused e p then f (refusing (at_ack e p) p) else f e)
+unfolding received waiting_again
+beside_is {X = X} f e p b begun bounded usual =
+    let e1 : Tcb = at_ack e p in
+    let acceptable : ℕ → Bool = λ w. is_acceptable (next e.receiving) w (first e p) (length_of p) in
+    let back : f e1 ≡ f e = b.aside.owing (nat_lt 0 (length_of p)) (waiting_again e p) ∙ b.aside.waiting e p in
+    let refused : X = f (refusing e1 p) in
+    let is_syn : Bool = int_eq (ack_at e p) (pos 0) in
+    ap f (begun_is e.name e p begun) ∙ others_part f e p b.aside
+    ∙ (λ i. if acceptable (sym (window_is e.receiving) i)
+    then (if has_rst p then f e else (if has_syn p then f e
+    else (if has_ack p then (if e.sending.opened then (later_part f e1 p b ∙ back) i else (first_part f e1 p b ∙ ap (λ x. if is_syn then x else refused) back) i) else f e)))
+    else f e)
+    ∙ refused_by (accepts e p) (has_rst p) (has_syn p) (has_ack p) e.sending.opened is_syn (acknowledges_less e p) (f e) refused
+    (λ is_ack unopened. syn_or_less e p bounded usual is_ack unopened) (no_ack_less e p) (opened_not_less e p)
+
+-- such parts: the RST that answers, what else is due in the turn, what was last announced, and the numbers of the connection
+text_of : {X : Type 0} (f : Tcb → X) (e : Tcb) (p : Segment) → ((r : Tcb) → (name : StateName) → f (entering name r) ≡ f r)
+    → f (record e { receiving = segment_taken e p; owed = e.owed || int_lt (pos (next e.receiving)) (first e p) }) ≡ f e → f (with_text_and_fin e p) ≡ f e
+unfolding with_text_and_fin
+text_of f e p enters same =
+    let taking : Tcb = record e { receiving = segment_taken e p; owed = e.owed || int_lt (pos (next e.receiving)) (first e p) } in
+    let fin : Bool = taking.receiving.fin && not e.receiving.fin in
+    part_of_if f fin (entering (after_fin e.name) taking) taking
+    ∙ ap (λ x. if fin then x else f taking) (enters taking (after_fin e.name)) ∙ same_if fin (f taking) ∙ same
+
+acked_of : {X : Type 0} (f : Tcb → X) (e : Tcb) → ((r : Tcb) → (name : StateName) → f (entering name r) ≡ f r) → f (with_fin_acked e) ≡ f e
+unfolding with_fin_acked
+acked_of f e enters =
+    part_of_if f (fin_acked e.sending) (entering (after_fin_acked e.name) e) e
+    ∙ ap (λ x. if fin_acked e.sending then x else f e) (enters e (after_fin_acked e.name)) ∙ same_if (fin_acked e.sending) (f e)
+
+-- what neither state, buffers, numbers nor the owed segment have a part in
+pub record IsApart {X : Type 0} (f : Tcb → X) : Type 0 where
+  pub waits : (e : Tcb) (ticks : ℕ) → f (record e { wait = ticks }) ≡ f e
+  pub enters : (e : Tcb) (name : StateName) (ticks : ℕ) → f (record e { name = name; wait = ticks }) ≡ f e
+  pub dies : (e : Tcb) → f (killed e) ≡ f e
+  pub owes : (e : Tcb) (owed : Bool) → f (record e { owed = owed }) ≡ f e
+  pub takes : (e : Tcb) (receiving : Receiving) (owed : Bool) → f (record e { receiving = receiving; owed = owed }) ≡ f e
+  pub uses : (e : Tcb) (sending : Sending) → f (record e { sending = sending }) ≡ f e
+  pub opens : (e : Tcb) (name : StateName) (sending : Sending) → f (record e { name = name; sending = sending }) ≡ f e
+
+pub apart_beside : {X : Type 0} (f : Tcb → X) → IsApart f → Beside f
+unfolding waiting_again
+apart_beside f a = record {
+  aside = record { killed = a.dies; owing = λ b e. a.owes e (e.owed || b); waiting = λ e p. a.waits e _ };
+  text = λ e p. text_of f e p (λ r name. a.enters r name _) (a.takes e _ _);
+  acked = λ e. acked_of f e (λ r name. a.enters r name _);
+  using = λ e p. a.uses e _;
+  opening = λ e p. a.opens e _ _;
+}
+
+pub answer_is : (e : Tcb) (p : Segment) → has_begun e.name ≡ true → IsBounded e → IsUsual e p
+    → (received e p).answer ≡ (if is_refused e p then Some (rst e p p.head.ack 0 4) else e.answer)
+unfolding refusing waiting_again
+answer_is e p begun b usual =
+    beside_is (λ t. t.answer) e p (apart_beside (λ t. t.answer) (record {
+      waits = λ e n. refl;
+      enters = λ e m n. refl;
+      dies = λ e. refl;
+      owes = λ e o. refl;
+      takes = λ e r o. refl;
+      uses = λ e s. refl;
+      opens = λ e m s. refl;
+    })) begun b usual

@@ -1,0 +1,362 @@
+-- What a turn's news make of an endpoint that stands at a point: they lead it to where the laws lead the point, and say what is due.
+use Rattle.std.proofs.Common.{◌≡◌, ℕ, ◌≤◌, ◌+◌, ◌-◌, Bool, true, false, not, Option, Some, None, List, [], ◌∷◌, length, max, refl, sym, ap, subst, arith, ◌∙◌}
+use Rattle.std.specs.Prelude.{ℤ, pos, ◌+ℤ◌, ◌==◌, ◌&&◌, ◌||◌, nat_abs, nat_lt, int_lt, if◌then◌else◌}
+use Rattle.std.proofs.lemmas.Int.{ints}
+use Rattle.std.proofs.lemmas.Bool.{false≢true}
+use Rattle.seq_arith.specs.Number.{offset_of}
+use Rattle.seq_arith.specs.Arrival.{int_eq, una_after}
+use Rattle.seq_arith.specs.Packet.{Segment, has_syn, has_rst, has_ack}
+use Rattle.segment_codec.specs.declared.Head.{Head}
+use Rattle.seq_arith.specs.Offset.{one_if, first_of, length_of}
+use Rattle.ft_model.specs.Point.{Point, taken_units}
+use Rattle.ft_model.specs.News.{News}
+use Rattle.ft_model.specs.News.News.{Comes, Logged, Ticks, Begins}
+use Rattle.ft_model.specs.Taken.{taken_after, fin_after}
+use Rattle.ft_model.specs.Sending.{counted_after, acknowledged_after, edge_after, wl1_after, wl2_after}
+use Rattle.ft_model.specs.Timer as timer
+use Rattle.ft_model.specs.Owed as rule
+use Rattle.tcp_endpoint.specs.States.{has_begun}
+use Rattle.tcp_endpoint.specs.Receiving.{next}
+use Rattle.tcp_endpoint.specs.Sending.{Sending, opened_by, acknowledged, target, is_unacknowledged, expires, ticked}
+use Rattle.tcp_endpoint.specs.Tcb.{Tcb}
+use Rattle.tcp_endpoint.specs.Arrival.{first, ack_at, rst, received, refusing}
+use Rattle.tcp_endpoint.specs.Leaving.{answer_segments, answer_out}
+use Rattle.tcp_endpoint.specs.Turning.{after_tick, timer_ticked, waited}
+use Rattle.endpoint_laws.specs.Laws.{accepts, counts, acknowledges, acknowledges_less, is_refused, owes, IsSentBy, IsBounded, IsUsual, ProbesRightly, told}
+use Rattle.endpoint_laws.specs.Turn.{IsUsualNews, IsBetweenTurns, arrived}
+use Rattle.endpoint_laws.specs.Standing.{ReceivesAt, SendsAt, StandsAt, owes_to, refuses, refusals}
+use Rattle.endpoint_laws.proofs.TakenLaw.{part_of_if, same_if, if_when}
+use Rattle.endpoint_laws.proofs.SendingLaw.{used_by, sending_is, sending_law}
+use Rattle.endpoint_laws.proofs.Bounding.{bounded_by_segment, bounded_by_tick}
+use Rattle.endpoint_laws.proofs.OwedLaw.{owed_law}
+use Rattle.endpoint_laws.proofs.ToldLaw.{told_by_segment, probed_by_tick}
+use Rattle.endpoint_laws.proofs.Answering.{Beside, IsApart, apart_beside, beside_is, answer_is}
+use Rattle.endpoint_laws.proofs.Calls.{FinIsLast}
+use Rattle.endpoint_laws.proofs.StandingLaw.{Meets, next_is, accepts_is, first_is, ack_is, received_receives, received_sends}
+
+-- where the laws lead a point, but for the reads, what is sent, and the timer
+abbrev pub moved : News → Point → Point
+moved news p = record p {
+  taken = taken_after news p;
+  fin = fin_after news p;
+  counted = counted_after news p;
+  una = acknowledged_after news p;
+  edge = edge_after news p;
+  wl1 = wl1_after news p;
+  wl2 = wl2_after news p;
+}
+
+-- an endpoint after a turn's news
+pub record Arrived (news : News) (before : Point) (e m : Tcb) : Type 0 where
+  pub local : m.local ≡ e.local
+  pub remote : m.remote ≡ e.remote
+  pub receives : ReceivesAt (moved news before) m
+  pub sends : SendsAt (moved news before) m
+  pub sent : m.sending.sent ≡ e.sending.sent
+  pub bounds : IsBounded m
+  pub fin_last : FinIsLast m.sending
+  pub told : told m ≡ told e
+  pub again : m.again ≡ (timer.expires news before && is_unacknowledged e.sending)
+  pub probe : m.probe ≡ (timer.expires news before && not (is_unacknowledged e.sending))
+  pub probes : ProbesRightly m
+  pub answer : answer_out m ≡ refusals e.local news before
+  pub target : m.sending.una ≡ e.sending.una → target e.sending ≤ target m.sending
+  pub una : e.sending.una ≤ m.sending.una
+
+-- a segment: the parts that nothing of the checks has a part in
+kept_is : {X : Type 0} (f : Tcb → X) (e : Tcb) (p : Segment) → IsApart f → ((r : Tcb) → f (refusing r p) ≡ f r) → has_begun e.name ≡ true → IsBounded e → IsUsual e p
+    → f (received e p) ≡ f e
+kept_is f e p apart refuses begun b usual =
+    let beside : Beside f = apart_beside f apart in
+    beside_is f e p beside begun b usual
+    ∙ ap (λ x. if is_refused e p then x else f e) (refuses _ ∙ beside.aside.owing _ _ ∙ beside.aside.waiting e p)
+    ∙ same_if (is_refused e p) (f e)
+
+local_is : (e : Tcb) (p : Segment) → has_begun e.name ≡ true → IsBounded e → IsUsual e p → (received e p).local ≡ e.local
+unfolding refusing
+local_is e p begun b usual =
+    kept_is (λ t. t.local) e p
+    (record { waits = λ e n. refl; enters = λ e m n. refl; dies = λ e. refl; owes = λ e o. refl; takes = λ e r o. refl; uses = λ e s. refl; opens = λ e m s. refl })
+    (λ r. refl) begun b usual
+
+remote_is : (e : Tcb) (p : Segment) → has_begun e.name ≡ true → IsBounded e → IsUsual e p → (received e p).remote ≡ e.remote
+unfolding refusing
+remote_is e p begun b usual =
+    kept_is (λ t. t.remote) e p
+    (record { waits = λ e n. refl; enters = λ e m n. refl; dies = λ e. refl; owes = λ e o. refl; takes = λ e r o. refl; uses = λ e s. refl; opens = λ e m s. refl })
+    (λ r. refl) begun b usual
+
+again_is : (e : Tcb) (p : Segment) → has_begun e.name ≡ true → IsBounded e → IsUsual e p → (received e p).again ≡ e.again
+unfolding refusing
+again_is e p begun b usual =
+    kept_is (λ t. t.again) e p
+    (record { waits = λ e n. refl; enters = λ e m n. refl; dies = λ e. refl; owes = λ e o. refl; takes = λ e r o. refl; uses = λ e s. refl; opens = λ e m s. refl })
+    (λ r. refl) begun b usual
+
+probe_is : (e : Tcb) (p : Segment) → has_begun e.name ≡ true → IsBounded e → IsUsual e p → (received e p).probe ≡ e.probe
+unfolding refusing
+probe_is e p begun b usual =
+    kept_is (λ t. t.probe) e p
+    (record { waits = λ e n. refl; enters = λ e m n. refl; dies = λ e. refl; owes = λ e o. refl; takes = λ e r o. refl; uses = λ e s. refl; opens = λ e m s. refl })
+    (λ r. refl) begun b usual
+
+-- the parts of the sending half that an acknowledgement leaves
+sending_keeps : {X : Type 0} (g : Sending → X) (e : Tcb) (p : Segment) → (g (acknowledged e.sending p.head.seq (ack_at e p) p.head.window) ≡ g e.sending)
+    → (g (opened_by e.sending p.head.seq p.head.window) ≡ g e.sending) → has_begun e.name ≡ true → IsBounded e → IsUsual e p
+    → g (received e p).sending ≡ g e.sending
+sending_keeps g e p later first_one begun b usual =
+    ap g (sending_is e p begun b usual)
+    ∙ part_of_if g (counts e p) (used_by e p) e.sending
+    ∙ ap (λ x. if counts e p then x else g e.sending)
+    (part_of_if g e.sending.opened (acknowledged e.sending p.head.seq (ack_at e p) p.head.window) (opened_by e.sending p.head.seq p.head.window)
+    ∙ (λ i. if e.sending.opened then later i else first_one i) ∙ same_if e.sending.opened (g e.sending))
+    ∙ same_if (counts e p) (g e.sending)
+
+mss_is : (e : Tcb) (p : Segment) → has_begun e.name ≡ true → IsBounded e → IsUsual e p → (received e p).sending.mss ≡ e.sending.mss
+unfolding acknowledged
+mss_is e p begun b usual = sending_keeps (λ (s : Sending). s.mss) e p refl refl begun b usual
+
+fin_sent_is : (e : Tcb) (p : Segment) → has_begun e.name ≡ true → IsBounded e → IsUsual e p → (received e p).sending.fin_sent ≡ e.sending.fin_sent
+unfolding acknowledged
+fin_sent_is e p begun b usual = sending_keeps (λ (s : Sending). s.fin_sent) e p refl refl begun b usual
+
+-- the target stays where nothing new is acknowledged
+target_stays : (f c : Bool) (una len sent una' len' sent' : ℕ) → una' + len' ≡ max una' (una + len) → sent' ≡ sent → una' ≡ una
+    → (if f then sent else una + len + one_if c) ≤ (if f then sent' else una' + len' + one_if c)
+target_stays true c una len sent una' len' sent' held same is = omega (arith, same)
+target_stays false c una len sent una' len' sent' held same is = omega (arith, held, is)
+
+target_is : (e : Tcb) (p : Segment) → has_begun e.name ≡ true → IsBounded e → IsUsual e p → (received e p).sending.una ≡ e.sending.una
+    → target e.sending ≤ target (received e p).sending
+target_is e p begun b usual same =
+    let s : Sending = e.sending in
+    let m : Sending = (received e p).sending in
+    let by : IsSentBy e p m = sending_law e p begun b usual in
+    let P : Bool → Bool → Type 0 = λ f c. target s ≤ (if f then m.sent else m.una + length m.held + one_if c) in
+    let Q : Bool → Type 0 = λ c. P m.fin_sent c in
+    let R : Bool → Type 0 = λ f. P f s.closed in
+    subst Q (sym by.closed) (subst R (sym (fin_sent_is e p begun b usual))
+    (target_stays s.fin_sent s.closed s.una (length s.held) s.sent m.una (length m.held) m.sent by.held by.sent same))
+
+rises : (b : Bool) (una ack : ℕ) → una ≤ (if b then una_after una ack else una)
+rises true una ack = grind arith
+rises false una ack = omega arith
+
+-- no segment asks for a probe
+pub no_probe : (m : Tcb) → m.probe ≡ false → ProbesRightly m
+no_probe m none = record {
+  all_acked = λ h. absurd (false≢true (sym none ∙ h));
+  shut = λ h. absurd (false≢true (sym none ∙ h));
+  waits = λ h. absurd (false≢true (sym none ∙ h));
+  opened = λ h. absurd (false≢true (sym none ∙ h));
+}
+
+-- what is acknowledged anew is let go, and a FIN stays behind the rest
+held_kept : (una len sent una' len' sent' : ℕ) → una ≤ sent → una ≤ una' → una' + len' ≡ max una' (una + len) → sent' ≡ sent → 1 ≤ sent
+    → len ≡ sent - 1 - una → len' ≡ sent' - 1 - una'
+held_kept una len sent una' len' sent' order rises held same some last = omega (arith, order, rises, held, same, some, last)
+
+fin_last_kept : (s m : Sending) → m.fin_sent ≡ s.fin_sent → m.closed ≡ s.closed → m.sent ≡ s.sent → s.una ≤ s.sent → s.una ≤ m.una
+    → m.una + length m.held ≡ max m.una (s.una + length s.held) → FinIsLast s → FinIsLast m
+fin_last_kept s m fin closed sent order una held last = λ h.
+    let k = last (sym fin ∙ h) in (
+      closed ∙ k.0,
+      omega (arith, k.1, sent),
+      held_kept s.una (length s.held) s.sent m.una (length m.held) m.sent order una held sent k.1 k.2,
+    )
+
+-- the model's words for what is refused and owed
+less_is : (p : Point) (e : Tcb) (segment : Segment) → Meets p e segment → rule.is_refused p segment ≡ acknowledges_less e segment
+less_is p e segment m = λ i. not (m.sends.counted i) && has_ack segment && int_lt (ack_is p e segment m i) (pos 0)
+
+pub refuses_is : (p : Point) (e : Tcb) (segment : Segment) → Meets p e segment → refuses p segment ≡ is_refused e segment
+refuses_is p e segment m = λ i. accepts_is p e segment m i && not (has_rst segment) && not (has_syn segment) && less_is p e segment m i
+
+place_moves : (n k : ℕ) (z : ℤ) → int_eq (z +ℤ pos k) (pos (n + k)) ≡ int_eq z (pos n)
+place_moves n k z = grind (arith, ints)
+
+early_moves : (n k : ℕ) (z : ℤ) → int_lt (pos (n + k)) (z +ℤ pos k) ≡ int_lt (pos n) z
+early_moves n k z = grind (arith, ints)
+
+-- an acceptable segment that isn't refused acknowledges no less than the SYN, unless it has SYN or RST
+unrefused_by : (rst syn less some ack early place place' early' : Bool) → (true && not rst && not syn && less) ≡ false → place ≡ place' → early ≡ early'
+    → (if rst then not place else (if syn then true else (if less then false else some || (ack && early)))) ≡ (if rst then not place' else (if syn then true else some || (ack && early')))
+unrefused_by true syn less some ack early place place' early' none p e = ap not p
+unrefused_by false true less some ack early place place' early' none p e = refl
+unrefused_by false false true some ack early place place' early' none p e = absurd (false≢true (sym none))
+unrefused_by false false false some ack early place place' early' none p e = ap (λ v. some || (ack && v)) e
+
+owes_is : (p : Point) (e : Tcb) (segment : Segment) → Meets p e segment → is_refused e segment ≡ false → rule.owes p segment ≡ owes e segment
+unfolding rule.owes
+owes_is p e segment m unrefused =
+    let k : ℕ = p.fetched in
+    let n : ℕ = next e.receiving in
+    let units : taken_units p ≡ n + k = next_is p e m.receives in
+    ap (λ b. if b then rule.owes_acceptable p segment else not (has_rst segment)) (accepts_is p e segment m)
+    ∙ if_when (accepts e segment) _ _ _ _
+    (λ acceptable.
+    let z : first_of p.cisn segment ≡ first e segment +ℤ pos k = first_is p e segment m acceptable in
+    let place : int_eq (first_of p.cisn segment) (pos (taken_units p)) ≡ int_eq (first e segment) (pos n) =
+    (λ i. int_eq (z i) (pos (units i))) ∙ place_moves n k (first e segment) in
+    let early : int_lt (pos (taken_units p)) (first_of p.cisn segment) ≡ int_lt (pos n) (first e segment) =
+    (λ i. int_lt (pos (units i)) (z i)) ∙ early_moves n k (first e segment) in
+    unrefused_by (has_rst segment) (has_syn segment) (rule.is_refused p segment) (nat_lt 0 (length_of segment)) (has_ack segment) _ _ _ _
+    (ap (λ v. true && not (has_rst segment) && not (has_syn segment) && v) (less_is p e segment m)
+    ∙ ap (λ v. v && not (has_rst segment) && not (has_syn segment) && acknowledges_less e segment) (sym acceptable) ∙ unrefused)
+    place early)
+    (λ h. refl)
+
+-- a list with something in it
+is_some : List Segment → Bool
+is_some [] = false
+is_some (x ∷ xs) = true
+
+cons_is_not_nil : (x : Segment) (xs : List Segment) → x ∷ xs ≡ [] → ⊥
+unfolding is_some
+cons_is_not_nil x xs h = false≢true (sym (ap is_some h))
+
+-- a segment's RST
+answer_of : (b : Bool) (head : Head) (none : Option Head) → none ≡ None
+    → answer_segments (if b then Some head else none) ≡ (if b then answer_segments (Some head) else [])
+answer_of true head none is = refl
+answer_of false head none is = ap answer_segments is
+
+segment_answer : (p : Point) (e : Tcb) (segment : Segment) → Meets p e segment → has_begun e.name ≡ true → e.answer ≡ None
+    → answer_out (received e segment) ≡ refusals e.local (Comes segment) p
+unfolding answer_out
+segment_answer p e segment m begun none =
+    ap answer_segments (answer_is e segment begun m.bounds m.usual)
+    ∙ answer_of (is_refused e segment) (rst e segment segment.head.ack 0 4) e.answer none
+    ∙ ap (λ b. if b then answer_segments (Some (rst e segment segment.head.ack 0 4)) else []) (sym (refuses_is p e segment m))
+
+none_chosen : (b : Bool) (x : Segment) → (if b then x ∷ [] else []) ≡ [] → b ≡ false
+none_chosen true x h = absurd (cons_is_not_nil x [] h)
+none_chosen false x h = refl
+
+-- what is owed once the news have come
+pub owed_is : (news : News) (p : Point) (e : Tcb) → has_begun e.name ≡ true → IsBetweenTurns e → StandsAt p e → IsUsualNews news e
+    → refusals e.local news p ≡ [] → (arrived news e).owed ≡ owes_to news p
+unfolding after_tick timer_ticked waited
+owed_is (Comes segment) p e begun between stands usual none =
+    let m : Meets p e segment = record { receives = stands.receives; sends = stands.sends; sent = stands.sent; bounds = between.bounds; usual = usual } in
+    let unrefused : is_refused e segment ≡ false = sym (refuses_is p e segment m) ∙ none_chosen (refuses p segment) _ none in
+    owed_law e segment begun between.bounds usual between.owed unrefused ∙ sym (owes_is p e segment m unrefused)
+owed_is (Logged kept) p e begun between stands usual none = between.owed
+owed_is Ticks p e begun between stands usual none = between.owed
+owed_is Begins p e begun between stands usual none = between.owed
+
+-- the three kinds of news
+segment_arrives : (p : Point) (e : Tcb) (segment : Segment) → has_begun e.name ≡ true → IsBetweenTurns e → StandsAt p e → IsUsual e segment
+    → Arrived (Comes segment) p e (received e segment)
+segment_arrives p e segment begun between stands usual =
+    let b : IsBounded e = between.bounds in
+    let m : Meets p e segment = record { receives = stands.receives; sends = stands.sends; sent = stands.sent; bounds = b; usual = usual } in
+    let by : IsSentBy e segment (received e segment).sending = sending_law e segment begun b usual in
+    let una : e.sending.una ≤ (received e segment).sending.una =
+    omega (arith, by.una, rises (acknowledges e segment) e.sending.una (nat_abs (ack_at e segment))) in
+    record {
+      local = local_is e segment begun b usual;
+      remote = remote_is e segment begun b usual;
+      receives = received_receives p e segment begun m;
+      sends = received_sends p e segment begun m (mss_is e segment begun b usual);
+      sent = by.sent;
+      bounds = bounded_by_segment e segment begun b usual;
+      fin_last = fin_last_kept e.sending (received e segment).sending (fin_sent_is e segment begun b usual) by.closed by.sent b.order una by.held
+          between.fin_last;
+      told = told_by_segment e segment begun;
+      again = again_is e segment begun b usual ∙ between.again;
+      probe = probe_is e segment begun b usual ∙ between.probe;
+      probes = no_probe (received e segment) (probe_is e segment begun b usual ∙ between.probe);
+      answer = segment_answer p e segment m begun between.answer;
+      target = target_is e segment begun b usual;
+      una = una;
+    }
+
+nothing_arrives : (news : News) (p : Point) (e : Tcb) → IsBetweenTurns e → StandsAt p e → timer.is_tick news ≡ false
+    → moved news p ≡ p → refusals e.local news p ≡ [] → Arrived news p e e
+unfolding answer_out
+nothing_arrives news p e between stands still same quiet =
+    let P : Point → Type 0 = λ q. ReceivesAt q e in
+    let Q : Point → Type 0 = λ q. SendsAt q e in
+    record {
+      local = refl;
+      remote = refl;
+      receives = subst P (sym same) stands.receives;
+      sends = subst Q (sym same) stands.sends;
+      sent = refl;
+      bounds = between.bounds;
+      fin_last = between.fin_last;
+      told = refl;
+      again = between.again ∙ sym (ap (λ v. v && p.rest == 1 && is_unacknowledged e.sending) still);
+      probe = between.probe ∙ sym (ap (λ v. v && p.rest == 1 && not (is_unacknowledged e.sending)) still);
+      probes = no_probe e between.probe;
+      answer = ap answer_segments between.answer ∙ sym quiet;
+      target = λ h. omega arith;
+      una = omega arith;
+    }
+
+-- a tick touches the timer alone
+ticked_by : {X : Type 0} (g : Sending → X) (s : Sending) (b : Bool) (interval rest left : ℕ) → (g (record s { interval = interval; rest = rest }) ≡ g s)
+    → (g (record s { rest = left }) ≡ g s) → g (if b then record s { interval = interval; rest = rest } else record s { rest = left }) ≡ g s
+ticked_by g s true interval rest left a b = a
+ticked_by g s false interval rest left a b = b
+
+tick_keeps : {X : Type 0} (g : Sending → X) (s : Sending) → ((interval rest : ℕ) → g (record s { interval = interval; rest = rest }) ≡ g s) → g (ticked s) ≡ g s
+tick_keeps g s same = ticked_by g s (expires s) _ _ _ (same _ _) (same s.interval (s.rest - 1))
+
+ticked_sends : (p : Point) (e : Tcb) → SendsAt p e → SendsAt p (after_tick e)
+unfolding after_tick timer_ticked waited
+ticked_sends p e s =
+    let t : Sending = e.sending in
+    let opened : (ticked t).opened ≡ t.opened = tick_keeps (λ (q : Sending). q.opened) t (λ i r. refl) in
+    record {
+      sisn = s.sisn ∙ sym (tick_keeps (λ (q : Sending). q.iss) t (λ i r. refl));
+      mss = s.mss ∙ sym (tick_keeps (λ (q : Sending). q.mss) t (λ i r. refl));
+      counted = s.counted ∙ sym opened;
+      una = s.una ∙ sym (tick_keeps (λ (q : Sending). q.una) t (λ i r. refl));
+      edge = s.edge ∙ sym (tick_keeps (λ (q : Sending). q.edge) t (λ i r. refl));
+      wl1 = λ h. s.wl1 (sym opened ∙ h)
+          ∙ ap (λ n. offset_of e.receiving.irs n +ℤ pos p.fetched) (sym (tick_keeps (λ (q : Sending). q.wl1) t (λ i r. refl)));
+      wl2 = s.wl2 ∙ sym (tick_keeps (λ (q : Sending). q.wl2) t (λ i r. refl));
+    }
+
+ticked_receives : (p : Point) (e : Tcb) → ReceivesAt p e → ReceivesAt p (after_tick e)
+unfolding after_tick timer_ticked waited
+ticked_receives p e r = record { cisn = r.cisn; limit = r.limit; read = r.read; long = r.long; unread = r.unread; fin = r.fin }
+
+due : (flag x : Bool) → flag ≡ false → (flag || x) ≡ x
+due flag x none = ap (λ v. v || x) none
+
+tick_arrives : (p : Point) (e : Tcb) → IsBetweenTurns e → StandsAt p e → Arrived Ticks p e (after_tick e)
+unfolding after_tick timer_ticked waited taken_after fin_after counted_after acknowledged_after edge_after wl1_after wl2_after answer_out
+tick_arrives p e between stands =
+    let t : Sending = e.sending in
+    let runs_out : expires t ≡ timer.expires Ticks p = ap (λ n. n == 1) (sym stands.rest) in
+    let sent : (ticked t).sent ≡ t.sent = tick_keeps (λ (q : Sending). q.sent) t (λ i r. refl) in
+    let una : (ticked t).una ≡ t.una = tick_keeps (λ (q : Sending). q.una) t (λ i r. refl) in
+    let held : length (ticked t).held ≡ length t.held = tick_keeps (λ (q : Sending). length q.held) t (λ i r. refl) in
+    record {
+      local = refl;
+      remote = refl;
+      receives = ticked_receives p e stands.receives;
+      sends = ticked_sends p e stands.sends;
+      sent = sent;
+      bounds = bounded_by_tick e between.bounds;
+      fin_last = fin_last_kept t (ticked t) (tick_keeps (λ (q : Sending). q.fin_sent) t (λ i r. refl)) (tick_keeps (λ (q : Sending). q.closed) t (λ i r. refl)) sent
+          between.bounds.order (omega (arith, una)) (omega (arith, una, held)) between.fin_last;
+      told = refl;
+      again = due e.again _ between.again ∙ ap (λ v. v && is_unacknowledged t) runs_out;
+      probe = due e.probe _ between.probe ∙ ap (λ v. v && not (is_unacknowledged t)) runs_out;
+      probes = probed_by_tick e between.probe between.bounds between.shut;
+      answer = ap answer_segments between.answer;
+      target = λ h. omega (arith, tick_keeps target t (λ i r. refl));
+      una = omega (arith, una);
+    }
+
+-- all kinds
+pub arrives : (news : News) (p : Point) (e : Tcb) → has_begun e.name ≡ true → IsBetweenTurns e → StandsAt p e → IsUsualNews news e → Arrived news p e (arrived news e)
+unfolding taken_after fin_after counted_after acknowledged_after edge_after wl1_after wl2_after
+arrives (Comes segment) p e begun between stands usual = segment_arrives p e segment begun between stands usual
+arrives (Logged kept) p e begun between stands usual = nothing_arrives (Logged kept) p e between stands refl refl refl
+arrives Ticks p e begun between stands usual = tick_arrives p e between stands
+arrives Begins p e begun between stands usual = nothing_arrives Begins p e between stands refl refl refl

@@ -1,0 +1,418 @@
+-- The bounds on an endpoint's offsets are kept.
+use Rattle.std.proofs.Common.{◌≡◌, ℕ, ◌<◌, ◌≤◌, ◌+◌, ◌-◌, ◌^◌, Bool, true, false, not, List, ◌++◌, length, length-append, length-drop, take, drop, max, min, refl, sym, ap, subst, arith, ◌∙◌}
+use Rattle.std.specs.Prelude.{ℤ, pos, ◌==◌, ◌&&◌, nat_abs, nat_lt, int_le, if◌then◌else◌}
+use Rattle.std.proofs.lemmas.Int.{ints}
+use Rattle.std.proofs.lemmas.List.{length-take}
+use Rattle.std.proofs.lemmas.Bool.{false≢true}
+use Rattle.seq_arith.specs.Number.{offset_of}
+use Rattle.seq_arith.specs.Arrival.{int_eq, is_new_ack}
+use Rattle.seq_arith.proofs.Gaps.{offset_leads}
+use Rattle.seq_arith.specs.Packet.{Segment, has_syn, has_rst, has_ack}
+use Rattle.ft_io.specs.declared.Addr.{Addr}
+use Rattle.seq_arith.specs.Offset.{one_if}
+use Rattle.tcp_buffers.specs.Near.{IsNearFirst}
+use Rattle.tcp_endpoint.specs.declared.states.StateName.{StateName}
+use Rattle.tcp_endpoint.specs.declared.states.StateName.TheVariants.{Listen, SynSent}
+use Rattle.tcp_endpoint.specs.States.{has_begun}
+use Rattle.tcp_endpoint.specs.Receiving.{Receiving, taken}
+use Rattle.tcp_endpoint.specs.Sending.{Sending, opened_by, acknowledged, moves_edge, sendable, expires, ticked, timed, with_sent, with_fin_sent, IsShort}
+use Rattle.tcp_endpoint.specs.Tcb.{Tcb, listening, connecting}
+use Rattle.tcp_endpoint.specs.Arrival.{ack_at, received, received_in, in_listen, begun, refusing, answered, in_syn_sent}
+use Rattle.tcp_endpoint.specs.Leaving.{probes_text, probes_fin, with_probe, with_text_sent, new_fin, with_fin_out, after_full, announced, is_timed, settled, flushed}
+use Rattle.tcp_endpoint.specs.Turning.{after_tick, timer_ticked, waited, after_read, after_write}
+use Rattle.endpoint_laws.specs.Laws.{counts, continues, taken_by, Bounds, IsBounded, IsUsual}
+use Rattle.endpoint_laws.proofs.TakenLaw.{taken_law}
+use Rattle.endpoint_laws.proofs.SendingLaw.{sending_is, held_field, near_of_counts}
+
+pub bounded_is_short : (e : Tcb) → IsBounded e → IsShort e.sending
+bounded_is_short e b = record { sent = grind (arith, b.sent); wl2 = grind (arith, b.wl2, b.order, b.sent) }
+
+pub bounded_at_listen : (local : Addr) (iss limit : ℕ) → limit ≤ 2 ^ 24 → IsBounded (listening local iss limit)
+unfolding listening
+bounded_at_listen local iss limit small = record {
+  limit = grind arith;
+  taken = omega arith;
+  order = omega arith;
+  unopened = λ h. refl;
+  shut = λ h. refl;
+  flight = omega arith;
+  written = omega arith;
+  sent = omega arith;
+  wl1 = λ h. absurd (false≢true h);
+  wl1_fits = omega arith;
+  wl2 = omega arith;
+  edge = omega arith;
+  reach = omega arith;
+}
+
+-- the bounds say nothing of a peer's number before the SYN is acknowledged
+unopened_irs : (r : Receiving) (s : Sending) (irs mss : ℕ) → s.opened ≡ false → Bounds r s → Bounds (record r { irs = irs }) (record s { mss = mss })
+unopened_irs r s irs mss unopened b = record {
+  limit = b.limit;
+  taken = b.taken;
+  order = b.order;
+  unopened = b.unopened;
+  shut = b.shut;
+  flight = b.flight;
+  written = b.written;
+  sent = b.sent;
+  wl1 = λ h. absurd (false≢true (sym unopened ∙ h));
+  wl1_fits = b.wl1_fits;
+  wl2 = b.wl2;
+  edge = b.edge;
+  reach = b.reach;
+}
+
+bounded_if : (b : Bool) (x y : Tcb) → IsBounded x → IsBounded y → IsBounded (if b then x else y)
+bounded_if true x y on off = on
+bounded_if false x y on off = off
+
+in_listen_bounded : (e : Tcb) (p : Segment) → e.sending.opened ≡ false → IsBounded e → IsBounded (in_listen e p)
+unfolding in_listen begun refusing
+in_listen_bounded e p unopened b =
+    bounded_if (has_rst p) _ _ b (bounded_if (has_ack p) _ _ b (bounded_if (has_syn p) _ _ (unopened_irs e.receiving e.sending _ _ unopened b) b))
+
+pub bounded_in_listen : (e : Tcb) (p : Segment) → e.name ≡ Listen → e.sending.opened ≡ false → IsBounded e → IsBounded (received e p)
+unfolding received
+bounded_in_listen e p name unopened b =
+    let P : StateName → Type 0 = λ n. IsBounded (received_in n e p) in subst P (sym name) (in_listen_bounded e p unopened b)
+
+-- a segment: the receiving half
+taken_within : (read limit : ℕ) (unread text : List ℕ) (b : Bool) → read + length unread ≤ limit
+    → read + length (if b then unread ++ take (min (read + 65535) limit - (read + length unread)) text else unread) ≤ limit
+taken_within read limit unread text true h = omega (arith, length-append {A = ℕ}, length-take {A = ℕ})
+taken_within read limit unread text false h = h
+
+-- the sending half, for a later acknowledgement
+new_within : (una sent : ℕ) (z : ℤ) → una ≤ sent → (if is_new_ack una sent z then nat_abs z else una) ≤ sent
+new_within una sent z h = grind (arith, ints)
+
+moved_within : (una sent : ℕ) (z : ℤ) (c : Bool) → (int_le (pos una) z && int_le z (pos sent) && c) ≡ true
+    → (nat_abs z ≤ (if is_new_ack una sent z then nat_abs z else una)) × (nat_abs z ≤ sent)
+moved_within una sent z c h = (grind (arith, ints), grind (arith, ints))
+
+near_of_choice : (irs x y : ℕ) (b : Bool) → IsNearFirst (offset_of irs x) → IsNearFirst (offset_of irs y) → IsNearFirst (offset_of irs (if b then x else y))
+near_of_choice irs x y true p q = p
+near_of_choice irs x y false p q = q
+
+choice_within : (x y n : ℕ) (b : Bool) → (b ≡ true → x ≤ n) → y ≤ n → (if b then x else y) ≤ n
+choice_within x y n true p q = p refl
+choice_within x y n false p q = q
+
+not_less : (una sent : ℕ) (z : ℤ) → una ≤ (if is_new_ack una sent z then nat_abs z else una)
+not_less una sent z = grind (arith, ints)
+
+later_bounds : (r : Receiving) (s : Sending) (seq window : ℕ) (z : ℤ) → Bounds r s → IsNearFirst (offset_of r.irs seq) → seq < 2 ^ 32 → window ≤ 65535 → s.opened ≡ true
+    → (r' : Receiving) → r'.limit ≤ 2 ^ 24 → taken r' ≤ r'.limit → r'.irs ≡ r.irs → Bounds r' (acknowledged s seq z window)
+unfolding acknowledged
+later_bounds r s seq window z b near fits small is_opened r' limit within irs =
+    let una : ℕ = if is_new_ack s.una s.sent z then nat_abs z else s.una in
+    let una_sent : una ≤ s.sent = new_within s.una s.sent z b.order in
+    let kept : una + length (if is_new_ack s.una s.sent z then drop (nat_abs z - s.una) s.held else s.held) ≡ max una (s.una + length s.held) =
+    held_field s.una s.sent z s.held b.order in
+    let moved : moves_edge s seq z ≡ true → (nat_abs z ≤ una) × (nat_abs z ≤ s.sent) = λ h. moved_within s.una s.sent z _ h in
+    record {
+      limit = limit;
+      taken = within;
+      order = una_sent;
+      unopened = b.unopened;
+      shut = λ h. absurd (false≢true (sym h ∙ is_opened));
+      flight = omega (arith, kept, b.flight);
+      written = omega (arith, kept, b.written, una_sent, b.sent);
+      sent = b.sent;
+      wl1 = λ h. let P : ℕ → Type 0 = λ n. IsNearFirst (offset_of n (if moves_edge s seq z then seq else s.wl1)) in
+          subst P (sym irs) (near_of_choice r.irs seq s.wl1 (moves_edge s seq z) near (b.wl1 is_opened));
+      wl1_fits = choice_within seq s.wl1 (2 ^ 32 - 1) (moves_edge s seq z) (λ h. omega (arith, fits)) b.wl1_fits;
+      wl2 = choice_within (nat_abs z) s.wl2 una (moves_edge s seq z) (λ h. (moved h).0) (omega (arith, b.wl2, not_less s.una s.sent z));
+      edge = choice_within (nat_abs z + window) s.edge (2 ^ 24 + 2 ^ 16 + 1) (moves_edge s seq z) (λ h. grind (arith, moved h, b.sent)) b.edge;
+      reach = choice_within (nat_abs z + window) s.edge (una + 65535) (moves_edge s seq z) (λ h. omega (arith, (moved h).0, small)) (omega (arith, b.reach, not_less s.una s.sent z));
+    }
+
+first_bounds : (r : Receiving) (s : Sending) (seq window : ℕ) → Bounds r s → IsNearFirst (offset_of r.irs seq) → seq < 2 ^ 32 → window ≤ 65535 → s.opened ≡ false
+    → (r' : Receiving) → r'.limit ≤ 2 ^ 24 → taken r' ≤ r'.limit → r'.irs ≡ r.irs → Bounds r' (opened_by s seq window)
+first_bounds r s seq window b near fits small unopened r' limit within irs =
+    let una : s.una ≡ 0 = omega (arith, b.order, b.unopened unopened) in
+    record {
+      limit = limit;
+      taken = within;
+      order = omega arith;
+      unopened = λ h. refl;
+      shut = λ h. absurd (false≢true (sym h));
+      flight = omega arith;
+      written = omega (arith, b.written, una);
+      sent = omega arith;
+      wl1 = λ h. let P : ℕ → Type 0 = λ n. IsNearFirst (offset_of n seq) in subst P (sym irs) near;
+      wl1_fits = omega (arith, fits);
+      wl2 = omega arith;
+      edge = omega (arith, small);
+      reach = omega (arith, small);
+    }
+
+other_bounds : (r : Receiving) (s : Sending) → Bounds r s → (r' : Receiving) → r'.limit ≤ 2 ^ 24 → taken r' ≤ r'.limit → r'.irs ≡ r.irs → Bounds r' s
+other_bounds r s b r' limit within irs = record {
+  limit = limit;
+  taken = within;
+  order = b.order;
+  unopened = b.unopened;
+  shut = b.shut;
+  flight = b.flight;
+  written = b.written;
+  sent = b.sent;
+  wl1 = λ h. let P : ℕ → Type 0 = λ n. IsNearFirst (offset_of n s.wl1) in subst P (sym irs) (b.wl1 h);
+  wl1_fits = b.wl1_fits;
+  wl2 = b.wl2;
+  edge = b.edge;
+  reach = b.reach;
+}
+
+chosen_bounds : (r : Receiving) (x y z : Sending) (c o : Bool) → (c ≡ true → o ≡ true → Bounds r x) → (c ≡ true → o ≡ false → Bounds r y) → Bounds r z
+    → Bounds r (if c then (if o then x else y) else z)
+chosen_bounds r x y z true true p q s = p refl refl
+chosen_bounds r x y z true false p q s = q refl refl
+chosen_bounds r x y z false o p q s = s
+
+pub bounded_by_segment : (e : Tcb) (p : Segment) → has_begun e.name ≡ true → IsBounded e → IsUsual e p → IsBounded (received e p)
+unfolding taken_by
+bounded_by_segment e p begun b usual =
+    let r' : Receiving = taken_by e p in
+    let within : taken r' ≤ r'.limit = taken_within e.receiving.read e.receiving.limit e.receiving.unread _ (continues e p) b.taken in
+    let bounds = chosen_bounds r' _ _ _ (counts e p) e.sending.opened
+    (λ counted h. later_bounds e.receiving e.sending p.head.seq p.head.window (ack_at e p) b (near_of_counts e p b usual counted) usual.seq usual.window h r' b.limit within refl)
+    (λ counted h. first_bounds e.receiving e.sending p.head.seq p.head.window b (near_of_counts e p b usual counted) usual.seq usual.window h r' b.limit within refl)
+    (other_bounds e.receiving e.sending b r' b.limit within refl) in
+    let P : Receiving → Type 0 = λ r. Bounds r (received e p).sending in
+    let Q : Sending → Type 0 = λ s. Bounds r' s in
+    subst P (sym (taken_law e p begun b usual)) (subst Q (sym (sending_is e p begun b usual)) bounds)
+
+-- the end of a turn
+sent_more : (r : Receiving) (s : Sending) (n : ℕ) → Bounds r s → s.sent + n ≤ s.una + length s.held + one_if s.fin_sent → s.sent + n ≤ 2 ^ 24 + one_if s.fin_sent
+    → (s.opened ≡ false → n ≡ 0) → Bounds r (with_sent s n)
+sent_more r s n b flight sent unopened = record {
+  limit = b.limit;
+  taken = b.taken;
+  order = omega (arith, b.order);
+  unopened = λ h. omega (arith, b.unopened h, unopened h);
+  shut = b.shut;
+  flight = flight;
+  written = b.written;
+  sent = sent;
+  wl1 = b.wl1;
+  wl1_fits = b.wl1_fits;
+  wl2 = b.wl2;
+  edge = b.edge;
+  reach = b.reach;
+}
+
+fin_more : (r : Receiving) (s : Sending) → Bounds r s → s.fin_sent ≡ false → s.opened ≡ true → Bounds r (with_fin_sent s)
+fin_more r s b unsent is_opened =
+    let flight : s.sent ≤ s.una + length s.held = omega (arith, b.flight, ap one_if unsent) in
+    let written : s.una + length s.held ≤ 2 ^ 24 = omega (arith, b.written, ap one_if unsent) in
+    record {
+      limit = b.limit;
+      taken = b.taken;
+      order = omega (arith, b.order);
+      unopened = λ h. absurd (false≢true (sym h ∙ is_opened));
+      shut = λ h. absurd (false≢true (sym h ∙ is_opened));
+      flight = omega (arith, flight);
+      written = omega (arith, written);
+      sent = omega (arith, flight, written);
+      wl1 = b.wl1;
+      wl1_fits = b.wl1_fits;
+      wl2 = b.wl2;
+      edge = b.edge;
+      reach = b.reach;
+    }
+
+timer_bounds : (r : Receiving) (s : Sending) (interval rest : ℕ) → Bounds r s → Bounds r (record s { interval = interval; rest = rest })
+timer_bounds r s interval rest b = record {
+  limit = b.limit;
+  taken = b.taken;
+  order = b.order;
+  unopened = b.unopened;
+  shut = b.shut;
+  flight = b.flight;
+  written = b.written;
+  sent = b.sent;
+  wl1 = b.wl1;
+  wl1_fits = b.wl1_fits;
+  wl2 = b.wl2;
+  edge = b.edge;
+  reach = b.reach;
+}
+
+bounds_if : (r : Receiving) (b : Bool) (x y : Sending) → (b ≡ true → Bounds r x) → (b ≡ false → Bounds r y) → Bounds r (if b then x else y)
+bounds_if r true x y p q = p refl
+bounds_if r false x y p q = q refl
+
+ticked_bounds : (r : Receiving) (s : Sending) → Bounds r s → Bounds r (ticked s)
+ticked_bounds r s b = bounds_if r (expires s) _ _ (λ h. timer_bounds r s _ _ b) (λ h. timer_bounds r s _ _ b)
+
+pub bounded_by_tick : (e : Tcb) → IsBounded e → IsBounded (after_tick e)
+unfolding after_tick timer_ticked waited
+bounded_by_tick e b = ticked_bounds e.receiving e.sending b
+
+pub bounded_by_read : (e : Tcb) (n : ℕ) → n ≤ length e.receiving.unread → IsBounded e → IsBounded (after_read e n)
+bounded_by_read e n some b = other_bounds e.receiving e.sending b (after_read e n).receiving b.limit (omega (arith, b.taken, length-drop n e.receiving.unread)) refl
+
+pub bounded_by_more : (e : Tcb) (bytes : List ℕ) → e.sending.una + length e.sending.held + length bytes ≤ 2 ^ 24 + one_if e.sending.fin_sent → IsBounded e
+    → IsBounded (after_write e bytes)
+bounded_by_more e bytes few b =
+    let more : length (e.sending.held ++ bytes) ≡ length e.sending.held + length bytes = length-append e.sending.held bytes in
+    record {
+      limit = b.limit;
+      taken = b.taken;
+      order = b.order;
+      unopened = b.unopened;
+      shut = b.shut;
+      flight = omega (arith, more, b.flight);
+      written = omega (arith, more, few);
+      sent = b.sent;
+      wl1 = b.wl1;
+      wl1_fits = b.wl1_fits;
+      wl2 = b.wl2;
+      edge = b.edge;
+      reach = b.reach;
+    }
+
+pub bounded_by_write : (e : Tcb) (bytes : List ℕ) → e.sending.una + length e.sending.held + length bytes ≤ 2 ^ 24 → IsBounded e → IsBounded (after_write e bytes)
+bounded_by_write e bytes few b = bounded_by_more e bytes (omega (arith, few)) b
+
+both : (P : Bool → Type 0) (b : Bool) → P true → P false → P b
+both P true p q = p
+both P false p q = q
+
+and_left : (x u : Bool) → (x && u) ≡ true → x ≡ true
+and_left true u h = refl
+and_left false u h = h
+
+two_more_off : (t u : Bool) → (false && t && u) ≡ true → false ≡ true
+two_more_off t u h = h
+
+two_off : (d t : Bool) → (false && not d && t) ≡ true → false ≡ true
+two_off d t h = h
+
+three_off : (c d t : Bool) → (false && c && d && t) ≡ true → false ≡ true
+three_off c d t h = h
+
+four_off : (b c d t : Bool) → (false && b && c && d && t) ≡ true → false ≡ true
+four_off b c d t h = h
+
+-- what the tests of a flush say
+pub text_facts : (a b c d t : Bool) → (a && b && c && not d && t) ≡ true → (c ≡ true) × (d ≡ false) × (t ≡ true)
+text_facts true true true false t h = (refl, refl, h)
+text_facts true true true true t h = absurd (false≢true h)
+text_facts true true false d t h = absurd (false≢true (two_off d t h))
+text_facts true false c d t h = absurd (false≢true (three_off c d t h))
+text_facts false b c d t h = absurd (false≢true (four_off b c d t h))
+
+fin_facts : (a b c d t u : Bool) → (a && b && c && not d && t && u) ≡ true → (c ≡ true) × (d ≡ false)
+fin_facts a b c d t u h = let f = text_facts a b c d t (and_left (a && b && c && not d && t) u h) in (f.0, f.1)
+
+new_fin_facts : (a b c d t u : Bool) → (a && (b && c && not d && t && u)) ≡ true → (b ≡ true) × (d ≡ false)
+new_fin_facts true true true false t u h = (refl, refl)
+new_fin_facts true true true true t u h = absurd (false≢true (two_more_off t u h))
+new_fin_facts true true false d t u h = absurd (false≢true (three_off (not d) t u h))
+new_fin_facts true false c d t u h = absurd (false≢true (four_off c (not d) t u h))
+new_fin_facts false b c d t u h = absurd (false≢true h)
+
+probe_bounds : (e : Tcb) → IsBounded e → IsBounded (with_probe e)
+unfolding with_probe
+probe_bounds e b =
+    let s : Sending = e.sending in
+    bounds_if e.receiving (probes_text e) _ _
+    (λ h. let f = text_facts e.probe (has_begun e.name) s.opened s.fin_sent (nat_lt (s.sent - s.una) (length s.held)) h in
+    let room : s.sent + 1 ≤ s.una + length s.held = grind (arith, f.2, b.order) in
+    sent_more e.receiving s 1 b (omega arith) (omega (arith, b.written, ap one_if f.1)) (λ unopened. absurd (false≢true (sym unopened ∙ f.0))))
+    (λ h. bounds_if e.receiving (probes_fin e) _ _
+    (λ k. let f = fin_facts e.probe (has_begun e.name) s.opened s.fin_sent (not (nat_lt (s.sent - s.una) (length s.held))) s.closed k in
+    fin_more e.receiving s b f.1 f.0)
+    (λ k. b))
+
+sendable_within : (opened fin_sent : Bool) (una len edge sent : ℕ) → sent ≤ una + len + one_if fin_sent
+    → sent + (if opened && not fin_sent then min (una + len) edge - sent else 0) ≤ una + len + one_if fin_sent
+sendable_within true true una len edge sent h = omega arith
+sendable_within true false una len edge sent h = omega arith
+sendable_within false fin_sent una len edge sent h = omega arith
+
+sendable_short : (opened fin_sent : Bool) (una len edge sent : ℕ) → una + len ≤ 2 ^ 24 + one_if fin_sent → sent ≤ 2 ^ 24 + one_if fin_sent
+    → sent + (if opened && not fin_sent then min (una + len) edge - sent else 0) ≤ 2 ^ 24 + one_if fin_sent
+sendable_short true true una len edge sent w h = omega arith
+sendable_short true false una len edge sent w h = omega arith
+sendable_short false fin_sent una len edge sent w h = omega arith
+
+sendable_none : (opened fin_sent : Bool) (n : ℕ) → opened ≡ false → (if opened && not fin_sent then n else 0) ≡ 0
+sendable_none true fin_sent n h = absurd (false≢true (sym h))
+sendable_none false fin_sent n h = refl
+
+text_bounds : (e : Tcb) → IsBounded e → IsBounded (with_text_sent e)
+unfolding with_text_sent
+text_bounds e b =
+    let s : Sending = e.sending in
+    let sent_by : Bool → Type 0 = λ v. Bounds e.receiving (with_sent s (if v then sendable s else 0)) in
+    both sent_by (has_begun e.name)
+    (sent_more e.receiving s (sendable s) b (sendable_within s.opened s.fin_sent s.una (length s.held) s.edge s.sent b.flight)
+    (sendable_short s.opened s.fin_sent s.una (length s.held) s.edge s.sent b.written b.sent) (sendable_none s.opened s.fin_sent _))
+    (sent_more e.receiving s 0 b (omega (arith, b.flight)) (omega (arith, b.sent)) (λ h. refl))
+
+fin_bounds : (e : Tcb) → IsBounded e → IsBounded (with_fin_out e)
+unfolding with_fin_out
+fin_bounds e b =
+    let s : Sending = e.sending in
+    bounds_if e.receiving (new_fin e) _ _
+    (λ h. let f = new_fin_facts (has_begun e.name) s.opened s.closed s.fin_sent (s.sent == s.una + length s.held) (nat_lt s.sent s.edge) h in
+    fin_more e.receiving s b f.1 f.0)
+    (λ h. b)
+
+timed_bounds : (r : Receiving) (s : Sending) (runs : Bool) → Bounds r s → Bounds r (timed runs s)
+timed_bounds r s runs b =
+    bounds_if r runs _ _ (λ h. bounds_if r (s.rest == 0) _ _ (λ k. timer_bounds r s _ _ b) (λ k. b)) (λ h. timer_bounds r s _ _ b)
+
+pub bounded_by_flush : (e : Tcb) → IsBounded e → IsBounded (flushed e)
+unfolding flushed settled announced after_full
+bounded_by_flush e b =
+    let after : Tcb = with_fin_out (with_text_sent (with_probe e)) in
+    let bounds : IsBounded after = fin_bounds _ (text_bounds _ (probe_bounds e b)) in
+    timed_bounds after.receiving after.sending (is_timed after) bounds
+
+-- an active open
+pub bounded_at_connect : (local remote : Addr) (iss limit : ℕ) → limit ≤ 2 ^ 24 → IsBounded (connecting local remote iss limit)
+unfolding connecting listening
+bounded_at_connect local remote iss limit small = bounded_at_listen local iss limit small
+
+-- the peer's SYN stands at -1
+syn_near : (seq : ℕ) → seq < 2 ^ 32 → IsNearFirst (offset_of seq seq)
+syn_near seq fits = (omega (arith, ints, offset_leads seq seq fits), omega (arith, ints, offset_leads seq seq fits))
+
+answered_bounds : (r : Receiving) (s : Sending) (seq window mss : ℕ) → Bounds r s → seq < 2 ^ 32 → window ≤ 65535 → s.opened ≡ false
+    → Bounds (record r { irs = seq }) (opened_by (record s { mss = mss }) seq window)
+answered_bounds r s seq window mss b fits small unopened =
+    let una : s.una ≡ 0 = omega (arith, b.order, b.unopened unopened) in
+    record {
+      limit = b.limit;
+      taken = b.taken;
+      order = omega arith;
+      unopened = λ h. refl;
+      shut = λ h. absurd (false≢true (sym h));
+      flight = omega arith;
+      written = omega (arith, b.written, una);
+      sent = omega arith;
+      wl1 = λ h. syn_near seq fits;
+      wl1_fits = omega (arith, fits);
+      wl2 = omega arith;
+      edge = omega (arith, small);
+      reach = omega (arith, small);
+    }
+
+in_syn_sent_bounded : (e : Tcb) (p : Segment) → e.sending.opened ≡ false → IsBounded e → p.head.seq < 2 ^ 32 → p.head.window ≤ 65535 → IsBounded (in_syn_sent e p)
+unfolding in_syn_sent answered refusing
+in_syn_sent_bounded e p unopened b fits small =
+    let yes : IsBounded (answered e p) = answered_bounds e.receiving e.sending p.head.seq p.head.window _ b fits small unopened in
+    bounded_if (has_ack p) _ _
+    (bounded_if (int_eq (ack_at e p) (pos 0)) _ _ (bounded_if (has_rst p) _ _ b (bounded_if (has_syn p) _ _ yes b)) (bounded_if (has_rst p) _ _ b b))
+    b
+
+pub bounded_in_syn_sent : (e : Tcb) (p : Segment) → e.name ≡ SynSent → e.sending.opened ≡ false → IsBounded e → p.head.seq < 2 ^ 32 → p.head.window ≤ 65535
+    → IsBounded (received e p)
+unfolding received
+bounded_in_syn_sent e p name unopened b fits small =
+    let P : StateName → Type 0 = λ n. IsBounded (received_in n e p) in subst P (sym name) (in_syn_sent_bounded e p unopened b fits small)

@@ -1,0 +1,451 @@
+-- An endpoint in SYN-SENT stays as its SYN left it, but for what its user has written and the timer, until a SYN answers that acknowledges its
+-- own. From then on it is as a connection that has begun has to be.
+use Rattle.std.proofs.Common.{◌≡◌, ℕ, ◌≤◌, ◌+◌, ◌-◌, ◌*◌, ◌^◌, Bool, true, false, not, List, [], ◌∷◌, ◌++◌, length, length-append, min, None, refl, sym, ap, subst, arith, ◌∙◌}
+use Rattle.std.specs.Prelude.{pos, ◌==◌, ◌&&◌, ◌||◌, nat_lt, if◌then◌else◌}
+use Rattle.std.specs.List.{AllByRecursion}
+use Rattle.std.proofs.lemmas.Bool.{false≢true}
+use Rattle.ft_io.specs.declared.Addr.{Addr}
+use Rattle.seq_arith.specs.Arrival.{int_eq}
+use Rattle.seq_arith.specs.Packet.{Segment, has_syn, has_rst, has_ack}
+use Rattle.ft_model.specs.News.{News}
+use Rattle.ft_model.specs.News.News.{Comes, Logged, Ticks, Begins}
+use Rattle.tcp_endpoint.specs.declared.states.StateName.{StateName}
+use Rattle.tcp_endpoint.specs.declared.states.StateName.TheVariants.{Closed, Listen, SynSent, SynReceived, Established, FinWait1, FinWait2, CloseWait, Closing, LastAck, TimeWait}
+use Rattle.tcp_endpoint.specs.States.{after_close, is_closed, is_time_wait, has_begun}
+use Rattle.tcp_endpoint.specs.Receiving.{Receiving, receiving_up_to, read_out}
+use Rattle.tcp_endpoint.specs.Sending.{Sending, sending_from, bytes_end, expires, ticked, timed}
+use Rattle.tcp_endpoint.specs.Tcb.{Tcb, kept_limit, listening, connecting}
+use Rattle.tcp_endpoint.specs.Arrival.{ack_at, received, received_in, in_syn_sent, answered, refusing, killed}
+use Rattle.tcp_endpoint.specs.Leaving.{head_at, opening_segment, again_segment, answer_out, again_out, probe_out, text_out, texts, fin_out, full_out, is_owed, leaving, announced, settled, with_fin_out, with_probe, with_text_sent, after_full, is_timed, flushed}
+use Rattle.tcp_endpoint.specs.Turning.{after_tick, timer_ticked, waited}
+use Rattle.endpoint_laws.specs.Laws.{Bounds, IsBounded, asks}
+use Rattle.endpoint_laws.specs.Turn.{Call, MayCall, MayUse, IsBetweenTurns, arrived, called, used, before_flush, turned, sent_in}
+use Rattle.endpoint_laws.specs.Turn.Call.{Reads, Writes, Closes}
+use Rattle.endpoint_laws.specs.Ending.{IsNamedRightly}
+use Rattle.endpoint_laws.specs.Announcing.{Announces, is_told}
+use Rattle.endpoint_laws.specs.Connecting.{IsConnecting, FieldsFit}
+use Rattle.endpoint_laws.proofs.Bounding.{bounded_in_syn_sent}
+use Rattle.endpoint_laws.proofs.Calls.{FinIsLast, IsUsed, used_is, bounded_used}
+use Rattle.endpoint_laws.proofs.Arrivals.{no_probe}
+use Rattle.endpoint_laws.proofs.TurnLaw.{flushed_timer}
+use Rattle.endpoint_laws.proofs.Turns.{between_again}
+use Rattle.endpoint_laws.proofs.Listening.{read_none}
+use Rattle.endpoint_laws.proofs.EndingLaw.{FollowsAt, holds_if, used_follows, flush_follows, named_at, flushed_name}
+use Rattle.endpoint_laws.proofs.Announced.{none_announces, leaving_announces, unanswered_tells}
+
+-- the sending half of an endpoint whose SYN is unacknowledged
+record Unanswered (iss : ℕ) (s : Sending) : Type 0 where
+  same : s ≡ record (sending_from iss) { held = s.held; interval = s.interval; rest = s.rest }
+  written : length s.held ≤ 2 ^ 24
+  interval : 1 ≤ s.interval
+
+retimed : (iss interval rest : ℕ) (s : Sending) → 1 ≤ interval → Unanswered iss s → Unanswered iss (record s { interval = interval; rest = rest })
+retimed iss interval rest s some u = record {
+  same = ap (λ (t : Sending). record t { interval = interval; rest = rest }) u.same;
+  written = u.written;
+  interval = some;
+}
+
+ticked_unanswered : (iss : ℕ) (s : Sending) → Unanswered iss s → Unanswered iss (ticked s)
+ticked_unanswered iss s u =
+    let twice : 1 ≤ min 64 (2 * s.interval) = omega (arith, u.interval) in
+    holds_if (λ (t : Sending). Unanswered iss t) (expires s)
+    (record s { interval = min 64 (2 * s.interval); rest = min 64 (2 * s.interval) }) (record s { rest = s.rest - 1 })
+    (λ h. retimed iss (min 64 (2 * s.interval)) (min 64 (2 * s.interval)) s twice u) (λ h. retimed iss s.interval (s.rest - 1) s u.interval u)
+
+timed_unanswered : (iss : ℕ) (s : Sending) → Unanswered iss s → Unanswered iss (timed true s)
+timed_unanswered iss s u =
+    holds_if (λ (t : Sending). Unanswered iss t) (s.rest == 0) (record s { interval = 1; rest = 1 }) s
+    (λ h. retimed iss 1 1 s (omega arith) u) (λ h. u)
+
+runs_timed : (s : Sending) → 1 ≤ (timed true s).rest
+runs_timed s =
+    holds_if (λ (t : Sending). 1 ≤ t.rest) (s.rest == 0) (record s { interval = 1; rest = 1 }) s (λ h. omega arith) (λ h. grind (arith, h))
+
+-- an endpoint in SYN-SENT within a turn, where something may be due
+record Connects (local remote : Addr) (iss limit : ℕ) (u : Tcb) : Type 0 where
+  local_is : u.local ≡ local
+  remote_is : u.remote ≡ remote
+  name : u.name ≡ SynSent
+  receiving : u.receiving ≡ receiving_up_to (kept_limit limit)
+  sending : Unanswered iss u.sending
+  probe : u.probe ≡ false
+
+connects_between : (iss limit : ℕ) (e : Tcb) → IsConnecting iss limit e → Connects e.local e.remote iss limit e
+connects_between iss limit e c = record {
+  local_is = refl;
+  remote_is = refl;
+  name = c.name;
+  receiving = c.receiving;
+  sending = record { same = c.sending; written = c.written; interval = c.interval };
+  probe = c.probe;
+}
+
+connects_at_connect : (local remote : Addr) (iss limit : ℕ) → Connects local remote iss limit (connecting local remote iss limit)
+unfolding connecting listening
+connects_at_connect local remote iss limit = record {
+  local_is = refl;
+  remote_is = refl;
+  name = refl;
+  receiving = refl;
+  sending = record { same = refl; written = omega arith; interval = omega arith };
+  probe = refl;
+}
+
+-- a tick lets the SYN go out again, and no probe
+and_false : (b : Bool) → (b && false) ≡ false
+and_false true = refl
+and_false false = refl
+
+connects_ticked : (local remote : Addr) (iss limit : ℕ) (e : Tcb) → Connects local remote iss limit e → Connects local remote iss limit (after_tick e)
+unfolding after_tick timer_ticked waited
+connects_ticked local remote iss limit e c = record {
+  local_is = c.local_is;
+  remote_is = c.remote_is;
+  name = ap (λ n. if is_time_wait n && nat_lt e.wait 2 then Closed else n) c.name;
+  receiving = c.receiving;
+  sending = ticked_unanswered iss e.sending c.sending;
+  probe = (λ i. c.probe i || (expires e.sending && not (not (c.sending.same i).opened || nat_lt e.sending.una e.sending.sent))) ∙ and_false (expires e.sending);
+}
+
+-- a segment that leaves SYN-SENT
+connects_refusing : (local remote : Addr) (iss limit : ℕ) (e : Tcb) (p : Segment) → Connects local remote iss limit e
+    → Connects local remote iss limit (refusing e p)
+unfolding refusing
+connects_refusing local remote iss limit e p c =
+    record { local_is = c.local_is; remote_is = c.remote_is; name = c.name; receiving = c.receiving; sending = c.sending; probe = c.probe }
+
+begun_name : (name : StateName) → has_begun name ≡ true → name ≡ SynSent → ⊥
+begun_name name begun sent = false≢true (sym (ap has_begun sent) ∙ begun)
+
+closed_name : (name : StateName) → name ≡ Closed → name ≡ SynSent → ⊥
+closed_name name closed sent = false≢true (ap is_closed (sym sent ∙ closed))
+
+answered_name : (e : Tcb) (p : Segment) → (answered e p).name ≡ Established
+unfolding answered
+answered_name e p = refl
+
+refusing_name : (e : Tcb) (p : Segment) → (refusing e p).name ≡ e.name
+unfolding refusing
+refusing_name e p = refl
+
+connects_in : (local remote : Addr) (iss limit : ℕ) (e : Tcb) (p : Segment) → Connects local remote iss limit e → (in_syn_sent e p).name ≡ SynSent
+    → Connects local remote iss limit (in_syn_sent e p)
+unfolding in_syn_sent
+connects_in local remote iss limit e p c =
+    let P : Tcb → Type 0 = λ t. t.name ≡ SynSent → Connects local remote iss limit t in
+    let taken : Tcb = if has_rst p then killed e else (if has_syn p then answered e p else e) in
+    let refused : Tcb = if has_rst p then e else refusing e p in
+    holds_if P (has_ack p) (if int_eq (ack_at e p) (pos 0) then taken else refused) e
+    (λ a. holds_if P (int_eq (ack_at e p) (pos 0)) taken refused
+    (λ b. holds_if P (has_rst p) (killed e) (if has_syn p then answered e p else e)
+    (λ r h. absurd (closed_name (killed e).name refl h))
+    (λ r. holds_if P (has_syn p) (answered e p) e
+    (λ s h. absurd (begun_name (answered e p).name (ap has_begun (answered_name e p)) h)) (λ s h. c)))
+    (λ b. holds_if P (has_rst p) e (refusing e p) (λ r h. c) (λ r h. connects_refusing local remote iss limit e p c)))
+    (λ a h. c)
+
+received_by : (e : Tcb) (p : Segment) → e.name ≡ SynSent → received e p ≡ in_syn_sent e p
+unfolding received
+received_by e p name = ap (λ n. received_in n e p) name
+
+-- what comes
+connects_arrived : (iss limit : ℕ) (news : News) (e : Tcb) → IsConnecting iss limit e → (arrived news e).name ≡ SynSent
+    → Connects e.local e.remote iss limit (arrived news e)
+connects_arrived iss limit (Comes segment) e c still =
+    let same : received e segment ≡ in_syn_sent e segment = received_by e segment c.name in
+    let P : Tcb → Type 0 = λ t. Connects e.local e.remote iss limit t in
+    subst P (sym same) (connects_in e.local e.remote iss limit e segment (connects_between iss limit e c) (ap (λ (t : Tcb). t.name) (sym same) ∙ still))
+connects_arrived iss limit (Logged kept) e c still = connects_between iss limit e c
+connects_arrived iss limit Ticks e c still = connects_ticked e.local e.remote iss limit e (connects_between iss limit e c)
+connects_arrived iss limit Begins e c still = connects_between iss limit e c
+
+-- no call leads into SYN-SENT, or makes a connection begin
+sent_before_close : (name : StateName) → after_close name ≡ SynSent → name ≡ SynSent
+sent_before_close Closed h = h
+sent_before_close Listen h = absurd (closed_name Closed refl h)
+sent_before_close SynSent h = refl
+sent_before_close SynReceived h = h
+sent_before_close Established h = absurd (begun_name FinWait1 refl h)
+sent_before_close FinWait1 h = h
+sent_before_close FinWait2 h = h
+sent_before_close CloseWait h = absurd (begun_name LastAck refl h)
+sent_before_close Closing h = h
+sent_before_close LastAck h = h
+sent_before_close TimeWait h = h
+
+begun_before_close : (name : StateName) → has_begun (after_close name) ≡ true → has_begun name ≡ true
+begun_before_close Closed h = h
+begun_before_close Listen h = h
+begun_before_close SynSent h = h
+begun_before_close SynReceived h = refl
+begun_before_close Established h = refl
+begun_before_close FinWait1 h = refl
+begun_before_close FinWait2 h = refl
+begun_before_close CloseWait h = refl
+begun_before_close Closing h = refl
+begun_before_close LastAck h = refl
+begun_before_close TimeWait h = refl
+
+sent_before : (calls : List Call) (m : Tcb) → (used calls m).name ≡ SynSent → m.name ≡ SynSent
+sent_before [] m h = h
+sent_before (Reads n ∷ calls) m h = sent_before calls (called (Reads n) m) h
+sent_before (Writes bytes ∷ calls) m h = sent_before calls (called (Writes bytes) m) h
+sent_before (Closes ∷ calls) m h = sent_before_close m.name (sent_before calls (called Closes m) h)
+
+begun_before : (calls : List Call) (m : Tcb) → has_begun (used calls m).name ≡ true → has_begun m.name ≡ true
+begun_before [] m h = h
+begun_before (Reads n ∷ calls) m h = begun_before calls (called (Reads n) m) h
+begun_before (Writes bytes ∷ calls) m h = begun_before calls (called (Writes bytes) m) h
+begun_before (Closes ∷ calls) m h = begun_before_close m.name (begun_before calls (called Closes m) h)
+
+-- the calls read nothing, and add to what is written
+connects_called : (local remote : Addr) (iss limit : ℕ) (call : Call) (m : Tcb) → MayCall call m → (called call m).name ≡ SynSent
+    → Connects local remote iss limit m → Connects local remote iss limit (called call m)
+connects_called local remote iss limit (Reads n) m may still c =
+    let P : Receiving → Type 0 = λ r. n ≤ length r.unread in
+    record {
+      local_is = c.local_is;
+      remote_is = c.remote_is;
+      name = c.name;
+      receiving = ap (λ r. read_out r n) c.receiving ∙ read_none (kept_limit limit) n (subst P c.receiving may);
+      sending = c.sending;
+      probe = c.probe;
+    }
+connects_called local remote iss limit (Writes bytes) m may still c =
+    let P : Sending → Type 0 = λ s. bytes_end s + length bytes ≤ 2 ^ 24 in
+    let few : bytes_end (record (sending_from iss) { held = m.sending.held; interval = m.sending.interval; rest = m.sending.rest }) + length bytes ≤ 2 ^ 24 =
+    subst P c.sending.same may.1 in
+    record {
+      local_is = c.local_is;
+      remote_is = c.remote_is;
+      name = c.name;
+      receiving = c.receiving;
+      sending = record {
+        same = ap (λ (s : Sending). record s { held = m.sending.held ++ bytes }) c.sending.same;
+        written = omega (arith, few, length-append m.sending.held bytes);
+        interval = c.sending.interval;
+      };
+      probe = c.probe;
+    }
+connects_called local remote iss limit Closes m may still c =
+    absurd (closed_name (called Closes m).name (ap after_close c.name) still)
+
+connects_used : (local remote : Addr) (iss limit : ℕ) (calls : List Call) (m : Tcb) → MayUse calls m → (used calls m).name ≡ SynSent
+    → Connects local remote iss limit m → Connects local remote iss limit (used calls m)
+connects_used local remote iss limit [] m may still c = c
+connects_used local remote iss limit (call ∷ calls) m may still c =
+    connects_used local remote iss limit calls (called call m) may.1 still
+    (connects_called local remote iss limit call m may.0 (sent_before calls (called call m) still) c)
+
+-- the flush sends what is due, starts the timer where it doesn't run, and leaves the rest
+abbrev Flushed : Addr → Addr → ℕ → ℕ → Tcb → Type 0
+Flushed local remote iss limit e = IsConnecting iss limit e × (e.local ≡ local) × (e.remote ≡ remote)
+
+still_connecting : (local remote : Addr) (iss limit : ℕ) (u : Tcb) → Connects local remote iss limit u
+    → u ≡ record u {
+      name = SynSent;
+      receiving = receiving_up_to (kept_limit limit);
+      sending = record (sending_from iss) { held = u.sending.held; interval = u.sending.interval; rest = u.sending.rest };
+      probe = false;
+    }
+still_connecting local remote iss limit u c = λ i.
+    record u { name = c.name i; receiving = c.receiving i; sending = c.sending.same i; probe = c.probe i }
+
+connects_flushed : (local remote : Addr) (iss limit : ℕ) (u : Tcb) → Connects local remote iss limit u → Flushed local remote iss limit (flushed u)
+unfolding flushed settled announced after_full with_fin_out with_text_sent with_probe
+connects_flushed local remote iss limit u c =
+    let s : Sending = record (sending_from iss) { held = u.sending.held; interval = u.sending.interval; rest = u.sending.rest } in
+    let P : Tcb → Type 0 = λ t. IsConnecting iss limit (flushed t) in
+    let unanswered : Unanswered iss (timed true s) = timed_unanswered iss s (record { same = refl; written = c.sending.written; interval = c.sending.interval }) in (
+      subst P (sym (still_connecting local remote iss limit u c)) (record {
+        name = refl;
+        receiving = refl;
+        sending = unanswered.same;
+        written = unanswered.written;
+        interval = unanswered.interval;
+        runs = runs_timed s;
+        owed = refl;
+        again = refl;
+        probe = refl;
+        answer = refl;
+      }),
+      c.local_is,
+      c.remote_is,
+    )
+
+pub connecting_law : (iss limit : ℕ) (news : News) (calls : List Call) (e : Tcb) → IsConnecting iss limit e → MayUse calls (arrived news e)
+    → (before_flush news calls e).name ≡ SynSent
+    → IsConnecting iss limit (turned news calls e) × ((turned news calls e).local ≡ e.local) × ((turned news calls e).remote ≡ e.remote)
+connecting_law iss limit news calls e c may still =
+    connects_flushed e.local e.remote iss limit (used calls (arrived news e))
+    (connects_used e.local e.remote iss limit calls (arrived news e) may still
+    (connects_arrived iss limit news e c (sent_before calls (arrived news e) still)))
+
+-- an active open sends its SYN
+syn_leaves : (local remote : Addr) (iss limit : ℕ) (u : Tcb) → Connects local remote iss limit u → u.again ≡ true → u.answer ≡ None
+    → leaving u ≡ opening_segment (connecting local remote iss limit) ∷ []
+unfolding leaving full_out answer_out again_out again_segment probe_out with_probe text_out texts with_text_sent fin_out is_owed after_full with_fin_out opening_segment head_at connecting listening
+syn_leaves local remote iss limit u c again answer =
+    let s : Sending = record (sending_from iss) { held = u.sending.held; interval = u.sending.interval; rest = u.sending.rest } in
+    let alone : leaving (record u {
+      local = local;
+      remote = remote;
+      name = SynSent;
+      receiving = receiving_up_to (kept_limit limit);
+      sending = s;
+      again = true;
+      probe = false;
+      answer = None;
+    }) ≡ opening_segment (connecting local remote iss limit) ∷ [] = refl in
+    (λ i. leaving (record u {
+      local = c.local_is i;
+      remote = c.remote_is i;
+      name = c.name i;
+      receiving = c.receiving i;
+      sending = c.sending.same i;
+      again = again i;
+      probe = c.probe i;
+      answer = answer i;
+    })) ∙ alone
+
+again_at_connect : (local remote : Addr) (iss limit : ℕ)
+    → ((connecting local remote iss limit).again ≡ true) × ((connecting local remote iss limit).answer ≡ None)
+unfolding connecting listening
+again_at_connect local remote iss limit = (refl, refl)
+
+pub connect_law : (local remote : Addr) (iss limit : ℕ) (calls : List Call) → MayUse calls (connecting local remote iss limit)
+    → (used calls (connecting local remote iss limit)).name ≡ SynSent
+    → IsConnecting iss limit (flushed (used calls (connecting local remote iss limit)))
+    × (leaving (used calls (connecting local remote iss limit)) ≡ opening_segment (connecting local remote iss limit) ∷ [])
+connect_law local remote iss limit calls may still =
+    let m : Tcb = connecting local remote iss limit in
+    let u : Tcb = used calls m in
+    let c : Connects local remote iss limit u = connects_used local remote iss limit calls m may still (connects_at_connect local remote iss limit) in
+    let a : IsUsed m u = used_is calls m may in
+    let due = again_at_connect local remote iss limit in (
+      (connects_flushed local remote iss limit u c).0,
+      syn_leaves local remote iss limit u c (a.again ∙ due.0) (a.answer ∙ due.1),
+    )
+
+-- an endpoint that connects is within the bounds
+unanswered_bounds : (iss limit interval rest : ℕ) (held : List ℕ) → limit ≤ 2 ^ 24 → length held ≤ 2 ^ 24
+    → Bounds (receiving_up_to (kept_limit limit)) (record (sending_from iss) { held = held; interval = interval; rest = rest })
+unanswered_bounds iss limit interval rest held small written = record {
+  limit = omega (arith, small);
+  taken = omega arith;
+  order = omega arith;
+  unopened = λ h. refl;
+  shut = λ h. refl;
+  flight = omega arith;
+  written = omega (arith, written);
+  sent = omega arith;
+  wl1 = λ h. absurd (false≢true h);
+  wl1_fits = omega arith;
+  wl2 = omega arith;
+  edge = omega arith;
+  reach = omega arith;
+}
+
+bounded_connecting : (iss limit : ℕ) (e : Tcb) → limit ≤ 2 ^ 24 → IsConnecting iss limit e → IsBounded e
+bounded_connecting iss limit e small c =
+    let P : Receiving → Type 0 = λ r. Bounds r e.sending in
+    let Q : Sending → Type 0 = λ s. Bounds (receiving_up_to (kept_limit limit)) s in
+    subst P (sym c.receiving) (subst Q (sym c.sending) (unanswered_bounds iss limit e.sending.interval e.sending.rest e.sending.held small c.written))
+
+-- an endpoint whose SYN has just been answered
+record Answered (m : Tcb) : Type 0 where
+  follows : FollowsAt m
+  fin_sent : m.sending.fin_sent ≡ false
+  interval : m.sending.interval ≡ 1
+  rest : m.sending.rest ≡ 0
+  owed : m.owed ≡ true
+  probe : m.probe ≡ false
+  answer : m.answer ≡ None
+
+by_answer : (iss limit : ℕ) (e : Tcb) (p : Segment) → IsConnecting iss limit e → Answered (answered e p)
+unfolding answered
+by_answer iss limit e p c =
+    let closed : e.sending.closed ≡ false = ap (λ (s : Sending). s.closed) c.sending in
+    let fin : e.receiving.fin ≡ false = ap (λ (r : Receiving). r.fin) c.receiving in
+    let unsent : e.sending.fin_sent ≡ false = ap (λ (s : Sending). s.fin_sent) c.sending in
+    record {
+      follows = record { placed = (refl, closed, fin); ends = λ k. absurd (false≢true (sym unsent ∙ k)); order = omega arith; unsent = λ k. unsent };
+      fin_sent = unsent;
+      interval = refl;
+      rest = refl;
+      owed = refl;
+      probe = c.probe;
+      answer = c.answer;
+    }
+
+answered_in : (iss limit : ℕ) (e : Tcb) (p : Segment) → IsConnecting iss limit e → has_begun (in_syn_sent e p).name ≡ true → Answered (in_syn_sent e p)
+unfolding in_syn_sent
+answered_in iss limit e p c =
+    let P : Tcb → Type 0 = λ t. has_begun t.name ≡ true → Answered t in
+    let taken : Tcb = if has_rst p then killed e else (if has_syn p then answered e p else e) in
+    let refused : Tcb = if has_rst p then e else refusing e p in
+    let waits : P e = λ h. absurd (begun_name e.name h c.name) in
+    holds_if P (has_ack p) (if int_eq (ack_at e p) (pos 0) then taken else refused) e
+    (λ a. holds_if P (int_eq (ack_at e p) (pos 0)) taken refused
+    (λ b. holds_if P (has_rst p) (killed e) (if has_syn p then answered e p else e)
+    (λ r h. absurd (false≢true h))
+    (λ r. holds_if P (has_syn p) (answered e p) e (λ s h. by_answer iss limit e p c) (λ s. waits)))
+    (λ b. holds_if P (has_rst p) e (refusing e p) (λ r. waits)
+    (λ r h. absurd (begun_name (refusing e p).name h (refusing_name e p ∙ c.name)))))
+    (λ a. waits)
+
+answered_arrived : (iss limit : ℕ) (news : News) (e : Tcb) → IsConnecting iss limit e → limit ≤ 2 ^ 24 → FieldsFit news → has_begun (arrived news e).name ≡ true
+    → Answered (arrived news e) × IsBounded (arrived news e)
+answered_arrived iss limit (Comes segment) e c small fit begun =
+    let same : received e segment ≡ in_syn_sent e segment = received_by e segment c.name in
+    let P : Tcb → Type 0 = λ t. Answered t in (
+      subst P (sym same) (answered_in iss limit e segment c (ap (λ (t : Tcb). has_begun t.name) (sym same) ∙ begun)),
+      bounded_in_syn_sent e segment c.name (ap (λ (s : Sending). s.opened) c.sending) (bounded_connecting iss limit e small c) fit.0 fit.1,
+    )
+answered_arrived iss limit (Logged kept) e c small fit begun = absurd (begun_name e.name begun c.name)
+answered_arrived iss limit Ticks e c small fit begun =
+    absurd (begun_name (after_tick e).name begun (connects_ticked e.local e.remote iss limit e (connects_between iss limit e c)).name)
+answered_arrived iss limit Begins e c small fit begun = absurd (begun_name e.name begun c.name)
+
+-- from then on it is between two turns of a connection that has begun
+same_interval : (runs : Bool) (n : ℕ) → (if runs then n else n) ≡ n
+same_interval true n = refl
+same_interval false n = refl
+
+pub answers_law : (iss limit : ℕ) (news : News) (calls : List Call) (e : Tcb) → IsConnecting iss limit e → limit ≤ 2 ^ 24 → FieldsFit news
+    → MayUse calls (arrived news e) → has_begun (before_flush news calls e).name ≡ true
+    → IsBetweenTurns (turned news calls e) × IsNamedRightly (turned news calls e) × (has_begun (turned news calls e).name ≡ true)
+answers_law iss limit news calls e c small fit may begun =
+    let m : Tcb = arrived news e in
+    let u : Tcb = used calls m in
+    let came = answered_arrived iss limit news e c small fit (begun_before calls m begun) in
+    let h : Answered m = came.0 in
+    let last : FinIsLast m.sending = λ k. absurd (false≢true (sym h.fin_sent ∙ k)) in
+    let a : IsUsed m u = used_is calls m may in
+    let sent_last : FinIsLast u.sending = λ k. absurd (false≢true (sym (a.sends.fin_sent ∙ h.fin_sent) ∙ k)) in
+    let timer = flushed_timer u 1 0 (a.sends.interval ∙ h.interval) (a.sends.rest ∙ h.rest) in
+    let interval : (flushed u).sending.interval ≡ 1 = timer.interval ∙ same_interval (is_timed (after_full u)) 1 in (
+      between_again u begun (bounded_used calls m may last came.1) (no_probe u (a.probe ∙ h.probe)) sent_last (omega (arith, interval)),
+      named_at (flushed u) (flush_follows u (used_follows calls m h.follows)),
+      ap has_begun (flushed_name u) ∙ begun,
+    )
+
+-- and a segment leaves that tells what is taken, and no RST does
+answer_none : (u : Tcb) → u.answer ≡ None → AllByRecursion (Announces u) (answer_out u)
+unfolding answer_out
+answer_none u none = none_announces u u.answer none
+
+owed_asks : (u : Tcb) → u.owed ≡ true → asks u.owed u ≡ true
+owed_asks u owed = ap (λ o. asks o u) owed
+
+pub answers_announce_law : (iss limit : ℕ) (news : News) (calls : List Call) (e : Tcb) → IsConnecting iss limit e → limit ≤ 2 ^ 24 → FieldsFit news
+    → MayUse calls (arrived news e) → has_begun (before_flush news calls e).name ≡ true
+    → AllByRecursion (Announces (before_flush news calls e)) (sent_in news calls e) × (is_told (sent_in news calls e) ≡ true)
+answers_announce_law iss limit news calls e c small fit may begun =
+    let m : Tcb = arrived news e in
+    let u : Tcb = used calls m in
+    let h : Answered m = (answered_arrived iss limit news e c small fit (begun_before calls m begun)).0 in
+    let a : IsUsed m u = used_is calls m may in
+    let none : u.answer ≡ None = a.answer ∙ h.answer in
+    (leaving_announces u begun (answer_none u none), unanswered_tells u begun none (owed_asks u (a.owed ∙ h.owed)))

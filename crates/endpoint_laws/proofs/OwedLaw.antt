@@ -1,0 +1,122 @@
+-- The checks on a segment, one by one, owe an answer where the law Owed says.
+use Rattle.std.proofs.Common.{◌≡◌, ℕ, Bool, true, false, not, refl, sym, ap, arith, ◌∙◌}
+use Rattle.std.specs.Prelude.{ℤ, pos, ◌≤ℤ◌, ◌&&◌, ◌||◌, nat_lt, int_lt, if◌then◌else◌}
+use Rattle.std.proofs.lemmas.Int.{ints}
+use Rattle.std.proofs.lemmas.Bool.{false≢true}
+use Rattle.seq_arith.specs.Arrival.{int_eq, is_acceptable}
+use Rattle.seq_arith.specs.Packet.{Segment, has_syn, has_rst, has_ack}
+use Rattle.seq_arith.specs.Offset.{length_of}
+use Rattle.tcp_buffers.specs.Near.{is_ahead}
+use Rattle.tcp_endpoint.specs.States.{opened, after_fin, after_fin_acked, has_begun}
+use Rattle.tcp_endpoint.specs.Receiving.{Receiving, next, window}
+use Rattle.tcp_endpoint.specs.Sending.{opened_by, acknowledged, fin_acked}
+use Rattle.tcp_endpoint.specs.Tcb.{Tcb}
+use Rattle.tcp_endpoint.specs.Arrival.{first, ack_at, owing_if, killed, entering, with_text_and_fin, with_fin_acked, with_first_ack, with_ack, check_ack, check_syn, check_rst, waiting_again, check_place, in_others, received, refusing}
+use Rattle.endpoint_laws.specs.Laws.{accepts, acknowledges_less, is_refused, owes_acceptable, owes, IsBounded, IsUsual}
+use Rattle.endpoint_laws.proofs.TakenLaw.{part_of_if, same_if, if_when, begun_is, at_ack, segment_taken, sent_bool, window_is}
+
+text_part : (e : Tcb) (p : Segment) → (with_text_and_fin e p).owed ≡ (e.owed || int_lt (pos (next e.receiving)) (first e p))
+unfolding with_text_and_fin
+text_part e p =
+    let taking : Tcb = record e {
+      receiving = segment_taken e p;
+      owed = e.owed || int_lt (pos (next e.receiving)) (first e p);
+    }
+    in part_of_if (λ (t : Tcb). t.owed) (taking.receiving.fin && not e.receiving.fin) (entering (after_fin e.name) taking) taking
+    ∙ same_if (taking.receiving.fin && not e.receiving.fin) taking.owed
+
+-- what the end of the other side's FIN leaves
+acked_owed : (e : Tcb) → (with_fin_acked e).owed ≡ e.owed
+unfolding with_fin_acked
+acked_owed e = part_of_if (λ (t : Tcb). t.owed) (fin_acked e.sending) (entering (after_fin_acked e.name) e) e ∙ same_if (fin_acked e.sending) e.owed
+
+acked_receiving : (e : Tcb) → (with_fin_acked e).receiving ≡ e.receiving
+unfolding with_fin_acked
+acked_receiving e =
+    part_of_if (λ (t : Tcb). t.receiving) (fin_acked e.sending) (entering (after_fin_acked e.name) e) e ∙ same_if (fin_acked e.sending) e.receiving
+
+later_ack_part : (e : Tcb) (p : Segment) → is_ahead e.sending.sent (ack_at e p) ≡ false
+    → (with_ack e p).owed ≡ (e.owed || int_lt (pos (next e.receiving)) (first e p))
+unfolding with_ack
+later_ack_part e p sent =
+    let used : Tcb = record e { sending = acknowledged e.sending p.head.seq (ack_at e p) p.head.window }
+    in ap (λ b. (if b then owing_if true e else with_text_and_fin (with_fin_acked used) p).owed) sent
+    ∙ text_part (with_fin_acked used) p
+    ∙ ap (λ o. o || int_lt (pos (next (with_fin_acked used).receiving)) (first (with_fin_acked used) p)) (acked_owed used)
+    ∙ ap (λ (r : Receiving). e.owed || int_lt (pos (next r)) (first (record e { receiving = r }) p)) (acked_receiving used)
+
+first_ack_part : (e : Tcb) (p : Segment) → int_eq (ack_at e p) (pos 0) ≡ true → (with_first_ack e p).owed ≡ (e.owed || int_lt (pos (next e.receiving)) (first e p))
+unfolding with_first_ack
+first_ack_part e p is_syn =
+    let opening : Tcb = record e { name = opened e.sending.closed; sending = opened_by e.sending p.head.seq p.head.window }
+    in ap (λ b. (if b then with_text_and_fin opening p else refusing e p).owed) is_syn ∙ text_part opening p
+
+-- with ACK, while it isn't refused
+ack_part : (e : Tcb) (p : Segment) → is_ahead e.sending.sent (ack_at e p) ≡ false → (e.sending.opened ≡ false → int_eq (ack_at e p) (pos 0) ≡ true)
+    → (if e.sending.opened then (with_ack e p).owed else (with_first_ack e p).owed) ≡ (e.owed || int_lt (pos (next e.receiving)) (first e p))
+ack_part e p sent syn =
+    if_when e.sending.opened (with_ack e p).owed _ (with_first_ack e p).owed _ (λ h. later_ack_part e p sent) (λ h. first_ack_part e p (syn h))
+    ∙ same_if e.sending.opened _
+
+none_or : (o x : Bool) → o ≡ false → (o || x) ≡ x
+none_or o x none = ap (λ v. v || x) none
+
+reset_owed : (o q : Bool) → o ≡ false → (if q then o else o || true) ≡ not q
+reset_owed o true none = none
+reset_owed o false none = ap (λ v. v || true) none
+
+or_false : (b : Bool) → b ≡ (b || false)
+or_false true = refl
+or_false false = refl
+
+syn_by : (z : ℤ) (sent : ℕ) → z ≤ℤ pos sent → sent ≡ 0 → int_lt z (pos 0) ≡ false → int_eq z (pos 0) ≡ true
+syn_by z sent h none up = grind (arith, ints)
+
+pub is_syn_ack : (e : Tcb) (p : Segment) → IsBounded e → IsUsual e p → acknowledges_less e p ≡ false → has_ack p ≡ true → e.sending.opened ≡ false
+    → int_eq (ack_at e p) (pos 0) ≡ true
+is_syn_ack e p b usual not_less is_ack unopened =
+    let up : int_lt (ack_at e p) (pos 0) ≡ false =
+    sym (ap (λ v. not v && has_ack p && int_lt (ack_at e p) (pos 0)) unopened ∙ ap (λ v. true && v && int_lt (ack_at e p) (pos 0)) is_ack) ∙ not_less
+    in syn_by (ack_at e p) e.sending.sent (usual.sent is_ack) (b.unopened unopened) up
+
+-- an acceptable segment with neither SYN nor RST
+plain_owed : (e : Tcb) (p : Segment) → IsBounded e → IsUsual e p → e.owed ≡ false → acknowledges_less e p ≡ false
+    → (check_ack (at_ack e p) p).owed ≡ (nat_lt 0 (length_of p) || (has_ack p && int_lt (pos (next e.receiving)) (first e p)))
+unfolding check_ack waiting_again
+plain_owed e p b usual none not_less =
+    let e1 : Tcb = at_ack e p in
+    let early : Bool = int_lt (pos (next e.receiving)) (first e p) in
+    let some : Bool = nat_lt 0 (length_of p) in
+    part_of_if (λ (t : Tcb). t.owed) (has_ack p) (if e1.sending.opened then with_ack e1 p else with_first_ack e1 p) e1
+    ∙ ap (λ x. if has_ack p then x else e1.owed) (part_of_if (λ (t : Tcb). t.owed) e1.sending.opened (with_ack e1 p) (with_first_ack e1 p))
+    ∙ if_when (has_ack p) _ (some || (has_ack p && early)) _ (some || (has_ack p && early))
+    (λ is_ack. ack_part e1 p (sent_bool e p b usual is_ack) (is_syn_ack e p b usual not_less is_ack)
+    ∙ ap (λ v. v || early) (none_or e.owed some none) ∙ ap (λ v. some || (v && early)) (sym is_ack))
+    (λ no_ack. none_or e.owed some none ∙ or_false some ∙ ap (λ v. some || (v && early)) (sym no_ack))
+    ∙ same_if (has_ack p) (some || (has_ack p && early))
+
+-- what isn't refused, though it is acceptable and has neither SYN nor RST
+not_less_of : (acceptable rst syn less : Bool) → (acceptable && not rst && not syn && less) ≡ false → acceptable ≡ true → rst ≡ false → syn ≡ false → less ≡ false
+not_less_of true false false less h a r s = h
+not_less_of true false true less h a r s = absurd (false≢true (sym s))
+not_less_of true true syn less h a r s = absurd (false≢true (sym r))
+not_less_of false rst syn less h a r s = absurd (false≢true a)
+
+pub owed_law : (e : Tcb) (p : Segment) → has_begun e.name ≡ true → IsBounded e → IsUsual e p → e.owed ≡ false → is_refused e p ≡ false
+    → (received e p).owed ≡ owes e p
+unfolding received in_others check_place check_rst check_syn waiting_again
+owed_law e p begun b usual none unrefused =
+    let e0 : Tcb = waiting_again e p in
+    let acceptable : ℕ → Bool = λ w. is_acceptable (next e.receiving) w (first e p) (length_of p) in
+    let at_next : Bool = int_eq (first e p) (pos (next e.receiving)) in
+    ap (λ (t : Tcb). t.owed) (begun_is e.name e p begun)
+    ∙ part_of_if (λ (t : Tcb). t.owed) (acceptable (window e.receiving)) (check_rst e0 p) (owing_if (not (has_rst p)) e0)
+    ∙ if_when (acceptable (window e.receiving)) _ (owes_acceptable e p) _ (not (has_rst p))
+    (λ h. part_of_if (λ (t : Tcb). t.owed) (has_rst p) (if at_next then killed e0 else owing_if true e0) (check_syn e0 p)
+    ∙ if_when (has_rst p) _ (not at_next) _ _
+    (λ is_rst. part_of_if (λ (t : Tcb). t.owed) at_next (killed e0) (owing_if true e0) ∙ reset_owed e.owed at_next none)
+    (λ no_rst. part_of_if (λ (t : Tcb). t.owed) (has_syn p) (owing_if true e0) (check_ack (at_ack e p) p)
+    ∙ if_when (has_syn p) _ true _ _ (λ is_syn. none_or e.owed true none) (λ no_syn. plain_owed e p b usual none
+    (not_less_of (accepts e p) (has_rst p) (has_syn p) (acknowledges_less e p) unrefused (ap acceptable (window_is e.receiving) ∙ h) no_rst no_syn))))
+    (λ h. none_or e.owed (not (has_rst p)) none)
+    ∙ ap (λ w. if acceptable w then owes_acceptable e p else not (has_rst p)) (sym (window_is e.receiving))

@@ -1,0 +1,288 @@
+-- The checks on a segment, one by one, acknowledge what the law Sending says.
+use Rattle.std.proofs.Common.{◌≡◌, ℕ, ◌<◌, ◌≤◌, ◌+◌, ◌-◌, ◌^◌, Bool, true, false, not, List, length, length-drop, drop, max, min, refl, sym, ap, subst, arith, ◌∙◌}
+use Rattle.std.specs.Prelude.{ℤ, pos, ◌≤ℤ◌, ◌==◌, ◌&&◌, ◌||◌, nat_abs, nat_le, int_lt, int_le, if◌then◌else◌}
+use Rattle.std.proofs.lemmas.Int.{ints}
+use Rattle.std.proofs.lemmas.Bool.{false≢true}
+use Rattle.seq_arith.specs.Number.{offset_of, precedes}
+use Rattle.seq_arith.specs.Arrival.{int_eq, is_acceptable, is_new_ack, una_after, updates_window}
+use Rattle.seq_arith.specs.Packet.{Segment, has_fin, has_syn, has_rst, has_ack}
+use Rattle.seq_arith.specs.Offset.{length_of}
+use Rattle.tcp_buffers.specs.Near.{IsNearFirst, is_ahead}
+use Rattle.tcp_buffers.proofs.NumbersTell.{between_is, same_is}
+use Rattle.tcp_endpoint.specs.States.{opened, after_fin, after_fin_acked, has_begun}
+use Rattle.tcp_endpoint.specs.Receiving.{Receiving, taken, next, announced_edge, window}
+use Rattle.tcp_endpoint.specs.Sending.{Sending, opened_by, acknowledged, fin_acked, moves_edge}
+use Rattle.tcp_endpoint.specs.Tcb.{Tcb}
+use Rattle.tcp_endpoint.specs.Arrival.{first, ack_at, owing_if, entering, with_text_and_fin, with_fin_acked, with_first_ack, with_ack, waiting_again, in_others, received, refusing}
+use Rattle.endpoint_laws.specs.Laws.{accepts, counts, acknowledges, uses_window, IsSentBy, IsBounded, IsUsual}
+use Rattle.tcp_endpoint.proofs.Places.{near_of_acceptable}
+use Rattle.endpoint_laws.proofs.TakenLaw.{part_of_if, same_if, if_when, by_checks, begun_is, Aside, at_ack, others_part, segment_taken, sent_bool, window_is, syn_only, dull, dull_more, dull_most}
+
+text_part : (e : Tcb) (p : Segment) → (with_text_and_fin e p).sending ≡ e.sending
+unfolding with_text_and_fin
+text_part e p =
+    let taking : Tcb = record e {
+      receiving = segment_taken e p;
+      owed = e.owed || int_lt (pos (next e.receiving)) (first e p);
+    }
+    in part_of_if (λ (t : Tcb). t.sending) (taking.receiving.fin && not e.receiving.fin) (entering (after_fin e.name) taking) taking
+    ∙ same_if (taking.receiving.fin && not e.receiving.fin) e.sending
+
+acked_part : (e : Tcb) → (with_fin_acked e).sending ≡ e.sending
+unfolding with_fin_acked
+acked_part e =
+    part_of_if (λ (t : Tcb). t.sending) (fin_acked e.sending) (entering (after_fin_acked e.name) e) e ∙ same_if (fin_acked e.sending) e.sending
+
+later_ack_part : (e : Tcb) (p : Segment) → is_ahead e.sending.sent (ack_at e p) ≡ false
+    → (with_ack e p).sending ≡ acknowledged e.sending p.head.seq (ack_at e p) p.head.window
+unfolding with_ack
+later_ack_part e p sent =
+    let used : Tcb = record e { sending = acknowledged e.sending p.head.seq (ack_at e p) p.head.window }
+    in ap (λ b. (if b then owing_if true e else with_text_and_fin (with_fin_acked used) p).sending) sent
+    ∙ text_part (with_fin_acked used) p
+    ∙ acked_part used
+
+first_ack_part : (e : Tcb) (p : Segment)
+    → (with_first_ack e p).sending ≡ (if int_eq (ack_at e p) (pos 0) then opened_by e.sending p.head.seq p.head.window else e.sending)
+unfolding with_first_ack refusing
+first_ack_part e p =
+    let opening : Tcb = record e { name = opened e.sending.closed; sending = opened_by e.sending p.head.seq p.head.window }
+    in part_of_if (λ (t : Tcb). t.sending) (int_eq (ack_at e p) (pos 0)) (with_text_and_fin opening p) (refusing e p)
+    ∙ ap (λ x. if int_eq (ack_at e p) (pos 0) then x else e.sending) (text_part opening p)
+
+sending_aside : Aside (λ (e : Tcb). e.sending)
+unfolding waiting_again
+sending_aside = record { killed = λ e. refl; owing = λ b e. refl; waiting = λ e p. refl }
+
+-- what a segment that counts makes of the sending half
+abbrev pub used_by : Tcb → Segment → Sending
+used_by e p =
+    if e.sending.opened
+    then acknowledged e.sending p.head.seq (ack_at e p) p.head.window
+    else opened_by e.sending p.head.seq p.head.window
+
+checks_use : (e : Tcb) (p : Segment) → IsBounded e → IsUsual e p
+    → (in_others e p).sending
+    ≡ by_checks (is_acceptable (next e.receiving) (window e.receiving) (first e p) (length_of p)) (has_rst p) (has_syn p) (has_ack p) e.sending.opened
+    (int_eq (ack_at e p) (pos 0)) (acknowledged e.sending p.head.seq (ack_at e p) p.head.window) (opened_by e.sending p.head.seq p.head.window) e.sending
+unfolding waiting_again
+checks_use e p bounded usual =
+    others_part (λ (t : Tcb). t.sending) e p sending_aside ∙ if_when (is_acceptable (next e.receiving) (window e.receiving) (first e p) (length_of p)) _ _ _ _
+    (λ acceptable. if_when (has_rst p) _ _ _ _ (λ h. refl)
+    (λ no_rst. if_when (has_syn p) _ _ _ _ (λ h. refl)
+    (λ no_syn. if_when (has_ack p) _ _ _ _
+    (λ is_ack. if_when e.sending.opened _ _ _ _
+    (λ h. later_ack_part (at_ack e p) p (sent_bool e p bounded usual is_ack))
+    (λ h. first_ack_part (at_ack e p) p))
+    (λ h. refl))))
+    (λ h. refl)
+
+off_by : (a b : Bool) (x y : Sending) → y ≡ (if true && a && false && b then x else y)
+off_by true b x y = refl
+off_by false b x y = refl
+
+-- the choice of the checks, in the law's one test
+by_law : (acceptable rst syn ack opened syn_acked acked : Bool) (x x' y : Sending) → (ack ≡ true → opened ≡ false → syn_acked ≡ acked)
+    → by_checks acceptable rst syn ack opened syn_acked x x' y
+    ≡ (if ack && not syn && not rst && acceptable && (opened || acked) then (if opened then x else x') else y)
+by_law true true true true opened syn_acked acked x x' y same = refl
+by_law true true true false opened syn_acked acked x x' y same = refl
+by_law true true false true opened syn_acked acked x x' y same = refl
+by_law true true false false opened syn_acked acked x x' y same = refl
+by_law true false true true opened syn_acked acked x x' y same = refl
+by_law true false true false opened syn_acked acked x x' y same = refl
+by_law true false false true true syn_acked acked x x' y same = refl
+by_law true false false true false syn_acked acked x x' y same = ap (λ b. if b then x' else y) (same refl refl)
+by_law true false false false opened syn_acked acked x x' y same = refl
+by_law false rst syn true opened syn_acked acked x x' y same = off_by (not syn && not rst) (opened || acked) (if opened then x else x') y
+by_law false rst syn false opened syn_acked acked x x' y same = refl
+
+-- the sending half after a segment, whole
+pub sending_is : (e : Tcb) (p : Segment) → has_begun e.name ≡ true → IsBounded e → IsUsual e p
+    → (received e p).sending ≡ (if counts e p then used_by e p else e.sending)
+unfolding received
+sending_is e p begun bounded usual =
+    let acceptable : ℕ → Bool = λ w. is_acceptable (next e.receiving) w (first e p) (length_of p) in
+    let acked : Bool = int_le (pos 0) (ack_at e p) in
+    let chosen : ℕ → Sending = λ w.
+    if has_ack p && not (has_syn p) && not (has_rst p) && acceptable w && (e.sending.opened || acked) then used_by e p else e.sending in
+    ap (λ (t : Tcb). t.sending) (begun_is e.name e p begun) ∙ checks_use e p bounded usual
+    ∙ by_law (acceptable (window e.receiving)) (has_rst p) (has_syn p) (has_ack p) e.sending.opened (int_eq (ack_at e p) (pos 0)) acked
+    (acknowledged e.sending p.head.seq (ack_at e p) p.head.window) (opened_by e.sending p.head.seq p.head.window) e.sending
+    (λ is_ack unopened. syn_only e p (usual.sent is_ack) (bounded.unopened unopened))
+    ∙ ap chosen (sym (window_is e.receiving))
+
+-- what counts has ACK, and acknowledges the SYN where that is the first
+pub counts_ack : (ack syn rst acceptable opened acked : Bool) → (ack && not syn && not rst && acceptable && (opened || acked)) ≡ true
+    → (ack ≡ true) × (opened ≡ false → acked ≡ true)
+counts_ack true false false true true acked h = (refl, λ e. cc)
+counts_ack true false false true false acked h = (refl, λ e. h)
+counts_ack true false false false opened acked h = cc
+counts_ack true false true acceptable opened acked h = absurd (false≢true (dull acceptable (opened || acked) h))
+counts_ack true true rst acceptable opened acked h = absurd (false≢true (dull_more rst acceptable (opened || acked) h))
+counts_ack false syn rst acceptable opened acked h = absurd (false≢true (dull_most syn rst acceptable (opened || acked) h))
+
+-- the fields of an acknowledgement that was sent, of a connection whose SYN is acknowledged
+una_field : (una sent : ℕ) (z : ℤ) → z ≤ℤ pos sent
+    → (if is_new_ack una sent z then nat_abs z else una) ≡ (if int_le (pos 0) z then una_after una (nat_abs z) else una)
+una_field una sent z h = grind (arith, ints)
+
+window_test : (una sent wl2 : ℕ) (z : ℤ) (later same : Bool) → z ≤ℤ pos sent
+    → (int_le (pos una) z && int_le z (pos sent) && (later || (same && nat_le wl2 (nat_abs z))))
+    ≡ (int_le (pos 0) z && (false || (nat_le una (nat_abs z) && (later || (same && nat_le wl2 (nat_abs z))))))
+window_test una sent wl2 z later same h = grind (arith, ints)
+
+pub held_field : (una sent : ℕ) (z : ℤ) (held : List ℕ) → una ≤ sent
+    → (if is_new_ack una sent z then nat_abs z else una) + length (if is_new_ack una sent z then drop (nat_abs z - una) held else held)
+    ≡ max (if is_new_ack una sent z then nat_abs z else una) (una + length held)
+held_field una sent z held h = grind (arith, ints, length-drop {A = ℕ})
+
+offset_of_choice : (irs x y : ℕ) (b : Bool) → offset_of irs (if b then x else y) ≡ (if b then offset_of irs x else offset_of irs y)
+offset_of_choice irs x y true = refl
+offset_of_choice irs x y false = refl
+
+or_false : (b : Bool) → b ≡ (b || false)
+or_false true = refl
+or_false false = refl
+
+length_by : (rst syn fin : Bool) (n : ℕ) → n ≤ 65535 → (if rst then 0 else (if syn then 1 else n + (if fin then 1 else 0))) ≤ 2 ^ 16
+length_by true syn fin n h = omega arith
+length_by false true fin n h = omega arith
+length_by false false true n h = omega arith
+length_by false false false n h = omega arith
+
+dull_end : (a b : Bool) → (a && false && b) ≡ true → false ≡ true
+dull_end true b h = h
+dull_end false b h = h
+
+next_by : (fin : Bool) (t limit : ℕ) → limit ≤ 2 ^ 24 → t ≤ limit → t + (if fin then 1 else 0) ≤ 2 ^ 30 + 1
+next_by true t limit small within = omega arith
+next_by false t limit small within = omega arith
+
+pub next_near : (r : Receiving) → r.limit ≤ 2 ^ 24 → taken r ≤ r.limit → next r ≤ 2 ^ 30 + 1
+next_near r small within = next_by r.fin (taken r) r.limit small within
+
+window_by : (read limit len k : ℕ) → min (read + 65535) limit + k - (read + len + k) ≤ 2 ^ 16
+window_by read limit len k = omega arith
+
+pub window_short : (r : Receiving) → announced_edge r - next r ≤ 2 ^ 16
+window_short r = window_by r.read r.limit (length r.unread) (if r.fin then 1 else 0)
+
+-- a segment has at most 2^16 numbers
+pub length_short : (p : Segment) → length p.payload ≤ 65535 → length_of p ≤ 2 ^ 16
+length_short p h = length_by (has_rst p) (has_syn p) (has_fin p) (length p.payload) h
+
+pub acceptable_of : (ack syn rst acceptable acked : Bool) → (ack && not syn && not rst && acceptable && acked) ≡ true → acceptable ≡ true
+acceptable_of ack syn rst true acked h = refl
+acceptable_of ack syn rst false acked h = absurd (false≢true (dull_end (ack && not syn && not rst) acked h))
+
+-- what counts is acceptable, and so begins near
+pub near_of_counts : (e : Tcb) (p : Segment) → IsBounded e → IsUsual e p → counts e p ≡ true → IsNearFirst (first e p)
+near_of_counts e p bounded usual does_count =
+    near_of_acceptable (next e.receiving) (announced_edge e.receiving - next e.receiving) (first e p) (length_of p)
+    (next_near e.receiving bounded.limit bounded.taken) (window_short e.receiving) (length_short p usual.text)
+    (acceptable_of (has_ack p) (has_syn p) (has_rst p) (accepts e p) (e.sending.opened || int_le (pos 0) (ack_at e p)) does_count)
+
+-- the test on a window, as the law says it
+abbrev is_newer : Tcb → Segment → Bool
+is_newer e p = updates_window e.sending.una (offset_of e.receiving.irs e.sending.wl1) e.sending.wl2 (first e p) (nat_abs (ack_at e p))
+
+window_is_used : (e : Tcb) (p : Segment) → IsBounded e → IsUsual e p → e.sending.opened ≡ true → counts e p ≡ true
+    → ack_at e p ≤ℤ pos e.sending.sent → moves_edge e.sending p.head.seq (ack_at e p) ≡ uses_window e p
+window_is_used e p bounded usual is_opened does_count sent =
+    let s : Sending = e.sending in
+    let z : ℤ = ack_at e p in
+    let irs : ℕ = e.receiving.irs in
+    let seq : ℕ = p.head.seq in
+    let wl1_fits : s.wl1 < 2 ^ 32 = omega (arith, bounded.wl1_fits) in
+    let near : IsNearFirst (first e p) = near_of_counts e p bounded usual does_count in
+    let later : precedes s.wl1 seq ≡ int_lt (offset_of irs s.wl1) (offset_of irs seq) = between_is irs s.wl1 seq wl1_fits usual.seq (bounded.wl1 is_opened) near in
+    let same : (s.wl1 == seq) ≡ int_eq (offset_of irs s.wl1) (offset_of irs seq) = same_is irs s.wl1 seq wl1_fits usual.seq (bounded.wl1 is_opened) near in
+    ap (λ b. int_le (pos s.una) z && int_le z (pos s.sent) && (b || (s.wl1 == seq && nat_le s.wl2 (nat_abs z)))) later
+    ∙ ap (λ b. int_le (pos s.una) z && int_le z (pos s.sent) && (int_lt (offset_of irs s.wl1) (offset_of irs seq) || (b && nat_le s.wl2 (nat_abs z)))) same
+    ∙ window_test s.una s.sent s.wl2 z (int_lt (offset_of irs s.wl1) (offset_of irs seq)) (int_eq (offset_of irs s.wl1) (offset_of irs seq)) sent
+    ∙ ap (λ b. (b && int_le (pos 0) z) && (false || is_newer e p)) (sym does_count)
+    ∙ ap (λ o. (counts e p && int_le (pos 0) z) && (not o || is_newer e p)) (sym is_opened)
+
+later_law : (e : Tcb) (p : Segment) → IsBounded e → IsUsual e p → e.sending.opened ≡ true → counts e p ≡ true
+    → IsSentBy e p (acknowledged e.sending p.head.seq (ack_at e p) p.head.window)
+unfolding acknowledged
+later_law e p bounded usual is_opened does_count =
+    let s : Sending = e.sending in
+    let z : ℤ = ack_at e p in
+    let sent : z ≤ℤ pos s.sent = usual.sent (counts_ack (has_ack p) (has_syn p) (has_rst p) (accepts e p) s.opened (int_le (pos 0) z) does_count).0 in
+    let used : moves_edge s p.head.seq z ≡ uses_window e p = window_is_used e p bounded usual is_opened does_count sent in
+    record {
+      iss = refl;
+      counted = is_opened ∙ sym (ap (λ b. b || counts e p) is_opened);
+      una = una_field s.una s.sent z sent ∙ ap (λ b. if b && int_le (pos 0) z then una_after s.una (nat_abs z) else s.una) (sym does_count);
+      sent = refl;
+      edge = ap (λ b. if b then nat_abs z + p.head.window else s.edge) used;
+      wl1 = offset_of_choice e.receiving.irs p.head.seq s.wl1 (moves_edge s p.head.seq z) ∙ ap (λ b. if b then first e p else offset_of e.receiving.irs s.wl1) used;
+      wl2 = ap (λ b. if b then nat_abs z else s.wl2) used;
+      held = held_field s.una s.sent z s.held bounded.order;
+      closed = refl;
+    }
+
+zero_abs : (z : ℤ) (n : ℕ) → z ≤ℤ pos n → n ≡ 0 → int_le (pos 0) z ≡ true → nat_abs z ≡ 0
+zero_abs z n h none up = grind (arith, ints)
+
+una_zero : (una a : ℕ) → una ≡ 0 → a ≡ 0 → 0 ≡ una_after una a
+una_zero una a u z = grind arith
+
+first_law : (e : Tcb) (p : Segment) → IsBounded e → IsUsual e p → e.sending.opened ≡ false → counts e p ≡ true
+    → IsSentBy e p (opened_by e.sending p.head.seq p.head.window)
+first_law e p bounded usual unopened does_count =
+    let s : Sending = e.sending in
+    let z : ℤ = ack_at e p in
+    let facts = counts_ack (has_ack p) (has_syn p) (has_rst p) (accepts e p) s.opened (int_le (pos 0) z) does_count in
+    let none : s.sent ≡ 0 = bounded.unopened unopened in
+    let una : s.una ≡ 0 = omega (arith, bounded.order) in
+    let acked : acknowledges e p ≡ true = ap (λ b. b && int_le (pos 0) z) does_count ∙ facts.1 unopened in
+    let zero : nat_abs z ≡ 0 = zero_abs z s.sent (usual.sent facts.0) none (facts.1 unopened) in
+    let reached : p.head.window ≡ nat_abs z + p.head.window = omega (arith, zero) in
+    let used : uses_window e p ≡ true = ap (λ b. b && (not s.opened || is_newer e p)) acked ∙ ap (λ o. true && (not o || is_newer e p)) unopened in
+    record {
+      iss = refl;
+      counted = sym (ap (λ b. b || counts e p) unopened ∙ does_count);
+      una = una_zero s.una (nat_abs z) una zero ∙ ap (λ b. if b then una_after s.una (nat_abs z) else s.una) (sym acked);
+      sent = sym none;
+      edge = reached ∙ ap (λ b. if b then nat_abs z + p.head.window else s.edge) (sym used);
+      wl1 = ap (λ b. if b then first e p else offset_of e.receiving.irs s.wl1) (sym used);
+      wl2 = sym zero ∙ ap (λ b. if b then nat_abs z else s.wl2) (sym used);
+      held = omega (arith, una);
+      closed = refl;
+    }
+
+other_law : (e : Tcb) (p : Segment) → counts e p ≡ false → IsSentBy e p e.sending
+other_law e p no_count =
+    let s : Sending = e.sending in
+    let z : ℤ = ack_at e p in
+    let unused : uses_window e p ≡ false = ap (λ b. (b && int_le (pos 0) z) && (not s.opened || is_newer e p)) no_count in
+    record {
+      iss = refl;
+      counted = or_false s.opened ∙ ap (λ b. s.opened || b) (sym no_count);
+      una = ap (λ b. if b && int_le (pos 0) z then una_after s.una (nat_abs z) else s.una) (sym no_count);
+      sent = refl;
+      edge = ap (λ b. if b then nat_abs z + p.head.window else s.edge) (sym unused);
+      wl1 = ap (λ b. if b then first e p else offset_of e.receiving.irs s.wl1) (sym unused);
+      wl2 = ap (λ b. if b then nat_abs z else s.wl2) (sym unused);
+      held = omega arith;
+      closed = refl;
+    }
+
+by_count : (e : Tcb) (p : Segment) (c o : Bool) → (c ≡ true → o ≡ true → IsSentBy e p (acknowledged e.sending p.head.seq (ack_at e p) p.head.window))
+    → (c ≡ true → o ≡ false → IsSentBy e p (opened_by e.sending p.head.seq p.head.window)) → (c ≡ false → IsSentBy e p e.sending)
+    → IsSentBy e p (if c then (if o then acknowledged e.sending p.head.seq (ack_at e p) p.head.window else opened_by e.sending p.head.seq p.head.window) else e.sending)
+by_count e p true true later first_one other = later refl refl
+by_count e p true false later first_one other = first_one refl refl
+by_count e p false o later first_one other = other refl
+
+pub sending_law : (e : Tcb) (p : Segment) → has_begun e.name ≡ true → IsBounded e → IsUsual e p → IsSentBy e p (received e p).sending
+sending_law e p begun bounded usual =
+    let P : Sending → Type 0 = λ s. IsSentBy e p s
+    in subst P (sym (sending_is e p begun bounded usual))
+    (by_count e p (counts e p) e.sending.opened
+    (λ does_count is_opened. later_law e p bounded usual is_opened does_count)
+    (λ does_count unopened. first_law e p bounded usual unopened does_count)
+    (λ no_count. other_law e p no_count))

@@ -1,0 +1,434 @@
+-- What a segment makes of an endpoint is what the laws of `ft_model` make of the point at which it stands.
+use Rattle.std.proofs.Common.{◌≡◌, ℕ, zero, suc, ◌<◌, ◌≤◌, ◌+◌, ◌-◌, ◌*◌, ◌/◌, ◌%◌, ◌^◌, Bool, true, false, not, List, ◌++◌, length, length-append, take, drop, min, refl, sym, ap, arith, ◌∙◌}
+use Rattle.std.specs.Prelude.{ℤ, pos, ◌+ℤ◌, ◌-ℤ◌, ◌<ℤ◌, ◌≤ℤ◌, ◌==◌, ◌&&◌, ◌||◌, nat_abs, nat_lt, int_lt, int_le, if◌then◌else◌}
+use Rattle.std.proofs.lemmas.Int.{ints}
+use Rattle.std.proofs.lemmas.List.{drop-append-le}
+use Rattle.std.proofs.lemmas.Bool.{false≢true}
+use Rattle.seq_arith.specs.Number.{offset_of}
+use Rattle.seq_arith.specs.Arrival.{int_eq, lies_in, is_acceptable, below, una_after, updates_window}
+use Rattle.seq_arith.specs.Packet.{Segment, has_syn, has_rst, has_ack}
+use Rattle.seq_arith.proofs.Gaps.{Leads, offset_leads}
+use Rattle.seq_arith.proofs.Shifts.{lies_in_shift, below_shift, updates_window_shift}
+use Rattle.seq_arith.specs.Offset.{one_if, first_of, ack_of, text_of, fin_of, length_of}
+use Rattle.ft_model.specs.Point.{Point, taken_units, room}
+use Rattle.ft_model.specs.Point as point
+use Rattle.ft_model.specs.News.News.{Comes}
+use Rattle.ft_model.specs.Taken as model
+use Rattle.ft_model.specs.Sending as sender
+use Rattle.tcp_buffers.specs.Near.{IsNearFirst}
+use Rattle.tcp_endpoint.specs.States.{has_begun}
+use Rattle.tcp_endpoint.specs.Receiving.{Receiving, taken, next, receive_edge, announced_edge}
+use Rattle.tcp_endpoint.specs.Tcb.{Tcb}
+use Rattle.tcp_endpoint.specs.Arrival.{first, ack_at, received}
+use Rattle.endpoint_laws.specs.Laws.{accepts, counts, continues, unread_after, taken_by, takes_fin, acknowledges, uses_window, IsSentBy, IsBounded, IsUsual}
+use Rattle.endpoint_laws.specs.Standing.{ReceivesAt, SendsAt}
+use Rattle.tcp_endpoint.proofs.Places.{near_of_acceptable}
+use Rattle.endpoint_laws.proofs.TakenLaw.{if_when, taken_law}
+use Rattle.endpoint_laws.proofs.SendingLaw.{sending_law, next_near, window_short, length_short, acceptable_of, counts_ack}
+
+-- an endpoint at a point, and a segment that comes to it
+pub record Meets (p : Point) (e : Tcb) (segment : Segment) : Type 0 where
+  pub receives : ReceivesAt p e
+  pub sends : SendsAt p e
+  pub sent : p.sent ≡ e.sending.sent
+  pub bounds : IsBounded e
+  pub usual : IsUsual e segment
+
+pub next_is : (p : Point) (e : Tcb) → ReceivesAt p e → taken_units p ≡ next e.receiving + p.fetched
+next_is p e r =
+    let moved : taken_units p ≡ taken e.receiving + p.fetched + one_if e.receiving.fin = λ i. r.long i + one_if (r.fin i)
+    in omega (arith, moved)
+
+edge_by : (read limit fetched : ℕ) → limit + fetched ≡ 2 ^ 24 → min (read + fetched + 65535) (2 ^ 24) ≡ min (read + 65535) limit + fetched
+edge_by read limit fetched h = omega arith
+
+pub edge_is : (p : Point) (e : Tcb) → ReceivesAt p e → point.receive_edge p ≡ receive_edge e.receiving + p.fetched
+edge_is p e r =
+    let moved : point.receive_edge p ≡ min (e.receiving.read + p.fetched + 65535) (2 ^ 24) = ap (λ n. min (n + 65535) (2 ^ 24)) r.read
+    in moved ∙ edge_by e.receiving.read e.receiving.limit p.fetched r.limit
+
+pub announced_is : (p : Point) (e : Tcb) → ReceivesAt p e → point.announced_edge p ≡ announced_edge e.receiving + p.fetched
+announced_is p e r =
+    let moved : point.announced_edge p ≡ receive_edge e.receiving + p.fetched + one_if e.receiving.fin = λ i. edge_is p e r i + one_if (r.fin i)
+    in omega (arith, moved)
+
+pub room_is : (p : Point) (e : Tcb) → ReceivesAt p e → room p ≡ announced_edge e.receiving - next e.receiving
+room_is p e r = omega (arith, announced_is p e r, next_is p e r)
+
+-- an offset counted from a stream's beginning, and from some bytes behind it
+near_moves : (cisn irs number fetched : ℕ) → number < 2 ^ 32 → irs ≡ (cisn + fetched) % 2 ^ 32 → fetched ≤ 2 ^ 24 → IsNearFirst (offset_of irs number)
+    → offset_of cisn number ≡ offset_of irs number +ℤ pos fetched
+near_moves cisn irs number fetched fits is few near = omega (arith, ints, offset_leads cisn number fits, offset_leads irs number fits)
+
+-- an offset counted from some bytes behind a stream's beginning, as far as numbers tell
+record Moved (z moved : ℤ) (fetched : ℕ) : Type 0 where
+  turns : ℕ
+  is : (z +ℤ pos (turns * 2 ^ 32)) ≡ (moved +ℤ pos fetched)
+  low : (pos 0 -ℤ pos (2 ^ 31)) ≤ℤ z
+  high : moved <ℤ pos (2 ^ 31)
+
+turns_by : (cisn irs number fetched : ℕ) (z moved : ℤ) → irs ≡ (cisn + fetched) % 2 ^ 32 → fetched ≤ 2 ^ 24
+    → Leads ((cisn + 1) % 2 ^ 32) number z → Leads ((irs + 1) % 2 ^ 32) number moved → Moved z moved fetched
+turns_by cisn irs number fetched z moved is few l k =
+    let start : ℕ = (cisn + 1) % 2 ^ 32 in
+    let wraps : ℕ = (start + fetched) / 2 ^ 32 in
+    let irs_is : (irs + 1) % 2 ^ 32 + wraps * 2 ^ 32 ≡ start + fetched = omega (arith, is) in
+    record {
+      turns = k.turns + wraps - l.turns;
+      is = omega (arith, ints, l.leads, k.leads, l.high, l.low, k.high, k.low, irs_is);
+      low = l.low;
+      high = k.high;
+    }
+
+off_right : (a b : Bool) → b ≡ false → (a && b) ≡ false
+off_right true b h = h
+off_right false b h = refl
+
+off_left : (a b : Bool) → a ≡ false → (a && b) ≡ false
+off_left a b h = ap (λ v. v && b) h
+
+below_window : (place : ℕ) (z : ℤ) → z <ℤ pos 0 → int_le (pos place) z ≡ false
+below_window place z h = grind (arith, ints)
+
+above_window : (end : ℕ) (z : ℤ) → pos end ≤ℤ z → int_lt z (pos end) ≡ false
+above_window end z h = grind (arith, ints)
+
+lies_by : (turns start window n fetched : ℕ) (z moved : ℤ) → (z +ℤ pos (turns * 2 ^ 32)) ≡ (moved +ℤ pos fetched) → (pos 0 -ℤ pos (2 ^ 31)) ≤ℤ z
+    → moved <ℤ pos (2 ^ 31) → fetched ≤ 2 ^ 24 → start ≤ 2 ^ 30 + 1 → window ≤ 2 ^ 16 → n ≤ 2 ^ 16
+    → lies_in (start + fetched) window (z +ℤ pos n) ≡ lies_in start window (moved +ℤ pos n)
+lies_by zero start window n fetched z moved is low high few near short small =
+    let same : (z +ℤ pos n) ≡ (moved +ℤ pos n +ℤ pos fetched) = omega (arith, ints, is)
+    in ap (lies_in (start + fetched) window) same ∙ lies_in_shift start window fetched (moved +ℤ pos n)
+lies_by (suc t) start window n fetched z moved is low high few near short small =
+    off_left (int_le (pos (start + fetched)) (z +ℤ pos n)) _ (below_window (start + fetched) (z +ℤ pos n) (omega (arith, ints, is, high)))
+    ∙ sym (off_right (int_le (pos start) (moved +ℤ pos n)) _ (above_window (start + window) (moved +ℤ pos n) (omega (arith, ints, is, low))))
+
+lies_in_moved : (start window n fetched : ℕ) (z moved : ℤ) → Moved z moved fetched → fetched ≤ 2 ^ 24 → start ≤ 2 ^ 30 + 1 → window ≤ 2 ^ 16 → n ≤ 2 ^ 16
+    → lies_in (start + fetched) window (z +ℤ pos n) ≡ lies_in start window (moved +ℤ pos n)
+lies_in_moved start window n fetched z moved m few near short small =
+    lies_by m.turns start window n fetched z moved m.is m.low m.high few near short small
+
+is_moved : (start fetched : ℕ) (z moved : ℤ) → Moved z moved fetched → fetched ≤ 2 ^ 24 → start ≤ 2 ^ 30 + 1
+    → int_eq z (pos (start + fetched)) ≡ int_eq moved (pos start)
+is_moved start fetched z moved m few near = grind (arith, ints, m.is, m.low, m.high)
+
+plus_none : (z : ℤ) → z +ℤ pos 0 ≡ z
+plus_none z = omega (arith, ints)
+
+-- a number that is far names no acceptable segment, from wherever it is counted
+acceptable_moves : (cisn irs number fetched upper window len : ℕ) → number < 2 ^ 32 → irs ≡ (cisn + fetched) % 2 ^ 32 → fetched ≤ 2 ^ 24
+    → upper ≤ 2 ^ 30 + 1 → window ≤ 2 ^ 16 → len ≤ 2 ^ 16
+    → is_acceptable (upper + fetched) window (offset_of cisn number) len ≡ is_acceptable upper window (offset_of irs number) len
+acceptable_moves cisn irs number fetched upper window len fits is few near short small =
+    let z : ℤ = offset_of cisn number in
+    let y : ℤ = offset_of irs number in
+    let m : Moved z y fetched = turns_by cisn irs number fetched z y is few (offset_leads cisn number fits) (offset_leads irs number fits) in
+    let point : int_eq z (pos (upper + fetched)) ≡ int_eq y (pos upper) = is_moved upper fetched z y m few near in
+    let first_lies : lies_in (upper + fetched) window z ≡ lies_in upper window y =
+    (λ i. lies_in (upper + fetched) window (sym (plus_none z) i)) ∙ lies_in_moved upper window 0 fetched z y m few near short (omega arith)
+    ∙ (λ i. lies_in upper window (plus_none y i)) in
+    let last_lies : lies_in (upper + fetched) window (z +ℤ pos (len - 1)) ≡ lies_in upper window (y +ℤ pos (len - 1)) =
+    lies_in_moved upper window (len - 1) fetched z y m few near short (omega (arith, small)) in
+    λ i. if len == 0
+    then (if window == 0 then point i else first_lies i)
+    else (if window == 0 then false else (first_lies i || last_lies i))
+
+fetched_few : (limit fetched : ℕ) → limit + fetched ≡ 2 ^ 24 → fetched ≤ 2 ^ 24
+fetched_few limit fetched h = omega arith
+
+pub accepts_is : (p : Point) (e : Tcb) (segment : Segment) → Meets p e segment → model.accepts p segment ≡ accepts e segment
+unfolding model.accepts
+accepts_is p e segment m =
+    let r : ReceivesAt p e = m.receives in
+    (λ i. is_acceptable (next_is p e r i) (room_is p e r i) (first_of p.cisn segment) (length_of segment))
+    ∙ acceptable_moves p.cisn e.receiving.irs segment.head.seq p.fetched (next e.receiving) (announced_edge e.receiving - next e.receiving) (length_of segment)
+    m.usual.seq r.cisn (fetched_few e.receiving.limit p.fetched r.limit) (next_near e.receiving m.bounds.limit m.bounds.taken) (window_short e.receiving)
+    (length_short segment m.usual.text)
+
+pub near_of_accepts : (e : Tcb) (segment : Segment) → IsBounded e → IsUsual e segment → accepts e segment ≡ true → IsNearFirst (first e segment)
+near_of_accepts e segment b usual h =
+    near_of_acceptable (next e.receiving) (announced_edge e.receiving - next e.receiving) (first e segment) (length_of segment)
+    (next_near e.receiving b.limit b.taken) (window_short e.receiving) (length_short segment usual.text) h
+
+pub first_is : (p : Point) (e : Tcb) (segment : Segment) → Meets p e segment → accepts e segment ≡ true
+    → first_of p.cisn segment ≡ first e segment +ℤ pos p.fetched
+first_is p e segment m h =
+    near_moves p.cisn e.receiving.irs segment.head.seq p.fetched m.usual.seq m.receives.cisn
+    (fetched_few e.receiving.limit p.fetched m.receives.limit) (near_of_accepts e segment m.bounds m.usual h)
+
+pub ack_is : (p : Point) (e : Tcb) (segment : Segment) → Meets p e segment → ack_of p.sisn segment ≡ ack_at e segment
+ack_is p e segment m = λ i. offset_of (m.sends.sisn i) segment.head.ack
+
+counts_is : (p : Point) (e : Tcb) (segment : Segment) → Meets p e segment → model.counts p segment ≡ counts e segment
+unfolding model.counts
+counts_is p e segment m = λ i.
+    has_ack segment && not (has_syn segment) && not (has_rst segment) && accepts_is p e segment m i && (m.sends.counted i || int_le (pos 0) (ack_is p e segment m i))
+
+-- what counts is acceptable
+accepts_of : (e : Tcb) (segment : Segment) → counts e segment ≡ true → accepts e segment ≡ true
+accepts_of e segment h =
+    acceptable_of (has_ack segment) (has_syn segment) (has_rst segment) (accepts e segment) (e.sending.opened || int_le (pos 0) (ack_at e segment)) h
+
+and_when : (a b b' : Bool) → (a ≡ true → b ≡ b') → (a && b) ≡ (a && b')
+and_when true b b' same = same refl
+and_when false b b' same = refl
+
+and_right : (a b : Bool) → (a && b) ≡ true → b ≡ true
+and_right true b h = h
+and_right false b h = absurd (false≢true h)
+
+and_left : (a b : Bool) → (a && b) ≡ true → a ≡ true
+and_left true b h = refl
+and_left false b h = h
+
+no_gap_moves : (n k : ℕ) (z : ℤ) → int_le (z +ℤ pos k) (pos (n + k)) ≡ int_le z (pos n)
+no_gap_moves n k z = grind (arith, ints)
+
+continues_is : (p : Point) (e : Tcb) (segment : Segment) → Meets p e segment → model.continues p segment ≡ continues e segment
+continues_is p e segment m =
+    (λ i. counts_is p e segment m i && not (m.receives.fin i) && int_le (first_of p.cisn segment) (pos (m.receives.long i)))
+    ∙ and_when (counts e segment && not e.receiving.fin) _ _
+    (λ h. ap (λ z. int_le z (pos (taken e.receiving + p.fetched))) (first_is p e segment m (accepts_of e segment (and_left (counts e segment) (not e.receiving.fin) h)))
+    ∙ no_gap_moves (taken e.receiving) p.fetched (first e segment))
+
+continues_accepts : (e : Tcb) (segment : Segment) → continues e segment ≡ true → accepts e segment ≡ true
+continues_accepts e segment h =
+    accepts_of e segment (and_left (counts e segment) (not e.receiving.fin)
+    (and_left (counts e segment && not e.receiving.fin) (int_le (first e segment) (pos (taken e.receiving))) h))
+
+-- bytes are put behind all that were taken, and so behind those that aren't read
+abbrev brought : Tcb → Segment → List ℕ
+brought e segment = take (receive_edge e.receiving - taken e.receiving) (drop (below (taken e.receiving) (first e segment)) (text_of segment))
+
+less_moves : (a b k : ℕ) → a + k - (b + k) ≡ a - b
+less_moves a b k = omega arith
+
+brought_is : (p : Point) (e : Tcb) (segment : Segment) → Meets p e segment → accepts e segment ≡ true
+    → take (point.receive_edge p - length p.taken) (drop (below (length p.taken) (first_of p.cisn segment)) (text_of segment)) ≡ brought e segment
+brought_is p e segment m h =
+    (λ i. take (edge_is p e m.receives i - m.receives.long i) (drop (below (m.receives.long i) (first_is p e segment m h i)) (text_of segment)))
+    ∙ (λ i. take (less_moves (receive_edge e.receiving) (taken e.receiving) p.fetched i)
+    (drop (below_shift (taken e.receiving) p.fetched (first e segment) i) (text_of segment)))
+
+taken_is : (p : Point) (e : Tcb) (segment : Segment) → Meets p e segment
+    → model.taken_after (Comes segment) p ≡ (if continues e segment then p.taken ++ brought e segment else p.taken)
+unfolding model.taken_after
+taken_is p e segment m =
+    ap (λ b. if b then p.taken ++ take (point.receive_edge p - length p.taken) (drop (below (length p.taken) (first_of p.cisn segment)) (text_of segment)) else p.taken)
+    (continues_is p e segment m)
+    ∙ if_when (continues e segment) _ _ p.taken p.taken
+    (λ h. ap (λ xs. p.taken ++ xs) (brought_is p e segment m (continues_accepts e segment h))) (λ h. refl)
+
+grown_rest : (c : Bool) (all unread more : List ℕ) (read fetched : ℕ) → drop (read + fetched) all ≡ unread → length all ≡ read + length unread + fetched
+    → drop (read + fetched) (if c then all ++ more else all) ≡ (if c then unread ++ more else unread)
+grown_rest true all unread more read fetched rest long = drop-append-le (read + fetched) all more (omega (arith, long)) ∙ ap (λ xs. xs ++ more) rest
+grown_rest false all unread more read fetched rest long = rest
+
+grown_long : (c : Bool) (all unread more : List ℕ) (read fetched : ℕ) → length all ≡ read + length unread + fetched
+    → length (if c then all ++ more else all) ≡ read + length (if c then unread ++ more else unread) + fetched
+grown_long true all unread more read fetched long = omega (arith, long, length-append all more, length-append unread more)
+grown_long false all unread more read fetched long = long
+
+long_is : (p : Point) (e : Tcb) (segment : Segment) → Meets p e segment
+    → length (model.taken_after (Comes segment) p) ≡ e.receiving.read + length (unread_after e segment) + p.fetched
+long_is p e segment m =
+    ap length (taken_is p e segment m)
+    ∙ grown_long (continues e segment) p.taken e.receiving.unread (brought e segment) e.receiving.read p.fetched m.receives.long
+
+-- a FIN's place and the edge move along
+end_moves : (z : ℤ) (n t edge k : ℕ) → (int_eq (z +ℤ pos k +ℤ pos n) (pos (t + k)) && nat_lt (t + k) (edge + k)) ≡ (int_eq (z +ℤ pos n) (pos t) && nat_lt t edge)
+end_moves z n t edge k = grind (arith, ints)
+
+last_two : (a b c c' d d' : Bool) → (a ≡ true → (c && d) ≡ (c' && d')) → (a && b && c && d) ≡ (a && b && c' && d')
+last_two true true c c' d d' same = same refl
+last_two true false c c' d d' same = refl
+last_two false b c c' d d' same = refl
+
+takes_fin_is : (p : Point) (e : Tcb) (segment : Segment) → Meets p e segment → model.takes_fin p segment ≡ takes_fin e segment
+takes_fin_is p e segment m =
+    let t : ℕ = e.receiving.read + length (unread_after e segment) in
+    let n : ℕ = length (text_of segment) in
+    let edge : ℕ = receive_edge e.receiving in
+    (λ i. continues_is p e segment m i && fin_of segment && int_eq (model.end_of p segment) (pos (long_is p e segment m i))
+    && nat_lt (long_is p e segment m i) (edge_is p e m.receives i))
+    ∙ last_two (continues e segment) (fin_of segment) _ _ _ _
+    (λ h. ap (λ z. int_eq (z +ℤ pos n) (pos (t + p.fetched)) && nat_lt (t + p.fetched) (edge + p.fetched)) (first_is p e segment m (continues_accepts e segment h))
+    ∙ end_moves (first e segment) n t edge p.fetched)
+
+fin_is : (p : Point) (e : Tcb) (segment : Segment) → Meets p e segment → model.fin_after (Comes segment) p ≡ (e.receiving.fin || takes_fin e segment)
+unfolding model.fin_after
+fin_is p e segment m = λ i. m.receives.fin i || takes_fin_is p e segment m i
+
+-- an acknowledgement of at most what was sent is used whole
+used_whole : (z : ℤ) (sent : ℕ) → int_le (pos 0) z ≡ true → z ≤ℤ pos sent → min (nat_abs z) sent ≡ nat_abs z
+used_whole z sent up h = grind (arith, ints)
+
+acknowledges_is : (p : Point) (e : Tcb) (segment : Segment) → Meets p e segment → sender.acknowledges p segment ≡ acknowledges e segment
+acknowledges_is p e segment m = λ i. counts_is p e segment m i && int_le (pos 0) (ack_is p e segment m i)
+
+ack_of_counts : (e : Tcb) (segment : Segment) → counts e segment ≡ true → has_ack segment ≡ true
+ack_of_counts e segment h =
+    (counts_ack (has_ack segment) (has_syn segment) (has_rst segment) (accepts e segment) e.sending.opened (int_le (pos 0) (ack_at e segment)) h).0
+
+acknowledged_is : (p : Point) (e : Tcb) (segment : Segment) → Meets p e segment → acknowledges e segment ≡ true
+    → sender.acknowledged_by p segment ≡ nat_abs (ack_at e segment)
+acknowledged_is p e segment m does =
+    let is_ack : has_ack segment ≡ true = ack_of_counts e segment (and_left (counts e segment) (int_le (pos 0) (ack_at e segment)) does) in
+    (λ i. min (nat_abs (ack_is p e segment m i)) (m.sent i))
+    ∙ used_whole (ack_at e segment) e.sending.sent (and_right (counts e segment) (int_le (pos 0) (ack_at e segment)) does) (m.usual.sent is_ack)
+
+pub una_is : (p : Point) (e : Tcb) (segment : Segment) → Meets p e segment
+    → sender.acknowledged_after (Comes segment) p ≡ (if acknowledges e segment then una_after e.sending.una (nat_abs (ack_at e segment)) else e.sending.una)
+unfolding sender.acknowledged_after
+una_is p e segment m =
+    ap (λ b. if b then una_after p.una (sender.acknowledged_by p segment) else p.una) (acknowledges_is p e segment m)
+    ∙ if_when (acknowledges e segment) (una_after p.una (sender.acknowledged_by p segment)) (una_after e.sending.una (nat_abs (ack_at e segment))) p.una e.sending.una
+    (λ h i. una_after (m.sends.una i) (acknowledged_is p e segment m h i)) (λ h. m.sends.una)
+
+-- the window's test, once an acknowledgement has counted
+accepts_acknowledged : (e : Tcb) (segment : Segment) → acknowledges e segment ≡ true → accepts e segment ≡ true
+accepts_acknowledged e segment h = accepts_of e segment (and_left (counts e segment) (int_le (pos 0) (ack_at e segment)) h)
+
+window_test_moves : (una wl2 : ℕ) (wl1 first : ℤ) (ack k : ℕ) → updates_window una (wl1 +ℤ pos k) wl2 (first +ℤ pos k) ack ≡ updates_window una wl1 wl2 first ack
+window_test_moves una wl2 wl1 first ack k =
+    let una_same : una + 0 ≡ una = omega arith in
+    let wl2_same : wl2 + 0 ≡ wl2 = omega arith in
+    let ack_same : ack + 0 ≡ ack = omega arith in
+    (λ i. updates_window (sym una_same i) (wl1 +ℤ pos k) (sym wl2_same i) (first +ℤ pos k) (sym ack_same i))
+    ∙ updates_window_shift una wl1 wl2 first ack k 0
+
+newer_is : (p : Point) (e : Tcb) (segment : Segment) → Meets p e segment → acknowledges e segment ≡ true → e.sending.opened ≡ true
+    → updates_window p.una p.wl1 p.wl2 (first_of p.cisn segment) (sender.acknowledged_by p segment)
+    ≡ updates_window e.sending.una (offset_of e.receiving.irs e.sending.wl1) e.sending.wl2 (first e segment) (nat_abs (ack_at e segment))
+newer_is p e segment m does is_opened =
+    (λ i. updates_window (m.sends.una i) (m.sends.wl1 is_opened i) (m.sends.wl2 i) (first_is p e segment m (accepts_acknowledged e segment does) i)
+    (acknowledged_is p e segment m does i))
+    ∙ window_test_moves e.sending.una e.sending.wl2 (offset_of e.receiving.irs e.sending.wl1) (first e segment) (nat_abs (ack_at e segment)) p.fetched
+
+unless_when : (o b b' : Bool) → (o ≡ true → b ≡ b') → (not o || b) ≡ (not o || b')
+unless_when true b b' same = same refl
+unless_when false b b' same = refl
+
+moves_is : (p : Point) (e : Tcb) (segment : Segment) → Meets p e segment → sender.moves_edge p segment ≡ uses_window e segment
+moves_is p e segment m =
+    let newer : Bool = updates_window p.una p.wl1 p.wl2 (first_of p.cisn segment) (sender.acknowledged_by p segment) in
+    (λ i. acknowledges_is p e segment m i && (not (m.sends.counted i) || newer))
+    ∙ and_when (acknowledges e segment) _ _ (λ h. unless_when e.sending.opened _ _ (λ o. newer_is p e segment m h o))
+
+window_whole : (window a b : ℕ) → window ≤ 65535 → a ≡ b → min 65535 (window + b - a) ≡ window
+window_whole window a b small is = omega arith
+
+window_is : (p : Point) (e : Tcb) (segment : Segment) → Meets p e segment → acknowledges e segment ≡ true → sender.window_by p segment ≡ segment.head.window
+window_is p e segment m does =
+    let same : nat_abs (ack_of p.sisn segment) ≡ nat_abs (ack_at e segment) = ap nat_abs (ack_is p e segment m) in
+    window_whole segment.head.window (sender.acknowledged_by p segment) (nat_abs (ack_of p.sisn segment)) m.usual.window (acknowledged_is p e segment m does ∙ sym same)
+
+uses_acknowledges : (e : Tcb) (segment : Segment) → uses_window e segment ≡ true → acknowledges e segment ≡ true
+uses_acknowledges e segment h = and_left (acknowledges e segment) _ h
+
+right_edge_is : (p : Point) (e : Tcb) (segment : Segment) → Meets p e segment
+    → sender.edge_after (Comes segment) p ≡ (if uses_window e segment then nat_abs (ack_at e segment) + segment.head.window else e.sending.edge)
+unfolding sender.edge_after
+right_edge_is p e segment m =
+    ap (λ b. if b then sender.acknowledged_by p segment + sender.window_by p segment else p.edge) (moves_is p e segment m)
+    ∙ if_when (uses_window e segment) (sender.acknowledged_by p segment + sender.window_by p segment) (nat_abs (ack_at e segment) + segment.head.window) p.edge e.sending.edge
+    (λ h i. acknowledged_is p e segment m (uses_acknowledges e segment h) i + window_is p e segment m (uses_acknowledges e segment h) i) (λ h. m.sends.edge)
+
+-- the first that counts uses the window
+first_uses : (c o a w : Bool) → (c ≡ true → o ≡ false → a ≡ true) → (o || c) ≡ true → ((c && a) && (not o || w)) ≡ false → o ≡ true
+first_uses c true a w up h none = refl
+first_uses true false true w up h none = absurd (false≢true (sym none))
+first_uses true false false w up h none = absurd (false≢true (up refl refl))
+first_uses false false a w up h none = h
+
+opened_before : (e : Tcb) (segment : Segment) → (e.sending.opened || counts e segment) ≡ true → uses_window e segment ≡ false → e.sending.opened ≡ true
+opened_before e segment h none =
+    first_uses (counts e segment) e.sending.opened (int_le (pos 0) (ack_at e segment)) _
+    (λ c o. (counts_ack (has_ack segment) (has_syn segment) (has_rst segment) (accepts e segment) e.sending.opened (int_le (pos 0) (ack_at e segment)) c).1 o) h none
+
+wl1_choice : (u : Bool) (z x x' y y' : ℤ) → z ≡ (if u then x' else y') → (u ≡ true → x ≡ x') → (u ≡ false → y ≡ y') → (if u then x else y) ≡ z
+wl1_choice true z x x' y y' is on off = on refl ∙ sym is
+wl1_choice false z x x' y y' is on off = off refl ∙ sym is
+
+plus_choice : (u : Bool) (x y k : ℤ) → (if u then x else y) +ℤ k ≡ (if u then x +ℤ k else y +ℤ k)
+plus_choice true x y k = refl
+plus_choice false x y k = refl
+
+wl1_is : (p : Point) (e : Tcb) (segment : Segment) → Meets p e segment → (e.sending.opened || counts e segment) ≡ true
+    → sender.wl1_after (Comes segment) p
+    ≡ (if uses_window e segment then first e segment else offset_of e.receiving.irs e.sending.wl1) +ℤ pos p.fetched
+unfolding sender.wl1_after
+wl1_is p e segment m is_opened =
+    ap (λ b. if b then first_of p.cisn segment else p.wl1) (moves_is p e segment m)
+    ∙ if_when (uses_window e segment) (first_of p.cisn segment) (first e segment +ℤ pos p.fetched) p.wl1 (offset_of e.receiving.irs e.sending.wl1 +ℤ pos p.fetched)
+    (λ h. first_is p e segment m (accepts_acknowledged e segment (uses_acknowledges e segment h)))
+    (λ h. m.sends.wl1 (opened_before e segment is_opened h))
+    ∙ sym (plus_choice (uses_window e segment) (first e segment) (offset_of e.receiving.irs e.sending.wl1) (pos p.fetched))
+
+wl2_is : (p : Point) (e : Tcb) (segment : Segment) → Meets p e segment
+    → sender.wl2_after (Comes segment) p ≡ (if uses_window e segment then nat_abs (ack_at e segment) else e.sending.wl2)
+unfolding sender.wl2_after
+wl2_is p e segment m =
+    ap (λ b. if b then sender.acknowledged_by p segment else p.wl2) (moves_is p e segment m)
+    ∙ if_when (uses_window e segment) (sender.acknowledged_by p segment) (nat_abs (ack_at e segment)) p.wl2 e.sending.wl2
+    (λ h. acknowledged_is p e segment m (uses_acknowledges e segment h)) (λ h. m.sends.wl2)
+
+pub counted_is : (p : Point) (e : Tcb) (segment : Segment) → Meets p e segment
+    → sender.counted_after (Comes segment) p ≡ (e.sending.opened || counts e segment)
+unfolding sender.counted_after
+counted_is p e segment m = λ i. m.sends.counted i || counts_is p e segment m i
+
+-- the point that the laws lead to where a segment comes, with the reads as they were: all that a segment changes at once
+abbrev pub point_after : Segment → Point → Point
+point_after segment p = record p {
+  taken = model.taken_after (Comes segment) p;
+  fin = model.fin_after (Comes segment) p;
+  counted = sender.counted_after (Comes segment) p;
+  una = sender.acknowledged_after (Comes segment) p;
+  edge = sender.edge_after (Comes segment) p;
+  wl1 = sender.wl1_after (Comes segment) p;
+  wl2 = sender.wl2_after (Comes segment) p;
+}
+
+receives_after : (p : Point) (e after : Tcb) (segment : Segment) → Meets p e segment → after.receiving ≡ taken_by e segment → ReceivesAt (point_after segment p) after
+unfolding taken_by
+receives_after p e after segment m receiving =
+    let r : ReceivesAt p e = m.receives in
+    let irs : after.receiving.irs ≡ e.receiving.irs = ap (λ (q : Receiving). q.irs) receiving in
+    let limit : after.receiving.limit ≡ e.receiving.limit = ap (λ (q : Receiving). q.limit) receiving in
+    let read : after.receiving.read ≡ e.receiving.read = ap (λ (q : Receiving). q.read) receiving in
+    let unread : after.receiving.unread ≡ unread_after e segment = ap (λ (q : Receiving). q.unread) receiving in
+    let fin : after.receiving.fin ≡ (e.receiving.fin || takes_fin e segment) = ap (λ (q : Receiving). q.fin) receiving in
+    record {
+      cisn = irs ∙ r.cisn;
+      limit = ap (λ n. n + p.fetched) limit ∙ r.limit;
+      read = r.read ∙ ap (λ n. n + p.fetched) (sym read);
+      long = long_is p e segment m ∙ (λ i. sym read i + length (sym unread i) + p.fetched);
+      unread = (λ i. drop (read i + p.fetched) (taken_is p e segment m i))
+          ∙ grown_rest (continues e segment) p.taken e.receiving.unread (brought e segment) e.receiving.read p.fetched r.unread r.long ∙ sym unread;
+      fin = fin_is p e segment m ∙ sym fin;
+    }
+
+sends_after : (p : Point) (e after : Tcb) (segment : Segment) → Meets p e segment → after.receiving ≡ taken_by e segment → IsSentBy e segment after.sending
+    → after.sending.mss ≡ e.sending.mss → SendsAt (point_after segment p) after
+unfolding taken_by
+sends_after p e after segment m receiving sending mss =
+    let irs : after.receiving.irs ≡ e.receiving.irs = ap (λ (q : Receiving). q.irs) receiving in
+    record {
+      sisn = m.sends.sisn ∙ sym sending.iss;
+      mss = m.sends.mss ∙ sym mss;
+      counted = counted_is p e segment m ∙ sym sending.counted;
+      una = una_is p e segment m ∙ sym sending.una;
+      edge = right_edge_is p e segment m ∙ sym sending.edge;
+      wl1 = λ h. wl1_is p e segment m (sym sending.counted ∙ h) ∙ ap (λ z. z +ℤ pos p.fetched) (sym sending.wl1)
+          ∙ ap (λ n. offset_of n after.sending.wl1 +ℤ pos p.fetched) (sym irs);
+      wl2 = wl2_is p e segment m ∙ sym sending.wl2;
+    }
+
+pub received_receives : (p : Point) (e : Tcb) (segment : Segment) → has_begun e.name ≡ true → Meets p e segment → ReceivesAt (point_after segment p) (received e segment)
+received_receives p e segment begun m = receives_after p e (received e segment) segment m (taken_law e segment begun m.bounds m.usual)
+
+pub received_sends : (p : Point) (e : Tcb) (segment : Segment) → has_begun e.name ≡ true → Meets p e segment → (received e segment).sending.mss ≡ e.sending.mss
+    → SendsAt (point_after segment p) (received e segment)
+received_sends p e segment begun m mss =
+    sends_after p e (received e segment) segment m (taken_law e segment begun m.bounds m.usual) (sending_law e segment begun m.bounds m.usual) mss

@@ -1,0 +1,287 @@
+-- What was last announced, when a segment without data goes out, and where a probe is right.
+use Rattle.std.proofs.Common.{◌≡◌, ℕ, ◌≤◌, ◌+◌, ◌-◌, Bool, true, false, not, List, ◌++◌, length, length-append, max, min, refl, sym, ap, arith, ◌∙◌}
+use Rattle.std.specs.Prelude.{pos, ◌==◌, ◌&&◌, ◌||◌, nat_lt, int_lt, if◌then◌else◌}
+use Rattle.std.proofs.lemmas.Bool.{false≢true}
+use Rattle.seq_arith.specs.Arrival.{int_eq, is_acceptable}
+use Rattle.seq_arith.specs.Packet.{Segment, has_syn, has_rst, has_ack}
+use Rattle.seq_arith.specs.Offset.{one_if, length_of}
+use Rattle.tcp_buffers.specs.Near.{is_ahead}
+use Rattle.tcp_endpoint.specs.States.{opened, after_fin, after_fin_acked, is_syn_sent, has_begun}
+use Rattle.tcp_endpoint.specs.Receiving.{next, window, announced_edge}
+use Rattle.tcp_endpoint.specs.Sending.{Sending, opened_by, acknowledged, fin_acked, target, sendable, sends_fin, must_run, timed, expires, ticked, with_sent, with_fin_sent}
+use Rattle.tcp_endpoint.specs.Tcb.{Tcb}
+use Rattle.tcp_endpoint.specs.Arrival.{first, ack_at, owing_if, entering, with_text_and_fin, with_fin_acked, with_first_ack, with_ack, waiting_again, received, refusing}
+use Rattle.tcp_endpoint.specs.Leaving.{or_bare, is_owed, bare_segment, full_out, leaving, probes_text, probes_fin, with_probe, with_text_sent, with_fin_out, after_full, announced, is_timed, settled, flushed}
+use Rattle.tcp_endpoint.specs.Turning.{after_tick, timer_ticked, waited, after_write}
+use Rattle.endpoint_laws.specs.Laws.{is_refused, owes, told, asks, IsBounded, IsUsual, ProbesRightly, IsShut}
+use Rattle.endpoint_laws.proofs.TakenLaw.{part_of_if, same_if, if_when, begun_is, Aside, at_ack, others_part, segment_taken}
+use Rattle.endpoint_laws.proofs.OwedLaw.{owed_law}
+use Rattle.endpoint_laws.proofs.Bounding.{text_facts}
+use Rattle.endpoint_laws.proofs.TurnLaw.{after_steps, sent_law, timed_sent, by_probe}
+
+-- a turn's end sends a segment without data where one is owed
+pub leaving_by : (u : Tcb) (owed : Bool) → has_begun u.name ≡ true → u.owed ≡ owed
+    → leaving u ≡ or_bare (asks owed u) (bare_segment (after_full u)) (full_out u)
+unfolding leaving is_owed after_full with_fin_out with_text_sent with_probe
+leaving_by u owed begun is =
+    ap (λ b. or_bare (b && asks u.owed u) (bare_segment (after_full u)) (full_out u)) begun
+    ∙ ap (λ o. or_bare (asks o u) (bare_segment (after_full u)) (full_out u)) is
+
+pub bare_law : (e u : Tcb) (p : Segment) → has_begun e.name ≡ true → has_begun u.name ≡ true → IsBounded e → IsUsual e p → e.owed ≡ false
+    → is_refused e p ≡ false → u.owed ≡ (received e p).owed
+    → leaving u ≡ or_bare (asks (owes e p) u) (bare_segment (after_full u)) (full_out u)
+bare_law e u p begun begun_after b usual none unrefused owed =
+    leaving_by u (owes e p) begun_after (owed ∙ owed_law e p begun b usual none unrefused)
+
+-- what is announced
+announced_by : (b : Bool) (x y m n : ℕ) → b ≡ true → ◌≡◌ {A = ℕ × ℕ} ((if b then x else m), (if b then y else n)) (x, y)
+announced_by true x y m n h = refl
+announced_by false x y m n h = absurd (false≢true h)
+
+pub told_by_flush : (e : Tcb) → has_begun e.name ≡ true → told (flushed e) ≡ (next e.receiving, announced_edge e.receiving)
+unfolding flushed settled announced after_full with_fin_out with_text_sent with_probe
+told_by_flush e begun = announced_by (has_begun e.name) (next e.receiving) (announced_edge e.receiving) e.told_next e.told_edge begun
+
+text_part : (e : Tcb) (p : Segment) → told (with_text_and_fin e p) ≡ told e
+unfolding with_text_and_fin
+text_part e p =
+    let taking : Tcb = record e {
+      receiving = segment_taken e p;
+      owed = e.owed || int_lt (pos (next e.receiving)) (first e p);
+    }
+    in part_of_if told (taking.receiving.fin && not e.receiving.fin) (entering (after_fin e.name) taking) taking
+    ∙ same_if (taking.receiving.fin && not e.receiving.fin) (told e)
+
+acked_part : (e : Tcb) → told (with_fin_acked e) ≡ told e
+unfolding with_fin_acked
+acked_part e = part_of_if told (fin_acked e.sending) (entering (after_fin_acked e.name) e) e ∙ same_if (fin_acked e.sending) (told e)
+
+later_ack_part : (e : Tcb) (p : Segment) → told (with_ack e p) ≡ told e
+unfolding with_ack
+later_ack_part e p =
+    let used : Tcb = record e { sending = acknowledged e.sending p.head.seq (ack_at e p) p.head.window } in
+    let beyond : Bool = is_ahead e.sending.sent (ack_at e p) in
+    part_of_if told beyond (owing_if true e) (with_text_and_fin (with_fin_acked used) p)
+    ∙ if_when beyond (told e) (told e) (told (with_text_and_fin (with_fin_acked used) p)) (told e) (λ h. refl) (λ h. text_part (with_fin_acked used) p ∙ acked_part used)
+    ∙ same_if beyond (told e)
+
+first_ack_part : (e : Tcb) (p : Segment) → told (with_first_ack e p) ≡ told e
+unfolding with_first_ack refusing
+first_ack_part e p =
+    let opening : Tcb = record e { name = opened e.sending.closed; sending = opened_by e.sending p.head.seq p.head.window } in
+    let is_syn : Bool = int_eq (ack_at e p) (pos 0) in
+    part_of_if told is_syn (with_text_and_fin opening p) (refusing e p)
+    ∙ if_when is_syn (told (with_text_and_fin opening p)) (told e) (told e) (told e) (λ h. text_part opening p) (λ h. refl)
+    ∙ same_if is_syn (told e)
+
+told_aside : Aside told
+unfolding waiting_again
+told_aside = record { killed = λ e. refl; owing = λ b e. refl; waiting = λ e p. refl }
+
+all_same : (a b c d o : Bool) (x y z : ℕ × ℕ) → x ≡ z → y ≡ z
+    → (if a then (if b then z else (if c then z else (if d then (if o then x else y) else z))) else z) ≡ z
+all_same true true c d o x y z p q = refl
+all_same true false true d o x y z p q = refl
+all_same true false false true true x y z p q = p
+all_same true false false true false x y z p q = q
+all_same true false false false o x y z p q = refl
+all_same false b c d o x y z p q = refl
+
+pub told_by_segment : (e : Tcb) (p : Segment) → has_begun e.name ≡ true → told (received e p) ≡ told e
+unfolding received waiting_again
+told_by_segment e p begun =
+    ap told (begun_is e.name e p begun) ∙ others_part told e p told_aside
+    ∙ all_same (is_acceptable (next e.receiving) (window e.receiving) (first e p) (length_of p)) (has_rst p) (has_syn p) (has_ack p) e.sending.opened
+    (told (with_ack (at_ack e p) p)) (told (with_first_ack (at_ack e p) p)) (told e) (later_ack_part (at_ack e p) p) (first_ack_part (at_ack e p) p)
+
+-- a probe is due where the timer expires with all acknowledged
+off_right : (a : Bool) → (a && false) ≡ true → false ≡ true
+off_right true h = h
+off_right false h = h
+
+expiry : (rest una sent : ℕ) (o : Bool) → ((rest == 1) && not (not o || nat_lt una sent)) ≡ true → una ≤ sent → (1 ≤ rest) × (o ≡ true) × (una ≡ sent)
+expiry rest una sent true h order = (grind arith, refl, grind arith)
+expiry rest una sent false h order = absurd (false≢true (off_right (rest == 1) h))
+
+-- all that was sent is acknowledged, and what waits has no room
+abbrev Stuck : Sending → Type 0
+Stuck s = (s.una ≡ s.sent) × (s.edge ≤ s.sent) × (s.sent + 1 ≤ target s) × (s.opened ≡ true)
+
+stuck_ticked : (b : Bool) (s : Sending) (i r n : ℕ) → Stuck s → Stuck (if b then record s { interval = i; rest = r } else record s { rest = n })
+stuck_ticked true s i r n h = h
+stuck_ticked false s i r n h = h
+
+probed_by : (probe x : Bool) → probe ≡ false → (probe || x) ≡ true → x ≡ true
+probed_by true x none h = absurd (false≢true (sym none))
+probed_by false x none h = h
+
+pub probed_by_tick : (e : Tcb) → e.probe ≡ false → IsBounded e → IsShut e.sending → ProbesRightly (after_tick e)
+unfolding after_tick timer_ticked waited
+probed_by_tick e none b shut =
+    let s : Sending = e.sending in
+    let due : Bool = expires s && not (not s.opened || nat_lt s.una s.sent) in
+    let right : (e.probe || due) ≡ true → Stuck (ticked s) = λ h.
+    let x = expiry s.rest s.una s.sent s.opened (probed_by e.probe due none h) b.order in
+    stuck_ticked (expires s) s _ _ _ (x.2, shut.edge x.0 x.1 x.2, shut.waits x.0 x.1 x.2, x.1) in
+    record { all_acked = λ h. (right h).0; shut = λ h. (right h).1; waits = λ h. (right h).2; opened = λ h. (right h).3 }
+
+more_waits : (f c : Bool) (una sent : ℕ) (held bytes : List ℕ) → sent + 1 ≤ (if f then sent else una + length held + one_if c)
+    → sent + 1 ≤ (if f then sent else una + length (held ++ bytes) + one_if c)
+more_waits true c una sent held bytes h = h
+more_waits false c una sent held bytes h = omega (arith, h, length-append held bytes)
+
+pub shut_by_write : (e : Tcb) (bytes : List ℕ) → IsShut e.sending → IsShut (after_write e bytes).sending
+shut_by_write e bytes shut = record {
+  edge = shut.edge;
+  waits = λ r o a. more_waits e.sending.fin_sent e.sending.closed e.sending.una e.sending.sent e.sending.held bytes (shut.waits r o a);
+}
+
+add_none : (m n : ℕ) → n ≡ 0 → m + n ≡ m
+add_none m n h = omega arith
+
+off_two : (t u : Bool) → (false && t && u) ≡ true → false ≡ true
+off_two t u h = h
+
+off_three : (d t u : Bool) → (false && d && t && u) ≡ true → false ≡ true
+off_three d t u h = h
+
+off_four : (c d t u : Bool) → (false && c && d && t && u) ≡ true → false ≡ true
+off_four c d t u h = h
+
+sendable_off : (o : Bool) (n : ℕ) → (if o && not true then n else 0) ≡ 0
+sendable_off true n = refl
+sendable_off false n = refl
+
+both_on : (x u : Bool) → (x && u) ≡ true → (x ≡ true) × (u ≡ true)
+both_on true u h = (refl, h)
+both_on false u h = absurd (false≢true h)
+
+probe_fin_facts : (a b c d t u : Bool) → (a && b && c && not d && t && u) ≡ true → (d ≡ false) × (u ≡ true) × (t ≡ true)
+probe_fin_facts a b c d t u h =
+    let f = both_on (a && b && c && not d && t) u h in
+    let g = text_facts a b c d t f.0 in (g.1, f.1, g.2)
+
+-- a turn's end leaves the target
+text_target : (s : Sending) (n : ℕ) (f : Bool) → s.fin_sent ≡ f → (f ≡ true → n ≡ 0) → target (with_sent s n) ≡ target s
+text_target s n true is none =
+    ap (λ v. if v then s.sent + n else s.una + length s.held + one_if s.closed) is ∙ add_none s.sent n (none refl)
+    ∙ sym (ap (λ v. if v then s.sent else s.una + length s.held + one_if s.closed) is)
+text_target s n false is none =
+    ap (λ v. if v then s.sent + n else s.una + length s.held + one_if s.closed) is ∙ sym (ap (λ v. if v then s.sent else s.una + length s.held + one_if s.closed) is)
+
+fin_target : (s : Sending) → s.closed ≡ true → s.fin_sent ≡ false → s.sent ≡ s.una + length s.held → target (with_fin_sent s) ≡ target s
+fin_target s is_closed unsent at_end =
+    ap (λ n. n + 1) at_end ∙ ap (λ c. s.una + length s.held + one_if c) (sym is_closed)
+    ∙ sym (ap (λ v. if v then s.sent else s.una + length s.held + one_if s.closed) unsent)
+
+target_of_if : (b : Bool) (x y : Sending) (n : ℕ) → (b ≡ true → target x ≡ n) → (b ≡ false → target y ≡ n) → target (if b then x else y) ≡ n
+target_of_if true x y n p q = p refl
+target_of_if false x y n p q = q refl
+
+sends_facts : (o c d t u : Bool) → (o && c && not d && t && u) ≡ true → (c ≡ true) × (d ≡ false) × (t ≡ true)
+sends_facts true true false true u h = (refl, refl, refl)
+sends_facts true true false false u h = absurd (false≢true h)
+sends_facts true true true t u h = absurd (false≢true (off_two t u h))
+sends_facts true false d t u h = absurd (false≢true (off_three (not d) t u h))
+sends_facts false c d t u h = absurd (false≢true (off_four c (not d) t u h))
+
+at_end : (una sent len : ℕ) → (sent == una + len) ≡ true → sent ≡ una + len
+at_end una sent len h = grind arith
+
+probe_end : (una sent len : ℕ) (f t : Bool) → t ≡ not (nat_lt (sent - una) len) → t ≡ true → f ≡ false → una ≤ sent → sent ≤ una + len + one_if f → sent ≡ una + len
+probe_end una sent len true t is on unsent order flight = absurd (false≢true (sym unsent))
+probe_end una sent len false t is on unsent order flight = grind (arith, is, on)
+
+sendable_of_fin : (s : Sending) → s.fin_sent ≡ true → sendable s ≡ 0
+sendable_of_fin s sent = ap (λ v. if s.opened && not v then min (s.una + length s.held) s.edge - s.sent else 0) sent ∙ sendable_off s.opened _
+
+new_target : (s : Sending) → target (after_steps true false false s) ≡ target s
+new_target s =
+    let texted : Sending = with_sent s (sendable s) in
+    let text : target texted ≡ target s = text_target s (sendable s) s.fin_sent refl (λ h. sendable_of_fin s h) in
+    target_of_if (sends_fin texted) (with_fin_sent texted) texted (target s)
+    (λ h. let f = sends_facts texted.opened texted.closed texted.fin_sent (texted.sent == texted.una + length texted.held) (nat_lt texted.sent texted.edge) h in
+    fin_target texted f.0 f.1 (at_end texted.una texted.sent (length texted.held) f.2) ∙ text)
+    (λ h. text)
+
+pub after_probe : (e : Tcb) → has_begun e.name ≡ true → IsBounded e → (pt pf : Bool) → probes_text e ≡ pt → probes_fin e ≡ pf
+    → target (after_steps true pt pf e.sending) ≡ target e.sending
+after_probe e begun b true pf is_text is_fin =
+    let s : Sending = e.sending in
+    let f = text_facts e.probe (has_begun e.name) s.opened s.fin_sent (nat_lt (s.sent - s.una) (length s.held)) is_text in
+    new_target (with_sent s 1) ∙ text_target s 1 s.fin_sent refl (λ h. absurd (false≢true (sym f.1 ∙ h)))
+after_probe e begun b false true is_text is_fin =
+    let s : Sending = e.sending in
+    let f = probe_fin_facts e.probe (has_begun e.name) s.opened s.fin_sent (not (nat_lt (s.sent - s.una) (length s.held))) s.closed is_fin in
+    new_target (with_fin_sent s)
+    ∙ fin_target s f.1 f.0 (probe_end s.una s.sent (length s.held) s.fin_sent (not (nat_lt (s.sent - s.una) (length s.held))) refl f.2 f.0 b.order b.flight)
+after_probe e begun b false false is_text is_fin = new_target e.sending
+
+una_of_if : (b : Bool) (x y : Sending) (n : ℕ) → x.una ≡ n → y.una ≡ n → (if b then x else y).una ≡ n
+una_of_if true x y n p q = p
+una_of_if false x y n p q = q
+
+edge_of_if : (b : Bool) (x y : Sending) (n : ℕ) → x.edge ≡ n → y.edge ≡ n → (if b then x else y).edge ≡ n
+edge_of_if true x y n p q = p
+edge_of_if false x y n p q = q
+
+-- the fields that no step of a flush touches
+pub una_kept : (pt pf : Bool) (s : Sending) → (after_steps true pt pf s).una ≡ s.una
+una_kept pt pf s =
+    let probed : Sending = if pt then with_sent s 1 else (if pf then with_fin_sent s else s) in
+    let is : probed.una ≡ s.una = una_of_if pt (with_sent s 1) (if pf then with_fin_sent s else s) s.una refl (una_of_if pf (with_fin_sent s) s s.una refl refl) in
+    let texted : Sending = with_sent probed (sendable probed)
+    in una_of_if (sends_fin texted) (with_fin_sent texted) texted s.una is is
+
+edge_kept : (pt pf : Bool) (s : Sending) → (after_steps true pt pf s).edge ≡ s.edge
+edge_kept pt pf s =
+    let probed : Sending = if pt then with_sent s 1 else (if pf then with_fin_sent s else s) in
+    let is : probed.edge ≡ s.edge = edge_of_if pt (with_sent s 1) (if pf then with_fin_sent s else s) s.edge refl (edge_of_if pf (with_fin_sent s) s s.edge refl refl) in
+    let texted : Sending = with_sent probed (sendable probed)
+    in edge_of_if (sends_fin texted) (with_fin_sent texted) texted s.edge is is
+
+-- with all acknowledged and something waiting, nothing was sent, for want of room
+stuck_by : (una before sent target edge p : ℕ) → una ≤ before → sent ≡ max before (min target edge) + p → una ≡ sent → sent + 1 ≤ target → edge ≤ sent
+stuck_by una before sent target edge p order is acked waits = omega arith
+
+must_wait : (o : Bool) (una sent target : ℕ) → (not o || nat_lt una (max sent target)) ≡ true → o ≡ true → una ≡ sent → sent + 1 ≤ target
+must_wait true una sent target h opened acked = grind arith
+must_wait false una sent target h opened acked = absurd (false≢true opened)
+
+shut_of : (a : Sending) (edge : ℕ) (s : Sending) → must_run a ≡ true → a.edge ≡ edge → (a.una ≡ a.sent → a.sent + 1 ≤ target a → edge ≤ a.sent)
+    → s.opened ≡ a.opened → s.una ≡ a.una → s.sent ≡ a.sent → s.edge ≡ a.edge → target s ≡ target a → IsShut s
+shut_of a edge s must is stuck opened una sent same_edge same_target =
+    let waits : s.opened ≡ true → s.una ≡ s.sent → a.sent + 1 ≤ target a = λ o acked.
+    must_wait a.opened a.una a.sent (target a) must (sym opened ∙ o) (sym una ∙ acked ∙ sent)
+    in record {
+      edge = λ r o acked. omega (arith, stuck (sym una ∙ acked ∙ sent) (waits o acked), is, same_edge, sent);
+      waits = λ r o acked. omega (arith, waits o acked, sent, same_target);
+    }
+
+started : (b : Bool) (a : Sending) (edge : ℕ) → must_run a ≡ true → a.edge ≡ edge → (a.una ≡ a.sent → a.sent + 1 ≤ target a → edge ≤ a.sent)
+    → IsShut (if b then record a { interval = 1; rest = 1 } else a)
+started true a edge must is stuck = shut_of a edge (record a { interval = 1; rest = 1 }) must is stuck refl refl refl refl refl
+started false a edge must is stuck = shut_of a edge a must is stuck refl refl refl refl refl
+
+-- the timer runs only where it must
+shut_timed : (runs : Bool) (a : Sending) (edge : ℕ) → (runs ≡ true → must_run a ≡ true) → a.edge ≡ edge
+    → (a.una ≡ a.sent → a.sent + 1 ≤ target a → edge ≤ a.sent) → IsShut (timed runs a)
+shut_timed true a edge runs is stuck = started (a.rest == 0) a edge (runs refl) is stuck
+shut_timed false a edge runs is stuck = record { edge = λ r. absurd (omega arith); waits = λ r. absurd (omega arith) }
+
+pub shut_by_flush : (e : Tcb) → has_begun e.name ≡ true → IsBounded e → ProbesRightly e → IsShut (flushed e).sending
+unfolding flushed settled announced after_full with_fin_out with_text_sent with_probe
+shut_by_flush e begun b right =
+    let s : Sending = e.sending in
+    let after : Tcb = with_fin_out (with_text_sent (with_probe e)) in
+    let a : Sending = after_steps (has_begun e.name) (probes_text e) (probes_fin e) s in
+    let runs : Bool = is_timed after in
+    let same : a ≡ after_steps true (probes_text e) (probes_fin e) s = by_probe e (probes_text e) (probes_fin e) refl refl begun in
+    let una : a.una ≡ s.una = ap (λ (q : Sending). q.una) same ∙ una_kept (probes_text e) (probes_fin e) s in
+    let edge : a.edge ≡ s.edge = ap (λ (q : Sending). q.edge) same ∙ edge_kept (probes_text e) (probes_fin e) s in
+    let goal : target a ≡ target s = ap target same ∙ after_probe e begun b (probes_text e) (probes_fin e) refl refl in
+    let sent : a.sent ≡ max s.sent (min (target s) s.edge) + one_if e.probe = sym (timed_sent runs a) ∙ sent_law e begun b right in
+    shut_timed runs a s.edge
+    (λ h. (both_on (has_begun after.name || is_syn_sent after.name) (must_run a) h).1)
+    edge
+    (λ acked waits. stuck_by s.una s.sent a.sent (target s) s.edge (one_if e.probe) b.order sent (sym una ∙ acked) (omega (arith, waits, goal)))

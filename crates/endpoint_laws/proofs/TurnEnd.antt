@@ -1,0 +1,289 @@
+-- The end of a turn: what the flush leaves of the sending half, and when the timer runs.
+use Rattle.std.proofs.Common.{◌≡◌, ℕ, ◌≤◌, ◌+◌, ◌-◌, Bool, true, false, not, length, max, min, refl, sym, ap, arith, ⊎_elim, ◌∙◌}
+use Rattle.std.specs.Prelude.{pos, ◌+ℤ◌, ◌==◌, ◌&&◌, ◌||◌, nat_lt, if◌then◌else◌}
+use Rattle.std.proofs.lemmas.Bool.{false≢true}
+use Rattle.seq_arith.specs.Number.{offset_of}
+use Rattle.server_trait.specs.Service.{Machine}
+use Rattle.seq_arith.specs.Offset.{one_if}
+use Rattle.ft_model.specs.Point.{Point}
+use Rattle.ft_model.specs.Point as point
+use Rattle.ft_model.specs.Timer as timer
+use Rattle.tcp_endpoint.specs.States.{is_syn_sent, has_begun}
+use Rattle.tcp_endpoint.specs.Sending.{Sending, target, must_run, timed, sendable, sends_fin, with_sent, with_fin_sent}
+use Rattle.tcp_endpoint.specs.Tcb.{Tcb}
+use Rattle.tcp_endpoint.specs.Leaving.{probes_text, probes_fin, with_probe, with_text_sent, with_fin_out, after_full, announced, is_timed, settled, flushed}
+use Rattle.endpoint_laws.specs.Laws.{IsBounded}
+use Rattle.endpoint_laws.specs.Standing.{SendsAt, HasWrittenAll, HasFilled, IsUsedAt}
+use Rattle.endpoint_laws.proofs.TurnLaw.{after_steps, by_probe, timed_sent}
+use Rattle.endpoint_laws.proofs.ToldLaw.{after_probe}
+use Rattle.endpoint_laws.proofs.Calls.{FinIsLast}
+
+-- a part of the sending half that neither the timer nor what is sent has a part in
+pub record IsSteady {X : Type 0} (g : Sending → X) : Type 0 where
+  pub sends : (s : Sending) (n : ℕ) → g (with_sent s n) ≡ g s
+  pub ends : (s : Sending) → g (with_fin_sent s) ≡ g s
+  pub times : (s : Sending) (interval rest : ℕ) → g (record s { interval = interval; rest = rest }) ≡ g s
+
+same_of_if : {X : Type 0} (g : Sending → X) (b : Bool) (x y : Sending) → g x ≡ g y → g (if b then x else y) ≡ g y
+same_of_if g true x y same = same
+same_of_if g false x y same = refl
+
+pub steps_keep : {X : Type 0} (g : Sending → X) (begun pt pf : Bool) (s : Sending) → IsSteady g → g (after_steps begun pt pf s) ≡ g s
+steps_keep g begun pt pf s k =
+    let fin : Sending = if pf then with_fin_sent s else s in
+    let fin_same : g fin ≡ g s = same_of_if g pf (with_fin_sent s) s (k.ends s) in
+    let probed : Sending = if pt then with_sent s 1 else fin in
+    let texted : Sending = with_sent probed (if begun then sendable probed else 0) in
+    same_of_if g (begun && sends_fin texted) (with_fin_sent texted) texted (k.ends texted)
+    ∙ k.sends probed _ ∙ same_of_if g pt (with_sent s 1) fin (k.sends s 1 ∙ sym fin_same) ∙ fin_same
+
+timed_keeps : {X : Type 0} (g : Sending → X) (runs : Bool) (s : Sending) → IsSteady g → g (timed runs s) ≡ g s
+timed_keeps g true s k = same_of_if g (s.rest == 0) (record s { interval = 1; rest = 1 }) s (k.times s 1 1)
+timed_keeps g false s k = k.times s 1 0
+
+pub full_keeps : {X : Type 0} (g : Sending → X) (u : Tcb) → IsSteady g → g (after_full u).sending ≡ g u.sending
+unfolding after_full with_fin_out with_text_sent with_probe
+full_keeps g u k = steps_keep g (has_begun u.name) (probes_text u) (probes_fin u) u.sending k
+
+pub flush_keeps : {X : Type 0} (g : Sending → X) (u : Tcb) → IsSteady g → g (flushed u).sending ≡ g u.sending
+unfolding flushed settled announced
+flush_keeps g u k = timed_keeps g (is_timed (after_full u)) (after_full u).sending k ∙ full_keeps g u k
+
+pub flushed_sends : (p : Point) (u : Tcb) → SendsAt p u → SendsAt p (flushed u)
+unfolding flushed settled announced after_full with_fin_out with_text_sent with_probe
+flushed_sends p u s =
+    let opened : (flushed u).sending.opened ≡ u.sending.opened =
+    flush_keeps (λ (q : Sending). q.opened) u (record { sends = λ s n. refl; ends = λ s. refl; times = λ s i r. refl }) in
+    record {
+      sisn = s.sisn ∙ sym (flush_keeps (λ (q : Sending). q.iss) u (record { sends = λ s n. refl; ends = λ s. refl; times = λ s i r. refl }));
+      mss = s.mss ∙ sym (flush_keeps (λ (q : Sending). q.mss) u (record { sends = λ s n. refl; ends = λ s. refl; times = λ s i r. refl }));
+      counted = s.counted ∙ sym opened;
+      una = s.una ∙ sym (flush_keeps (λ (q : Sending). q.una) u (record { sends = λ s n. refl; ends = λ s. refl; times = λ s i r. refl }));
+      edge = s.edge ∙ sym (flush_keeps (λ (q : Sending). q.edge) u (record { sends = λ s n. refl; ends = λ s. refl; times = λ s i r. refl }));
+      wl1 = λ h. s.wl1 (sym opened ∙ h)
+          ∙ ap (λ n. offset_of u.receiving.irs n +ℤ pos p.fetched)
+          (sym (flush_keeps (λ (q : Sending). q.wl1) u (record { sends = λ s n. refl; ends = λ s. refl; times = λ s i r. refl })));
+      wl2 = s.wl2 ∙ sym (flush_keeps (λ (q : Sending). q.wl2) u (record { sends = λ s n. refl; ends = λ s. refl; times = λ s i r. refl }));
+    }
+
+-- a FIN is sent last
+last_if : (b : Bool) (x y : Sending) → (b ≡ true → FinIsLast x) → (b ≡ false → FinIsLast y) → FinIsLast (if b then x else y)
+last_if true x y p q = p refl
+last_if false x y p q = q refl
+
+last_sent : (s : Sending) (n : ℕ) → (s.fin_sent ≡ true → n ≡ 0) → FinIsLast s → FinIsLast (with_sent s n)
+last_sent s n none last = λ h. let k = last h in (k.0, omega (arith, k.1), omega (arith, k.2, none h))
+
+last_fin : (s : Sending) → s.closed ≡ true → length s.held ≡ s.sent - s.una → FinIsLast (with_fin_sent s)
+last_fin s is_closed all_sent = λ h. (is_closed, omega arith, omega (arith, all_sent))
+
+off_four : (c d t u : Bool) → (false && c && not d && t && u) ≡ true → false ≡ true
+off_four c d t u h = h
+
+off_three : (d t u : Bool) → (false && not d && t && u) ≡ true → false ≡ true
+off_three d t u h = h
+
+closed_of : (b o c d t u : Bool) → (b && (o && c && not d && t && u)) ≡ true → c ≡ true
+closed_of true true true d t u h = refl
+closed_of true true false d t u h = absurd (false≢true (off_three d t u h))
+closed_of true false c d t u h = absurd (false≢true (off_four c d t u h))
+closed_of false o c d t u h = absurd (false≢true h)
+
+-- it goes out where all bytes were sent
+all_sent_of : (b o c d u : Bool) (una len sent : ℕ) → (b && (o && c && not d && (sent == una + len) && u)) ≡ true → len ≡ sent - una
+all_sent_of true true true false u una len sent h = grind arith
+all_sent_of true true true true u una len sent h = absurd (false≢true h)
+all_sent_of true true false d u una len sent h = absurd (false≢true (off_three d (sent == una + len) u h))
+all_sent_of true false c d u una len sent h = absurd (false≢true (off_four c d (sent == una + len) u h))
+all_sent_of false o c d u una len sent h = absurd (false≢true h)
+
+-- behind it no text goes out
+none_sendable : (b o f : Bool) (n : ℕ) → f ≡ true → (if b then (if o && not f then n else 0) else 0) ≡ 0
+none_sendable true true true n h = refl
+none_sendable true false true n h = refl
+none_sendable false o true n h = refl
+none_sendable b o false n h = absurd (false≢true h)
+
+last_steps : (begun pt pf : Bool) (s : Sending) → (pt ≡ true → s.fin_sent ≡ false) → (pf ≡ true → (s.closed ≡ true) × (length s.held ≡ s.sent - s.una))
+    → FinIsLast s → FinIsLast (after_steps begun pt pf s)
+last_steps begun pt pf s unsent ends last =
+    let probed : Sending = if pt then with_sent s 1 else (if pf then with_fin_sent s else s) in
+    let texted : Sending = with_sent probed (if begun then sendable probed else 0) in
+    let probed_last : FinIsLast probed =
+    last_if pt (with_sent s 1) _ (λ h. last_sent s 1 (λ k. absurd (false≢true (sym (unsent h) ∙ k))) last)
+    (λ h. last_if pf (with_fin_sent s) s (λ k. last_fin s (ends k).0 (ends k).1) (λ k. last)) in
+    let texted_last : FinIsLast texted =
+    last_sent probed _ (λ h. none_sendable begun probed.opened probed.fin_sent (min (probed.una + length probed.held) probed.edge - probed.sent) h) probed_last in
+    last_if (begun && sends_fin texted) (with_fin_sent texted) texted
+    (λ h. last_fin texted
+    (closed_of begun texted.opened texted.closed texted.fin_sent (texted.sent == texted.una + length texted.held) (nat_lt texted.sent texted.edge) h)
+    (all_sent_of begun texted.opened texted.closed texted.fin_sent (nat_lt texted.sent texted.edge) texted.una (length texted.held) texted.sent h))
+    (λ h. texted_last)
+
+right_of : (a b : Bool) → (a && b) ≡ true → b ≡ true
+right_of true b h = h
+right_of false b h = absurd (false≢true h)
+
+last_timed : (runs : Bool) (s : Sending) → FinIsLast s → FinIsLast (timed runs s)
+last_timed true s last = last_if (s.rest == 0) (record s { interval = 1; rest = 1 }) s (λ h. last) (λ h. last)
+last_timed false s last = last
+
+-- a probe goes out where no FIN was sent, and the FIN as one where no byte waits to be sent
+unsent_of : (p b o f t : Bool) → (p && b && o && not f && t) ≡ true → f ≡ false
+unsent_of p b o false t h = refl
+unsent_of p b o true t h = grind arith
+
+left_of : (a b : Bool) → (a && b) ≡ true → a ≡ true
+left_of true b h = refl
+left_of false b h = absurd (false≢true h)
+
+none_waiting : (f : Bool) (una len sent : ℕ) → una ≤ sent → sent ≤ una + len + one_if f → f ≡ false → not (nat_lt (sent - una) len) ≡ true → len ≡ sent - una
+none_waiting true una len sent order flight unsent none = absurd (false≢true (sym unsent))
+none_waiting false una len sent order flight unsent none = grind arith
+
+ends_of : (p b o f c : Bool) (una len sent : ℕ) → una ≤ sent → sent ≤ una + len + one_if f → (p && b && o && not f && not (nat_lt (sent - una) len) && c) ≡ true
+    → (c ≡ true) × (len ≡ sent - una)
+ends_of p b o f c una len sent order flight h =
+    let none : Bool = not (nat_lt (sent - una) len) in
+    let probed : (p && b && o && not f && none) ≡ true = left_of (p && b && o && not f && none) c h in (
+      right_of (p && b && o && not f && none) c h,
+      none_waiting f una len sent order flight (unsent_of p b o f none probed) (right_of (p && b && o && not f) none probed),
+    )
+
+pub last_flushed : (u : Tcb) → IsBounded u → FinIsLast u.sending → FinIsLast (flushed u).sending
+unfolding flushed settled announced after_full with_fin_out with_text_sent with_probe
+last_flushed u b last =
+    let s : Sending = u.sending in
+    last_timed _ (after_steps (has_begun u.name) (probes_text u) (probes_fin u) u.sending)
+    (last_steps (has_begun u.name) (probes_text u) (probes_fin u) s
+    (λ h. unsent_of u.probe (has_begun u.name) s.opened s.fin_sent (nat_lt (s.sent - s.una) (length s.held)) h)
+    (λ h. ends_of u.probe (has_begun u.name) s.opened s.fin_sent s.closed s.una (length s.held) s.sent b.order b.flight h) last)
+
+-- the timer runs only where it must
+runs_if : (b : Bool) (s : Sending) → must_run s ≡ true → 1 ≤ (if b then record s { interval = 1; rest = 1 } else s).rest
+    → must_run (if b then record s { interval = 1; rest = 1 } else s) ≡ true
+runs_if true s must h = must
+runs_if false s must h = must
+
+runs_timed : (runs : Bool) (s : Sending) → (runs ≡ true → must_run s ≡ true) → 1 ≤ (timed runs s).rest → must_run (timed runs s) ≡ true
+runs_timed true s must h = runs_if (s.rest == 0) s (must refl) h
+runs_timed false s must h = absurd (omega (arith, h))
+
+pub runs_flushed : (u : Tcb) → 1 ≤ (flushed u).sending.rest → must_run (flushed u).sending ≡ true
+unfolding flushed settled announced
+runs_flushed u h =
+    let v : Tcb = after_full u in
+    runs_timed (is_timed v) v.sending (λ r. right_of (has_begun v.name || is_syn_sent v.name) (must_run v.sending) r) h
+
+-- the target, and whether the timer must run, at the point: behind a full buffer the rest of the output waits, which has no room
+target_by : (f c : Bool) (una len sent : ℕ) → (f ≡ true → (c ≡ true) × (1 ≤ sent)) → (if f then sent - 1 else una + len) + one_if c ≡ (if f then sent else una + len + one_if c)
+target_by true true una len sent last = omega (arith, (last refl).1)
+target_by true false una len sent last = absurd (false≢true (last refl).0)
+target_by false c una len sent last = refl
+
+all_target : {State : Type 0} (service : Machine State) (p : Point) (s : Sending) → FinIsLast s → HasWrittenAll service p s → point.target service p ≡ target s
+all_target service p s last w =
+    (λ i. w.written i + one_if (w.closed i)) ∙ target_by s.fin_sent s.closed s.una (length s.held) s.sent (λ h. ((last h).0, (last h).1))
+
+fin_unsent : (f c : Bool) → (f ≡ true → c ≡ true) → c ≡ false → f ≡ false
+fin_unsent true c ends h = absurd (false≢true (sym h ∙ ends refl))
+fin_unsent false c ends h = refl
+
+open_target : (f c : Bool) (una len sent : ℕ) → f ≡ false → c ≡ false → (if f then sent else una + len + one_if c) ≡ una + len
+open_target true c una len sent none h = absurd (false≢true (sym none))
+open_target false true una len sent none h = absurd (false≢true (sym h))
+open_target false false una len sent none h = omega arith
+
+-- what a full buffer says of the target
+record FilledTarget (una edge goal all : ℕ) : Type 0 where
+  full : goal ≡ una + 65535
+  within : goal ≤ all
+  reach : edge ≤ goal
+
+filled_target : {State : Type 0} (service : Machine State) (p : Point) (u : Tcb) → IsBounded u → FinIsLast u.sending → HasFilled service p u.sending
+    → FilledTarget u.sending.una u.sending.edge (target u.sending) (point.target service p)
+filled_target service p u b last w =
+    let s : Sending = u.sending in
+    let unsent : s.fin_sent ≡ false = fin_unsent s.fin_sent s.closed (λ h. (last h).0) w.open_still in
+    let goal : target s ≡ s.una + length s.held = open_target s.fin_sent s.closed s.una (length s.held) s.sent unsent w.open_still in
+    let written : s.una + length s.held ≤ point.released service p =
+    omega (arith, w.written, ap (λ v. if v then s.sent - 1 else s.una + length s.held) unsent) in
+    record { full = omega (arith, goal, w.full); within = omega (arith, goal, written); reach = omega (arith, goal, w.full, b.reach) }
+
+filled_sent : (una edge goal all sent : ℕ) → FilledTarget una edge goal all → max sent (min all edge) ≡ max sent (min goal edge)
+filled_sent una edge goal all sent f = omega (arith, f.within, f.reach)
+
+-- how far a turn sends
+pub sent_at : {State : Type 0} (service : Machine State) (p : Point) (u : Tcb) → IsBounded u → FinIsLast u.sending → IsUsedAt service p u
+    → max u.sending.sent (min (point.target service p) u.sending.edge) ≡ max u.sending.sent (min (target u.sending) u.sending.edge)
+sent_at service p u b last used =
+    ⊎_elim (λ w. ap (λ n. max u.sending.sent (min n u.sending.edge)) (all_target service p u.sending last w))
+    (λ w. filled_sent u.sending.una u.sending.edge (target u.sending) (point.target service p) u.sending.sent (filled_target service p u b last w))
+    used.written
+
+filled_runs : (una edge goal all sent : ℕ) → FilledTarget una edge goal all → nat_lt una (max sent goal) ≡ nat_lt una (max sent all)
+filled_runs una edge goal all sent f = grind (arith, f.full, f.within)
+
+-- whether something waits
+waits_at : {State : Type 0} (service : Machine State) (p : Point) (u : Tcb) (sent : ℕ) → IsBounded u → FinIsLast u.sending → IsUsedAt service p u
+    → nat_lt u.sending.una (max sent (target u.sending)) ≡ nat_lt u.sending.una (max sent (point.target service p))
+waits_at service p u sent b last used =
+    ⊎_elim (λ w. ap (λ n. nat_lt u.sending.una (max sent n)) (sym (all_target service p u.sending last w)))
+    (λ w. filled_runs u.sending.una u.sending.edge (target u.sending) (point.target service p) sent (filled_target service p u b last w))
+    used.written
+
+full_target : (u : Tcb) → has_begun u.name ≡ true → IsBounded u → target (after_full u).sending ≡ target u.sending
+unfolding after_full with_fin_out with_text_sent with_probe
+full_target u begun b = ap target (by_probe u (probes_text u) (probes_fin u) refl refl begun) ∙ after_probe u begun b (probes_text u) (probes_fin u) refl refl
+
+pub full_name : (u : Tcb) → has_begun u.name ≡ true → has_begun (after_full u).name ≡ true
+unfolding after_full with_fin_out with_text_sent with_probe
+full_name u begun = begun
+
+pub flushed_sent : (u : Tcb) → (flushed u).sending.sent ≡ (after_full u).sending.sent
+unfolding flushed settled announced
+flushed_sent u = timed_sent (is_timed (after_full u)) (after_full u).sending
+
+pub runs_at : {State : Type 0} (service : Machine State) (p : Point) (u : Tcb) → has_begun u.name ≡ true → IsBounded u → FinIsLast u.sending → SendsAt p u
+    → IsUsedAt service p u → p.sent ≡ (after_full u).sending.sent → is_timed (after_full u) ≡ timer.must_run service p
+unfolding timer.must_run
+runs_at service p u begun b last s used sent =
+    let v : Tcb = after_full u in
+    let opened : v.sending.opened ≡ p.counted =
+    full_keeps (λ (q : Sending). q.opened) u (record { sends = λ s n. refl; ends = λ s. refl; times = λ s i r. refl }) ∙ sym s.counted in
+    let una : v.sending.una ≡ u.sending.una =
+    full_keeps (λ (q : Sending). q.una) u (record { sends = λ s n. refl; ends = λ s. refl; times = λ s i r. refl }) in
+    ap (λ n. (n || is_syn_sent v.name) && must_run v.sending) (full_name u begun)
+    ∙ (λ i. not (opened i) || nat_lt (una i) (max (sym sent i) (full_target u begun b i)))
+    ∙ ap (λ w. not p.counted || w) (waits_at service p u p.sent b last used)
+    ∙ ap (λ n. not p.counted || nat_lt n (max p.sent (point.target service p))) (sym s.una)
+
+-- where the timer must run before the flush, it must at the point after it
+more_sent : (o : Bool) (una sent sent' goal : ℕ) → sent ≤ sent' → (not o || nat_lt una (max sent goal)) ≡ true → (not o || nat_lt una (max sent' goal)) ≡ true
+more_sent true una sent sent' goal more h = grind arith
+more_sent false una sent sent' goal more h = refl
+
+least_if : (b : Bool) (x y : Sending) (n : ℕ) → n ≤ x.sent → n ≤ y.sent → n ≤ (if b then x else y).sent
+least_if true x y n p q = p
+least_if false x y n p q = q
+
+steps_grow : (u : Tcb) → u.sending.sent ≤ (after_full u).sending.sent
+unfolding after_full with_fin_out with_text_sent with_probe
+steps_grow u =
+    let s : Sending = u.sending in
+    let pt : Bool = probes_text u in
+    let pf : Bool = probes_fin u in
+    let probed : Sending = if pt then with_sent s 1 else (if pf then with_fin_sent s else s) in
+    let texted : Sending = with_sent probed (if has_begun u.name then sendable probed else 0) in
+    let first_step : s.sent ≤ probed.sent = least_if pt (with_sent s 1) _ s.sent (omega arith) (least_if pf (with_fin_sent s) s s.sent (omega arith) (omega arith)) in
+    let second_step : s.sent ≤ texted.sent = omega (arith, first_step) in
+    least_if (has_begun u.name && sends_fin texted) (with_fin_sent texted) texted s.sent (omega (arith, second_step)) second_step
+
+pub running_at : {State : Type 0} (service : Machine State) (before after : Point) (u : Tcb) → IsBounded u → FinIsLast u.sending → SendsAt after u → IsUsedAt service after u
+    → before.sent ≡ u.sending.sent → after.sent ≡ (after_full u).sending.sent → must_run u.sending ≡ true → timer.must_run service after ≡ true
+unfolding timer.must_run
+running_at service before after u b last s used was sent must =
+    let more : u.sending.sent ≤ after.sent = omega (arith, steps_grow u, sent) in
+    (λ i. not (s.counted i) || nat_lt (s.una i) (max after.sent (point.target service after)))
+    ∙ ap (λ w. not u.sending.opened || w) (sym (waits_at service after u after.sent b last used))
+    ∙ more_sent u.sending.opened u.sending.una u.sending.sent after.sent (target u.sending) more must

@@ -1,0 +1,225 @@
+-- A turn leads from the point at which an endpoint stands to the point that the laws lead to.
+use Rattle.std.proofs.Common.{◌≡◌, ℕ, ◌≤◌, ◌+◌, ◌*◌, ◌%◌, ◌^◌, Bool, true, false, not, List, [], ◌∷◌, ◌++◌, length, drop, max, min, refl, sym, ap, arith, ◌∙◌}
+use Rattle.std.specs.Prelude.{pos, ◌+ℤ◌, ◌==◌, ◌&&◌, ◌||◌, nat_lt, if◌then◌else◌}
+use Rattle.ft_io.specs.declared.Addr.{Addr}
+use Rattle.seq_arith.specs.Number.{offset_of}
+use Rattle.seq_arith.specs.Packet.{Segment}
+use Rattle.server_trait.specs.Service.{Machine}
+use Rattle.seq_arith.specs.Offset.{one_if}
+use Rattle.ft_model.specs.News.{News}
+use Rattle.ft_model.specs.News.News.{Comes, Logged, Ticks, Begins}
+use Rattle.ft_model.specs.Point.{Point, taken_units, announced_edge}
+use Rattle.ft_model.specs.Point as point
+use Rattle.ft_model.specs.Sending.{counted_after, acknowledged_after, sent_at_once, sent_after}
+use Rattle.ft_model.specs.Segments.{or_bare, bare_segment, resent, new_texts, new_fin}
+use Rattle.ft_model.specs.Timer as timer
+use Rattle.tcp_endpoint.specs.States.{has_begun}
+use Rattle.tcp_endpoint.specs.Receiving.{next}
+use Rattle.tcp_endpoint.specs.Receiving as half
+use Rattle.tcp_endpoint.specs.Sending.{is_unacknowledged}
+use Rattle.tcp_endpoint.specs.Tcb.{Tcb}
+use Rattle.tcp_endpoint.specs.Leaving.{answer_out, full_out, leaving, after_full, announced, settled, flushed}
+use Rattle.tcp_endpoint.specs.Leaving as left
+use Rattle.endpoint_laws.specs.Laws.{IsBounded, ProbesRightly, asks, told}
+use Rattle.endpoint_laws.specs.Turn.{Call, MayUse, IsUsualNews, IsBetweenTurns, arrived, used, before_flush}
+use Rattle.endpoint_laws.specs.Standing.{ReceivesAt, SendsAt, StandsAt, MeetsLaws, IsUsedAt, owes_to, is_owed, refusals, segments_by_laws, LeadsTo}
+use Rattle.endpoint_laws.proofs.Bounding.{bounded_by_flush}
+use Rattle.endpoint_laws.proofs.TurnLaw.{sent_law}
+use Rattle.endpoint_laws.proofs.ToldLaw.{leaving_by, told_by_flush, shut_by_flush}
+use Rattle.endpoint_laws.proofs.StandingLaw.{next_is, announced_is}
+use Rattle.endpoint_laws.proofs.Calls.{FinIsLast, IsUsed, used_is, bounded_used, last_used, probes_used}
+use Rattle.endpoint_laws.proofs.Arrivals.{moved, Arrived, arrives, owed_is}
+use Rattle.endpoint_laws.proofs.Flushing.{Flushes, waits_for_ack}
+use Rattle.endpoint_laws.proofs.TurnEnd.{flushed_sends, last_flushed, runs_flushed, sent_at, flushed_sent, runs_at, running_at}
+use Rattle.endpoint_laws.proofs.TimerAt.{Timed, timer_at}
+use Rattle.endpoint_laws.proofs.SegmentsLaw.{full_is, bare_is}
+
+-- from the news to the end of the turn: the calls lead the endpoint on to the point after
+receives_of : {State : Type 0} (service : Machine State) (news : News) (before after : Point) (m u : Tcb) → ReceivesAt (moved news before) m → IsUsed m u
+    → MeetsLaws service news before after → IsUsedAt service after u → ReceivesAt after u
+receives_of service news before after m u r a laws user =
+    let rest : drop (m.receiving.read + after.fetched) after.taken ≡ m.receiving.unread =
+    (λ i. drop (m.receiving.read + laws.same.fetched i) (laws.taken i)) ∙ r.unread in
+    record {
+      cisn = a.irs ∙ r.cisn ∙ (λ i. (sym laws.same.cisn i + sym laws.same.fetched i) % 2 ^ 32);
+      limit = (λ i. a.limit i + laws.same.fetched i) ∙ r.limit;
+      read = user.read;
+      long = ap length laws.taken ∙ r.long ∙ (λ i. sym a.taken i + sym laws.same.fetched i);
+      unread = a.unread after.taken after.fetched rest;
+      fin = laws.fin ∙ r.fin ∙ sym a.fin;
+    }
+
+sends_of : {State : Type 0} (service : Machine State) (news : News) (before after : Point) (m u : Tcb) → SendsAt (moved news before) m → IsUsed m u
+    → MeetsLaws service news before after → SendsAt after u
+sends_of service news before after m u s a laws = record {
+  sisn = laws.same.sisn ∙ s.sisn ∙ sym a.sends.iss;
+  mss = laws.same.mss ∙ s.mss ∙ sym a.sends.mss;
+  counted = laws.counted ∙ s.counted ∙ sym a.sends.opened;
+  una = laws.una ∙ s.una ∙ sym a.sends.una;
+  edge = laws.edge ∙ s.edge ∙ sym a.sends.edge;
+  wl1 = λ h. laws.wl1 ∙ s.wl1 (sym a.sends.opened ∙ h) ∙ (λ i. offset_of (sym a.irs i) (sym a.sends.wl1 i) +ℤ pos (sym laws.same.fetched i));
+  wl2 = laws.wl2 ∙ s.wl2 ∙ sym a.sends.wl2;
+}
+
+-- what waits for an acknowledgement where the timer expires: the news of a tick acknowledge nothing
+waits_is : {State : Type 0} (service : Machine State) (news : News) (before after : Point) (e : Tcb) → StandsAt before e → MeetsLaws service news before after
+    → (keep : Bool → Bool) → (timer.expires news before && keep (is_unacknowledged e.sending)) ≡ (timer.expires news before && keep (waits_for_ack before after))
+unfolding counted_after acknowledged_after
+waits_is service (Comes segment) before after e stands laws keep = refl
+waits_is service (Logged kept) before after e stands laws keep = refl
+waits_is service Ticks before after e stands laws keep = λ i.
+    timer.expires Ticks before && keep (not ((sym stands.sends.counted ∙ sym laws.counted) i) || nat_lt ((sym stands.sends.una ∙ sym laws.una) i) (sym stands.sent i))
+waits_is service Begins before after e stands laws keep = refl
+
+flushes : {State : Type 0} (service : Machine State) (news : News) (before after : Point) (e m u : Tcb) → StandsAt before e → Arrived news before e m → IsUsed m u
+    → IsBounded u → has_begun u.name ≡ true → MeetsLaws service news before after → IsUsedAt service after u → Flushes service news before after u
+unfolding answer_out
+flushes service news before after e m u stands came a bounds begun laws user = record {
+  begun = begun;
+  bounds = bounds;
+  probes = probes_used m u a came.probes;
+  fin_last = last_used m.sending u.sending a.sends came.fin_last;
+  ip = ap (λ k. k.ip) laws.same.key ∙ stands.ip ∙ ap (λ (r : Addr). r.ip) (sym (a.remote ∙ came.remote));
+  port = ap (λ k. k.port) laws.same.key ∙ stands.port ∙ ap (λ (r : Addr). r.port) (sym (a.remote ∙ came.remote));
+  receives = receives_of service news before after m u came.receives a laws user;
+  sends = sends_of service news before after m u came.sends a laws;
+  used = user;
+  sent = stands.sent ∙ sym (a.sends.sent ∙ came.sent);
+  again = a.again ∙ came.again ∙ waits_is service news before after e stands laws (λ w. w);
+  probe = a.probe ∙ came.probe ∙ waits_is service news before after e stands laws not;
+  answer = ap left.answer_segments a.answer ∙ came.answer ∙ ap (λ l. refusals l news before) (sym (a.local ∙ came.local));
+}
+
+-- what is sent in the turn
+probes_by : (x c y : Bool) → (x && not (not c || y)) ≡ (x && c && not y)
+probes_by true true y = refl
+probes_by true false y = refl
+probes_by false c y = refl
+
+sent_is : {State : Type 0} (service : Machine State) (news : News) (before after : Point) (e m u : Tcb) → StandsAt before e → Arrived news before e m → IsUsed m u
+    → MeetsLaws service news before after → Flushes service news before after u → after.sent ≡ (flushed u).sending.sent
+unfolding sent_after sent_at_once
+sent_is service news before after e m u stands came a laws f =
+    let probe : timer.probes news before ≡ u.probe =
+    (λ i. timer.expires news before && stands.sends.counted i && not (nat_lt (stands.sends.una i) (stands.sent i)))
+    ∙ sym (probes_by (timer.expires news before) e.sending.opened (nat_lt e.sending.una e.sending.sent)) ∙ sym (a.probe ∙ came.probe) in
+    laws.sent
+    ∙ (λ i. max (f.sent i) (min (point.target service after) (f.sends.edge i)) + one_if (probe i))
+    ∙ ap (λ n. n + one_if u.probe) (sent_at service after u f.bounds f.fin_last f.used)
+    ∙ sym (sent_law u f.begun f.bounds f.probes)
+
+-- a segment without data
+or_bare_when : (a b : Bool) (bare : Segment) (refused rest : List Segment) → (refused ≡ [] → a ≡ b) → or_bare a bare (refused ++ rest) ≡ or_bare b bare (refused ++ rest)
+or_bare_when a b bare [] rest same = ap (λ v. or_bare v bare rest) (same refl)
+or_bare_when a b bare (x ∷ refused) rest same = refl
+
+same_moves : (a b k : ℕ) → (a == b) ≡ (a + k == b + k)
+same_moves a b k = grind arith
+
+asks_is : {State : Type 0} (service : Machine State) (news : News) (before after : Point) (e m u : Tcb) → IsBetweenTurns e → StandsAt before e → Arrived news before e m
+    → IsUsed m u → MeetsLaws service news before after → ReceivesAt after u → m.owed ≡ owes_to news before → asks u.owed u ≡ is_owed news before after
+asks_is service news before after e m u between stands came a laws r owed =
+    let heard : told u ≡ (next e.receiving, half.announced_edge e.receiving) = a.told ∙ came.told ∙ between.told in
+    let units : (u.told_next == next u.receiving) ≡ (taken_units before == taken_units after) =
+    ap (λ t. t.0 == next u.receiving) heard ∙ same_moves (next e.receiving) (next u.receiving) before.fetched
+    ∙ (λ i. sym (next_is before e stands.receives) i == (next u.receiving + sym laws.same.fetched i))
+    ∙ ap (λ n. taken_units before == n) (sym (next_is after u r)) in
+    let edges : (u.told_edge == half.announced_edge u.receiving) ≡ (announced_edge before == announced_edge after) =
+    ap (λ t. t.1 == half.announced_edge u.receiving) heard ∙ same_moves (half.announced_edge e.receiving) (half.announced_edge u.receiving) before.fetched
+    ∙ (λ i. sym (announced_is before e stands.receives) i == (half.announced_edge u.receiving + sym laws.same.fetched i))
+    ∙ ap (λ n. announced_edge before == n) (sym (announced_is after u r)) in
+    λ i. (a.owed ∙ owed) i || not (units i) || not (edges i)
+
+segments_are : {State : Type 0} (service : Machine State) (news : News) (before after : Point) (e m u : Tcb) → Flushes service news before after u
+    → after.sent ≡ (after_full u).sending.sent → u.local ≡ e.local → (refusals e.local news before ≡ [] → asks u.owed u ≡ is_owed news before after)
+    → leaving u ≡ segments_by_laws service e.local news before after
+segments_are service news before after e m u f sent here owed =
+    leaving_by u u.owed f.begun refl
+    ∙ (λ i. or_bare (asks u.owed u) (bare_is service news before after u f sent i) (full_is service news before after u f i))
+    ∙ ap (λ l. or_bare (asks u.owed u) (bare_segment l after)
+    (refusals l news before ++ (resent service l news before after ++ (new_texts service l before after ++ new_fin service l before after)))) here
+    ∙ or_bare_when (asks u.owed u) (is_owed news before after) (bare_segment e.local after) (refusals e.local news before) _ owed
+
+-- the interval is at least one tick
+some_interval : (anew expired : Bool) (n : ℕ) → 1 ≤ n → 1 ≤ (if anew then 1 else (if expired then min 64 (2 * n) else n))
+some_interval true expired n some = omega arith
+some_interval false true n some = omega (arith, some)
+some_interval false false n some = some
+
+interval_is_some : (news : News) (before after : Point) → 1 ≤ before.interval → 1 ≤ timer.interval_after news before after
+unfolding timer.interval_after
+interval_is_some news before after some = some_interval (timer.starts before after) (timer.expires news before) before.interval some
+
+-- between two turns again
+pub between_again : (u : Tcb) → has_begun u.name ≡ true → IsBounded u → ProbesRightly u → FinIsLast u.sending → 1 ≤ (flushed u).sending.interval → IsBetweenTurns (flushed u)
+unfolding flushed settled announced after_full left.with_fin_out left.with_text_sent left.with_probe
+between_again u begun bounds probes last interval = record {
+  bounds = bounded_by_flush u bounds;
+  told = told_by_flush u begun;
+  owed = refl;
+  again = refl;
+  probe = refl;
+  answer = refl;
+  fin_last = last_flushed u bounds last;
+  shut = shut_by_flush u begun bounds probes;
+  interval = interval;
+  runs = runs_flushed u;
+}
+
+pub flushed_receives : (p : Point) (u : Tcb) → ReceivesAt p u → ReceivesAt p (flushed u)
+unfolding flushed settled announced after_full left.with_fin_out left.with_text_sent left.with_probe
+flushed_receives p u r = record { cisn = r.cisn; limit = r.limit; read = r.read; long = r.long; unread = r.unread; fin = r.fin }
+
+pub flushed_remote : (u : Tcb) → (flushed u).remote ≡ u.remote
+unfolding flushed settled announced after_full left.with_fin_out left.with_text_sent left.with_probe
+flushed_remote u = refl
+
+turn_leads : {State : Type 0} (service : Machine State) (news : News) (before after : Point) (e m u : Tcb) → has_begun e.name ≡ true → IsBetweenTurns e → StandsAt before e
+    → IsUsualNews news e → m ≡ arrived news e → Arrived news before e m → IsUsed m u → IsBounded u → has_begun u.name ≡ true → MeetsLaws service news before after
+    → IsUsedAt service after u → IsBetweenTurns (flushed u) × StandsAt after (flushed u) × (leaving u ≡ segments_by_laws service e.local news before after)
+turn_leads service news before after e m u begun between stands usual news_are came a bounds begun_after laws user =
+    let f : Flushes service news before after u = flushes service news before after e m u stands came a bounds begun_after laws user in
+    let sent : after.sent ≡ (flushed u).sending.sent = sent_is service news before after e m u stands came a laws f in
+    let sent_full : after.sent ≡ (after_full u).sending.sent = sent ∙ flushed_sent u in
+    let t : Timed service news before after e m u = record {
+      begun = begun;
+      between = between;
+      stands = stands;
+      usual = usual;
+      news_are = news_are;
+      arrived = came;
+      used = a;
+      laws = laws;
+      counted = laws.counted ∙ came.sends.counted;
+      una = laws.una ∙ came.sends.una;
+      runs = runs_at service after u begun_after bounds f.fin_last f.sends user sent_full;
+      still = running_at service before after u bounds f.fin_last f.sends user f.sent sent_full;
+    } in
+    let timed = timer_at service news before after e m u t in
+    let some : 1 ≤ (flushed u).sending.interval =
+    omega (arith, interval_is_some news before after (omega (arith, between.interval, stands.interval)), laws.interval, timed.0) in (
+      between_again u begun_after bounds f.probes f.fin_last some,
+      record {
+        ip = f.ip ∙ ap (λ (r : Addr). r.ip) (sym (flushed_remote u));
+        port = f.port ∙ ap (λ (r : Addr). r.port) (sym (flushed_remote u));
+        receives = flushed_receives after u f.receives;
+        sends = flushed_sends after u f.sends;
+        sent = sent;
+        interval = timed.0;
+        rest = timed.1;
+      },
+      segments_are service news before after e m u f sent_full (a.local ∙ came.local)
+          (λ none. asks_is service news before after e m u between stands came a laws f.receives
+          (ap (λ (x : Tcb). x.owed) news_are ∙ owed_is news before e begun between stands usual none)),
+    )
+
+pub leads_law : {State : Type 0} (service : Machine State) (news : News) (calls : List Call) (before after : Point) (e : Tcb)
+    → has_begun e.name ≡ true → IsBetweenTurns e → StandsAt before e → IsUsualNews news e → MayUse calls (arrived news e)
+    → has_begun (before_flush news calls e).name ≡ true → MeetsLaws service news before after → IsUsedAt service after (before_flush news calls e)
+    → LeadsTo service news before after e calls
+leads_law service news calls before after e begun between stands usual may begun_after laws user =
+    let m : Tcb = arrived news e in
+    let came : Arrived news before e m = arrives news before e begun between stands usual in
+    let a : IsUsed m (used calls m) = used_is calls m may in
+    let done = turn_leads service news before after e m (used calls m) begun between stands usual refl came a (bounded_used calls m may came.fin_last came.bounds) begun_after laws user in
+    record { between = done.0; stands = done.1; segments = done.2 }

@@ -1,0 +1,5 @@
+use Rattle.endpoint_laws.proofs.Announced.{announces_law}
+use Rattle.endpoint_laws.proofs.laws.segments_acknowledge_all_that_is_taken.Goals as goal
+
+pub returns : goal.returns
+returns c = λ news calls e begun between usual may begun_after. announces_law news calls e begun between usual may begun_after

@@ -1,0 +1,163 @@
+-- What a segment and a flush make of an endpoint, in its own words, one definition a sentence of the model's laws and not of the checks in
+-- `Arrival` and `Leaving`: Taken and Sending, when a segment without data is owed, and the timer. `Standing` leads from here to the model's own
+-- definitions, for passive opens; these hold of active ones too. The receive edge keeps to the endpoint's limit in place of 2^24, and the target
+-- is the bytes written, and one more once the user has closed.
+use Rattle.std.specs.Prelude.{◌≡◌, ℕ, Bool, true, false, pos, ◌+◌, ◌-◌, ◌*◌, ◌^◌, ◌<◌, ◌≤◌, ◌+ℤ◌, ◌-ℤ◌, ◌≤ℤ◌, ◌==◌, ◌&&◌, ◌||◌, not, nat_lt, int_lt, int_le, max, min, nat_abs, List, ◌++◌, length, take, drop, if◌then◌else◌}
+use Rattle.seq_arith.specs.Number.{offset_of}
+use Rattle.seq_arith.specs.Arrival.{int_eq, is_acceptable, below, una_after, updates_window}
+use Rattle.seq_arith.specs.Packet.{Segment, has_syn, has_rst, has_ack}
+use Rattle.seq_arith.specs.Offset.{one_if, text_of, fin_of, length_of}
+use Rattle.tcp_buffers.specs.Near.{IsNearFirst}
+use Rattle.tcp_endpoint.specs.Receiving.{Receiving, taken, next, receive_edge, announced_edge}
+use Rattle.tcp_endpoint.specs.Sending.{Sending, target}
+use Rattle.tcp_endpoint.specs.Tcb.{Tcb}
+use Rattle.tcp_endpoint.specs.Arrival.{first, ack_at}
+
+-- Taken: a segment counts where it has ACK and neither SYN nor RST, is acceptable by the next number and the announced edge, and, where no
+-- acknowledgement has counted yet, acknowledges the SYN
+abbrev pub accepts : Tcb → Segment → Bool
+accepts e p = is_acceptable (next e.receiving) (announced_edge e.receiving - next e.receiving) (first e p) (length_of p)
+
+abbrev pub counts : Tcb → Segment → Bool
+counts e p = has_ack p && not (has_syn p) && not (has_rst p) && accepts e p && (e.sending.opened || int_le (pos 0) (ack_at e p))
+
+-- its text and FIN are looked at: it counts, no FIN was taken before, and it leaves no gap
+abbrev pub continues : Tcb → Segment → Bool
+continues e p = counts e p && not e.receiving.fin && int_le (first e p) (pos (taken e.receiving))
+
+-- Taken: the text from the end of the bytes taken up to the receive edge
+abbrev pub unread_after : Tcb → Segment → List ℕ
+unread_after e p =
+    if continues e p
+    then e.receiving.unread ++ take (receive_edge e.receiving - taken e.receiving) (drop (below (taken e.receiving) (first e p)) (text_of p))
+    else e.receiving.unread
+
+-- the bytes taken then
+abbrev pub taken_after : Tcb → Segment → ℕ
+taken_after e p = e.receiving.read + length (unread_after e p)
+
+-- Taken: the FIN, where it then stands at the end of the bytes taken and below the receive edge
+abbrev pub takes_fin : Tcb → Segment → Bool
+takes_fin e p =
+    continues e p && fin_of p && int_eq (first e p +ℤ pos (length (text_of p))) (pos (taken_after e p)) && nat_lt (taken_after e p) (receive_edge e.receiving)
+
+-- nothing else changes what is taken
+unfoldable pub taken_by : Tcb → Segment → Receiving
+taken_by e p = record e.receiving { unread = unread_after e p; fin = e.receiving.fin || takes_fin e p }
+
+-- Sending: the acknowledgement of a segment that counts is used where it names an offset of the own stream
+abbrev pub acknowledges : Tcb → Segment → Bool
+acknowledges e p = counts e p && int_le (pos 0) (ack_at e p)
+
+-- the window is used by TCP's test on older segments, and always where no acknowledgement has counted yet
+abbrev pub uses_window : Tcb → Segment → Bool
+uses_window e p =
+    acknowledges e p
+    && (not e.sending.opened
+    || updates_window e.sending.una (offset_of e.receiving.irs e.sending.wl1) e.sending.wl2 (first e p) (nat_abs (ack_at e p)))
+
+-- Sending, field by field. The right edge is absolute: it stays where only SND.UNA moves
+pub record IsSentBy (e : Tcb) (p : Segment) (after : Sending) : Type 0 where
+  pub iss : after.iss ≡ e.sending.iss
+  pub counted : after.opened ≡ (e.sending.opened || counts e p)
+  pub una : after.una ≡ (if acknowledges e p then una_after e.sending.una (nat_abs (ack_at e p)) else e.sending.una)
+  pub sent : after.sent ≡ e.sending.sent
+  pub edge : after.edge ≡ (if uses_window e p then nat_abs (ack_at e p) + p.head.window else e.sending.edge)
+  pub wl1 : offset_of e.receiving.irs after.wl1 ≡ (if uses_window e p then first e p else offset_of e.receiving.irs e.sending.wl1)
+  pub wl2 : after.wl2 ≡ (if uses_window e p then nat_abs (ack_at e p) else e.sending.wl2)
+  pub held : after.una + length after.held ≡ max after.una (e.sending.una + length e.sending.held)
+  pub closed : after.closed ≡ e.sending.closed
+
+-- a packet that acknowledges at most what was sent, and nothing far behind. Its fields fit their bytes
+pub record IsUsual (e : Tcb) (p : Segment) : Type 0 where
+  pub sent : has_ack p ≡ true → ack_at e p ≤ℤ pos e.sending.sent
+  pub near : has_ack p ≡ true → (pos 0 -ℤ pos (2 ^ 30 + 2 ^ 24)) ≤ℤ ack_at e p
+  pub seq : p.head.seq < 2 ^ 32
+  pub window : p.head.window ≤ 65535
+  pub text : length p.payload ≤ 65535
+
+-- Where the halves of an endpoint stand that keeps to a limit of at most 2^24 bytes and whose user has written at most 2^24. The own FIN
+-- counts as one unit more
+pub record Bounds (r : Receiving) (s : Sending) : Type 0 where
+  pub limit : r.limit ≤ 2 ^ 24
+  pub taken : taken r ≤ r.limit
+  pub order : s.una ≤ s.sent
+  pub unopened : s.opened ≡ false → s.sent ≡ 0
+  pub shut : s.opened ≡ false → s.edge ≡ 0
+  pub flight : s.sent ≤ s.una + length s.held + one_if s.fin_sent
+  pub written : s.una + length s.held ≤ 2 ^ 24 + one_if s.fin_sent
+  pub sent : s.sent ≤ 2 ^ 24 + one_if s.fin_sent
+  pub wl1 : s.opened ≡ true → IsNearFirst (offset_of r.irs s.wl1)
+  pub wl1_fits : s.wl1 ≤ 2 ^ 32 - 1
+  pub wl2 : s.wl2 ≤ s.una
+  pub edge : s.edge ≤ 2 ^ 24 + 2 ^ 16 + 1
+  pub reach : s.edge ≤ s.una + 65535
+
+abbrev pub IsBounded : Tcb → Type 0
+IsBounded e = Bounds e.receiving e.sending
+
+-- Sending: where a probe is due, all that was sent is acknowledged, something waits, and the edge leaves no room
+pub record ProbesRightly (e : Tcb) : Type 0 where
+  pub all_acked : e.probe ≡ true → e.sending.una ≡ e.sending.sent
+  pub shut : e.probe ≡ true → e.sending.edge ≤ e.sending.sent
+  pub waits : e.probe ≡ true → e.sending.sent + 1 ≤ target e.sending
+  pub opened : e.probe ≡ true → e.sending.opened ≡ true
+
+-- Sending: all that may leave, up to the right edge, never less than before, and one unit more at a probe
+abbrev pub sent_by_law : Tcb → ℕ
+sent_by_law e = max e.sending.sent (min (target e.sending) e.sending.edge) + one_if e.probe
+
+-- the SYN isn't acknowledged yet, and the segment acknowledges less
+abbrev pub acknowledges_less : Tcb → Segment → Bool
+acknowledges_less e p = not e.sending.opened && has_ack p && int_lt (ack_at e p) (pos 0)
+
+-- Owed: an acceptable segment that acknowledges less than the SYN gets a RST, and nothing else is owed to it
+abbrev pub is_refused : Tcb → Segment → Bool
+is_refused e p = accepts e p && not (has_rst p) && not (has_syn p) && acknowledges_less e p
+
+-- Owed: to an acceptable segment, a challenge ACK for a RST elsewhere than at the next number and for a SYN, and an ACK for what takes up
+-- numbers and for what begins past the next number
+abbrev pub owes_acceptable : Tcb → Segment → Bool
+owes_acceptable e p =
+    if has_rst p then not (int_eq (first e p) (pos (next e.receiving)))
+    else (if has_syn p then true else nat_lt 0 (length_of p) || (has_ack p && int_lt (pos (next e.receiving)) (first e p)))
+
+-- Owed: to each segment that isn't acceptable, unless it has RST
+abbrev pub owes : Tcb → Segment → Bool
+owes e p = if accepts e p then owes_acceptable e p else not (has_rst p)
+
+-- Timer: it starts anew where it didn't run, or where something new was acknowledged, the SYN included
+abbrev pub starts : Sending → Sending → Bool
+starts before after = before.rest == 0 || nat_lt before.una after.una || (after.opened && not before.opened)
+
+-- Timer: at the end of a turn with a segment
+abbrev pub interval_by : (runs starts : Bool) → Sending → ℕ
+interval_by runs starts s = if runs then (if starts then 1 else s.interval) else 1
+
+abbrev pub rest_by : (runs starts : Bool) → Sending → ℕ
+rest_by runs starts s = if runs then (if starts then 1 else s.rest) else 0
+
+-- Timer: at the end of a turn with a tick. It doubles at each expiry, up to 64 ticks
+abbrev pub ticked_interval : Bool → Sending → ℕ
+ticked_interval runs s = if runs then (if s.rest == 0 then 1 else (if s.rest == 1 then min 64 (2 * s.interval) else s.interval)) else 1
+
+abbrev pub ticked_rest : Bool → Sending → ℕ
+ticked_rest runs s = if runs then (if s.rest == 0 then 1 else (if s.rest == 1 then min 64 (2 * s.interval) else s.rest - 1)) else 0
+
+-- the timer of a sending half
+pub record IsTimedBy (s : Sending) (ticks left : ℕ) : Type 0 where
+  pub interval : s.interval ≡ ticks
+  pub rest : s.rest ≡ left
+
+-- what was last announced, and that it is the same
+abbrev pub told : Tcb → ℕ × ℕ
+told e = (e.told_next, e.told_edge)
+
+-- Owed: a rule asks for a segment without data, or the acknowledgement or the edge differs from what was last announced
+abbrev pub asks : Bool → Tcb → Bool
+asks owed e = owed || not (e.told_next == next e.receiving) || not (e.told_edge == announced_edge e.receiving)
+
+-- where the timer runs with all that was sent acknowledged, something waits that has no room below the edge
+pub record IsShut (s : Sending) : Type 0 where
+  pub edge : 1 ≤ s.rest → s.opened ≡ true → s.una ≡ s.sent → s.edge ≤ s.sent
+  pub waits : 1 ≤ s.rest → s.opened ≡ true → s.una ≡ s.sent → s.sent + 1 ≤ target s

@@ -1,0 +1,324 @@
+//! The laws that an endpoint meets, each the clause of a function that does nothing: what a crate above may cite. They stand apart from the
+//! functions that the code's clauses name, in the words of the laws of `ft_model`.
+
+ghost use Rattle.std.specs.Prelude.{◌≡◌, ℕ, ◌+◌, ◌%◌, ◌<◌, ◌≤◌, ◌^◌, true, false, List, length};
+ghost use Rattle.seq_arith.specs.Packet.{Segment};
+ghost use Rattle.tcp_endpoint.specs.States.{has_begun};
+ghost use Rattle.tcp_endpoint.specs.Tcb.{Tcb, listening, connecting};
+ghost use Rattle.tcp_endpoint.specs.Arrival.{received};
+ghost use Rattle.endpoint_laws.specs.Laws.{IsBounded, IsUsual, taken_by, IsSentBy, ProbesRightly, sent_by_law, is_refused, owes, starts, interval_by, rest_by, ticked_interval, ticked_rest, IsTimedBy, told, asks, IsShut};
+ghost use Rattle.tcp_endpoint.specs.Sending.{IsShort};
+ghost use Rattle.tcp_endpoint.specs.Receiving.{next, announced_edge};
+ghost use Rattle.tcp_endpoint.specs.Leaving.{or_bare, bare_segment, full_out, leaving, after_full, is_timed, flushed};
+ghost use Rattle.tcp_endpoint.specs.Turning.{after_tick, after_read, after_write, closing};
+ghost use Rattle.tcp_endpoint.specs.declared.states.StateName.TheVariants.{Listen, SynSent};
+ghost use Rattle.ft_io.specs.declared.Addr.{Addr};
+ghost use Rattle.server_trait.specs.Service.{Machine, machine};
+ghost use Rattle.ft_model.specs.News.{News};
+ghost use Rattle.ft_model.specs.News.News.{Comes};
+ghost use Rattle.ft_model.specs.Opening.{is_syn};
+ghost use Rattle.ft_model.specs.Point.{Point};
+ghost use Rattle.endpoint_laws.specs.Turn.{Call, MayUse, IsUsualNews, IsBetweenTurns, arrived, before_flush, turned};
+ghost use Rattle.endpoint_laws.specs.Listening.{IsListening, brings_syn};
+ghost use Rattle.endpoint_laws.specs.Standing.{StandsAt, MeetsLaws, IsUsedAt, LeadsTo, BeginsAt, Step, RunsByLaws, numbers_with, point_begun};
+ghost use Rattle.std.specs.Prelude.{◌⊎◌, ◌||◌, [], None};
+ghost use Rattle.std.specs.List.{AllByRecursion};
+ghost use Rattle.tcp_endpoint.specs.declared.states.StateName.TheVariants.{Closed};
+ghost use Rattle.endpoint_laws.specs.Turn.{sent_in};
+ghost use Rattle.endpoint_laws.specs.Ending.{IsNamedRightly, resets, is_over};
+ghost use Rattle.endpoint_laws.specs.Announcing.{Announces, is_told};
+ghost use Rattle.std.specs.Prelude.{◌∷◌};
+ghost use Rattle.tcp_endpoint.specs.Leaving.{opening_segment};
+ghost use Rattle.endpoint_laws.specs.Turn.{used};
+ghost use Rattle.endpoint_laws.specs.Connecting.{IsConnecting, FieldsFit};
+
+use server_trait::Service;
+
+/// The law Taken: which bytes of a segment are taken, and when its FIN is.
+#[tactic(auto, using(crate::proofs::TakenLaw::taken_law))]
+pub fn segments_are_taken_by_law()
+    ensures { (e : Tcb) (p : Segment) → has_begun e.name ≡ true → IsBounded e → IsUsual e p → (received e p).receiving ≡ taken_by e p }
+{}
+
+/// The law Sending: what an acknowledgement and a window do. Nothing is sent where a segment arrives: that is the flush's.
+#[tactic(auto, using(crate::proofs::SendingLaw::sending_law))]
+pub fn segments_are_acknowledged_by_law()
+    ensures { (e : Tcb) (p : Segment) → has_begun e.name ≡ true → IsBounded e → IsUsual e p → IsSentBy e p (received e p).sending }
+{}
+
+/// A passive open with a limit of at most 2^24 bytes is within the bounds ..
+#[tactic(auto, using(crate::proofs::Bounding::bounded_at_listen))]
+pub fn passive_opens_are_bounded()
+    ensures { (local : Addr) (iss limit : ℕ) → limit ≤ 2 ^ 24 → IsBounded (listening local iss limit) }
+{}
+
+/// .. and so is an active one.
+#[tactic(auto, using(crate::proofs::Bounding::bounded_at_connect))]
+pub fn active_opens_are_bounded()
+    ensures { (local remote : Addr) (iss limit : ℕ) → limit ≤ 2 ^ 24 → IsBounded (connecting local remote iss limit) }
+{}
+
+/// They stay within them where a segment comes in LISTEN, ..
+#[tactic(auto, using(crate::proofs::Bounding::bounded_in_listen))]
+pub fn listening_stays_bounded()
+    ensures { (e : Tcb) (p : Segment) → e.name ≡ Listen → e.sending.opened ≡ false → IsBounded e → IsBounded (received e p) }
+{}
+
+/// .. and in SYN-SENT, ..
+#[tactic(auto, using(crate::proofs::Bounding::bounded_in_syn_sent))]
+pub fn answers_keep_the_bounds()
+    ensures { (e : Tcb) (p : Segment) → e.name ≡ SynSent → e.sending.opened ≡ false → IsBounded e → p.head.seq < 2 ^ 32 → p.head.window ≤ 65535
+        → IsBounded (received e p) }
+{}
+
+/// .. in a connection that has begun, ..
+#[tactic(auto, using(crate::proofs::Bounding::bounded_by_segment))]
+pub fn segments_keep_the_bounds()
+    ensures { (e : Tcb) (p : Segment) → has_begun e.name ≡ true → IsBounded e → IsUsual e p → IsBounded (received e p) }
+{}
+
+/// .. where a turn ends, ..
+#[tactic(auto, using(crate::proofs::Bounding::bounded_by_flush))]
+pub fn flushes_keep_the_bounds()
+    ensures { (e : Tcb) → IsBounded e → IsBounded (flushed e) }
+{}
+
+/// .. where a tick passes, ..
+#[tactic(auto, using(crate::proofs::Bounding::bounded_by_tick))]
+pub fn ticks_keep_the_bounds()
+    ensures { (e : Tcb) → IsBounded e → IsBounded (after_tick e) }
+{}
+
+/// .. where the user reads, ..
+#[tactic(auto, using(crate::proofs::Bounding::bounded_by_read))]
+pub fn reads_keep_the_bounds()
+    ensures { (e : Tcb) (n : ℕ) → n ≤ length e.receiving.unread → IsBounded e → IsBounded (after_read e n) }
+{}
+
+/// .. where the user writes and has written no more than 2^24 bytes, ..
+#[tactic(auto, using(crate::proofs::Bounding::bounded_by_write))]
+pub fn writes_keep_the_bounds()
+    ensures { (e : Tcb) (bytes : List ℕ) → e.sending.una + length e.sending.held + length bytes ≤ 2 ^ 24 → IsBounded e → IsBounded (after_write e bytes) }
+{}
+
+/// .. and where the user closes.
+pub fn closing_keeps_the_bounds()
+    ensures { (e : Tcb) → IsBounded e → IsBounded (closing e) }
+{}
+
+/// Within the bounds numbers tell the order of offsets, as `on_packet` asks.
+#[tactic(auto, using(crate::proofs::Bounding::bounded_is_short))]
+pub fn bounds_are_enough()
+    ensures { (e : Tcb) → IsBounded e → IsShort e.sending }
+{}
+
+/// The law Sending, at the end of a turn: all that may leave is sent at once, up to the right edge, and one unit more at a probe.
+#[tactic(auto, using(crate::proofs::TurnLaw::sent_law))]
+pub fn turns_send_up_to_the_edge()
+    ensures { (e : Tcb) → has_begun e.name ≡ true → IsBounded e → ProbesRightly e → (flushed e).sending.sent ≡ sent_by_law e }
+{}
+
+/// When an answer is owed to a segment. It goes out where no other segment does.
+#[tactic(auto, using(crate::proofs::OwedLaw::owed_law))]
+pub fn segments_are_owed_answers_by_law()
+    ensures { (e : Tcb) (p : Segment) → has_begun e.name ≡ true → IsBounded e → IsUsual e p → e.owed ≡ false → is_refused e p ≡ false
+        → (received e p).owed ≡ owes e p }
+{}
+
+/// The law of the timer, at the end of a turn with a segment, whatever the user does in between.
+pub fn segments_time_by_law()
+    ensures { (e u : Tcb) (p : Segment) → has_begun e.name ≡ true → IsBounded e → IsUsual e p
+        → u.sending.interval ≡ (received e p).sending.interval → u.sending.rest ≡ (received e p).sending.rest
+        → IsTimedBy (flushed u).sending (interval_by (is_timed (after_full u)) (starts e.sending (received e p).sending) e.sending)
+        (rest_by (is_timed (after_full u)) (starts e.sending (received e p).sending) e.sending) }
+{}
+
+/// The law of the timer, at the end of a turn with a tick.
+pub fn ticks_time_by_law()
+    ensures { (e u : Tcb) → 1 ≤ e.sending.interval → u.sending.interval ≡ (after_tick e).sending.interval → u.sending.rest ≡ (after_tick e).sending.rest
+        → IsTimedBy (flushed u).sending (ticked_interval (is_timed (after_full u)) e.sending) (ticked_rest (is_timed (after_full u)) e.sending) }
+{}
+
+/// A passive open listens: nothing is received or sent yet, and nothing is due.
+#[tactic(auto, using(crate::proofs::Listening::listens_at_listen))]
+pub fn passive_opens_listen()
+    ensures { (local : Addr) (iss limit : ℕ) → IsListening iss limit (listening local iss limit) }
+{}
+
+/// It still listens, at the same address, after each turn in which no SYN comes that opens a connection and the user doesn't close: nothing is
+/// received, the timer doesn't run, and what the user writes waits.
+pub fn listening_goes_on()
+    ensures { (iss limit : ℕ) (news : News) (calls : List Call) (e : Tcb) → IsListening iss limit e → brings_syn news ≡ false
+        → MayUse calls (arrived news e) → (before_flush news calls e).name ≡ Listen
+        → IsListening iss limit (turned news calls e) × ((turned news calls e).local ≡ e.local) }
+{}
+
+/// An endpoint that listens stands at a point of `ft_model` from its SYN on, whatever came and was written before: at the new connection's,
+/// whose SYN-ACK is all that leaves. The fetched bytes are as many as the endpoint's limit leaves of 2^24, and none for the limit of a whole
+/// stream.
+pub fn syns_lead_to_points()
+    ensures { (e : Tcb) (iss limit cisn : ℕ) (fetched : List ℕ) (syn : Segment) (calls : List Call)
+        → IsListening iss limit e → limit + length fetched ≡ 2 ^ 24 → is_syn syn ≡ true → syn.head.seq ≡ (cisn + length fetched) % 2 ^ 32
+        → MayUse calls (received e syn)
+        → BeginsAt (point_begun fetched (numbers_with cisn iss syn)) e syn calls }
+{}
+
+/// From there on each turn, until the endpoint is CLOSED, leads from the point at which it stands to the point that the laws Taken and
+/// Sending of `ft_model` and its law of the timer lead to, for the service that reads and writes as the endpoint's user does; and what
+/// leaves, segment for segment, is what they say.
+pub fn turns_lead_from_point_to_point<S: Service>()
+    ensures { (kind : ℕ) (news : News) (calls : List Call) (before after : Point) (e : Tcb)
+        → has_begun e.name ≡ true → IsBetweenTurns e → StandsAt before e → IsUsualNews news e → MayUse calls (arrived news e)
+        → has_begun (before_flush news calls e).name ≡ true
+        → MeetsLaws (machine (S.started kind) S.after) news before after
+        → IsUsedAt (machine (S.started kind) S.after) after (before_flush news calls e)
+        → LeadsTo (machine (S.started kind) S.after) news before after e calls }
+{}
+
+/// There always is such a point: whatever comes and whatever the user does, some service reads and writes as the user.
+pub fn turns_have_points()
+    ensures { (news : News) (calls : List Call) (before : Point) (e : Tcb)
+        → has_begun e.name ≡ true → IsBetweenTurns e → StandsAt before e → IsUsualNews news e → MayUse calls (arrived news e)
+        → has_begun (before_flush news calls e).name ≡ true
+        → (service : Machine ℕ) × (after : Point) × MeetsLaws service news before after × IsUsedAt service after (before_flush news calls e) }
+{}
+
+/// So over a whole run: from its SYN on an endpoint of `listen` meets the laws Taken and Sending of `ft_model`, with the timer's, turn by turn,
+/// until a RST at exactly the next number comes, or both FINs are through and it is CLOSED: for every initial number of both sides, every limit up
+/// to 2^24, and every user.
+pub fn endpoints_run_by_the_laws()
+    ensures { (e : Tcb) (iss limit cisn : ℕ) (fetched : List ℕ) (syn : Segment) (calls : List Call) (steps : List Step)
+        → IsListening iss limit e → limit + length fetched ≡ 2 ^ 24 → is_syn syn ≡ true → syn.head.seq ≡ (cisn + length fetched) % 2 ^ 32
+        → MayUse calls (received e syn)
+        → BeginsAt (point_begun fetched (numbers_with cisn iss syn)) e syn calls
+        × RunsByLaws (point_begun fetched (numbers_with cisn iss syn)) (turned (Comes syn) calls e) steps }
+{}
+
+/// The law on a segment without data, at the end of a turn with a segment: it goes out exactly where one is owed and no other segment does.
+pub fn bare_segments_go_out_where_owed()
+    ensures { (e u : Tcb) (p : Segment) → has_begun e.name ≡ true → has_begun u.name ≡ true → IsBounded e → IsUsual e p → e.owed ≡ false
+        → is_refused e p ≡ false → u.owed ≡ (received e p).owed
+        → leaving u ≡ or_bare (asks (owes e p) u) (bare_segment (after_full u)) (full_out u) }
+{}
+
+/// The same, at the end of a turn in which no segment came: where the acknowledgement or the edge has changed.
+pub fn bare_segments_tell_changes()
+    ensures { (u : Tcb) → has_begun u.name ≡ true → u.owed ≡ false
+        → leaving u ≡ or_bare (asks false u) (bare_segment (after_full u)) (full_out u) }
+{}
+
+/// What is taken and the receive edge are what was last announced, once a turn has ended ..
+#[tactic(auto, using(crate::proofs::ToldLaw::told_by_flush))]
+pub fn turns_announce()
+    ensures { (e : Tcb) → has_begun e.name ≡ true → told (flushed e) ≡ (next e.receiving, announced_edge e.receiving) }
+{}
+
+/// .. and a segment leaves what was last announced.
+#[tactic(auto, using(crate::proofs::ToldLaw::told_by_segment))]
+pub fn segments_announce_nothing()
+    ensures { (e : Tcb) (p : Segment) → has_begun e.name ≡ true → told (received e p) ≡ told e }
+{}
+
+/// A probe is due only where it is right, ..
+#[tactic(auto, using(crate::proofs::ToldLaw::probed_by_tick))]
+pub fn ticks_probe_rightly()
+    ensures { (e : Tcb) → e.probe ≡ false → IsBounded e → IsShut e.sending → ProbesRightly (after_tick e) }
+{}
+
+/// .. since a turn ends with the edge reached, ..
+#[tactic(auto, using(crate::proofs::ToldLaw::shut_by_flush))]
+pub fn turns_end_shut()
+    ensures { (e : Tcb) → has_begun e.name ≡ true → IsBounded e → ProbesRightly e → IsShut (flushed e).sending }
+{}
+
+/// .. and what the user writes only adds to what waits.
+#[tactic(auto, using(crate::proofs::ToldLaw::shut_by_write))]
+pub fn writes_leave_shut()
+    ensures { (e : Tcb) (bytes : List ℕ) → IsShut e.sending → IsShut (after_write e bytes).sending }
+{}
+
+/// From its SYN on an endpoint of `listen` is in the state that its halves tell of: by whether its SYN is acknowledged, its user has closed, the
+/// peer's FIN is taken, and the own FIN is acknowledged.
+pub fn syns_name_rightly()
+    ensures { (e : Tcb) (iss limit : ℕ) (syn : Segment) (calls : List Call) → IsListening iss limit e → is_syn syn ≡ true
+        → IsNamedRightly (turned (Comes syn) calls e) }
+{}
+
+/// Each turn keeps it in that state, whatever comes and the user does.
+pub fn turns_name_rightly()
+    ensures { (news : News) (calls : List Call) (e : Tcb) → has_begun e.name ≡ true → IsBetweenTurns e → IsNamedRightly e
+        → IsNamedRightly (turned news calls e) }
+{}
+
+/// So a connection that has begun stays so, until a RST comes at exactly the next number, or the peer's FIN is taken and the own one is
+/// acknowledged.
+pub fn connections_end_by_resets_or_fins()
+    ensures { (news : News) (calls : List Call) (e : Tcb) → has_begun e.name ≡ true → IsBetweenTurns e → IsNamedRightly e
+        → has_begun (before_flush news calls e).name ≡ false → (resets news e ≡ true) ⊎ (is_over (before_flush news calls e) ≡ true) }
+{}
+
+/// A connection that has begun is reset in exactly the turns in which a RST comes at exactly the next number, ..
+pub fn connections_are_reset_at_the_next_number()
+    ensures { (news : News) (calls : List Call) (e : Tcb) → has_begun e.name ≡ true
+        → (before_flush news calls e).reset ≡ (e.reset || resets news e) }
+{}
+
+/// .. and then it is CLOSED, and nothing leaves.
+pub fn resets_close_in_silence()
+    ensures { (news : News) (calls : List Call) (e : Tcb) → has_begun e.name ≡ true → IsBetweenTurns e → resets news e ≡ true
+        → ((before_flush news calls e).name ≡ Closed) × (sent_in news calls e ≡ []) }
+{}
+
+/// What the laws ask of a connection that has begun, passive or active, holds after each turn again, until it is CLOSED.
+pub fn turns_keep_what_laws_ask()
+    ensures { (news : News) (calls : List Call) (e : Tcb) → e.receiving.irs < 2 ^ 32 → has_begun e.name ≡ true → IsBetweenTurns e → IsUsualNews news e
+        → MayUse calls (arrived news e) → has_begun (before_flush news calls e).name ≡ true → IsBetweenTurns (turned news calls e) }
+{}
+
+/// Every endpoint acknowledges all that it took: each segment that leaves a connection that has begun, but for a RST, has ACK, acknowledges
+/// just what is taken, and announces the window.
+pub fn segments_acknowledge_all_that_is_taken()
+    ensures { (news : News) (calls : List Call) (e : Tcb) → has_begun e.name ≡ true → IsBetweenTurns e → IsUsualNews news e → MayUse calls (arrived news e)
+        → has_begun (before_flush news calls e).name ≡ true → AllByRecursion (Announces (before_flush news calls e)) (sent_in news calls e) }
+{}
+
+/// And nothing that is taken stays untold: where more is taken in a turn a segment leaves that isn't a RST, and so tells it. The same where the
+/// edge moves, unless a RST answers.
+pub fn what_is_taken_is_told()
+    ensures { (news : News) (calls : List Call) (e : Tcb) → has_begun e.name ≡ true → IsBetweenTurns e → IsUsualNews news e → MayUse calls (arrived news e)
+        → has_begun (before_flush news calls e).name ≡ true
+        → (next (before_flush news calls e).receiving ≡ next e.receiving → ⊥)
+        ⊎ (((before_flush news calls e).answer ≡ None) × (announced_edge (before_flush news calls e).receiving ≡ announced_edge e.receiving → ⊥))
+        → is_told (sent_in news calls e) ≡ true }
+{}
+
+/// An active open connects: whatever its user writes before the first flush, the SYN is all that leaves. Its timer runs from then on, and nothing
+/// else is due.
+pub fn active_opens_connect()
+    ensures { (local remote : Addr) (iss limit : ℕ) (calls : List Call) → MayUse calls (connecting local remote iss limit)
+        → (used calls (connecting local remote iss limit)).name ≡ SynSent
+        → IsConnecting iss limit (flushed (used calls (connecting local remote iss limit)))
+        × (leaving (used calls (connecting local remote iss limit)) ≡ opening_segment (connecting local remote iss limit) ∷ []) }
+{}
+
+/// It still connects, between the same addresses, after each turn that leaves it in SYN-SENT: nothing is received, and nothing but the SYN is sent.
+pub fn connecting_goes_on()
+    ensures { (iss limit : ℕ) (news : News) (calls : List Call) (e : Tcb) → IsConnecting iss limit e → MayUse calls (arrived news e)
+        → (before_flush news calls e).name ≡ SynSent
+        → IsConnecting iss limit (turned news calls e) × ((turned news calls e).local ≡ e.local) × ((turned news calls e).remote ≡ e.remote) }
+{}
+
+/// The turn in which its SYN is answered leaves it as a connection that has begun has to be between two turns, in the state that its halves tell of:
+/// all that the laws on such connections ask.
+pub fn answers_begin()
+    ensures { (iss limit : ℕ) (news : News) (calls : List Call) (e : Tcb) → IsConnecting iss limit e → limit ≤ 2 ^ 24 → FieldsFit news
+        → MayUse calls (arrived news e) → has_begun (before_flush news calls e).name ≡ true
+        → IsBetweenTurns (turned news calls e) × IsNamedRightly (turned news calls e) × (has_begun (turned news calls e).name ≡ true) }
+{}
+
+/// In that turn a segment leaves that isn't a RST, and each such segment has ACK, acknowledges just what is taken, and announces the window.
+pub fn answers_are_acknowledged()
+    ensures { (iss limit : ℕ) (news : News) (calls : List Call) (e : Tcb) → IsConnecting iss limit e → limit ≤ 2 ^ 24 → FieldsFit news
+        → MayUse calls (arrived news e) → has_begun (before_flush news calls e).name ≡ true
+        → AllByRecursion (Announces (before_flush news calls e)) (sent_in news calls e) × (is_told (sent_in news calls e) ≡ true) }
+{}

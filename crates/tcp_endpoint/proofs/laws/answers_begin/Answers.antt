@@ -1,5 +1,0 @@
-use Rattle.tcp_endpoint.proofs.Connecting.{answers_law}
-use Rattle.tcp_endpoint.proofs.laws.answers_begin.Goals as goal
-
-pub returns : goal.returns
-returns c = λ iss limit news calls e l small fit may begun. answers_law iss limit news calls e l small fit may begun

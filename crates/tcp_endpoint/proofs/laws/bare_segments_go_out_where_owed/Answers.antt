@@ -1,5 +1,0 @@
-use Rattle.tcp_endpoint.proofs.ToldLaw.{bare_law}
-use Rattle.tcp_endpoint.proofs.laws.bare_segments_go_out_where_owed.Goals as goal
-
-pub returns : goal.returns
-returns c = λ e u p begun begun_after b usual none unrefused owed. bare_law e u p begun begun_after b usual none unrefused owed

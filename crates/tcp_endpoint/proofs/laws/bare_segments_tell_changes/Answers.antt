@@ -1,6 +1,0 @@
-use Rattle.tcp_endpoint.proofs.ToldLaw.{leaving_by}
-use Rattle.std.specs.Prelude.{false}
-use Rattle.tcp_endpoint.proofs.laws.bare_segments_tell_changes.Goals as goal
-
-pub returns : goal.returns
-returns c = λ u begun none. leaving_by u false begun none

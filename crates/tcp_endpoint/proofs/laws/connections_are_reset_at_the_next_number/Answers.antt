@@ -1,5 +1,0 @@
-use Rattle.tcp_endpoint.proofs.EndingLaw.{reset_law}
-use Rattle.tcp_endpoint.proofs.laws.connections_are_reset_at_the_next_number.Goals as goal
-
-pub returns : goal.returns
-returns c = λ news calls e begun. reset_law news calls e begun

@@ -1,5 +1,0 @@
-use Rattle.tcp_endpoint.proofs.EndingLaw.{ending_law}
-use Rattle.tcp_endpoint.proofs.laws.connections_end_by_resets_or_fins.Goals as goal
-
-pub returns : goal.returns
-returns c = λ news calls e begun between named ended. ending_law news calls e begun between named ended

@@ -1,5 +1,0 @@
-use Rattle.tcp_endpoint.proofs.EndingLaw.{silent_law}
-use Rattle.tcp_endpoint.proofs.laws.resets_close_in_silence.Goals as goal
-
-pub returns : goal.returns
-returns c = λ news calls e begun between h. silent_law news calls e begun between h

@@ -1,5 +1,0 @@
-use Rattle.tcp_endpoint.proofs.Announced.{announces_law}
-use Rattle.tcp_endpoint.proofs.laws.segments_acknowledge_all_that_is_taken.Goals as goal
-
-pub returns : goal.returns
-returns c = λ news calls e begun between usual may begun_after. announces_law news calls e begun between usual may begun_after

@@ -1,5 +1,0 @@
-use Rattle.tcp_endpoint.proofs.Beginning.{begins_law}
-use Rattle.tcp_endpoint.proofs.laws.syns_lead_to_points.Goals as goal
-
-pub returns : goal.returns
-returns c = λ e iss limit cisn fetched syn calls l whole is number may. begins_law e iss limit cisn fetched syn calls l whole is number may

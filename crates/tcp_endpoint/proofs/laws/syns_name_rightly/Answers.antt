@@ -1,5 +1,0 @@
-use Rattle.tcp_endpoint.proofs.EndingLaw.{begun_named_law}
-use Rattle.tcp_endpoint.proofs.laws.syns_name_rightly.Goals as goal
-
-pub returns : goal.returns
-returns c = λ e iss limit syn calls l is. begun_named_law e iss limit syn calls l is

@@ -1,5 +1,0 @@
-use Rattle.tcp_endpoint.proofs.Points.{points_law}
-use Rattle.tcp_endpoint.proofs.laws.turns_have_points.Goals as goal
-
-pub returns : goal.returns
-returns c = λ news calls before e begun between stands usual may begun_after. points_law news calls before e begun between stands usual may
