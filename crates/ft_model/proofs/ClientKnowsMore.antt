@@ -5,7 +5,7 @@ use Rattle.ft_model.specs.Restart.{point_of, entry_in}
 use Rattle.ft_model.specs.Node.{Node, booted}
 use Rattle.ft_model.specs.Node.Place.{Lives}
 use Rattle.ft_model.specs.Lawful.{LawfulTurn, Lawful, Revives, Turn, hello}
-use Rattle.ft_model.specs.Rows.Common.{echo, server}
+use Rattle.ft_model.specs.Rows.Common.{echo, server, hello_text}
 use Rattle.ft_model.specs.Rows.ClientKnowsMore as row
 use Rattle.ft_model.proofs.Turns.{laws, alone, goes, serves}
 
@@ -35,8 +35,8 @@ restart_4 = record {
   stage = (
     Lives row.restarted ∷ [],
     refl,
-    alone (Revives echo row.restart_3.node) (Lives (point_of echo (entry_in (record row.filled_entry { lengths = 5 ∷ [] })))) (Lives row.restarted ∷ []) row.restart_4.sent
-        (row.restarted, refl, goes echo server 2 Begins (point_of echo (entry_in (record row.filled_entry { lengths = 5 ∷ [] }))) row.restarted row.restart_4.sent refl refl refl refl),
+    alone (Revives echo row.restart_3.node) (Lives (point_of echo (entry_in (record row.entry_with_lengths { bytes = hello_text })))) (Lives row.restarted ∷ []) row.restart_4.sent
+        (row.restarted, refl, goes echo server 2 Begins (point_of echo (entry_in (record row.entry_with_lengths { bytes = hello_text }))) row.restarted row.restart_4.sent refl refl refl refl),
   );
 }
 

@@ -6,7 +6,7 @@ use Rattle.ft_io.specs.Key.{key_eq}
 use Rattle.seq_arith.specs.Message.{EntryHead, Body}
 use Rattle.seq_arith.specs.Message.Body.{HelloMsg, SummaryMsg, ListMsg, EntryMsg, BytesMsg, PartMsg, CutsMsg, LensMsg, OpenMsg, DataMsg, StableMsg, ReadMsg, ReadsMsg, DoneMsg, EndedMsg}
 use Rattle.ft_model.specs.Log.{Log, Entry, entry_of, head_of, part_of, lens_of, on_entry, opened_answer, kept_of, told}
-use Rattle.ft_model.specs.Restart.{Fetched, wanted, next_entry, lacks_bytes, lacks_lengths, is_fetched, fetched_by, fetched_after, all_follow, entry_in}
+use Rattle.ft_model.specs.Restart.{Wanted, Fetched, wanted, next_entry, lacks_read_bytes, lacks_bytes, lacks_lengths, is_fetched, fetched_by, fetched_after, all_follow, entry_in}
 use Rattle.ft_model.specs.Restart.Wanted.{An_entry, Its_bytes, Its_lengths}
 use Rattle.ft_model.specs.Growth.{IsPrefix}
 use Rattle.ft_model.proofs.Lists.{take_first, of_choice, both, found_passes, same_key, none_is_some, some_is}
@@ -153,11 +153,11 @@ pub fetched_agrees : (entries : List Entry) (count : ℕ) (fetched more : List F
     → AreFetched entries fetched → AgreesWith entries body → fetched_after (wanted count fetched) body fetched ≡ Some more → AreFetched entries more
 fetched_agrees entries count [] more body d a g e = next_agrees entries count [] body d tt tt g more e
 fetched_agrees entries count (f ∷ earlier) more body d a g e =
-    of_choice (λ w. fetched_after w body (f ∷ earlier) ≡ Some more → AreFetched entries more) (lacks_bytes f) (Some (Its_bytes f.head.key (length f.bytes))) _
-    (λ t. bytes_agree entries f earlier more body d a g)
-    (λ t. of_choice (λ w. fetched_after w body (f ∷ earlier) ≡ Some more → AreFetched entries more) (lacks_lengths f) (Some (Its_lengths f.head.key (length f.lengths))) _
-    (λ s. lengths_agree entries f earlier more body d a g)
-    (λ s. next_agrees entries count (f ∷ earlier) body d ((t, s), a.3) a g more)) e
+    let Agrees : Option Wanted → Type 0 = λ w. fetched_after w body (f ∷ earlier) ≡ Some more → AreFetched entries more in
+    of_choice Agrees (lacks_read_bytes f) (Some (Its_bytes f.head.key (length f.bytes))) _ (λ t. bytes_agree entries f earlier more body d a g)
+    (λ t. of_choice Agrees (lacks_lengths f) (Some (Its_lengths f.head.key (length f.lengths))) _ (λ s. lengths_agree entries f earlier more body d a g)
+    (λ s. of_choice Agrees (lacks_bytes f) (Some (Its_bytes f.head.key (length f.bytes))) _ (λ r. bytes_agree entries f earlier more body d a g)
+    (λ r. next_agrees entries count (f ∷ earlier) body d ((r, s), a.3) a g more))) e
 
 abbrev is_nil : {A : Type 0} → List A → Bool
 is_nil [] = true

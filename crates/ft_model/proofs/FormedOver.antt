@@ -9,7 +9,7 @@ use Rattle.ft_model.specs.Log.{Log, Entry}
 use Rattle.ft_model.specs.Network.{Packet, source_of}
 use Rattle.ft_model.specs.Network.Packet.{To_server, To_client, From_logger}
 use Rattle.ft_model.specs.News.News.{Begins}
-use Rattle.ft_model.specs.Restart.{Fetched, Wanted, wanted, next_entry, lacks_bytes, lacks_lengths, holding_segment, live_entry, point_of}
+use Rattle.ft_model.specs.Restart.{Fetched, Wanted, wanted, next_entry, lacks_read_bytes, lacks_bytes, lacks_lengths, holding_segment, live_entry, point_of}
 use Rattle.ft_model.specs.Restart.Wanted.{An_entry, Its_bytes, Its_lengths}
 use Rattle.ft_model.specs.Node.{Node, Place, Stage, Input, is_for}
 use Rattle.ft_model.specs.Node.Place.{Opens, Lives, Ended}
@@ -69,11 +69,11 @@ wanted_formed start entries count [] w few e a g = next_formed start count 0 w (
 wanted_formed start entries count (f ∷ earlier) w few e a missing =
     let newest = newest_formed start entries f earlier e a in
     let size = fetched_few entries (f ∷ earlier) a in
-    of_choice (λ o. o ≡ Some w → WantedFormed start w) (lacks_bytes f) (Some (Its_bytes f.head.key (length f.bytes))) _
-    (λ t g. subst (WantedFormed start) (some_is _ _ g) (newest.0, newest.1))
-    (λ t. of_choice (λ o. o ≡ Some w → WantedFormed start w) (lacks_lengths f) (Some (Its_lengths f.head.key (length f.lengths))) _
-    (λ x g. subst (WantedFormed start) (some_is _ _ g) (newest.0, newest.2))
-    (λ x g. next_formed start count (length (f ∷ earlier)) w (omega (arith, size, few)) g)) missing
+    let Asks : Option Wanted → Type 0 = λ o. o ≡ Some w → WantedFormed start w in
+    of_choice Asks (lacks_read_bytes f) (Some (Its_bytes f.head.key (length f.bytes))) _ (λ t g. subst (WantedFormed start) (some_is _ _ g) (newest.0, newest.1))
+    (λ t. of_choice Asks (lacks_lengths f) (Some (Its_lengths f.head.key (length f.lengths))) _ (λ x g. subst (WantedFormed start) (some_is _ _ g) (newest.0, newest.2))
+    (λ x. of_choice Asks (lacks_bytes f) (Some (Its_bytes f.head.key (length f.bytes))) _ (λ y g. subst (WantedFormed start) (some_is _ _ g) (newest.0, newest.1))
+    (λ y g. next_formed start count (length (f ∷ earlier)) w (omega (arith, size, few)) g))) missing
 
 asked_formed : (start : World) (node : Node) (o : Option Wanted) → Fits node.boot → ((w : Wanted) → o ≡ Some w → WantedFormed start w)
     → AllByRecursion (PacketFormed start) (asked node o)

@@ -13,6 +13,7 @@ pub mod Closing
 pub mod ZeroWindow
 pub mod ZeroWindowTrace
 pub mod SegmentWhileRestarting
+pub mod RestartInTurns
 pub mod ClientKnowsMore
 pub mod CrashBeforeSynAck
 pub mod GrammarOnLiterals

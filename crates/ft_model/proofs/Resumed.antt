@@ -1,5 +1,5 @@
 -- Restart is exact: in the turn that ends it, every entry that isn't done has its connection, which stood at the entry's point.
-use Rattle.std.proofs.Common.{◌≡◌, ℕ, zero, suc, ◌<◌, ◌≤◌, Bool, true, false, nat_lt, refl, sym, ap, ap₂, ◌∙◌, subst, true≢false, MatchBool, Some, None, List, [], ◌∷◌, ◌++◌, map, length, slice_get, arith, ltb-false, ltb-true, length-append, if◌then◌else◌}
+use Rattle.std.proofs.Common.{◌≡◌, ℕ, zero, suc, ◌<◌, ◌≤◌, Bool, true, false, nat_lt, refl, sym, ap, ap₂, ◌∙◌, subst, true≢false, MatchBool, Option, Some, None, List, [], ◌∷◌, ◌++◌, map, length, slice_get, arith, ltb-false, ltb-true, length-append, if◌then◌else◌}
 use Rattle.std.specs.List.{AllByRecursion}
 use Rattle.std.proofs.lemmas.Option.{slice_get_within}
 use Rattle.ft_io.specs.declared.Addr.{Addr}
@@ -11,7 +11,7 @@ use Rattle.ft_model.specs.Point.{Point}
 use Rattle.ft_model.specs.News.News.{Begins}
 use Rattle.ft_model.specs.Ending.{reset_after}
 use Rattle.ft_model.specs.Connection.{ResetTurn, LiveTurn, ConnectionTurn}
-use Rattle.ft_model.specs.Restart.{Fetched, wanted, next_entry, lacks_bytes, lacks_lengths, entry_in, point_of}
+use Rattle.ft_model.specs.Restart.{Wanted, Fetched, wanted, next_entry, lacks_read_bytes, lacks_bytes, lacks_lengths, entry_in, point_of}
 use Rattle.ft_model.specs.Restart.Wanted.{An_entry, Its_bytes, Its_lengths}
 use Rattle.ft_model.specs.Node.{Node, Place, Stage, Input, key_of, place_at}
 use Rattle.ft_model.specs.Node.Place.{Opens, Lives, Ended}
@@ -38,11 +38,11 @@ pub nothing_missing : (entries : List Entry) (count : ℕ) (fetched : List Fetch
     → AllByRecursion IsWhole fetched × (count ≤ length fetched)
 nothing_missing entries count [] a e = (tt, no_next count 0 e)
 nothing_missing entries count (f ∷ earlier) a none =
-    of_choice (λ w. w ≡ None → AllByRecursion IsWhole (f ∷ earlier) × (count ≤ length (f ∷ earlier))) (lacks_bytes f) (Some (Its_bytes f.head.key (length f.bytes))) _
-    (λ t e. none_is_some _ (sym e))
-    (λ t. of_choice (λ w. w ≡ None → AllByRecursion IsWhole (f ∷ earlier) × (count ≤ length (f ∷ earlier))) (lacks_lengths f) (Some (Its_lengths f.head.key (length f.lengths))) _
-    (λ s e. none_is_some _ (sym e))
-    (λ s e. (((t, s), a.3), no_next count (length (f ∷ earlier)) e))) none
+    let Ends : Option Wanted → Type 0 = λ w. w ≡ None → AllByRecursion IsWhole (f ∷ earlier) × (count ≤ length (f ∷ earlier)) in
+    of_choice Ends (lacks_read_bytes f) (Some (Its_bytes f.head.key (length f.bytes))) _ (λ t e. none_is_some _ (sym e))
+    (λ t. of_choice Ends (lacks_lengths f) (Some (Its_lengths f.head.key (length f.lengths))) _ (λ s e. none_is_some _ (sym e))
+    (λ s. of_choice Ends (lacks_bytes f) (Some (Its_bytes f.head.key (length f.bytes))) _ (λ r e. none_is_some _ (sym e))
+    (λ r e. (((r, s), a.3), no_next count (length (f ∷ earlier)) e)))) none
 
 restored_key : {State : Type 0} (service : Machine State) (f : Fetched) → key_of (restored service f) ≡ f.head.key
 restored_key service f = of_choice (λ p. key_of p ≡ f.head.key) f.head.done (Ended f.head.key) (Lives (point_of service (entry_in f))) (λ t. refl) (λ t. refl)

@@ -9,7 +9,7 @@ use Rattle.ft_model.specs.declared.event.Event.TheVariants.{Deliver}
 use Rattle.ft_model.specs.Node.Input.{Packet_comes}
 use Rattle.ft_model.proofs.Lists.{some_is}
 use Rattle.seq_arith.specs.Message.{Body}
-use Rattle.seq_arith.specs.Message.Body.{ReadMsg}
+use Rattle.seq_arith.specs.Message.Body.{ReadMsg, BytesMsg, CutsMsg}
 use Rattle.ft_model.specs.Node.{Node, Input}
 use Rattle.ft_model.specs.News.News.{Ticks}
 use Rattle.ft_model.specs.Node.Input.{Tick_comes}
@@ -21,16 +21,20 @@ use Rattle.ft_model.specs.Rows.FirstPath as row
 use Rattle.ft_model.specs.Rows.Closing as closing
 use Rattle.ft_model.specs.Rows.ZeroWindow as probe
 use Rattle.ft_model.specs.Rows.SegmentWhileRestarting as restart
+use Rattle.ft_model.specs.Rows.RestartInTurns as questions
 use Rattle.ft_model.proofs.TurnOnce.{turn_once}
 use Rattle.ft_model.proofs.FirstPath.{turn_5, turn_12, turn_14}
 use Rattle.ft_model.proofs.Turns.{laws, goes, serves}
 use Rattle.ft_model.proofs.Closing.{first_5, first_6}
 use Rattle.ft_model.proofs.ZeroWindow.{probe_7, probe_8, probe_9}
 use Rattle.ft_model.proofs.SegmentWhileRestarting.{restart_3, restart_5}
+use Rattle.ft_model.proofs.RestartInTurns.{turn_2, turn_3}
 
--- what tells packets apart: their count, and the kind, flags, acknowledgement, length or index of each
+-- what tells packets apart: their count, and the kind, flags, acknowledgement, length, index or place of each
 abbrev mark_of_body : Body → ℕ
 mark_of_body (ReadMsg key index n) = index
+mark_of_body (BytesMsg key offset) = 101 + 10 * offset
+mark_of_body (CutsMsg key first) = 102 + 10 * first
 mark_of_body _ = 100
 
 abbrev mark : Packet → ℕ
@@ -119,6 +123,13 @@ early_probe = refused echo probe.probe_8.node probe.probe_9.node Tick_comes [] p
 
 pub past_the_edge : IsRefused probe.probe_6.node probe.probe_7.input probe.past_the_edge
 past_the_edge = refused echo probe.probe_6.node probe.probe_7.node probe.probe_7.input [] probe.past_the_edge probe_7 refl refl
+
+-- questions out of their order
+pub bytes_first : IsRefused questions.turn_1.node questions.turn_2.input questions.bytes_first
+bytes_first = refused echo questions.turn_1.node questions.turn_2.node questions.turn_2.input questions.turn_2.sent questions.bytes_first turn_2 refl refl
+
+pub lengths_ahead : IsRefused questions.turn_2.node questions.turn_3.input questions.lengths_ahead
+lengths_ahead = refused echo questions.turn_2.node questions.turn_3.node questions.turn_3.input questions.turn_3.sent questions.lengths_ahead turn_3 refl refl
 
 -- while a server fetches, and when it has fetched all
 pub reset_meanwhile : IsRefused restart.restart_2.node restart.restart_3.input restart.reset_meanwhile

@@ -1,6 +1,6 @@
 -- The law Restart: what a server asks the log when it boots, which answers it takes, and where each connection stands then (FT-TCP,
 -- INFOCOM 2001: the restarted server reads the log before it serves).
-use Rattle.std.specs.Prelude.{◌≡◌, ℕ, Bool, true, false, pos, ◌+◌, ◌^◌, ◌≤◌, ◌<◌, ◌==◌, ◌&&◌, not, nat_lt, nat_le, min, find, Option, Some, None, List, [], ◌∷◌, ◌++◌, length, if◌then◌else◌}
+use Rattle.std.specs.Prelude.{◌≡◌, ℕ, Bool, true, false, pos, ◌+◌, ◌^◌, ◌≤◌, ◌<◌, ◌==◌, ◌&&◌, not, nat_lt, nat_le, min, sum, find, Option, Some, None, List, [], ◌∷◌, ◌++◌, length, if◌then◌else◌}
 use Rattle.std.specs.List.{list_any}
 use Rattle.ft_io.specs.declared.Addr.{Addr}
 use Rattle.ft_io.specs.declared.Key.{Key}
@@ -20,27 +20,40 @@ pub record Fetched : Type 0 where
   pub bytes : List ℕ
   pub lengths : List ℕ
 
--- what is missing next: an entry, bytes of one, or lengths of one
+-- what is asked for next: an entry, bytes of one, or lengths of one
 pub data Wanted : Type 0 where
   An_entry : (index : ℕ) → Wanted
   Its_bytes : Key → (offset : ℕ) → Wanted
   Its_lengths : Key → (first : ℕ) → Wanted
 
+-- bytes of a read whose length is fetched
+abbrev pub lacks_read_bytes : Fetched → Bool
+lacks_read_bytes f = not f.head.done && nat_lt (length f.bytes) (sum f.lengths)
+
+-- lengths of reads
+abbrev pub lacks_lengths : Fetched → Bool
+lacks_lengths f = not f.head.done && nat_lt (length f.lengths) f.head.reads
+
+-- bytes at all
 abbrev pub lacks_bytes : Fetched → Bool
 lacks_bytes f = not f.head.done && nat_lt (length f.bytes) f.head.length
 
-abbrev pub lacks_lengths : Fetched → Bool
-lacks_lengths f = not f.head.done && nat_lt (length f.lengths) f.head.reads
+-- nothing of an entry is missing
+abbrev pub is_whole : Fetched → Bool
+is_whole f = not (lacks_lengths f) && not (lacks_bytes f)
 
 abbrev pub next_entry : (count index : ℕ) → Option Wanted
 next_entry count index = if nat_lt index count then Some (An_entry index) else None
 
--- What is missing, of so many entries: the newest fetched one stands first, and is made whole before the next is asked for
+-- What is asked for next, of so many entries: the newest fetched one stands first, and is made whole before the next is asked for. Its bytes are
+-- asked for as far as its fetched reads go, then further lengths, and at last the bytes behind all reads: so a read can be replayed as soon as it is
+-- whole, and its bytes needn't be kept
 abbrev pub wanted : (count : ℕ) → List Fetched → Option Wanted
 wanted count [] = next_entry count 0
 wanted count (f ∷ earlier) =
-    if lacks_bytes f then Some (Its_bytes f.head.key (length f.bytes))
-    else (if lacks_lengths f then Some (Its_lengths f.head.key (length f.lengths)) else next_entry count (length (f ∷ earlier)))
+    if lacks_read_bytes f then Some (Its_bytes f.head.key (length f.bytes))
+    else (if lacks_lengths f then Some (Its_lengths f.head.key (length f.lengths))
+    else (if lacks_bytes f then Some (Its_bytes f.head.key (length f.bytes)) else next_entry count (length (f ∷ earlier))))
 
 -- the question after it
 abbrev pub question : Wanted → Body

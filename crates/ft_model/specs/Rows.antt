@@ -6,6 +6,7 @@ pub mod CrashAfterLogged
 pub mod Closing
 pub mod ZeroWindow
 pub mod SegmentWhileRestarting
+pub mod RestartInTurns
 pub mod ClientKnowsMore
 pub mod CrashBeforeSynAck
 pub mod ZeroWindowTrace

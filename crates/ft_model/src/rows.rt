@@ -19,6 +19,7 @@ ghost use Rattle.ft_model.specs.Rows.ZeroWindowTrace;
 ghost use Rattle.ft_model.specs.Rows.CrashBeforeSynAck;
 ghost use Rattle.ft_model.specs.Rows.ClientKnowsMore;
 ghost use Rattle.ft_model.specs.Rows.SegmentWhileRestarting;
+ghost use Rattle.ft_model.specs.Rows.RestartInTurns;
 
 /// The first path, whole, is a joint trace.
 pub fn first_path_is_joint()
@@ -44,6 +45,11 @@ pub fn zero_window_is_lawful()
 /// A segment that comes during a restart is held off with window 0, and taken afterwards.
 pub fn segment_while_restarting_is_lawful()
     ensures { Lawful echo server 2 900000 (hello (booted server 2 900000)) SegmentWhileRestarting.restart_turns }
+{}
+
+/// A restart whose answers are short asks for lengths and bytes in turns.
+pub fn restart_in_turns_is_lawful()
+    ensures { Lawful echo server 2 900000 (hello (booted server 2 900000)) RestartInTurns.turns }
 {}
 
 /// An acknowledgement of more than was sent in this incarnation counts as one of all that was.
@@ -99,6 +105,12 @@ pub fn wrong_probes_are_refused()
     ensures none { IsRefused ZeroWindow.probe_7.node Tick_comes [] }
     ensures wide { IsRefused ZeroWindow.probe_7.node Tick_comes ZeroWindow.wide_probe }
     ensures early { IsRefused ZeroWindow.probe_8.node Tick_comes ZeroWindow.probe_8.sent }
+{}
+
+/// A restart asks for no bytes before their read's length has come, and for no further lengths while the bytes of a fetched read are missing.
+pub fn wrong_questions_are_refused()
+    ensures bytes_first { IsRefused RestartInTurns.turn_1.node RestartInTurns.turn_2.input RestartInTurns.bytes_first }
+    ensures lengths_ahead { IsRefused RestartInTurns.turn_2.node RestartInTurns.turn_3.input RestartInTurns.lengths_ahead }
 {}
 
 /// While a server fetches, a client whose entry has come is neither reset nor left without an answer; and the turn of the last answer tells it

@@ -17,8 +17,8 @@ head = head_with 5 false 1 0
 abbrev pub bare_entry : Fetched
 bare_entry = fetched_with head [] []
 
-abbrev pub filled_entry : Fetched
-filled_entry = fetched_with head hello_text []
+abbrev pub entry_with_lengths : Fetched
+entry_with_lengths = fetched_with head [] (5 ∷ [])
 
 -- the client's segment after the restart
 abbrev pub room : Segment
@@ -56,14 +56,14 @@ abbrev pub restart_1 : Turn
 restart_1 = on_message 2 (SummaryMsg 1) (to_log 2 (ListMsg 0) ∷ []) (fetching 2 900000 [])
 
 abbrev pub restart_2 : Turn
-restart_2 = on_message 2 (EntryMsg 0 head) (to_log 2 (BytesMsg key 0) ∷ []) (fetching 2 900000 (bare_entry ∷ []))
+restart_2 = on_message 2 (EntryMsg 0 head) (to_log 2 (CutsMsg key 0) ∷ []) (fetching 2 900000 (bare_entry ∷ []))
 
 abbrev pub restart_3 : Turn
-restart_3 = on_message 2 (PartMsg key 0 hello_text) (to_log 2 (CutsMsg key 0) ∷ []) (fetching 2 900000 (filled_entry ∷ []))
+restart_3 = on_message 2 (LensMsg key 0 (5 ∷ [])) (to_log 2 (BytesMsg key 0) ∷ []) (fetching 2 900000 (entry_with_lengths ∷ []))
 
 -- the last missing answer: the client gets an ACK with the true window
 abbrev pub restart_4 : Turn
-restart_4 = on_message 2 (LensMsg key 0 (5 ∷ [])) (to_client 16 5001 1006 65535 None [] ∷ []) (serving_at 2 900000 restarted)
+restart_4 = on_message 2 (PartMsg key 0 hello_text) (to_client 16 5001 1006 65535 None [] ∷ []) (serving_at 2 900000 restarted)
 
 -- the client acknowledges nothing new and gives room: the output leaves
 abbrev pub restart_5 : Turn

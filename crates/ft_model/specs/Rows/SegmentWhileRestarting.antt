@@ -20,8 +20,8 @@ head = head_with 5 false 1 0
 abbrev pub bare_entry : Fetched
 bare_entry = fetched_with head [] []
 
-abbrev pub filled_entry : Fetched
-filled_entry = fetched_with head hello_text []
+abbrev pub entry_with_lengths : Fetched
+entry_with_lengths = fetched_with head [] (5 ∷ [])
 
 -- the connection after the restart, and when the segment is taken
 abbrev pub restarted : Point
@@ -55,17 +55,17 @@ abbrev pub restart_1 : Turn
 restart_1 = on_message 2 (SummaryMsg 1) (to_log 2 (ListMsg 0) ∷ []) (fetching 2 900000 [])
 
 abbrev pub restart_2 : Turn
-restart_2 = on_message 2 (EntryMsg 0 head) (to_log 2 (BytesMsg key 0) ∷ []) (fetching 2 900000 (bare_entry ∷ []))
+restart_2 = on_message 2 (EntryMsg 0 head) (to_log 2 (CutsMsg key 0) ∷ []) (fetching 2 900000 (bare_entry ∷ []))
 
 -- neither a RST nor silence: what is logged, and no room
 abbrev pub restart_3 : Turn
 restart_3 = on_segment more (to_client 16 5001 1006 0 None [] ∷ []) (fetching 2 900000 (bare_entry ∷ []))
 
 abbrev pub restart_4 : Turn
-restart_4 = on_message 2 (PartMsg key 0 hello_text) (to_log 2 (CutsMsg key 0) ∷ []) (fetching 2 900000 (filled_entry ∷ []))
+restart_4 = on_message 2 (LensMsg key 0 (5 ∷ [])) (to_log 2 (BytesMsg key 0) ∷ []) (fetching 2 900000 (entry_with_lengths ∷ []))
 
 abbrev pub restart_5 : Turn
-restart_5 = on_message 2 (LensMsg key 0 (5 ∷ [])) (to_client 16 5001 1006 65535 None [] ∷ []) (serving_at 2 900000 restarted)
+restart_5 = on_message 2 (PartMsg key 0 hello_text) (to_client 16 5001 1006 65535 None [] ∷ []) (serving_at 2 900000 restarted)
 
 -- the output of the fetched read leaves, and the new byte is copied and read
 abbrev pub restart_6 : Turn
