@@ -1,15 +1,12 @@
-//! Writing a packet in its one spelling: no option but the segment size, don't fragment, 64 hops, and all that isn't kept zero. The
-//! checksums are summed over what stands there, with zero in their places.
+//! Writing a packet from a head and a payload.
 
-ghost use Rattle.std.specs.Prelude.{◌≡◌, ◌<◌, ◌≤◌, ◌+◌, ◌/◌, ◌^◌, IfSome, ◌++◌, length, take, drop, Ok};
-ghost use Rattle.seq_arith.specs.Packet.{Segment};
-ghost use Rattle.seq_arith.specs.PacketGrammar.{IsSpellable, mss_option, packet_length, reading, spelling};
-ghost use Rattle.segment_codec.specs.Change.{put};
-ghost use Rattle.segment_codec.specs.Value.{said};
-ghost use Rattle.segment_codec.specs.Written.{PlacesFit, NumbersFit, segment_with, ip_start, places, numbers, with_checksums};
+ghost use Rattle.std.specs.Prelude.{◌≡◌, ◌≤◌, ◌++◌, length, take, drop, Ok};
+ghost use Rattle.seq_arith.specs.PacketGrammar.{packet_length, reading, spelling};
+ghost use Rattle.segment_codec.specs.Written.{segment_with};
 
 use crate::Head;
-use crate::fields::{ip_checksum, put_bytes, put_long, put_word, seal};
+use crate::fields::put_bytes;
+use crate::header::{payload_start, write_header};
 
 /// Writes a packet at the front of `out`, which has room for 1,500 bytes, and says how many bytes it has: at most 1,500.
 pub fn write_packet(head: &Head, payload: &[u8], out: &mut [u8]) -> usize
@@ -22,97 +19,7 @@ pub fn write_packet(head: &Head, payload: &[u8], out: &mut [u8]) -> usize
 {
     let start = payload_start(head.mss);
     let len = start + payload.len();
-    put_ip_start(out, len as u16);
-    put_places(out, head);
-    put_numbers(out, head);
-    put_options(out, head.mss);
     put_bytes(out, start, payload);
-    seal_both(&mut out[..len]);
+    write_header(head, &mut out[..len]);
     len
-}
-
-/// Where the payload stands behind the options.
-fn payload_start(mss: Option<u16>) -> usize
-    ensures { result ≡ 40 + length (mss_option mss) }
-{
-    match mss {
-        Some(_) => 44,
-        None => 40,
-    }
-}
-
-/// How many words of four bytes the TCP header has.
-fn header_words(mss: Option<u16>) -> u16
-    ensures words { result ≡ 5 + length (mss_option mss) / 4 }
-    ensures bound { result ≤ 6 }
-{
-    match mss {
-        Some(_) => 6,
-        None => 5,
-    }
-}
-
-/// Version 4, a header of five words, the whole length, don't fragment, 64 hops, TCP.
-fn put_ip_start(out: &mut [u8], len: u16)
-    requires { 44 ≤ length out.old }
-    ensures { out.new ≡ put 0 (ip_start len) out.old }
-{
-    put_word(out, 0, 0x4500);
-    put_word(out, 2, len);
-    put_long(out, 4, 0x4000);
-    put_long(out, 8, 0x4006_0000);
-}
-
-fn put_places(out: &mut [u8], head: &Head)
-    requires { 44 ≤ length out.old }
-    ensures bytes { out.new ≡ put 12 (places (said head.now)) out.old }
-    ensures fits { PlacesFit (said head.now) }
-{
-    put_long(out, 12, head.src);
-    put_long(out, 16, head.dst);
-    put_word(out, 20, head.sport);
-    put_word(out, 22, head.dport);
-}
-
-/// The sequence and acknowledgement numbers, the header's length, the flags and the window, and zero for the rest.
-fn put_numbers(out: &mut [u8], head: &Head)
-    requires { 44 ≤ length out.old }
-    ensures bytes { out.new ≡ put 24 (numbers (said head.now)) out.old }
-    ensures fits { NumbersFit (said head.now) }
-{
-    put_long(out, 24, head.seq.0);
-    put_long(out, 28, head.ack.0);
-    put_word(
-        out,
-        32,
-        header_words(head.mss) * 4096 + u16::from(head.flags),
-    );
-    put_word(out, 34, head.window);
-    put_long(out, 36, 0);
-}
-
-fn put_options(out: &mut [u8], mss: Option<u16>)
-    requires { 44 ≤ length out.old }
-    ensures bytes { out.new ≡ put 40 (mss_option mss) out.old }
-    ensures fits { IfSome mss (λ mss. mss < 2 ^ 16) }
-{
-    match mss {
-        Some(mss) => {
-            put_word(out, 40, 0x0204);
-            put_word(out, 42, mss);
-        }
-        None => {}
-    }
-}
-
-/// Sums both checksums.
-#[tactic(auto, unfolding(crate::specs::Written::with_checksums))]
-fn seal_both(packet: &mut [u8])
-    requires long { 40 ≤ length packet.old }
-    requires short { length packet.old ≤ 1500 }
-    ensures { packet.new ≡ with_checksums packet.old }
-{
-    let check = ip_checksum(packet);
-    put_word(packet, 10, check);
-    seal(packet);
 }

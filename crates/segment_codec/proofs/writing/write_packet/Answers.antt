@@ -1,36 +1,32 @@
-use Rattle.std.proofs.Common.{ℕ, ◌≡◌, ◌+◌, length, take, ap, arith, ◌∙◌}
+use Rattle.std.proofs.Common.{ℕ, ◌≡◌, ◌+◌, ◌++◌, length, take, drop, ap, sym, arith, ◌∙◌}
+use Rattle.std.specs.Prelude.{Ok}
 use Rattle.seq_arith.specs.Packet.{Segment}
-use Rattle.seq_arith.specs.PacketGrammar.{IsSpellable, reading, packet_length}
+use Rattle.seq_arith.specs.PacketGrammar.{mss_option, reading, spelling}
 use Rattle.segment_codec.specs.Written.{segment_with}
-use Rattle.segment_codec.proofs.Pieces.{blank_put, finished, read_back}
+use Rattle.segment_codec.proofs.Pieces.{payload_put, behind_put, front_written}
 use Rattle.segment_codec.proofs.writing.write_packet.Goals as goal
+
+-- the payload stands behind the room for the headers
+stands : (c : goal.After-slice_known-3-1) → drop (40 + length (mss_option c.args.head.now.mss)) (take (c.payload_start-start.result + length c.args.payload.now) c.put_bytes.new.bytes) ≡ c.args.payload.now
+stands c =
+    let start : ℕ = c.payload_start-start.result in let len : ℕ = start + length c.args.payload.now in
+    ap (λ n. drop n (take len c.put_bytes.new.bytes)) (sym c.payload_start-start.ensures)
+    ∙ ap (λ xs. drop start (take len xs)) c.put_bytes.ensures
+    ∙ payload_put start c.args.payload.now c.args.out.now (omega (arith, c.payload_start-start.ensures, c.requires.fits, c.requires.room))
+
+packet : (c : goal.After-slice_known-3-1) → c.write_header.new.packet ≡ spelling (segment_with c.args.head.now c.args.payload.now)
+packet c = c.write_header.ensures.bytes ∙ ap (λ xs. spelling (segment_with c.args.head.now xs)) (stands c)
 
 pub returns-clause-bytes : goal.returns-clause-bytes
 returns-clause-bytes c =
-    let segment : Segment = segment_with c.args.head.now c.args.payload.now
-    in let len : ℕ = c.payload_start-start.result + length c.args.payload.now
-    in let is : len ≡ packet_length segment = omega (arith, c.payload_start-start.ensures)
-    in finished segment c.args.out.now c.put_bytes.new.bytes c.seal_both.new.packet len is
-    (cc (blank_put segment c.args.out.now (omega arith), c.put_ip_start.ensures, c.put_places.ensures.bytes, c.put_numbers.ensures.bytes, c.put_options.ensures.bytes, c.put_bytes.ensures, c.payload_start-start.ensures))
-    c.seal_both.ensures
+    let start : ℕ = c.payload_start-start.result in let len : ℕ = start + length c.args.payload.now in
+    let rest : drop len c.put_bytes.new.bytes ≡ drop len c.args.out.now =
+    ap (drop len) c.put_bytes.ensures ∙ behind_put start c.args.payload.now c.args.out.now (omega (arith, c.payload_start-start.ensures, c.requires.fits, c.requires.room))
+    in ap (λ xs. c.write_header.new.packet ++ xs) rest ∙ ap (λ xs. xs ++ drop len c.args.out.now) (packet c)
 
 pub returns-clause-read : goal.returns-clause-read
 returns-clause-read c =
     let segment : Segment = segment_with c.args.head.now c.args.payload.now
     in let len : ℕ = c.payload_start-start.result + length c.args.payload.now
-    in let is : len ≡ packet_length segment = omega (arith, c.payload_start-start.ensures)
-    in let places = c.put_places.ensures.fits
-    in let numbers = c.put_numbers.ensures.fits
-    in let fits : IsSpellable segment = record {
-      src = places.src;
-      dst = places.dst;
-      sport = places.sport;
-      dport = places.dport;
-      seq = numbers.seq;
-      ack = numbers.ack;
-      flags = numbers.flags;
-      window = numbers.window;
-      mss = c.put_options.ensures.fits;
-      size = c.requires.fits;
-    }
-    in ap (λ xs. reading (take len xs)) (returns-clause-bytes c) ∙ read_back segment c.args.out.now len fits is
+    in ap reading (front_written segment c.write_header.new.packet (drop len c.put_bytes.new.bytes) len (omega (arith, c.payload_start-start.ensures)) (packet c) ∙ sym (packet c))
+    ∙ c.write_header.ensures.read ∙ ap (λ xs. Ok (segment_with c.args.head.now xs)) (stands c)
