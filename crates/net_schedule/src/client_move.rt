@@ -5,6 +5,7 @@ ghost use Rattle.net_schedule.specs.ClientMove.{move_value};
 ghost use Rattle.ft_model.specs.Client.{move_of, flags_of};
 
 use ft_model::Event;
+use seq_arith::{ACK, FIN, RST, SYN};
 
 /// A move of a scripted client. Text has an offset in the script and a length, in bytes.
 #[derive(Clone, Copy, Debug)]
@@ -34,14 +35,14 @@ pub fn of_event(event: &Event) -> Option<Move>
     }
 }
 
-/// The flags of a move: SYN 2, FIN 1, RST 4, ACK 16.
+/// The flags of a move.
 pub fn flags(made: Move) -> u8
     ensures { result ≡ flags_of (move_value made) }
 {
     match made {
-        Move::Syn => 2,
-        Move::Text { .. } | Move::Acknowledge => 16,
-        Move::Fin => 17,
-        Move::Rst => 4,
+        Move::Syn => SYN,
+        Move::Text { .. } | Move::Acknowledge => ACK,
+        Move::Fin => FIN | ACK,
+        Move::Rst => RST,
     }
 }

@@ -5,7 +5,6 @@
 ghost use Rattle.std.specs.Prelude.{◌≡◌, ℕ, ◌+◌, ◌*◌, ◌%◌, ◌^◌, ◌++◌, ◌∷◌, [], map, option_map, OnOk, IfOk};
 ghost use Rattle.schedule_text.specs.Packet.{segment_of, packet_of, message_of, body_of, kept_of, numbers_of as numbers_value};
 ghost use Rattle.ft_model.specs.Connection.{told_by};
-ghost use Rattle.ft_model.specs.Opening.{segment_size as size_lem};
 ghost use Rattle.ft_model.specs.Refusal.{rst_at_ack, full_rst as full_lem};
 ghost use Rattle.net_schedule.specs.Reaction.{opened_for, is_full_for, logged_for, is_summary as is_summary_lem, IsNoted};
 ghost use Rattle.ft_model.specs.Network.Packet.{To_client};
@@ -16,7 +15,8 @@ ghost use Rattle.seq_arith.specs.Message.Body.{OpenMsg};
 use crate::arrival::number_of;
 use crate::connection::{Connection, put};
 use ft_io::{Addr, Key, NoMemory, Octets};
-use schedule_text::{Body, Head, Kept, Message, Numbers, Packet, Segment};
+use schedule_text::{Body, Kept, Message, Numbers, Packet, Segment};
+use seq_arith::{ACK, Head, RST, Seq, segment_size};
 use server_trait::Service;
 use std::alloc::Global;
 use std::marker::Model;
@@ -45,32 +45,12 @@ pub struct PlainServer<S: Service> {
     stage: Stage<S>,
 }
 
-/// The segment size that a SYN asks for, brought into 64 to 1,460, or 536 without one (RFC 9293, 3.7.1).
-fn segment_size(mss: Option<u16>) -> u16
-    ensures { result ≡ size_lem mss }
-{
-    match mss {
-        Some(mss) => mss.min(1_460).max(64),
-        None => 536,
-    }
-}
-
 /// The RST at the segment's acknowledgement.
 fn refusal(alloc: Global, local: Addr, segment: &Segment) -> Packet
     ensures { packet_of result ≡ To_client (rst_at_ack local (segment_of segment.now)) }
 {
     Packet::ToClient(Segment {
-        head: Head {
-            src: local.ip,
-            dst: segment.head.src,
-            sport: local.port,
-            dport: segment.head.sport,
-            seq: segment.head.ack,
-            ack: 0,
-            flags: 4,
-            window: 0,
-            mss: None,
-        },
+        head: segment.head.reset_at_ack(local),
         payload: Octets::new(Vec::new(alloc)),
     })
 }
@@ -128,18 +108,9 @@ fn is_summary(body: &Body) -> bool
 fn full_rst(alloc: Global, local: Addr, asked: Numbers) -> Packet
     ensures { packet_of result ≡ To_client (full_lem local (numbers_value asked)) }
 {
+    let ack = Seq(number_of(asked.cisn, 0));
     Packet::ToClient(Segment {
-        head: Head {
-            src: local.ip,
-            dst: asked.key.ip,
-            sport: local.port,
-            dport: asked.key.port,
-            seq: 0,
-            ack: number_of(asked.cisn, 0),
-            flags: 20,
-            window: 0,
-            mss: None,
-        },
+        head: Head::reset(local, asked.key, Seq(0), ack, RST | ACK),
         payload: Octets::new(Vec::new(alloc)),
     })
 }
@@ -220,7 +191,7 @@ impl<S: Service> PlainServer<S> {
     {
         let numbers = Numbers {
             key: segment.source(),
-            cisn: segment.head.seq,
+            cisn: segment.head.seq.0,
             sisn: self.next_isn,
             mss: segment_size(segment.head.mss),
         };
@@ -262,7 +233,7 @@ impl<S: Service> PlainServer<S> {
             Stage::Asking => Ok(()),
             Stage::Idle => self.meet(alloc, segment, out),
             Stage::Opening(numbers) => {
-                if segment.is_syn() && segment.head.seq == numbers.cisn {
+                if segment.is_syn() && segment.head.seq.0 == numbers.cisn {
                     return put_open(self.boot, *numbers, out);
                 }
                 Ok(())

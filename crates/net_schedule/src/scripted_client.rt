@@ -11,7 +11,8 @@ use crate::client_move::{Move, flags, of_event};
 use crate::end::StepEnd;
 use ft_io::{Addr, Key, NoMemory, Octets};
 use ft_model::{Event, EventWhy, Phase};
-use schedule_text::{Head, Segment};
+use schedule_text::Segment;
+use seq_arith::{Head, Seq};
 use std::alloc::Global;
 use std::marker::Model;
 
@@ -164,11 +165,11 @@ impl ScriptedClient {
     fn use_segment(&mut self, segment: &Segment) -> Result<(), NoMemory>
         ensures { OnOk result (self.new ≡ used_lem self.old (value_of segment.now)) }
     {
-        let ack = offset_of(self.isn, segment.head.ack);
+        let ack = offset_of(self.isn, segment.head.ack.0);
         if ack > i64::from(self.sent) {
             return Ok(());
         }
-        let first = offset_of(self.sisn, segment.head.seq);
+        let first = offset_of(self.sisn, segment.head.seq.0);
         let text = segment.text();
         self.with_ack(ack);
         self.accept_text(first, text)?;
@@ -182,7 +183,7 @@ impl ScriptedClient {
     {
         let next = self.accepted_units();
         let room = self.edge.saturating_sub(self.accepted.len() as u64);
-        let first = offset_of(self.sisn, segment.head.seq);
+        let first = offset_of(self.sisn, segment.head.seq.0);
         if !is_acceptable(next, room, first, segment.segment_len()) {
             return Ok(());
         }
@@ -202,14 +203,14 @@ impl ScriptedClient {
     fn open_by(&mut self, segment: &Segment)
         ensures { self.new ≡ opened_lem self.old (value_of segment.now) }
     {
-        if !segment.has_ack() || segment.head.ack != number_of(self.isn, 0) {
+        if !segment.has_ack() || segment.head.ack.0 != number_of(self.isn, 0) {
             return;
         }
         if segment.has_rst() {
             self.phase = Phase::Reset;
         } else if segment.has_syn() {
             self.phase = Phase::Established;
-            self.sisn = segment.head.seq;
+            self.sisn = segment.head.seq.0;
         }
     }
 
@@ -322,8 +323,8 @@ impl ScriptedClient {
             dst: self.server.ip,
             sport: self.key.port,
             dport: self.server.port,
-            seq: self.seq(made),
-            ack: self.ack_number(made),
+            seq: Seq(self.seq(made)),
+            ack: Seq(self.ack_number(made)),
             flags: flags(made),
             window,
             mss: None,

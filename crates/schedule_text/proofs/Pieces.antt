@@ -1,7 +1,7 @@
 -- What a list is cut into at marks: the lines of a text, the words of a line, the parts of an address.
-use Rattle.std.proofs.Common.{◌≡◌, ℕ, zero, suc, ◌+◌, ◌<◌, ◌≤◌, List, [], ◌∷◌, ◌++◌, length, get_or, take, drop, refl, ap, sym, ◌∙◌, arith, Bool, true, false, rules}
-use Rattle.std.specs.Prelude.{not, cond, Option, Some, None, MatchOption, filter, unwrap_or, ◌==◌, nat_lt}
-use Rattle.std.specs.List.{slice_split, onto_first, position, position_or_len, before_first, after_first}
+use Rattle.std.proofs.Common.{◌≡◌, ℕ, ◌+◌, ◌<◌, ◌≤◌, List, [], ◌∷◌, length, get_or, take, drop, refl, ap, ◌∙◌, arith, Bool, true, false}
+use Rattle.std.specs.Prelude.{not, cond, Some, None, filter, unwrap_or, nat_lt}
+use Rattle.std.specs.List.{slice_split, position, position_or_len, before_first}
 use Rattle.std.proofs.Math.Numerals.{one-add, add-one}
 use Rattle.std.proofs.Math.Seq.{take-length, drop-length, drop-cons}
 use Rattle.std.proofs.Math.ListN.{drop_of_length-le}

@@ -6,7 +6,7 @@ pub use end::ScheduleEnd;
 pub use event_text::write_event;
 pub use ft_model::{ClientLine, ClientLines, Events, Limit, LineWhy, Schedule, Script, Way};
 pub use header_text::write_header;
-pub use packet::{Body, Head, Kept, Message, Numbers, Packet, Part, Segment};
+pub use packet::{Body, Kept, Message, Numbers, Packet, Part, Segment};
 pub use packet_text::write_packet_line;
 pub use read::read_schedule;
 pub use spelling::{read_addr, read_number, read_script, read_service};

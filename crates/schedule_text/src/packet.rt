@@ -3,20 +3,7 @@
 ghost use Rattle.std.specs.Prelude.{◌≡◌, ◌≤◌, ◌^◌, ◌&&◌, not};
 
 use ft_io::{Key, Octets};
-
-/// The fields of a TCP packet's headers. Numbers are modulo 2^32, and flags are those of RFC 9293, 3.1, in their octet.
-#[derive(Clone, Copy, Debug, PartialEq, Eq)]
-pub struct Head {
-    pub src: u32,
-    pub dst: u32,
-    pub sport: u16,
-    pub dport: u16,
-    pub seq: u32,
-    pub ack: u32,
-    pub flags: u8,
-    pub window: u16,
-    pub mss: Option<u16>,
-}
+use seq_arith::{ACK, FIN, Head, RST, SYN, has};
 
 /// A TCP packet.
 #[derive(Debug, Drop)]
@@ -34,25 +21,25 @@ impl Segment {
     pub fn has_fin(&self) -> bool
         ensures { result ≡ fin_lem (segment_of self.now) }
     {
-        self.head.flags % 2 == 1
+        has(self.head.flags, FIN)
     }
 
     pub fn has_syn(&self) -> bool
         ensures { result ≡ syn_lem (segment_of self.now) }
     {
-        self.head.flags / 2 % 2 == 1
+        has(self.head.flags, SYN)
     }
 
     pub fn has_rst(&self) -> bool
         ensures { result ≡ rst_lem (segment_of self.now) }
     {
-        self.head.flags / 4 % 2 == 1
+        has(self.head.flags, RST)
     }
 
     pub fn has_ack(&self) -> bool
         ensures { result ≡ ack_lem (segment_of self.now) }
     {
-        self.head.flags / 16 % 2 == 1
+        has(self.head.flags, ACK)
     }
 
     /// A SYN that opens a connection: without ACK and RST.

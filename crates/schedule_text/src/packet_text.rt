@@ -53,8 +53,8 @@ fn put_segment(alloc: Global, segment: &Segment, line: &mut Vec<u8>) -> Result<(
     ensures { OnOk result (line.new.items ≡ line.old.items ++ spaced (segment_words (segment_of segment.now))) }
 {
     put_flags(alloc, segment.head.flags, line)?;
-    put_field(b"seq", u64::from(segment.head.seq), line)?;
-    put_field(b"ack", u64::from(segment.head.ack), line)?;
+    put_field(b"seq", u64::from(segment.head.seq.0), line)?;
+    put_field(b"ack", u64::from(segment.head.ack.0), line)?;
     put_field(b"window", u64::from(segment.head.window), line)?;
     put_mss(segment.head.mss, line)?;
     put_word(b"data", line)?;

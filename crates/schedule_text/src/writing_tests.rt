@@ -1,12 +1,13 @@
 //! Lines of worked reports, which were written by hand: each writer, by the lines of a run in which a client says hello to an echo.
 
-use crate::packet::{Body, Head, Kept, Message, Numbers, Packet, Part, Segment};
+use crate::packet::{Body, Kept, Message, Numbers, Packet, Part, Segment};
 use crate::{
     LogLine, write_client_line, write_end, write_event, write_header, write_log_line,
     write_packet_line,
 };
 use ft_io::{Addr, Key, Octets};
 use ft_model::{ClientLine, ClientLines, Event, Events, Phase, Schedule, Script, ServiceKind, Way};
+use seq_arith::{Head, Seq};
 use std::alloc::{AllocError, Global};
 use std::test::Fail;
 
@@ -36,8 +37,8 @@ fn from_client(
         dst: SERVER,
         sport: 40_000,
         dport: 7,
-        seq,
-        ack,
+        seq: Seq(seq),
+        ack: Seq(ack),
         flags,
         window: 65_535,
         mss: None,
@@ -62,8 +63,8 @@ fn from_server(
         dst: CLIENT,
         sport: 7,
         dport: 40_000,
-        seq,
-        ack,
+        seq: Seq(seq),
+        ack: Seq(ack),
         flags,
         window: 65_535,
         mss,

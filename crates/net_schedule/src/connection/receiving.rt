@@ -23,14 +23,14 @@ impl<S: Service> Connection<S> {
     pub fn first(&self, segment: &Segment) -> i64
         ensures { result ≡ first_of self.now.numbers.cisn (segment_of segment.now) }
     {
-        offset_of(self.numbers.cisn, segment.head.seq)
+        offset_of(self.numbers.cisn, segment.head.seq.0)
     }
 
     /// Up to where a segment acknowledges the output.
     fn ack(&self, segment: &Segment) -> i64
         ensures { result ≡ ack_of self.now.numbers.sisn (segment_of segment.now) }
     {
-        offset_of(self.numbers.sisn, segment.head.ack)
+        offset_of(self.numbers.sisn, segment.head.ack.0)
     }
 
     /// Whether a segment is acceptable.
@@ -48,7 +48,7 @@ impl<S: Service> Connection<S> {
         ensures { result ≡ repeats_lem (point_in self.now) (segment_of segment.now) }
     {
         segment.is_syn()
-            && segment.head.seq == self.numbers.cisn
+            && segment.head.seq.0 == self.numbers.cisn
             && self.taken_units() == 0
             && self.una == 0
     }

@@ -1,16 +1,18 @@
 //! What a connection sends to its client and tells the logger: each packet says how the connection stands after the turn.
 
 ghost use Rattle.std.specs.Prelude.{◌≡◌, ℕ, ◌&&◌, pos, nat_abs, ◌+ℤ◌, ◌+◌, ◌-◌, ◌<◌, ◌≤◌, ◌^◌, take, ◌||◌, not, ◌==◌, nat_lt, false, [], ◌∷◌, ◌++◌, List, length, map, drop, OnOk, if◌then◌else◌, IfOk, Some};
-ghost use Rattle.schedule_text.specs.Packet.{segment_of, packet_of, head_of};
+ghost use Rattle.schedule_text.specs.Packet.{segment_of, packet_of};
 ghost use Rattle.ft_model.specs.Network.Packet.{To_client};
 ghost use Rattle.ft_model.specs.Connection.{told_by};
 ghost use Rattle.ft_model.specs.Reads.{read_messages};
 ghost use Rattle.seq_arith.specs.Arrival.{below};
+ghost use Rattle.seq_arith.specs.Value.{said};
 
 use crate::arrival::{number_of, part, skipped};
 use crate::connection::Connection;
 use ft_io::{Addr, Key, NoMemory, Octets};
-use schedule_text::{Body, Head, Message, Packet, Part, Segment};
+use schedule_text::{Body, Message, Packet, Part, Segment};
+use seq_arith::{ACK, Head, SYN, Seq};
 use server_trait::Service;
 use std::alloc::Global;
 
@@ -97,15 +99,15 @@ impl<S: Service> Connection<S> {
     }
 
     fn head(&self, server: Addr, seq: u32, flags: u8, mss: Option<u16>) -> Head
-        ensures { head_of result ≡ head_to server (point_in self.now) seq flags mss }
+        ensures { said result ≡ head_to server (point_in self.now) seq flags mss }
     {
         Head {
             src: server.ip,
             dst: self.numbers.key.ip,
             sport: server.port,
             dport: self.numbers.key.port,
-            seq,
-            ack: number_of(self.numbers.cisn, self.acknowledgement()),
+            seq: Seq(seq),
+            ack: Seq(number_of(self.numbers.cisn, self.acknowledgement())),
             flags,
             window: self.window(),
             mss,
@@ -120,10 +122,10 @@ impl<S: Service> Connection<S> {
         offset: u64,
         text: &[u8],
     ) -> Result<Packet, NoMemory>
-        ensures { IfOk result (λ packet. packet_of packet ≡ To_client (segment_lem server (point_in self.now) offset 16 text.now)) }
+        ensures { IfOk result (λ packet. packet_of packet ≡ To_client (segment_lem server (point_in self.now) offset ACK text.now)) }
     {
         Ok(Packet::ToClient(Segment {
-            head: self.head(server, self.number(offset), 16, None),
+            head: self.head(server, self.number(offset), ACK, None),
             payload: Octets::new(Vec::from_slice(alloc, text)?),
         }))
     }
@@ -133,7 +135,7 @@ impl<S: Service> Connection<S> {
         ensures { packet_of result ≡ To_client (syn_ack_lem server (point_in self.now)) }
     {
         Packet::ToClient(Segment {
-            head: self.head(server, self.numbers.sisn, 18, Some(1_460)),
+            head: self.head(server, self.numbers.sisn, SYN | ACK, Some(1_460)),
             payload: Octets::new(Vec::new(alloc)),
         })
     }
@@ -147,7 +149,7 @@ impl<S: Service> Connection<S> {
         len: u64,
         out: &mut Vec<Packet>,
     ) -> Result<(), NoMemory>
-        ensures { OnOk result (map packet_of out.new.items ≡ map packet_of out.old.items ++ To_client (segment_lem server (point_in self.now) offset 16 (take len (drop offset self.now.output))) ∷ []) }
+        ensures { OnOk result (map packet_of out.new.items ≡ map packet_of out.old.items ++ To_client (segment_lem server (point_in self.now) offset ACK (take len (drop offset self.now.output))) ∷ []) }
     {
         let packet = self.segment_at(alloc, server, offset, part(&self.output, offset, len))?;
         put(out, packet)
