@@ -93,7 +93,7 @@ impl Source for MemSource {
 }
 
 /// Copies as much of the front of `bytes` as fits into `buf`, and answers how much.
-fn copy_front(bytes: &[u8], buf: &mut [u8]) -> usize
+pub(crate) fn copy_front(bytes: &[u8], buf: &mut [u8]) -> usize
     ensures count { result ≡ min (length bytes.now) (length buf.new) }
     ensures copied { take result buf.new ≡ take result bytes.now }
 {

@@ -40,7 +40,7 @@ impl From<Failed> for ReadEnd {
 }
 
 /// Reads the source to its end, at most `limit` bytes. It takes at most one byte past the limit, to see that there is one.
-/// After an error the bytes that were taken are lost.
+/// After an error the bytes that were taken are lost. Only at `ReadEnd::Fault` has the count of faults risen.
 pub fn read_to_limit<I: Source>(
     alloc: Global,
     input: &mut I,
@@ -56,6 +56,11 @@ pub fn read_to_limit<I: Source>(
         Rose (I.fault_count input.old) (I.fault_count input.new) }
 
     ensures taken { ConsumesAtMost (limit + 1) (I.left input.old) (I.left input.new) }
+    ensures no_fault { OnOk result (I.fault_count input.new ≡ I.fault_count input.old) }
+    ensures no_fault_at_the_limit { IsErrOf result ReadEnd.TooLong →
+        I.fault_count input.new ≡ I.fault_count input.old }
+    ensures no_fault_of_memory { IsErrOf result ReadEnd.NoMemory →
+        I.fault_count input.new ≡ I.fault_count input.old }
     ensures never_falls { I.fault_count input.old ≤ I.fault_count input.new }
 {
     let mut bytes = Vec::new(alloc);
@@ -86,6 +91,9 @@ fn read_more<I: Source>(
     ensures taken { ConsumesAtMost room (I.left input.old) (I.left input.new) }
     ensures fault { IsErrOf result ReadEnd.Fault →
         Rose (I.fault_count input.old) (I.fault_count input.new) }
+    ensures no_fault { OnOk result (I.fault_count input.new ≡ I.fault_count input.old) }
+    ensures no_fault_of_memory { IsErrOf result ReadEnd.NoMemory →
+        I.fault_count input.new ≡ I.fault_count input.old }
     ensures no_limit { IsErrOf result ReadEnd.TooLong → ⊥ }
     ensures never_falls { I.fault_count input.old ≤ I.fault_count input.new }
 {

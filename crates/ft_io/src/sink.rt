@@ -1,6 +1,6 @@
 //! Where bytes go. A sink counts its failed calls, so that a caller's contract can say that an error had a cause.
 
-ghost use Rattle.std.specs.Prelude.{◌≡◌, ◌≤◌, ◌<◌, ℕ, List, length, IfOk, OnErr};
+ghost use Rattle.std.specs.Prelude.{◌≡◌, ◌≤◌, ◌<◌, ℕ, List, length, IfOk, OnOk, OnErr};
 ghost use Rattle.std.specs.declared.option.Option.{Option};
 ghost use Rattle.std.specs.Io.KnownBytes.{WriteAppends};
 ghost use Rattle.ft_io.specs.Faults.{Rose};
@@ -20,11 +20,12 @@ pub trait Sink {
         ensures { result ≡ fault_count self.now };
 
     /// Takes a front of `buf`, and answers its length. To take nothing of a nonempty `buf` is a fault. After `Failed` nothing
-    /// was taken, and the call may be tried again.
+    /// was taken, and the call may be tried again. The count of faults rises at `Failed` alone.
     fn write(&mut self, buf: &[u8]) -> Result<usize, Failed>
         ensures within { IfOk result (λ n. n ≤ length buf.now) }
         ensures some { IfOk result (λ n. 0 < length buf.now → 0 < n) }
         ensures bytes { WriteAppends (taken self.old) (taken self.new) result buf.now }
         ensures cause { OnErr result (Rose (fault_count self.old) (fault_count self.new)) }
+        ensures no_fault { OnOk result (fault_count self.new ≡ fault_count self.old) }
         ensures never_falls { fault_count self.old ≤ fault_count self.new };
 }

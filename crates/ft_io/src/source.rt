@@ -1,6 +1,6 @@
 //! Where bytes come from. A source counts its failed calls, so that a caller's contract can say that an error had a cause.
 
-ghost use Rattle.std.specs.Prelude.{◌≡◌, ◌≤◌, ◌<◌, ℕ, List, length, IfOk, OnErr};
+ghost use Rattle.std.specs.Prelude.{◌≡◌, ◌≤◌, ◌<◌, ℕ, List, length, IfOk, OnOk, OnErr};
 ghost use Rattle.std.specs.declared.option.Option.{Option};
 ghost use Rattle.std.specs.Io.KnownBytes.{ReadConsumes, IsAtEnd};
 ghost use Rattle.ft_io.specs.Faults.{Rose};
@@ -20,12 +20,13 @@ pub trait Source {
         ensures { result ≡ fault_count self.now };
 
     /// Moves the next bytes to the front of `buf`, and answers how many: 0 only at the end. What stands behind them in `buf`
-    /// is left open. After `Failed` nothing was taken, and the call may be tried again.
+    /// is left open. After `Failed` nothing was taken, and the call may be tried again. The count of faults rises at `Failed` alone.
     fn read(&mut self, buf: &mut [u8]) -> Result<usize, Failed>
         requires { 0 < length buf.old }
         ensures within { IfOk result (λ n. n ≤ length buf.new) }
         ensures bytes { ReadConsumes (left self.old) (left self.new) result buf.new }
         ensures end { IfOk result (λ n. n ≡ 0 → IsAtEnd (left self.old)) }
         ensures cause { OnErr result (Rose (fault_count self.old) (fault_count self.new)) }
+        ensures no_fault { OnOk result (fault_count self.new ≡ fault_count self.old) }
         ensures never_falls { fault_count self.old ≤ fault_count self.new };
 }

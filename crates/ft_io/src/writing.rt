@@ -1,6 +1,6 @@
 //! Writing bytes whole, however few of them a sink takes in a call.
 
-ghost use Rattle.std.specs.Prelude.{◌≤◌, OnOk, OnErr};
+ghost use Rattle.std.specs.Prelude.{◌≡◌, ◌≤◌, OnOk, OnErr};
 ghost use Rattle.std.specs.Io.KnownBytes.{Appends};
 ghost use Rattle.ft_io.specs.Faults.{Rose};
 ghost use Rattle.ft_io.specs.Sink.{AppendsFront};
@@ -8,11 +8,12 @@ ghost use Rattle.ft_io.specs.Sink.{AppendsFront};
 use crate::{Failed, Sink};
 
 /// Writes all of `bytes`, in as many calls as the sink wants. At the first call that fails it stops: the sink took a front
-/// of them.
+/// of them. The count of faults rises at `Failed` alone.
 pub fn write_all<O: Sink>(out: &mut O, bytes: &[u8]) -> Result<(), Failed>
     ensures whole { OnOk result (Appends (O.taken out.old) (O.taken out.new) bytes.now) }
     ensures front { OnErr result (AppendsFront (O.taken out.old) (O.taken out.new) bytes.now) }
     ensures cause { OnErr result (Rose (O.fault_count out.old) (O.fault_count out.new)) }
+    ensures no_fault { OnOk result (O.fault_count out.new ≡ O.fault_count out.old) }
     ensures never_falls { O.fault_count out.old ≤ O.fault_count out.new }
 {
     let mut rest = bytes;

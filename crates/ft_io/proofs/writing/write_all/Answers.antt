@@ -1,5 +1,5 @@
 -- Each call moves a front of what is left behind what was done; a call that fails leaves the sink as it was.
-use Rattle.std.proofs.Common.{◌≡◌, ℕ, ◌-◌, List, ◌++◌, length, take, drop, sym, ap, ◌∙◌, subst, append_assoc, take-append-drop, arith, Result, Ok, Err, OnErr}
+use Rattle.std.proofs.Common.{◌≡◌, ℕ, ◌-◌, List, ◌++◌, length, take, drop, sym, ap, ◌∙◌, subst, append_assoc, take-append-drop, Result, Ok, Err, OnErr}
 use Rattle.std.proofs.lemmas.List.{take_rest}
 use Rattle.std.proofs.Math.Seq.{take-append_seam}
 use Rattle.std.specs.Io.KnownBytes.{Appends}
@@ -28,4 +28,4 @@ loop-rest-preserved g c =
     let (done, split, appended) = c.loop-rest.invariant.0 in
     let rest = c.loop-rest.rest.now in
     let n = c.in_ok-n.n in
-    ((done ++ take n rest, moves_front _ done rest n split, Appends-trans _ _ _ _ _ appended c.in_ok-n.ensures.bytes), omega arith)
+    ((done ++ take n rest, moves_front _ done rest n split, Appends-trans _ _ _ _ _ appended c.in_ok-n.ensures.bytes), c.in_ok-n.ensures.no_fault ∙ c.loop-rest.invariant.1)

@@ -1,0 +1,63 @@
+-- A link in memory.
+use Rattle.std.specs.Prelude.{ℕ, ◌==◌, Bool, List, [], ◌∷◌, ◌++◌, drop, None, Some, cond}
+use Rattle.std.specs.declared.option.Option.{Option}
+use Rattle.ft_io.specs.declared.link_call.LinkCall.{LinkCall}
+use Rattle.ft_io.specs.declared.mem_link.Arrival.{Arrival}
+use Rattle.ft_io.specs.Faults.{raised}
+use Rattle.ft_io.specs.NumberedCalls.{Calls, no_call, after_call}
+
+-- what a link in memory is to its callers
+pub record LinkState : Type 0 where
+  -- what its receives have still to give
+  pub arrivals : List Arrival
+  -- its sends
+  pub sends : Calls
+  -- its receives
+  pub recvs : Calls
+  -- its binds fail
+  pub bind_fails : Bool
+  -- the calls that it has noted, the oldest first
+  pub calls : List LinkCall
+  -- how many calls failed
+  pub faults : ℕ
+  -- how many of them were binds
+  pub bind_faults : ℕ
+  -- how many of them failed for want of memory
+  pub starved : ℕ
+
+-- a link before its first call
+abbrev pub fresh_link : List Arrival → List ℕ → List ℕ → Bool → LinkState
+fresh_link arriving send_fails recv_fails fails =
+    record { arrivals = arriving; sends = no_call send_fails; recvs = no_call recv_fails; bind_fails = fails; calls = []; faults = 0; bind_faults = 0; starved = 0 }
+
+-- it tells all its calls, and nothing once memory was wanting in one
+abbrev pub told_of : LinkState → Option (List LinkCall)
+told_of link = cond (link.starved == 0) (Some link.calls) None
+
+-- a call was noted
+abbrev pub noted : LinkState → LinkCall → LinkState
+noted link call = record link { calls = link.calls ++ call ∷ [] }
+
+-- a call failed
+abbrev pub failed : LinkState → LinkState
+failed link = record link { faults = raised link.faults }
+
+-- a call failed for want of memory
+abbrev pub starved : LinkState → LinkState
+starved link = record link { faults = raised link.faults; starved = raised link.starved }
+
+-- a failed call was a bind
+abbrev pub at_bind : LinkState → LinkState
+at_bind link = record link { bind_faults = raised link.bind_faults }
+
+-- one send is made
+abbrev pub sending : LinkState → LinkState
+sending link = record link { sends = after_call link.sends }
+
+-- one receive is made
+abbrev pub receiving : LinkState → LinkState
+receiving link = record link { recvs = after_call link.recvs }
+
+-- the first arrival is used up
+abbrev pub without_arrival : LinkState → LinkState
+without_arrival link = record link { arrivals = drop 1 link.arrivals }

@@ -1,0 +1,13 @@
+-- A link over std's UDP socket: it tells its counts alone.
+use Rattle.std.specs.Prelude.{ℕ}
+
+-- what such a link is to its callers
+pub record LinkCounts : Type 0 where
+  -- how many of its calls failed
+  pub faults : ℕ
+  -- how many of them were binds
+  pub bind_faults : ℕ
+
+-- a link before its first call
+abbrev pub fresh_link : LinkCounts
+fresh_link = record { faults = 0; bind_faults = 0 }

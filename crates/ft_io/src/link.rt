@@ -1,0 +1,69 @@
+//! A network of datagrams. A link counts its failed calls, and those of bind besides, so that a caller's contract can say that
+//! an error had a cause.
+
+ghost use Rattle.std.specs.Prelude.{◌≡◌, ◌≤◌, ℕ, List, length, IfOk, OnOk, OnErr};
+ghost use Rattle.std.specs.declared.option.Option.{Option};
+ghost use Rattle.ft_io.specs.declared.link_call.LinkCall.{LinkCall};
+ghost use Rattle.ft_io.specs.Faults.{Rose};
+ghost use Rattle.ft_io.specs.Told.{Tells};
+ghost use Rattle.ft_io.specs.Link.{bind_told, send_told, recv_told, HasAtMost};
+
+use crate::{Addr, Failed};
+
+/// What a receive gave.
+#[derive(Clone, Copy, Debug, PartialEq, Eq)]
+pub enum Heard {
+    /// The first `len` bytes of a datagram from there.
+    Got { len: usize, from: Addr },
+    /// No datagram came in time.
+    Nothing,
+}
+
+/// A socket for datagrams, once it is bound.
+pub trait Link {
+    /// The calls so far, the oldest first, or `None` where it doesn't tell.
+    ghost told: { Self → Option (List LinkCall) };
+
+    /// What `faults` answers.
+    ghost fault_count: { Self → ℕ };
+
+    /// What `bind_faults` answers.
+    ghost bind_fault_count: { Self → ℕ };
+
+    /// How many calls have failed. The count never falls, rises only by a call that fails, and stops at `u64::MAX`.
+    fn faults(&self) -> u64
+        ensures { result ≡ fault_count self.now };
+
+    /// How many binds have failed; they count among the faults too.
+    fn bind_faults(&self) -> u64
+        ensures { result ≡ bind_fault_count self.now };
+
+    /// Takes the address `at` for what is sent and received from now on. After `Failed` all is as before, but for the counts.
+    fn bind(&mut self, at: Addr) -> Result<(), Failed>
+        ensures told { Tells (told self.old) (told self.new) (bind_told at result) }
+        ensures cause { OnErr result (Rose (fault_count self.old) (fault_count self.new)) }
+        ensures bind_cause { OnErr result (Rose (bind_fault_count self.old) (bind_fault_count self.new)) }
+        ensures no_fault { OnOk result (fault_count self.new ≡ fault_count self.old) }
+        ensures no_bind_fault { OnOk result (bind_fault_count self.new ≡ bind_fault_count self.old) }
+        ensures never_falls { fault_count self.old ≤ fault_count self.new }
+        ensures bind_never_falls { bind_fault_count self.old ≤ bind_fault_count self.new };
+
+    /// Sends one datagram. Whether it arrives is left open.
+    fn send(&mut self, to: Addr, bytes: &[u8]) -> Result<(), Failed>
+        ensures told { Tells (told self.old) (told self.new) (send_told to bytes.now result) }
+        ensures cause { OnErr result (Rose (fault_count self.old) (fault_count self.new)) }
+        ensures no_fault { OnOk result (fault_count self.new ≡ fault_count self.old) }
+        ensures never_falls { fault_count self.old ≤ fault_count self.new }
+        ensures no_bind_fault { bind_fault_count self.new ≡ bind_fault_count self.old };
+
+    /// Waits a while for a datagram and moves it to the front of `buf`, its first bytes where it is longer. What stands behind
+    /// them, and all of `buf` where none was given, is left open.
+    fn recv(&mut self, buf: &mut [u8]) -> Result<Heard, Failed>
+        requires { 2048 ≤ length buf.old }
+        ensures within { IfOk result (λ heard. HasAtMost heard (length buf.new)) }
+        ensures told { Tells (told self.old) (told self.new) (recv_told result buf.new) }
+        ensures cause { OnErr result (Rose (fault_count self.old) (fault_count self.new)) }
+        ensures no_fault { OnOk result (fault_count self.new ≡ fault_count self.old) }
+        ensures never_falls { fault_count self.old ≤ fault_count self.new }
+        ensures no_bind_fault { bind_fault_count self.new ≡ bind_fault_count self.old };
+}

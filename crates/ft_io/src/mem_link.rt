@@ -1,0 +1,273 @@
+//! A link in memory, for tests. It gives the datagrams that it was made with, tells what it was called for, fails where it is
+//! told to, and fails where memory runs out; from then on it tells nothing.
+
+ghost use Rattle.std.specs.Prelude.{◌≡◌, ◌≤◌, ◌<◌, ◌⊎◌, length, false, true, IsTrue, IsFalse, Some, None, IfSome, IfOk, OnOk, OnErr};
+ghost use Rattle.ft_io.specs.declared.link_call.LinkCall.TheVariants.{Bound, Missed, Handed};
+ghost use Rattle.ft_io.specs.Faults.{Rose};
+ghost use Rattle.ft_io.specs.NumberedCalls.{IsNextListed};
+ghost use Rattle.ft_io.specs.Told.{Tells};
+ghost use Rattle.ft_io.specs.Link.{bind_told, send_told, recv_told, heard_as, HasAtMost};
+ghost use Rattle.ft_io.specs.Arrival.{arriving};
+ghost use Rattle.ft_io.specs.MemLink.{fresh_link, told_of, noted, failed, starved, at_bind, sending, receiving, without_arrival};
+
+use crate::mem_source::copy_front;
+use crate::numbered::NumberedCalls;
+use crate::{Addr, Failed, Heard, Link, LinkCall, Octets};
+use std::alloc::Global;
+use std::marker::Model;
+
+/// What a receive is to give.
+#[derive(Debug, Drop)]
+pub enum Arrival {
+    /// A datagram from there.
+    Datagram { from: Addr, bytes: Octets },
+    /// Silence.
+    Nothing,
+}
+
+/// A link that gives listed datagrams, and some of whose calls fail.
+#[derive(Debug, Drop)]
+pub struct MemLink {
+    alloc: Global,
+    arrivals: Vec<Arrival>,
+    at: usize,
+    sends: NumberedCalls,
+    recvs: NumberedCalls,
+    bind_fails: bool,
+    calls: Vec<LinkCall>,
+    faults: u64,
+    bind_faults: u64,
+    starved: u64,
+}
+
+impl Model for MemLink {
+    ghost use Rattle.std.specs.Prelude.{◌≤◌, drop, vec_len};
+    ghost use Rattle.ft_io.specs.MemLink.{LinkState};
+
+    ghost Value = { LinkState };
+
+    ghost view = { λ link. record {
+      arrivals = drop link.at link.arrivals.items;
+      sends = link.sends;
+      recvs = link.recvs;
+      bind_fails = link.bind_fails;
+      calls = link.calls.items;
+      faults = link.faults;
+      bind_faults = link.bind_faults;
+      starved = link.starved;
+    } };
+
+    ghost invariant = { λ link. (link.at ≤ vec_len link.arrivals) × (link.starved ≤ link.faults) };
+}
+
+impl MemLink {
+    /// A link to which these datagrams come, one a receive, and silence after them. The sends and the receives fail whose
+    /// numbers, each from 1, stand in `send_fails` and `recv_fails`, and every bind where `bind_fails`. A receive that fails
+    /// uses up no arrival. It takes no memory yet.
+    pub fn new(
+        alloc: Global,
+        arrivals: Vec<Arrival>,
+        send_fails: Vec<u32>,
+        recv_fails: Vec<u32>,
+        bind_fails: bool,
+    ) -> MemLink
+        ensures { result ≡ fresh_link arrivals.items send_fails.items recv_fails.items bind_fails }
+    {
+        MemLink {
+            alloc,
+            arrivals,
+            at: 0,
+            sends: NumberedCalls::new(send_fails),
+            recvs: NumberedCalls::new(recv_fails),
+            bind_fails,
+            calls: Vec::new(alloc),
+            faults: 0,
+            bind_faults: 0,
+            starved: 0,
+        }
+    }
+
+    /// How many calls failed for want of memory. The count never falls, and each of them counts among the faults too.
+    pub fn starved(&self) -> u64
+        ensures count { result ≡ self.now.starved }
+        ensures among_faults { result ≤ self.now.faults }
+    {
+        self.starved
+    }
+
+    /// The calls so far, the oldest first, or `None` once a call was starved.
+    pub fn told(&self) -> Option<&[LinkCall]>
+        ensures some { IfSome result (λ calls. told_of self.now ≡ Some calls.now) }
+        ensures none { result ≡ None → told_of self.now ≡ None }
+    {
+        if self.starved == 0 {
+            Some(self.calls.as_slice())
+        } else {
+            None
+        }
+    }
+
+    fn fail(&mut self) -> Failed
+        ensures { self.new ≡ failed self.old }
+    {
+        self.faults = self.faults.saturating_add(1);
+        Failed
+    }
+
+    fn starve(&mut self) -> Failed
+        ensures { self.new ≡ starved self.old }
+    {
+        self.faults = self.faults.saturating_add(1);
+        self.starved = self.starved.saturating_add(1);
+        Failed
+    }
+
+    /// Notes a call, or starves.
+    fn note(&mut self, call: LinkCall) -> Result<(), Failed>
+        ensures ok { OnOk result (self.new ≡ noted self.old call) }
+        ensures err { OnErr result (self.new ≡ starved self.old) }
+    {
+        if self.calls.push(call).is_err() {
+            return Err(self.starve());
+        }
+        Ok(())
+    }
+
+    /// Passes on to the next arrival.
+    #[tactic(auto, using(crate::proofs::Arrivals::drop_next))]
+    fn use_up(&mut self)
+        requires { 0 < length self.old.arrivals }
+        ensures { self.new ≡ without_arrival self.old }
+    {
+        self.at += 1;
+    }
+
+    /// Moves the next arrival to `buf`, and notes it. It is used up by that alone.
+    fn hear(&mut self, buf: &mut [u8]) -> Result<Heard, Failed>
+        ensures within { IfOk result (λ heard. HasAtMost heard (length buf.new)) }
+        ensures heard { IfOk result (λ heard.
+            heard_as heard buf.new ≡ arriving (length buf.new) self.old.arrivals) }
+        ensures ok { OnOk result
+            (self.new ≡ noted (without_arrival self.old) (arriving (length buf.new) self.old.arrivals)) }
+        ensures err { OnErr result (self.new ≡ starved self.old) }
+    {
+        match self.arrivals.get(self.at) {
+            None => {
+                self.note(LinkCall::Silent)?;
+                Ok(Heard::Nothing)
+            }
+            Some(Arrival::Nothing) => {
+                self.note(LinkCall::Silent)?;
+                self.use_up();
+                Ok(Heard::Nothing)
+            }
+            Some(Arrival::Datagram { from, bytes }) => {
+                let from = *from;
+                let len = copy_front(bytes.as_slice(), buf);
+                let Ok(moved) = buf[..len].to_vec(self.alloc) else {
+                    return Err(self.starve());
+                };
+                self.note(LinkCall::Came(from, Octets::new(moved)))?;
+                self.use_up();
+                Ok(Heard::Got { len, from })
+            }
+        }
+    }
+}
+
+impl Link for MemLink {
+    ghost told = { told_of };
+
+    ghost fault_count = { λ link. link.faults };
+
+    ghost bind_fault_count = { λ link. link.bind_faults };
+
+    fn faults(&self) -> u64 {
+        self.faults
+    }
+
+    fn bind_faults(&self) -> u64 {
+        self.bind_faults
+    }
+
+    fn bind(&mut self, at: Addr) -> Result<(), Failed>
+        // It fails exactly where it is to, or where memory is wanting.
+        ensures bound { OnOk result
+            (IsFalse self.old.bind_fails × (self.new ≡ noted self.old (Bound at))) }
+        ensures failed { OnErr result
+            ((IsTrue self.old.bind_fails × (self.new ≡ at_bind (failed self.old)))
+            ⊎ (self.new ≡ at_bind (starved self.old))) }
+
+        // What every link promises.
+        ensures told { Tells (told_of self.old) (told_of self.new) (bind_told at result) }
+        ensures cause { OnErr result (Rose self.old.faults self.new.faults) }
+        ensures bind_cause { OnErr result (Rose self.old.bind_faults self.new.bind_faults) }
+        ensures no_fault { OnOk result (self.new.faults ≡ self.old.faults) }
+        ensures no_bind_fault { OnOk result (self.new.bind_faults ≡ self.old.bind_faults) }
+        ensures never_falls { self.old.faults ≤ self.new.faults }
+        ensures bind_never_falls { self.old.bind_faults ≤ self.new.bind_faults }
+    {
+        let bound = if self.bind_fails {
+            Err(self.fail())
+        } else {
+            self.note(LinkCall::Bound(at))
+        };
+        if bound.is_err() {
+            self.bind_faults = self.bind_faults.saturating_add(1);
+        }
+        bound
+    }
+
+    fn send(&mut self, to: Addr, bytes: &[u8]) -> Result<(), Failed>
+        // It fails exactly where its call is listed so, or where memory is wanting.
+        ensures sent { OnOk result ((IsNextListed self.old.sends → ⊥)
+            × (self.new ≡ noted (sending self.old) (Handed to bytes.now false))) }
+        ensures failed { OnErr result ((IsNextListed self.old.sends
+            × (self.new ≡ failed (noted (sending self.old) (Handed to bytes.now true))))
+            ⊎ (self.new ≡ starved (sending self.old))) }
+
+        // What every link promises.
+        ensures told { Tells (told_of self.old) (told_of self.new) (send_told to bytes.now result) }
+        ensures cause { OnErr result (Rose self.old.faults self.new.faults) }
+        ensures no_fault { OnOk result (self.new.faults ≡ self.old.faults) }
+        ensures never_falls { self.old.faults ≤ self.new.faults }
+        ensures no_bind_fault { self.new.bind_faults ≡ self.old.bind_faults }
+    {
+        let fails = self.sends.next_fails();
+        let Ok(copy) = bytes.to_vec(self.alloc) else {
+            return Err(self.starve());
+        };
+        self.note(LinkCall::Handed(to, Octets::new(copy), fails))?;
+        if fails {
+            return Err(self.fail());
+        }
+        Ok(())
+    }
+
+    fn recv(&mut self, buf: &mut [u8]) -> Result<Heard, Failed>
+        requires { 2048 ≤ length buf.old }
+
+        // It fails exactly where its call is listed so, or where memory is wanting, and hears the next arrival.
+        ensures heard { IfOk result (λ heard.
+            heard_as heard buf.new ≡ arriving (length buf.new) self.old.arrivals) }
+        ensures received { OnOk result ((IsNextListed self.old.recvs → ⊥)
+            × (self.new ≡ noted (without_arrival (receiving self.old)) (arriving (length buf.new) self.old.arrivals))) }
+        ensures failed { OnErr result ((IsNextListed self.old.recvs
+            × (self.new ≡ failed (noted (receiving self.old) Missed)))
+            ⊎ (self.new ≡ starved (receiving self.old))) }
+
+        // What every link promises.
+        ensures within { IfOk result (λ heard. HasAtMost heard (length buf.new)) }
+        ensures told { Tells (told_of self.old) (told_of self.new) (recv_told result buf.new) }
+        ensures cause { OnErr result (Rose self.old.faults self.new.faults) }
+        ensures no_fault { OnOk result (self.new.faults ≡ self.old.faults) }
+        ensures never_falls { self.old.faults ≤ self.new.faults }
+        ensures no_bind_fault { self.new.bind_faults ≡ self.old.bind_faults }
+    {
+        if self.recvs.next_fails() {
+            self.note(LinkCall::Missed)?;
+            return Err(self.fail());
+        }
+        self.hear(buf)
+    }
+}

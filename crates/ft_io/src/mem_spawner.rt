@@ -1,0 +1,186 @@
+//! A spawner in memory, for tests. Its children end at once with the statuses that it was made with. It tells what it was called
+//! for, fails where it is told to, and fails where memory runs out; from then on it tells nothing.
+
+ghost use Rattle.std.specs.Prelude.{◌≡◌, ◌≤◌, ◌⊎◌, map, string_bytes, slice_get, Some, None, IfSome, IfOk, OnOk, OnErr};
+ghost use Rattle.ft_io.specs.declared.spawn_call.SpawnCall.TheVariants.{Started, Ended};
+ghost use Rattle.ft_io.specs.Faults.{Rose};
+ghost use Rattle.ft_io.specs.NumberedCalls.{IsNextListed};
+ghost use Rattle.ft_io.specs.Told.{Tells};
+ghost use Rattle.ft_io.specs.Spawner.{start_told, wait_told, NumbersNext};
+ghost use Rattle.ft_io.specs.MemSpawner.{fresh_spawner, told_of, status_of, or_zero, attempted, noted, with_child, failed, starved};
+
+use crate::numbered::NumberedCalls;
+use crate::{Failed, SpawnCall, Spawner, Words};
+use std::alloc::Global;
+use std::marker::Model;
+
+/// Children that end with listed statuses, and some of whose starts and waits fail.
+#[derive(Debug, Drop)]
+pub struct MemSpawner {
+    alloc: Global,
+    statuses: Vec<i32>,
+    attempts: NumberedCalls,
+    started: u32,
+    calls: Vec<SpawnCall>,
+    faults: u64,
+    starved: u64,
+}
+
+impl Model for MemSpawner {
+    ghost use Rattle.std.specs.Prelude.{◌≤◌};
+    ghost use Rattle.ft_io.specs.MemSpawner.{SpawnerState};
+
+    ghost Value = { SpawnerState };
+
+    ghost view = { λ s. record {
+      statuses = s.statuses.items;
+      attempts = s.attempts;
+      started = s.started;
+      calls = s.calls.items;
+      faults = s.faults;
+      starved = s.starved;
+    } };
+
+    ghost invariant = { λ s. s.starved ≤ s.faults };
+}
+
+impl MemSpawner {
+    /// A spawner whose children end with `statuses`, in the order of their starts, and with 0 past that list. The starts and
+    /// waits fail whose numbers, from 1 and in one numbering, stand in `fails`. It takes no memory yet.
+    pub fn new(alloc: Global, statuses: Vec<i32>, fails: Vec<u32>) -> MemSpawner
+        ensures { result ≡ fresh_spawner statuses.items fails.items }
+    {
+        MemSpawner {
+            alloc,
+            statuses,
+            attempts: NumberedCalls::new(fails),
+            started: 0,
+            calls: Vec::new(alloc),
+            faults: 0,
+            starved: 0,
+        }
+    }
+
+    /// How many calls failed for want of memory, of which numbers for children are a part. The count never falls, and each of
+    /// them counts among the faults too.
+    pub fn starved(&self) -> u64
+        ensures count { result ≡ self.now.starved }
+        ensures among_faults { result ≤ self.now.faults }
+    {
+        self.starved
+    }
+
+    /// The calls so far, the oldest first, or `None` once a call was starved.
+    pub fn told(&self) -> Option<&[SpawnCall]>
+        ensures some { IfSome result (λ calls. told_of self.now ≡ Some calls.now) }
+        ensures none { result ≡ None → told_of self.now ≡ None }
+    {
+        if self.starved == 0 {
+            Some(self.calls.as_slice())
+        } else {
+            None
+        }
+    }
+
+    fn fail(&mut self) -> Failed
+        ensures { self.new ≡ failed self.old }
+    {
+        self.faults = self.faults.saturating_add(1);
+        Failed
+    }
+
+    fn starve(&mut self) -> Failed
+        ensures { self.new ≡ starved self.old }
+    {
+        self.faults = self.faults.saturating_add(1);
+        self.starved = self.starved.saturating_add(1);
+        Failed
+    }
+
+    /// Notes a call, or starves.
+    fn note(&mut self, call: SpawnCall) -> Result<(), Failed>
+        ensures ok { OnOk result (self.new ≡ noted self.old call) }
+        ensures err { OnErr result (self.new ≡ starved self.old) }
+    {
+        if self.calls.push(call).is_err() {
+            return Err(self.starve());
+        }
+        Ok(())
+    }
+}
+
+impl Spawner for MemSpawner {
+    ghost told = { told_of };
+
+    ghost started = { λ s. s.started };
+
+    ghost fault_count = { λ s. s.faults };
+
+    fn faults(&self) -> u64 {
+        self.faults
+    }
+
+    fn start(&mut self, words: &[String]) -> Result<u32, Failed>
+        // It fails exactly where its call is listed so, or where memory is wanting.
+        ensures ok { OnOk result ((IsNextListed self.old.attempts → ⊥)
+            × (self.new ≡ with_child (noted (attempted self.old) (Started (map string_bytes words.now))))) }
+        ensures err { OnErr result ((IsNextListed self.old.attempts × (self.new ≡ failed (attempted self.old)))
+            ⊎ (self.new ≡ starved (attempted self.old))) }
+
+        // What every spawner promises.
+        ensures number { NumbersNext self.old.started self.new.started result }
+        ensures told { Tells (told_of self.old) (told_of self.new) (start_told (map string_bytes words.now) result) }
+        ensures cause { OnErr result (Rose self.old.faults self.new.faults) }
+        ensures no_fault { OnOk result (self.new.faults ≡ self.old.faults) }
+        ensures never_falls { self.old.faults ≤ self.new.faults }
+    {
+        if self.attempts.next_fails() {
+            return Err(self.fail());
+        }
+        let Some(number) = self.started.checked_add(1) else {
+            return Err(self.starve());
+        };
+        let Ok(copy) = Words::copy(self.alloc, words) else {
+            return Err(self.starve());
+        };
+        self.note(SpawnCall::Started(copy))?;
+        self.started = number;
+        Ok(number)
+    }
+
+    fn wait(&mut self, child: u32) -> Result<i32, Failed>
+        requires from_one { 1 ≤ child }
+        requires was_started { child ≤ self.old.started }
+
+        // It fails exactly where its call is listed so, or where memory is wanting, and answers this child's status.
+        ensures status { IfOk result (λ status. status ≡ status_of self.old.statuses child) }
+        ensures ok { OnOk result ((IsNextListed self.old.attempts → ⊥)
+            × (self.new ≡ noted (attempted self.old) (Ended child (status_of self.old.statuses child)))) }
+        ensures err { OnErr result ((IsNextListed self.old.attempts × (self.new ≡ failed (attempted self.old)))
+            ⊎ (self.new ≡ starved (attempted self.old))) }
+
+        // What every spawner promises.
+        ensures same_children { self.new.started ≡ self.old.started }
+        ensures told { Tells (told_of self.old) (told_of self.new) (wait_told child result) }
+        ensures cause { OnErr result (Rose self.old.faults self.new.faults) }
+        ensures no_fault { OnOk result (self.new.faults ≡ self.old.faults) }
+        ensures never_falls { self.old.faults ≤ self.new.faults }
+    {
+        if self.attempts.next_fails() {
+            return Err(self.fail());
+        }
+        let status = status_at(self.statuses.as_slice(), child as usize - 1);
+        self.note(SpawnCall::Ended(child, status))?;
+        Ok(status)
+    }
+}
+
+/// The status at this place, or 0 past the list.
+fn status_at(statuses: &[i32], at: usize) -> i32
+    ensures { result ≡ or_zero (slice_get statuses.now at) }
+{
+    match statuses.get(at) {
+        Some(status) => *status,
+        None => 0,
+    }
+}

@@ -1,0 +1,130 @@
+//! Std's processes as a spawner: the real outside. It tells no content; contracts know how many children were started, and how
+//! many calls failed.
+
+ghost use Rattle.std.specs.Prelude.{◌≡◌, ◌≤◌, None};
+ghost use Rattle.ft_io.specs.ProcessSpawner.{fresh_spawner};
+
+use crate::{Failed, Spawner};
+use std::alloc::Global;
+use std::io;
+use std::marker::Model;
+use std::process::{Child, Command, OpenProcess, Processes, Stdio};
+
+/// Children without input, whose output is discarded. A child without an exit status, as one that a signal ended, is a fault.
+#[derive(Drop)]
+pub struct ProcessSpawner<'a, R: Processes> {
+    processes: &'a R,
+    alloc: Global,
+    children: Vec<Child<R::Started>>,
+    faults: u64,
+}
+
+impl<'a, R: Processes> Model for ProcessSpawner<'a, R> {
+    ghost use Rattle.std.specs.Prelude.{vec_len};
+    ghost use Rattle.ft_io.specs.ProcessSpawner.{SpawnCounts};
+
+    ghost Value = { SpawnCounts };
+
+    ghost view = { λ s. record { started = vec_len s.children; faults = s.faults } };
+}
+
+impl<'a, R: Processes> ProcessSpawner<'a, R> {
+    /// A spawner that has started nothing yet. It takes no memory before its first start.
+    pub fn new(processes: &'a R, alloc: Global) -> ProcessSpawner<'a, R>
+        ensures { result ≡ fresh_spawner }
+    {
+        ProcessSpawner {
+            processes,
+            alloc,
+            children: Vec::new(alloc),
+            faults: 0,
+        }
+    }
+}
+
+impl<'a, R: Processes> Spawner for ProcessSpawner<'a, R> {
+    ghost told = { λ _. None };
+
+    ghost started = { λ counts. counts.started };
+
+    ghost fault_count = { λ counts. counts.faults };
+
+    fn faults(&self) -> u64 {
+        self.faults
+    }
+
+    fn start(&mut self, words: &[String]) -> Result<u32, Failed> {
+        if let Ok(number) = u32::try_from(self.children.len() + 1)
+            && let Ok(child) = started_child(self.processes, self.alloc, words)
+            && self.children.push(child).is_ok()
+        {
+            return Ok(number);
+        }
+        self.faults = self.faults.saturating_add(1);
+        Err(Failed)
+    }
+
+    fn wait(&mut self, child: u32) -> Result<i32, Failed> {
+        match exit_status(&mut self.children[child as usize - 1]) {
+            Some(status) => Ok(status),
+            None => {
+                self.faults = self.faults.saturating_add(1);
+                Err(Failed)
+            }
+        }
+    }
+}
+
+fn started_child<R: Processes>(
+    processes: &R,
+    alloc: Global,
+    words: &[String],
+) -> io::Result<Child<R::Started>> {
+    let Some((program, rest)) = words.split_first() else {
+        return Err(io::Error::from(io::ErrorKind::InvalidInput));
+    };
+    let mut command = Command::new(alloc, program.as_str())?;
+    for word in rest {
+        command.arg(word.as_str())?;
+    }
+    command.stdin(Stdio::null());
+    command.stdout(Stdio::null());
+    command.stderr(Stdio::null());
+    command.spawn(processes)
+}
+
+/// The status with which the child ended, or `None` where it has none or can't be waited for.
+fn exit_status<P: OpenProcess>(child: &mut Child<P>) -> Option<i32> {
+    match child.wait() {
+        Ok(status) => status.code(),
+        Err(_) => None,
+    }
+}
+
+#[cfg(test)]
+mod tests {
+    use super::*;
+    use std::test::Fail;
+
+    #[test]
+    fn a_program_is_started_and_waited_for(rt: HostRuntime) -> Result<(), Fail> {
+        let alloc = rt.alloc();
+        let mut spawner = ProcessSpawner::new(&rt, alloc);
+        let mut words = Vec::new(alloc);
+        assert_eq!(rt; spawner.start(&words), Err(Failed));
+        for word in ["/bin/sh", "-c", "cat; echo seen; exit 7"] {
+            words.push(String::from_str(alloc, word)?)?;
+        }
+        assert_eq!(rt; spawner.start(&words), Ok(1));
+        assert_eq!(rt; spawner.wait(1), Ok(7));
+        words[0] = String::from_str(alloc, "/no/such/program")?;
+        assert_eq!(rt; spawner.start(&words), Err(Failed));
+        words[0] = String::from_str(alloc, "/bin/sh")?;
+        words[2] = String::from_str(alloc, "kill -9 $$")?;
+        assert_eq!(rt; spawner.start(&words), Ok(2));
+        assert_eq!(rt; spawner.wait(2), Err(Failed));
+        assert_eq!(rt; spawner.wait(1), Ok(7));
+        assert_eq!(rt; spawner.faults(), 3);
+        Ok(())
+    }
+}
