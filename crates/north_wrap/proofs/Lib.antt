@@ -1,0 +1,14 @@
+pub mod Empty
+pub mod Reading
+pub mod Fronts
+pub mod Logged
+pub mod NextRead
+pub mod OneRead
+pub mod TurnReads
+pub mod Giving
+pub mod Answering
+pub mod WholeTurn
+pub mod Outcomes
+pub mod Offline
+pub mod Shutting
+pub mod Holding

@@ -1,0 +1,26 @@
+-- A service that has run so far, as the north wrapper keeps it.
+use Rattle.std.specs.Prelude.{ℕ, ◌+◌, ◌-◌, Bool, min, List, ◌++◌, length, take, drop, if◌then◌else◌}
+use Rattle.server_trait.specs.Service.{Served}
+
+pub record RunState (S : Type 0) : Type 0 where
+  pub service : S
+  pub pending : List ℕ  -- the output that TCP wasn't given yet
+  pub made : ℕ  -- the bytes of all output
+  pub closed : Bool
+
+abbrev pub served_on : {S : Type 0} → RunState S → Served S → RunState S
+served_on r served = record { service = served.next; pending = r.pending ++ served.output; made = r.made + length served.output; closed = served.closed }
+
+-- once closed, it is given no chunk
+abbrev pub run_on : {S : Type 0} → (S → List ℕ → Served S) → RunState S → List ℕ → RunState S
+run_on after r chunk = if r.closed then r else served_on r (after r.service chunk)
+
+-- how much of it is given: as much as there is room for, but not the last bytes, which are kept
+abbrev pub given_count : {S : Type 0} → (room kept : ℕ) → RunState S → ℕ
+given_count room kept r = min room (length r.pending - kept)
+
+abbrev pub gives : {S : Type 0} → (room kept : ℕ) → RunState S → List ℕ
+gives room kept r = take (given_count room kept r) r.pending
+
+abbrev pub given_to : {S : Type 0} → (room kept : ℕ) → RunState S → RunState S
+given_to room kept r = record r { pending = drop (given_count room kept r) r.pending }

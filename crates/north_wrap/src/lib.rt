@@ -1,0 +1,16 @@
+//! The north wrapper: it reads for the service as the law of reads says, logs the length of each read, and gives output to TCP only
+//! once the reads that it stands on are known to be logged.
+#![tactic(auto)]
+
+pub use north::North;
+pub use read_record::ReadRecord;
+pub use records::ReadRecords;
+
+pub mod laws;
+mod north;
+mod read_record;
+mod records;
+mod rest;
+mod service_run;
+#[cfg(test)]
+mod tests;

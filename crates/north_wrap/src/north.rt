@@ -1,0 +1,351 @@
+//! The north wrapper.
+
+ghost use Rattle.std.specs.Prelude.{◌≡◌, ◌∷◌, ◌||◌, false, ℕ, ◌+◌, ◌-◌, ◌^◌, ◌<◌, ◌≤◌, ◌==◌, ◌&&◌, Some, List, [], ◌++◌, length, take, drop, OnOk, IfSome};
+ghost use Rattle.server_trait.specs.Service.{machine};
+ghost use Rattle.ft_model.specs.Offset.{one_if};
+ghost use Rattle.ft_model.specs.Point.{Point, released};
+ghost use Rattle.north_wrap.specs.Standing.{NorthStands, SocketStands, NorthTurn, with_answered};
+ghost use Rattle.north_wrap.specs.RunState.{run_on};
+ghost use Rattle.north_wrap.specs.Sockets.{reader, writer};
+ghost use Rattle.north_wrap.specs.NorthState.{fresh_north, resumed_north, unstable, given_north, given_socket, shut_north, shut_socket, Turns, answered_on, Allows, record_of, chunk_of, next_length, next_at, is_free_to_read, noted, read_on, socket_on, Reads, lengths_of, is_empty};
+
+use crate::read_record::ReadRecord;
+use crate::records::ReadRecords;
+use crate::rest::Rest;
+use crate::service_run::ServiceRun;
+use ft_io::NoMemory;
+use server_trait::{CHUNK_LIMIT, Service};
+use socket_layer::Socket;
+use std::alloc::Global;
+use std::marker::Model;
+
+/// The most reads that are unanswered.
+const READ_LIMIT: usize = 32;
+
+/// A read is made only where at most this many bytes of output are made: a stream has 2^24, and one read makes at most 2^20.
+const MADE_LIMIT: u32 = 15_728_640;
+
+/// Reads for a service, and writes for it.
+#[derive(Drop)]
+pub struct North<S: Service> {
+    run: ServiceRun<S>,
+    rest: Rest,
+    last: ReadRecord,
+    reads: ReadRecords,
+    read: u32,
+    count: u32,
+    ended: bool,
+    shut: bool,
+}
+
+impl<S: Service> Model for North<S> {
+    ghost use Rattle.std.specs.Prelude.{length, ◌≤◌, ◌+◌, ◌^◌};
+    ghost use Rattle.ft_model.specs.Offset.{one_if};
+    ghost use Rattle.north_wrap.specs.Sockets.{reader, writer};
+    ghost use Rattle.north_wrap.specs.NorthState.{NorthState};
+
+    ghost Value = { NorthState S };
+
+    ghost view = { λ n. record { run = n.run; rest = n.rest; last = n.last; reads = n.reads; read = n.read; count = n.count; ended = n.ended; shut = n.shut } };
+
+    ghost invariant = { λ n. (length n.reads ≤ 32) × (n.read + length n.rest ≤ 2 ^ 24) × (n.count ≤ n.read + one_if n.ended) };
+}
+
+impl<S: Service> North<S> {
+    /// Before the first read.
+    pub fn new(alloc: Global, kind: u8) -> North<S>
+        ensures { result ≡ fresh_north (S.started kind) }
+    {
+        North {
+            run: ServiceRun::new(S::fresh(alloc, kind), Vec::new(alloc), 0, false),
+            rest: Rest::new(Vec::new(alloc)),
+            last: ReadRecord {
+                index: 0,
+                length: 0,
+                made: 0,
+                closed: false,
+            },
+            reads: ReadRecords::new(),
+            read: 0,
+            count: 0,
+            ended: false,
+            shut: false,
+        }
+    }
+
+    /// From a restart on. `rest` are the fetched bytes that aren't read, and `pending` the output that the client may still want. So many
+    /// reads were fetched, of so many bytes, and their output is so long; `ended` where one of them has length 0, and `closed` where the
+    /// service has closed. All of them are logged.
+    pub fn resumed(
+        _alloc: Global,
+        service: S,
+        rest: Vec<u8>,
+        pending: Vec<u8>,
+        reads: u32,
+        read: u32,
+        made: u32,
+        ended: bool,
+        closed: bool,
+    ) -> North<S>
+        requires within { read + length rest.items ≤ 2 ^ 24 }
+        requires made { made ≤ 2 ^ 24 }
+        requires reads { reads ≤ read + one_if ended }
+        ensures { result ≡ resumed_north service rest.items pending.items reads read made ended closed }
+    {
+        North {
+            run: ServiceRun::new(service, pending, made, closed),
+            rest: Rest::new(rest),
+            last: ReadRecord {
+                index: 0,
+                length: 0,
+                made,
+                closed,
+            },
+            reads: ReadRecords::new(),
+            read,
+            count: reads,
+            ended,
+            shut: false,
+        }
+    }
+
+    /// Whether a read may be made: all output so far may leave and has room, it stays within the stream with that of one read more, and
+    /// fewer than 32 reads are unanswered.
+    fn is_free_to_read(&self, una: u32) -> bool
+        requires { una ≤ 2 ^ 24 + 1 }
+        ensures { result ≡ is_free_to_read una self.now }
+    {
+        let made = self.run.made();
+        made <= self.last.made.min(una + 65_535)
+            && made <= MADE_LIMIT
+            && self.reads.len() < READ_LIMIT
+    }
+
+    /// The length of the next read, if one is made.
+    #[tactic(auto, unfolding(crate::specs::NorthState::next_length))]
+    fn next_length(&self, una: u32, readable: usize, at_end: bool) -> Option<usize>
+        requires { una ≤ 2 ^ 24 + 1 }
+        ensures value { result ≡ next_length una readable at_end self.now }
+        ensures allowed { IfSome result (λ k. Allows readable k self.now) }
+    {
+        if !self.is_free_to_read(una) {
+            return None;
+        }
+        let rest = self.rest.len();
+        if 0 < rest {
+            return Some(rest.min(CHUNK_LIMIT));
+        }
+        if 0 < readable {
+            return Some(readable.min(CHUNK_LIMIT));
+        }
+        if at_end && !self.ended { Some(0) } else { None }
+    }
+
+    /// Takes a chunk of this length off the rest while any is left, and else off the socket, and gives it to the service.
+    #[tactic(auto, using(crate::proofs::Empty::drop_none, crate::proofs::Empty::take_zero), unfolding(crate::specs::NorthState::socket_on))]
+    fn take_chunk<K: Socket>(
+        &mut self,
+        sock: &mut K,
+        size: usize,
+        chunk: &mut [u8],
+    ) -> Result<(), NoMemory>
+        requires allowed { Allows (length (K.unread sock.old)) size self.old }
+        requires buffer { length chunk.old ≡ 2048 }
+        ensures state { OnOk result (self.new ≡ record self.old { run = run_on S.after self.old.run (chunk_of (K.unread sock.old) size self.old); rest = drop size self.old.rest }) }
+        ensures socket { sock.new ≡ socket_on (reader K.unread K.has_end K.after_read) size self.old sock.old }
+        ensures read { self.new.read ≡ self.old.read }
+        ensures rest { length self.new.rest ≤ length self.old.rest }
+    {
+        if 0 < self.rest.len() {
+            self.run.feed(self.rest.front(size))?;
+            self.rest.skip(size);
+            return Ok(());
+        }
+        if size == 0 {
+            return self.run.feed(&[]);
+        }
+        self.run.feed_from(sock, size, chunk)
+    }
+
+    /// Notes a read of this length, which the service was given.
+    fn note(&mut self, size: usize) -> ReadRecord
+        requires most { size ≤ 2048 }
+        requires fewer { length self.old.reads < 32 }
+        requires within { self.old.read + size + length self.old.rest ≤ 2 ^ 24 }
+        requires once { size ≡ 0 → self.old.ended ≡ false }
+        ensures state { self.new ≡ record self.old { reads = self.old.reads ++ record_of size self.old self.old.run ∷ []; read = self.old.read + size; count = self.old.count + 1; ended = self.old.ended || size == 0 } }
+        ensures read { result ≡ record_of size self.old self.old.run }
+    {
+        let read = ReadRecord {
+            index: self.count,
+            length: size as u16,
+            made: self.run.made(),
+            closed: self.run.is_closed(),
+        };
+        self.reads.push(read);
+        self.read += size as u32;
+        self.count += 1;
+        self.ended = self.ended || size == 0;
+        read
+    }
+
+    /// One read of this length.
+    #[tactic(auto, using(crate::proofs::Empty::take_zero), unfolding(crate::specs::NorthState::read_on, crate::specs::NorthState::socket_on))]
+    fn read_next<K: Socket>(
+        &mut self,
+        sock: &mut K,
+        size: usize,
+        chunk: &mut [u8],
+        news: &mut ReadRecords,
+    ) -> Result<(), NoMemory>
+        requires allowed { Allows (length (K.unread sock.old)) size self.old }
+        requires buffer { length chunk.old ≡ 2048 }
+        requires within { self.old.read + length self.old.rest + length (K.unread sock.old) ≤ 2 ^ 24 }
+        requires room { length news.old < 32 }
+        ensures state { OnOk result (self.new ≡ read_on S.after (K.unread sock.old) size self.old) }
+        ensures socket { sock.new ≡ socket_on (reader K.unread K.has_end K.after_read) size self.old sock.old }
+        ensures news { OnOk result (news.new ≡ news.old ++ record_of size self.old self.new.run ∷ []) }
+        ensures reads { OnOk result (self.new.reads ≡ self.old.reads ++ record_of size self.old self.new.run ∷ []) }
+        ensures bounded { self.new.read + length self.new.rest + length (K.unread sock.new) ≤ 2 ^ 24 }
+    {
+        self.take_chunk(sock, size, chunk)?;
+        let read = self.note(size);
+        news.push(read);
+        Ok(())
+    }
+
+    /// Makes the reads of a turn.
+    #[tactic(auto, using(crate::proofs::Reading::begins, crate::proofs::Reading::goes_on, crate::proofs::Reading::ends))]
+    fn make_reads<K: Socket>(
+        &mut self,
+        sock: &mut K,
+        una: u32,
+        news: &mut ReadRecords,
+    ) -> Result<(), NoMemory>
+        requires una { una ≤ 2 ^ 24 + 1 }
+        requires within { self.old.read + length self.old.rest + length (K.unread sock.old) ≤ 2 ^ 24 }
+        requires none { news.old ≡ [] }
+        ensures reads { OnOk result (Reads S.after (reader K.unread K.has_end K.after_read) una self.old sock.old (lengths_of news.new) self.new sock.new) }
+        ensures news { OnOk result (self.new.reads ≡ self.old.reads ++ news.new) }
+        ensures bounded { self.new.read + length self.new.rest + length (K.unread sock.new) ≤ 2 ^ 24 }
+    {
+        let mut chunk = [0u8; CHUNK_LIMIT];
+        while let Some(size) = self.next_length(una, sock.readable(), sock.ended()) {
+            self.read_next(sock, size, &mut chunk, news)?;
+        }
+        Ok(())
+    }
+
+    /// The bytes of output that may not leave yet: they are those of reads that aren't known to be logged.
+    pub fn unstable(&self) -> u32
+        ensures { result ≡ unstable self.now }
+    {
+        self.run.made().saturating_sub(self.last.made)
+    }
+
+    /// Gives the output that may leave, as much as the socket has room for.
+    fn give<K: Socket>(&mut self, sock: &mut K)
+        ensures state { self.new ≡ given_north (writer K.write_room K.is_closed K.after_write K.after_close) self.old sock.old }
+        ensures socket { sock.new ≡ given_socket (writer K.write_room K.is_closed K.after_write K.after_close) self.old sock.old }
+        ensures unread { K.unread sock.new ≡ K.unread sock.old }
+    {
+        let kept = self.unstable();
+        self.run.give(sock, kept);
+    }
+
+    /// Closes the socket once the read that closed the service is known to be logged and all output is given.
+    fn close<K: Socket>(&mut self, sock: &mut K)
+        ensures state { self.new ≡ shut_north self.old }
+        ensures socket { sock.new ≡ shut_socket (writer K.write_room K.is_closed K.after_write K.after_close) self.old sock.old }
+        ensures unread { K.unread sock.new ≡ K.unread sock.old }
+    {
+        if self.shut || !self.last.closed || self.run.pending() != 0 {
+            return;
+        }
+        sock.close();
+        self.shut = true;
+    }
+
+    /// A turn: gives the output that may leave, closes the socket where all is given, and makes the reads that are due.
+    pub fn turn<K: Socket>(
+        &mut self,
+        _alloc: Global,
+        sock: &mut K,
+        una: u32,
+        news: &mut ReadRecords,
+    ) -> Result<(), NoMemory>
+        requires una { una ≤ 2 ^ 24 + 1 }
+        requires within { self.old.read + length self.old.rest + length (K.unread sock.old) ≤ 2 ^ 24 }
+        ensures turn { OnOk result (Turns S.after (reader K.unread K.has_end K.after_read) (writer K.write_room K.is_closed K.after_write K.after_close) una self.old sock.old news.new self.new sock.new) }
+        ensures law { OnOk result ((fresh : S) (p : Point) (given : ℕ) → NorthStands (machine fresh S.after) p given self.old → SocketStands p self.old (K.unread sock.old) (K.has_end sock.old) (K.is_closed sock.old) → p.una ≡ una → given ≤ released (machine fresh S.after) p → NorthTurn (machine fresh S.after) (reader K.unread K.has_end K.after_read) (writer K.write_room K.is_closed K.after_write K.after_close) p given self.old sock.old news.new self.new sock.new) }
+        ensures bounded { self.new.read + length self.new.rest + length (K.unread sock.new) ≤ 2 ^ 24 }
+    {
+        self.make_turn(sock, una, news)
+    }
+
+    fn make_turn<K: Socket>(
+        &mut self,
+        sock: &mut K,
+        una: u32,
+        news: &mut ReadRecords,
+    ) -> Result<(), NoMemory>
+        requires una { una ≤ 2 ^ 24 + 1 }
+        requires within { self.old.read + length self.old.rest + length (K.unread sock.old) ≤ 2 ^ 24 }
+        ensures turn { OnOk result (Turns S.after (reader K.unread K.has_end K.after_read) (writer K.write_room K.is_closed K.after_write K.after_close) una self.old sock.old news.new self.new sock.new) }
+        ensures bounded { self.new.read + length self.new.rest + length (K.unread sock.new) ≤ 2 ^ 24 }
+    {
+        news.clear();
+        self.give(sock);
+        self.close(sock);
+        self.make_reads(sock, una, news)
+    }
+
+    /// The logger has this many reads of the connection.
+    pub fn on_reads(&mut self, count: u32)
+        ensures state { self.new ≡ answered_on count self.old }
+        ensures read { self.new.read ≡ self.old.read }
+        ensures rest { self.new.rest ≡ self.old.rest }
+        ensures law { (fresh : S) (p : Point) (given : ℕ) → NorthStands (machine fresh S.after) p given self.old → NorthStands (machine fresh S.after) (with_answered count p) given self.new }
+    {
+        self.note_reads(count);
+    }
+
+    #[tactic(auto, unfolding(crate::specs::NorthState::answered_on))]
+    fn note_reads(&mut self, count: u32)
+        ensures state { self.new ≡ answered_on count self.old }
+        ensures read { self.new.read ≡ self.old.read }
+        ensures rest { self.new.rest ≡ self.old.rest }
+    {
+        let answered = self.count.saturating_sub(self.reads.len() as u32);
+        let more = (count.saturating_sub(answered) as usize).min(self.reads.len());
+        self.last = self.reads.take_front(more, self.last);
+    }
+
+    /// The reads that aren't known to be logged.
+    pub fn unanswered(&self) -> &ReadRecords
+        ensures { result.now ≡ self.now.reads }
+    {
+        &self.reads
+    }
+
+    /// The service, which stands where its run over all reads ends.
+    pub fn service(&self) -> &S
+        ensures { result.now ≡ self.now.run.service }
+    {
+        self.run.service()
+    }
+
+    /// The bytes of all output.
+    pub fn made(&self) -> u32
+        ensures { result ≡ self.now.run.made }
+    {
+        self.run.made()
+    }
+
+    /// The bytes of all reads.
+    pub fn read(&self) -> u32
+        ensures { result ≡ self.now.read }
+    {
+        self.read
+    }
+}

@@ -1,0 +1,153 @@
+//! The service, with what it has made and TCP wasn't given yet.
+
+ghost use Rattle.std.specs.Prelude.{◌≡◌, ℕ, ◌^◌, ◌-◌, ◌≤◌, List, [], length, take, drop, false, OnOk};
+ghost use Rattle.north_wrap.specs.RunState.{run_on, gives, given_to};
+
+use ft_io::NoMemory;
+use server_trait::{Next, Service};
+use socket_layer::Socket;
+use std::marker::Model;
+
+/// A service that has run so far.
+#[derive(Drop)]
+pub(crate) struct ServiceRun<S: Service> {
+    service: S,
+    // Output, of which the bytes below `at` are given.
+    output: Vec<u8>,
+    at: usize,
+    // The bytes of all output.
+    made: u32,
+    closed: bool,
+}
+
+impl<S: Service> Model for ServiceRun<S> {
+    ghost use Rattle.std.specs.Prelude.{drop, ◌≤◌, ◌^◌, vec_len};
+    ghost use Rattle.north_wrap.specs.RunState.{RunState};
+
+    ghost Value = { RunState S };
+
+    ghost view = { λ r. record { service = r.service; pending = drop r.at r.output.items; made = r.made; closed = r.closed } };
+
+    ghost invariant = { λ r. (r.at ≤ vec_len r.output) × (r.made ≤ 2 ^ 24) };
+}
+
+impl<S: Service> ServiceRun<S> {
+    pub(crate) fn new(service: S, output: Vec<u8>, made: u32, closed: bool) -> ServiceRun<S>
+        requires { made ≤ 2 ^ 24 }
+        ensures { result ≡ record { service = service; pending = output.items; made = made; closed = closed } }
+    {
+        ServiceRun {
+            service,
+            output,
+            at: 0,
+            made,
+            closed,
+        }
+    }
+
+    pub(crate) fn service(&self) -> &S
+        ensures { result.now ≡ self.now.service }
+    {
+        &self.service
+    }
+
+    pub(crate) fn made(&self) -> u32
+        ensures { result ≡ self.now.made }
+    {
+        self.made
+    }
+
+    pub(crate) fn is_closed(&self) -> bool
+        ensures { result ≡ self.now.closed }
+    {
+        self.closed
+    }
+
+    pub(crate) fn pending(&self) -> usize
+        ensures { result ≡ length self.now.pending }
+    {
+        self.output.len() - self.at
+    }
+
+    /// The service takes a chunk, unless it has closed.
+    pub(crate) fn feed(&mut self, chunk: &[u8]) -> Result<(), NoMemory>
+        requires short { length chunk.now ≤ 2048 }
+        requires room { self.old.made ≤ 2 ^ 24 - 2 ^ 20 }
+        ensures { OnOk result (self.new ≡ run_on S.after self.old chunk.now) }
+    {
+        if self.closed {
+            return Ok(());
+        }
+        self.take(chunk)
+    }
+
+    /// The service takes so many bytes off a socket.
+    #[tactic(auto, using(std::proofs::lemmas::Grind::common_steps))]
+    pub(crate) fn feed_from<K: Socket>(
+        &mut self,
+        sock: &mut K,
+        size: usize,
+        chunk: &mut [u8],
+    ) -> Result<(), NoMemory>
+        requires most { size ≤ 2048 }
+        requires there { size ≤ length (K.unread sock.old) }
+        requires buffer { length chunk.old ≡ 2048 }
+        requires room { self.old.made ≤ 2 ^ 24 - 2 ^ 20 }
+        ensures state { OnOk result (self.new ≡ run_on S.after self.old (take size (K.unread sock.old))) }
+        ensures socket { sock.new ≡ K.after_read sock.old size }
+    {
+        read_whole(sock, &mut chunk[..size]);
+        self.feed(&chunk[..size])
+    }
+
+    fn take(&mut self, chunk: &[u8]) -> Result<(), NoMemory>
+        requires short { length chunk.now ≤ 2048 }
+        requires room { self.old.made ≤ 2 ^ 24 - 2 ^ 20 }
+        requires goes { self.old.closed ≡ false }
+        ensures { OnOk result (self.new ≡ run_on S.after self.old chunk.now) }
+    {
+        let before = self.output.len();
+        match self.service.take(chunk, &mut self.output) {
+            Ok(next) => {
+                self.made += (self.output.len() - before) as u32;
+                self.closed = next == Next::Close;
+                Ok(())
+            }
+            Err(refused) => {
+                self.at = 0;
+                Err(refused)
+            }
+        }
+    }
+
+    /// Gives output to the socket, as much as it has room for, but not the last `kept` bytes.
+    pub(crate) fn give<K: Socket>(&mut self, sock: &mut K, kept: u32)
+        ensures state { self.new ≡ given_to (K.write_room sock.old) kept self.old }
+        ensures socket { sock.new ≡ K.after_write sock.old (gives (K.write_room sock.old) kept self.old) }
+    {
+        let most = self.pending().saturating_sub(kept as usize);
+        let n = sock.write(&self.output[self.at..self.at + most]);
+        self.at += n;
+        self.forget_given();
+    }
+
+    /// The room of output is used anew once all is given.
+    fn forget_given(&mut self)
+        ensures { self.new ≡ self.old }
+    {
+        if self.at == self.output.len() {
+            self.output.clear();
+            self.at = 0;
+        }
+    }
+}
+
+/// Fills a buffer, for which there are bytes enough.
+#[tactic(auto, using(std::proofs::lemmas::Grind::common_steps))]
+fn read_whole<K: Socket>(sock: &mut K, buf: &mut [u8])
+    requires { length buf.old ≤ length (K.unread sock.old) }
+    ensures bytes { buf.new ≡ take (length buf.old) (K.unread sock.old) }
+    ensures socket { sock.new ≡ K.after_read sock.old (length buf.old) }
+{
+    sock.read(buf);
+}
