@@ -6,3 +6,4 @@ pub mod Spelling
 pub mod MessageSpelling
 pub mod Damaged
 pub mod Refused
+pub mod Texts

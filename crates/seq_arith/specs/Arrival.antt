@@ -1,6 +1,6 @@
 -- The tests that TCP makes on an arriving segment (RFC 9293, 3.10.7.4), over offsets in the receiver's and the sender's streams.
 -- `first` is the offset of the segment's number, `len` is SEG.LEN, `next` is RCV.NXT and `window` is RCV.WND.
-use Rattle.std.specs.Prelude.{ℕ, ℤ, Bool, false, pos, negsuc, ◌+◌, ◌-◌, ◌+ℤ◌, ◌==◌, ◌&&◌, ◌||◌, nat_lt, nat_le, int_lt, int_le, if◌then◌else◌}
+use Rattle.std.specs.Prelude.{ℕ, ℤ, Bool, false, pos, negsuc, ◌+◌, ◌-◌, ◌+ℤ◌, ◌==◌, ◌&&◌, ◌||◌, nat_lt, nat_le, int_lt, int_le, List, take, drop, if◌then◌else◌}
 
 -- equal integers
 abbrev pub int_eq : ℤ → ℤ → Bool
@@ -21,6 +21,10 @@ is_acceptable next window first len =
 abbrev pub below : ℕ → ℤ → ℕ
 below next (pos first) = next - first
 below next (negsuc first) = next + first + 1
+
+-- the part of a text that lies between two offsets, where the text begins at first
+unfoldable pub text_between : (from to : ℕ) → (first : ℤ) → List ℕ → List ℕ
+text_between from to first text = drop (below from first) (take (below to first) text)
 
 -- SND.UNA < SEG.ACK =< SND.NXT
 abbrev pub is_new_ack : ℕ → ℕ → ℤ → Bool

@@ -1,9 +1,9 @@
 //! Laws of the words in `specs`, each the clause of a function that does nothing: what a crate above may cite. Most say that a test on
 //! numbers or on offsets stays as it is where both its sides move by one number.
 
-ghost use Rattle.std.specs.Prelude.{◌≡◌, ◌<◌, ◌≤◌, ◌+◌, ◌-◌, ◌*◌, ◌/◌, ◌%◌, ◌^◌, ℕ, ℤ, pos, ◌+ℤ◌, ◌-ℤ◌, ◌≤ℤ◌, Bool, false, List, ◌∷◌, ◌++◌, length, take, Ok, IsErr};
+ghost use Rattle.std.specs.Prelude.{◌≡◌, ◌<◌, ◌≤◌, ◌+◌, ◌-◌, ◌*◌, ◌/◌, ◌%◌, ◌^◌, ℕ, ℤ, pos, ◌+ℤ◌, ◌-ℤ◌, ◌≤ℤ◌, Bool, false, List, ◌∷◌, ◌++◌, length, take, drop, nat_abs, Ok, IsErr};
 ghost use Rattle.seq_arith.specs.Number.{gap, number_at, offset_of};
-ghost use Rattle.seq_arith.specs.Arrival.{is_acceptable, below, is_new_ack, is_beyond, una_after, updates_window};
+ghost use Rattle.seq_arith.specs.Arrival.{is_acceptable, below, text_between, is_new_ack, is_beyond, una_after, updates_window};
 ghost use Rattle.seq_arith.specs.Checksum.{word_sum, odd_after, check_of, Summed, with_bytes};
 ghost use Rattle.seq_arith.specs.Damage.{flipped};
 ghost use Rattle.seq_arith.specs.Packet.{Segment};
@@ -69,6 +69,12 @@ pub fn una_shifts()
 pub fn window_update_shifts()
     ensures { (una : ℕ) (wl1 : ℤ) (wl2 : ℕ) (first : ℤ) (ack j k : ℕ)
         → updates_window (una + k) (wl1 +ℤ pos j) (wl2 + k) (first +ℤ pos j) (ack + k) ≡ updates_window una wl1 wl2 first ack }
+{}
+
+/// The text between two offsets is what stands behind its bytes below the first, cut where the second comes.
+pub fn text_between_is_cut()
+    ensures { (from to : ℕ) (first : ℤ) (text : List ℕ)
+        → text_between from to first text ≡ take (to - nat_abs (first +ℤ pos (below from first))) (drop (below from first) text) }
 {}
 
 /// Two pieces sum as the one string that they make.

@@ -12,6 +12,7 @@ pub use generator::Generator;
 pub use head::Head;
 pub use kinds::{BadMsg, Field, Kind};
 pub use options::segment_size;
+pub use text::{below, text_between};
 
 mod checksum;
 mod damage;
@@ -23,6 +24,7 @@ pub mod laws;
 mod options;
 #[cfg(test)]
 mod tests;
+mod text;
 
 /// Why a string of bytes is no packet: the first test of the packet grammar that it fails, in this order.
 #[derive(Clone, Copy, Debug, PartialEq, Eq)]
