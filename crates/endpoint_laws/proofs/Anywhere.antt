@@ -8,10 +8,10 @@ use Rattle.seq_arith.specs.Number.{offset_of}
 use Rattle.ft_model.specs.Point.{Point}
 use Rattle.ft_model.specs.News.{News}
 use Rattle.tcp_endpoint.specs.States.{has_begun}
-use Rattle.tcp_endpoint.specs.Receiving.{Receiving, taken}
+use Rattle.tcp_endpoint.specs.Receiving.{Receiving}
 use Rattle.tcp_endpoint.specs.Tcb.{Tcb}
 use Rattle.endpoint_laws.specs.Turn.{Call, MayUse, IsUsualNews, IsBetweenTurns, arrived, before_flush, turned}
-use Rattle.endpoint_laws.specs.Standing.{ReceivesAt, StandsAt}
+use Rattle.endpoint_laws.specs.Standing.{StandsAt}
 use Rattle.endpoint_laws.proofs.Points.{points_law}
 use Rattle.endpoint_laws.proofs.Turns.{leads_law}
 

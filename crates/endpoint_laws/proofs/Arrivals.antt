@@ -216,10 +216,10 @@ unfolding is_some
 cons_is_not_nil x xs h = false≢true (sym (ap is_some h))
 
 -- a segment's RST
-answer_of : (b : Bool) (head : Head) (none : Option Head) → none ≡ None
-    → answer_segments (if b then Some head else none) ≡ (if b then answer_segments (Some head) else [])
-answer_of true head none is = refl
-answer_of false head none is = ap answer_segments is
+answer_of : (b : Bool) (head : Head) (nothing : Option Head) → nothing ≡ None
+    → answer_segments (if b then Some head else nothing) ≡ (if b then answer_segments (Some head) else [])
+answer_of true head nothing is = refl
+answer_of false head nothing is = ap answer_segments is
 
 segment_answer : (p : Point) (e : Tcb) (segment : Segment) → Meets p e segment → has_begun e.name ≡ true → e.answer ≡ None
     → answer_out (received e segment) ≡ refusals e.local (Comes segment) p

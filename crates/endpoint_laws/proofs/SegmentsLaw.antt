@@ -206,6 +206,20 @@ last_is_fin o c f ends una len edge sent all n h =
     (λ w. filled_last una len all w.full w.written)
     n.written
 
+flying_fin : (f : Bool) (una len sent : ℕ) → sent ≤ una + len + one_if f → nat_lt una sent ≡ true → (len == 0) ≡ true → f ≡ true
+flying_fin true una len sent flight h empty = refl
+flying_fin false una len sent flight h empty = absurd (grind (arith, flight))
+
+-- .. and then the service has closed
+last_is_closed : (o c f ends : Bool) (una len edge sent all : ℕ) → Numbered o c f ends una len edge sent all → nat_lt una sent ≡ true → (len == 0) ≡ true → ends ≡ true
+last_is_closed o c f ends una len edge sent all n h empty =
+    let fin : f ≡ true = flying_fin f una len sent n.flight h empty in
+    ⊎_elim (λ w. w.closed ∙ (n.closes fin).0) (λ w. absurd (false≢true (sym w.unsent ∙ fin))) n.written
+
+first_is_closed : (ends : Bool) (edge sent all : ℕ) → (nat_lt all (max sent (min (all + one_if ends) edge)) && nat_le sent all) ≡ true → ends ≡ true
+first_is_closed true edge sent all h = refl
+first_is_closed false edge sent all h = absurd (grind (arith, h))
+
 all_again : (f : Bool) (mss una len edge sent all : ℕ) → all ≡ (if f then sent - 1 else una + len) → una ≤ sent → (f ≡ true → (1 ≤ sent) × (len ≡ sent - 1 - una))
     → min mss (min (min (sent - una) len) (max 1 (edge - una))) ≡ min mss (min (min sent all - una) (max 1 (edge - una)))
 all_again true mss una len edge sent all w order closes = omega (arith, w, closes refl)
@@ -307,6 +321,11 @@ fin_is : {State : Type 0} {service : Machine State} {news : News} {before after 
 unfolding fin_at
 fin_is {u = u} f place h = λ i. record { head = head_is f (number_at (sym f.sends.sisn i) (h i)) 17 i; payload = [] }
 
+-- the laws let it go out only where the service has closed
+closed_fin : {State : Type 0} (service : Machine State) (server : Addr) (p : Point) → (answered_run service p).closed ≡ true
+    → model.fin_segment service server p ∷ [] ≡ model.fin_if_closed service server p
+closed_fin service server p closed = ap (λ b. if b then model.fin_segment service server p ∷ [] else []) (sym closed)
+
 -- segment by segment
 text_or_none : (k left : ℕ) (xs ys : List Segment) (x y : Segment) → (nat_lt 0 left ≡ true → x ∷ xs ≡ y ∷ ys) → (if nat_lt 0 left then x ∷ xs else []) ≡ (if nat_lt 0 left then y ∷ ys else [])
 text_or_none k left xs ys x y same = if_when (nat_lt 0 left) (x ∷ xs) (y ∷ ys) [] [] same (λ h. refl)
@@ -339,9 +358,14 @@ waits_here : {State : Type 0} {service : Machine State} {news : News} {before af
     → waits_for_ack before after ≡ true → is_unacknowledged u.sending ≡ true
 waits_here f waits = (λ i. not (sym f.sends.counted i) || nat_lt (sym f.sends.una i) (sym f.sent i)) ∙ waits
 
+one_when : (b : Bool) (x y : Segment) (xs ys : List Segment) → (b ≡ true → x ∷ [] ≡ xs) → (b ≡ false → y ∷ [] ≡ ys)
+    → (if b then x else y) ∷ [] ≡ (if b then xs else ys)
+one_when true x y xs ys p q = p refl
+one_when false x y xs ys p q = q refl
+
 -- what goes out again
 again_is : {State : Type 0} {service : Machine State} {news : News} {before after : Point} {u : Tcb} → Flushes service news before after u
-    → waits_for_ack before after ≡ true → again_segment u ≡ model.first_unacknowledged service u.local before after
+    → waits_for_ack before after ≡ true → again_segment u ∷ [] ≡ model.first_unacknowledged service u.local before after
 unfolding again_segment
 again_is {service = service} {before = before} {after = after} {u = u} f waits =
     let s : Sending = u.sending in
@@ -351,17 +375,20 @@ again_is {service = service} {before = before} {after = after} {u = u} f waits =
     let again_length : resent_length s ≡ model.resent_length service before after =
     again_bytes s.opened s.closed s.fin_sent ends s.mss s.una (length s.held) s.edge s.sent all n
     ∙ (λ i. min (sym f.sends.mss i) (min (min (sym f.sent i) all - sym f.sends.una i) (max 1 (sym f.sends.edge i - sym f.sends.una i)))) in
+    let flies : not s.opened ≡ false → nat_lt s.una s.sent ≡ true = waiting s.opened (nat_lt s.una s.sent) (waits_here f waits) in
     let last : not s.opened ≡ false → (length s.held == 0) ≡ (s.una == all) =
-    λ o. last_is_fin s.opened s.closed s.fin_sent ends s.una (length s.held) s.edge s.sent all n (waiting s.opened (nat_lt s.una s.sent) (waits_here f waits) o) in
-    let fin : Segment = model.fin_segment service u.local after in
-    let text : Segment = model.text_at service u.local after after.una (model.resent_length service before after) in
-    if_when (not s.opened) (opening_segment u) (model.syn_ack u.local after) (if length s.held == 0 then fin_at u 0 else text_at u 0 (resent_length s))
-    (if after.una == all then fin else text) (λ h. opening_is f)
-    (λ o. if_when (length s.held == 0) (fin_at u 0) fin (text_at u 0 (resent_length s)) text
-    (λ h. fin_is f 0 (same_place s.una all (sym (last o) ∙ h)))
-    (λ h. text_is f 0 after.una (resent_length s) (omega (arith, f.sends.una)) (omega arith) ∙ ap (λ m. model.text_at service u.local after after.una m) again_length)
+    λ o. last_is_fin s.opened s.closed s.fin_sent ends s.una (length s.held) s.edge s.sent all n (flies o) in
+    let fin : List Segment = model.fin_if_closed service u.local after in
+    let text : List Segment = model.text_at service u.local after after.una (model.resent_length service before after) ∷ [] in
+    one_when (not s.opened) (opening_segment u) (if length s.held == 0 then fin_at u 0 else text_at u 0 (resent_length s))
+    (model.syn_ack u.local after ∷ []) (if after.una == all then fin else text) (λ h i. opening_is f i ∷ [])
+    (λ o. one_when (length s.held == 0) (fin_at u 0) (text_at u 0 (resent_length s)) fin text
+    (λ h. (λ i. fin_is f 0 (same_place s.una all (sym (last o) ∙ h)) i ∷ [])
+    ∙ closed_fin service u.local after (last_is_closed s.opened s.closed s.fin_sent ends s.una (length s.held) s.edge s.sent all n (flies o) h))
+    (λ h. ap (λ segment. segment ∷ [])
+    (text_is f 0 after.una (resent_length s) (omega (arith, f.sends.una)) (omega arith) ∙ ap (λ m. model.text_at service u.local after after.una m) again_length))
     ∙ ap (λ b. if b then fin else text) (last o ∙ ap (λ k. k == all) (sym f.sends.una)))
-    ∙ ap (λ b. if not b then model.syn_ack u.local after else (if after.una == all then fin else text)) (sym f.sends.counted)
+    ∙ ap (λ b. if not b then model.syn_ack u.local after ∷ [] else (if after.una == all then fin else text)) (sym f.sends.counted)
 
 -- new text is held
 held_by : (o f : Bool) (una len edge sent : ℕ) → una ≤ sent → 0 < (if o && not f then min (una + len) edge - sent else 0)
@@ -396,15 +423,16 @@ fin_out_is {service = service} {before = before} {after = after} {u = u} f =
     let ends : Bool = (answered_run service after).closed in
     let n : Numbered s.opened s.closed s.fin_sent ends s.una (length s.held) s.edge s.sent all = numbered f in
     let bytes : new_length u ≡ sendable s = ap (λ b. if b then sendable s else 0) f.begun in
-    let fin : Segment = model.fin_segment service u.local after in
+    let fin : List Segment = model.fin_if_closed service u.local after in
     let test : Bool = nat_lt all (max s.sent (min (all + one_if ends) s.edge)) && nat_le s.sent all in
     ap (λ b. if b then fin_at (with_text_sent u) (s.sent + new_length u - s.una) ∷ [] else [])
     ((λ i. f.begun i && sends_fin (with_sent s (bytes i))) ∙ first_fin s.opened s.closed s.fin_sent ends s.una (length s.held) s.edge s.sent all n)
-    ∙ if_when test (fin_at (with_text_sent u) (s.sent + new_length u - s.una) ∷ []) (fin ∷ []) [] []
-    (λ h i. fin_is f (s.sent + new_length u - s.una)
+    ∙ if_when test (fin_at (with_text_sent u) (s.sent + new_length u - s.una) ∷ []) fin [] []
+    (λ h. (λ i. fin_is f (s.sent + new_length u - s.una)
     (ap (λ k. s.una + (s.sent + k - s.una)) bytes ∙ sym (fin_place s.opened s.closed s.fin_sent ends s.una (length s.held) s.edge s.sent all n h)) i ∷ [])
+    ∙ closed_fin service u.local after (first_is_closed ends s.edge s.sent all h))
     (λ h. refl)
-    ∙ (λ i. if nat_lt all (max (sym f.sent i) (min (all + one_if ends) (sym f.sends.edge i))) && nat_le (sym f.sent i) all then fin ∷ [] else [])
+    ∙ (λ i. if nat_lt all (max (sym f.sent i) (min (all + one_if ends) (sym f.sends.edge i))) && nat_le (sym f.sent i) all then fin else [])
 
 -- what the endpoint's timer makes it send
 no_again : (u : Tcb) → u.again ≡ false → again_out u ≡ []
@@ -479,7 +507,7 @@ no_new_fin : {State : Type 0} (service : Machine State) (server : Addr) (before 
     → model.new_fin service server before after ≡ []
 unfolding model.new_fin sender.sent_at_once
 no_new_fin service server before after h =
-    ap (λ b. if b then model.fin_segment service server after ∷ [] else []) (no_first_fin (released service after) (target service after) after.edge before.sent h)
+    ap (λ b. if b then model.fin_if_closed service server after else []) (no_first_fin (released service after) (target service after) after.edge before.sent h)
 
 -- a step of a flush, by what it keeps
 kept_if : (P : Sending → Type 0) (b : Bool) (x y : Sending) → P x → P y → P (if b then x else y)
@@ -524,9 +552,14 @@ probe_place service p s is none unsent (inl w) =
     omega (arith, is, none, w.written ∙ bytes_of s.fin_sent (s.sent - 1) (s.una + length s.held) unsent)
 probe_place service p s is none unsent (inr w) = absurd (omega (arith, none, w.full))
 
+probe_closed : {State : Type 0} (service : Machine State) (p : Point) (s : Sending) → length s.held ≡ 0 → s.closed ≡ true
+    → HasWrittenAll service p s ⊎ HasFilled service p s → (answered_run service p).closed ≡ true
+probe_closed service p s empty closes (inl w) = w.closed ∙ closes
+probe_closed service p s empty closes (inr w) = absurd (omega (arith, empty, w.full))
+
 probed_is : {State : Type 0} {service : Machine State} {news : News} {before after : Point} {u : Tcb} → Flushes service news before after u
     → (t : Bool) → u.probe ≡ true → nat_lt (u.sending.sent - u.sending.una) (length u.sending.held) ≡ t
-    → probe_out u ≡ model.probe service u.local before after ∷ []
+    → probe_out u ≡ model.probe service u.local before after
 probed_is {service = service} {before = before} {after = after} {u = u} f true is waits =
     let s : Sending = u.sending in
     let all : ℕ = released service after in
@@ -536,7 +569,7 @@ probed_is {service = service} {before = before} {after = after} {u = u} f true i
     let test : nat_lt before.sent all ≡ true = ap (λ k. nat_lt k all) f.sent ∙ sym (probe_waits service after s (f.probes.all_acked is) unsent f.used.written) ∙ waits in
     probe_by u true (probes_fin u) text refl
     ∙ (λ i. text_is f (s.sent - s.una) before.sent 1 (omega (arith, f.bounds.order, f.sent)) (grind (arith, waits)) i ∷ [])
-    ∙ ap (λ b. (if b then model.text_at service u.local after before.sent 1 else model.fin_segment service u.local after) ∷ []) (sym test)
+    ∙ ap (λ b. if b then model.text_at service u.local after before.sent 1 ∷ [] else model.fin_if_closed service u.local after) (sym test)
 probed_is {service = service} {before = before} {after = after} {u = u} f false is waits =
     let s : Sending = u.sending in
     let all : ℕ = released service after in
@@ -551,16 +584,17 @@ probed_is {service = service} {before = before} {after = after} {u = u} f false 
     let place : s.una + (s.sent - s.una) ≡ all = probe_place service after s (f.probes.all_acked is) none unsent f.used.written in
     probe_by u false true no_text fin
     ∙ (λ i. fin_is f (s.sent - s.una) place i ∷ [])
-    ∙ ap (λ b. (if b then model.text_at service u.local after before.sent 1 else model.fin_segment service u.local after) ∷ []) (sym test)
+    ∙ closed_fin service u.local after (probe_closed service after s none closes f.used.written)
+    ∙ ap (λ b. if b then model.text_at service u.local after before.sent 1 ∷ [] else model.fin_if_closed service u.local after) (sym test)
 
 -- what the laws want of the timer
 resent_by : {State : Type 0} (service : Machine State) (server : Addr) (news : News) (before after : Point) (x w : Bool)
     → expires news before ≡ x → waits_for_ack before after ≡ w
     → model.resent service server news before after
-    ≡ (if x then (if w then model.first_unacknowledged service server before after else model.probe service server before after) ∷ [] else [])
+    ≡ (if x then (if w then model.first_unacknowledged service server before after else model.probe service server before after) else [])
 unfolding model.resent
 resent_by service server news before after x w expiry wait = λ i.
-    if expiry i then (if wait i then model.first_unacknowledged service server before after else model.probe service server before after) ∷ [] else []
+    if expiry i then (if wait i then model.first_unacknowledged service server before after else model.probe service server before after) else []
 
 -- the parts of what leaves, in order
 pub full_out_is : (a b c d e a' r d' e' : List Segment) → a ≡ a' → b ++ c ≡ r → d ≡ d' → e ≡ e' → a ++ b ++ c ++ d ++ e ≡ a' ++ (r ++ (d' ++ e'))
@@ -575,7 +609,7 @@ again_by : {State : Type 0} {service : Machine State} {news : News} {before afte
 again_by {service = service} {news = news} {before = before} {after = after} {u = u} f false w expiry wait unprobed =
     no_again u (f.again ∙ ap (λ b. b && waits_for_ack before after) expiry) ∙ sym (resent_by service u.local news before after false w expiry wait)
 again_by {service = service} {news = news} {before = before} {after = after} {u = u} f true true expiry wait unprobed =
-    once_again u f.begun (f.again ∙ (λ i. expiry i && wait i)) (waits_here f wait) ∙ ap (λ s. s ∷ []) (again_is f wait) ∙ sym (resent_by service u.local news before after true true expiry wait)
+    once_again u f.begun (f.again ∙ (λ i. expiry i && wait i)) (waits_here f wait) ∙ again_is f wait ∙ sym (resent_by service u.local news before after true true expiry wait)
 again_by f true false expiry wait unprobed = absurd (false≢true (sym unprobed))
 
 unprobed_is : {State : Type 0} {service : Machine State} {news : News} {before after : Point} {u : Tcb} → Flushes service news before after u
