@@ -51,28 +51,29 @@ pub record IsFaithful (script : Key → List ℕ) (isn : Key → ℕ) (w : World
   pub entries : EntriesFit script isn w.log.entries
   pub stage : (node : Node) → w.node ≡ Some node → StageFits script isn w.log node.stage
 
--- a client keeps its name, its number and its script
+-- a client keeps its kind, its name, its number and its script
 pub record IsSameClient (before after : Client) : Type 0 where
+  pub kind : after.kind ≡ before.kind
   pub key : after.key ≡ before.key
   pub isn : after.isn ≡ before.isn
   pub script : after.script ≡ before.script
 
 same_client : (c : Client) → IsSameClient c c
-same_client c = record { key = refl; isn = refl; script = refl }
+same_client c = record { kind = refl; key = refl; isn = refl; script = refl }
 
 then_same : (a b c : Client) → IsSameClient a b → IsSameClient b c → IsSameClient a c
-then_same a b c p q = record { key = q.key ∙ p.key; isn = q.isn ∙ p.isn; script = q.script ∙ p.script }
+then_same a b c p q = record { kind = q.kind ∙ p.kind; key = q.key ∙ p.key; isn = q.isn ∙ p.isn; script = q.script ∙ p.script }
 
 text_same : (c : Client) (first : ℤ) (text : List ℕ) → IsSameClient c (with_text c first text)
 text_same c first text =
     of_choice (IsSameClient c) (is_ended c.phase || int_lt (pos (length c.accepted)) first) c
     (record c { accepted = c.accepted ++ take (c.edge - length c.accepted) (drop (below (length c.accepted) first) text) })
-    (λ t. same_client c) (λ t. record { key = refl; isn = refl; script = refl })
+    (λ t. same_client c) (λ t. record { kind = refl; key = refl; isn = refl; script = refl })
 
 fin_same : (c : Client) (behind : ℤ) (fin : Bool) → IsSameClient c (with_fin c behind fin)
 fin_same c behind fin =
     of_choice (IsSameClient c) (fin && not (is_ended c.phase) && int_eq behind (pos (length c.accepted)) && nat_lt (length c.accepted) c.edge)
-    (record c { phase = phases.Ended }) c (λ t. record { key = refl; isn = refl; script = refl }) (λ t. same_client c)
+    (record c { phase = phases.Ended }) c (λ t. record { kind = refl; key = refl; isn = refl; script = refl }) (λ t. same_client c)
 
 used_same : (c : Client) (segment : Segment) → IsSameClient c (used c segment)
 used_same c segment =
@@ -81,7 +82,7 @@ used_same c segment =
     let finned : Client = with_fin texted (first_of c.sisn segment +ℤ pos (length (text_of segment))) (fin_of segment) in
     of_choice (IsSameClient c) (int_lt (pos c.sent) (ack_of c.isn segment)) c finned (λ t. same_client c)
     (λ t. then_same c texted finned
-    (then_same c acked texted (record { key = refl; isn = refl; script = refl }) (text_same acked (first_of c.sisn segment) (text_of segment)))
+    (then_same c acked texted (record { kind = refl; key = refl; isn = refl; script = refl }) (text_same acked (first_of c.sisn segment) (text_of segment)))
     (fin_same texted (first_of c.sisn segment +ℤ pos (length (text_of segment))) (fin_of segment)))
 
 arrived_same : (c : Client) (segment : Segment) → IsSameClient c (arrived c segment)
@@ -91,7 +92,7 @@ arrived_same c segment =
     let other : Client = if has_syn segment || not (has_ack segment) then c else used c segment in
     of_choice (IsSameClient c) (is_acceptable (next_of c) (room_of c) (first_of c.sisn segment) (length_of segment)) (if has_rst segment then rst else other) c
     (λ t. of_choice (IsSameClient c) (has_rst segment) rst other
-    (λ r. of_choice (IsSameClient c) (int_eq (first_of c.sisn segment) (pos (next_of c))) gone c (λ x. record { key = refl; isn = refl; script = refl }) (λ x. same_client c))
+    (λ r. of_choice (IsSameClient c) (int_eq (first_of c.sisn segment) (pos (next_of c))) gone c (λ x. record { kind = refl; key = refl; isn = refl; script = refl }) (λ x. same_client c))
     (λ r. of_choice (IsSameClient c) (has_syn segment || not (has_ack segment)) c (used c segment) (λ x. same_client c) (λ x. used_same c segment)))
     (λ t. same_client c)
 
@@ -100,8 +101,8 @@ opened_same c segment =
     let gone : Client = record c { phase = phases.Reset } in
     let stands : Client = record c { phase = phases.Established; sisn = segment.head.seq } in
     of_choice (IsSameClient c) (has_ack segment && segment.head.ack == number_at c.isn 0) (if has_rst segment then gone else (if has_syn segment then stands else c)) c
-    (λ t. of_choice (IsSameClient c) (has_rst segment) gone (if has_syn segment then stands else c) (λ r. record { key = refl; isn = refl; script = refl })
-    (λ r. of_choice (IsSameClient c) (has_syn segment) stands c (λ x. record { key = refl; isn = refl; script = refl }) (λ x. same_client c)))
+    (λ t. of_choice (IsSameClient c) (has_rst segment) gone (if has_syn segment then stands else c) (λ r. record { kind = refl; key = refl; isn = refl; script = refl })
+    (λ r. of_choice (IsSameClient c) (has_syn segment) stands c (λ x. record { kind = refl; key = refl; isn = refl; script = refl }) (λ x. same_client c)))
     (λ t. same_client c)
 
 pub received_same : (c : Client) (segment : Segment) → IsSameClient c (received c segment)

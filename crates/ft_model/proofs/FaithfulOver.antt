@@ -161,7 +161,7 @@ moved_faithful script isn w after number sent f m =
     let c : Client = m.client in
     let fits : ClientFits script isn c = client_there (ClientFits script isn) w.clients number c f.clients m.is_there in
     let source : source_of m.segment ≡ c.key = ap source_of m.move.segment_is in
-    let same : IsSameClient c m.later = subst (IsSameClient c) (sym m.move.after_is) (record { key = refl; isn = refl; script = refl }) in
+    let same : IsSameClient c m.later = subst (IsSameClient c) (sym m.move.after_is) (record { kind = refl; key = refl; isn = refl; script = refl }) in
     let segment : FitsScript (script (source_of m.segment)) (isn (source_of m.segment)) m.segment =
     subst (λ k. FitsScript (script k) (isn k) m.segment) (sym source)
     (subst₂ (λ s n. FitsScript s n m.segment) fits.0 fits.1 (move_fits c m.later m.segment fits.2 m.move)) in

@@ -1,7 +1,7 @@
 -- Every moment of the first path happens: each equation computes.
 use Rattle.std.proofs.Common.{◌^◌, refl, None, List, [], ◌∷◌}
 use native.Mathlib.Bridge.{le_by_compare, IsLe}
-use Rattle.server_trait.specs.Service.{Machine}
+use Rattle.server_trait.specs.Service.{Machine, AreBytes}
 use Rattle.ft_model.specs.News.{News}
 use Rattle.ft_model.specs.News.News.{Comes, Logged, Begins}
 use Rattle.ft_model.specs.Point.{Point}
@@ -20,11 +20,26 @@ use Rattle.ft_model.specs.Rows.Common.{echo, server, numbers, hello_text, client
 use Rattle.ft_model.specs.Rows.FirstPath as row
 use Rattle.ft_model.proofs.Turns.{laws, alone, goes, segment_in, message_in, kept_in}
 
+pub hello_bytes : AreBytes hello_text
+unfolding IsLe
+hello_bytes =
+    (le_by_compare 105 256 tt, (le_by_compare 102 256 tt, (le_by_compare 109 256 tt, (le_by_compare 109 256 tt, (le_by_compare 112 256 tt, tt)))))
+
 starts : IsStart row.start
 unfolding IsLe
 starts = record {
   apart = refl;
-  clients = (record { new = refl; number = le_by_compare 1001 (2 ^ 32) tt; short = le_by_compare 5 (2 ^ 24) tt }, tt);
+  clients = (
+    record {
+      new = refl;
+      ip = le_by_compare 3221225986 (2 ^ 32) tt;
+      port = le_by_compare 40001 (2 ^ 16) tt;
+      number = le_by_compare 1001 (2 ^ 32) tt;
+      bytes = hello_bytes;
+      short = le_by_compare 5 (2 ^ 24) tt;
+    },
+    tt,
+  );
   log = refl;
   packets = refl;
   boot = refl;

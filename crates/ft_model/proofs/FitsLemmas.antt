@@ -127,7 +127,7 @@ free_fits draft word a e =
     let same : f.0 ≡ a = cc u.1 in
     subst FitsAddr same (addr_bound word f.0 (ok_or_ok (addr_of word) why.Address f.0 f.1))
 
-client_fits : (draft : Draft) (words : List (List ℕ)) (c : ClientLine) → client_line draft words ≡ Ok c → FitsClient c
+pub client_fits : (draft : Draft) (words : List (List ℕ)) (c : ClientLine) → client_line draft words ≡ Ok c → FitsClient c
 unfolding client_line FitsAddr
 client_fits draft (n ∷ address ∷ isn ∷ script ∷ []) c h =
     let t = tested (client_number n) (long_number isn) (free_address draft address) (ok_or (script_of script) why.Script) (λ i addr s. record { key = record { ip = addr.ip; port = addr.port }; isn = i; script = s }) c h in

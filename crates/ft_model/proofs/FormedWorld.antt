@@ -42,6 +42,7 @@ use Rattle.ft_model.proofs.FaithfulOver.{script_in, isn_in, script_of, isn_of}
 use Rattle.ft_model.proofs.Acknowledged.{start_is, short_scripts, true_after}
 use Rattle.ft_model.proofs.OneTrace.{one_sent}
 use Rattle.ft_model.proofs.Formed.{AreBytes, all_of_bytes, bytes_take, bytes_drop, HasClient, BodyFormed, PacketFormed, packet_reads, StartFormed, NodeFormed, ClientFormed, WorldFormed}
+use Rattle.ft_model.proofs.ScriptBytes.{script_bytes}
 use Rattle.ft_model.proofs.FormedLog.{LogFormed, log_formed, EntryTells, entries_tell, told_formed}
 use Rattle.ft_model.proofs.FormedOver.{Knows, turn_formed}
 
@@ -330,15 +331,6 @@ place_known at len less fits =
 client_known : (clients : List Client) (i : ℕ) (c : Client) → Fits (length clients) → slice_get clients i ≡ Some c → IsKnown clients c.key
 client_known clients i c fits e =
     place_known (position_or_len (λ x. key_eq x.key c.key) clients) (length clients) (passes_within (λ x. key_eq x.key c.key) clients i c e (key_is c.key)) fits
-
-letters_bytes : (n : ℕ) → AreBytes (letters n)
-unfolding letters
-letters_bytes zero = tt
-letters_bytes (suc n) = all_append (λ c. c < 256) (letters n) ((97 + n % 26) ∷ []) (letters_bytes n) (omega arith, tt)
-
-script_bytes : (script : Script) → FitsScript script → AreBytes (bytes_of script)
-script_bytes (Bytes bytes) h = all_of_bytes bytes h
-script_bytes (Fill n) h = letters_bytes n
 
 lines_formed : (server : Addr) (lines : List ClientLine) → AllByRecursion FitsClient lines
     → AllByRecursion (λ c. FitsKey c.key × (c.server ≡ server) × AreBytes c.script) (clients_of server lines)

@@ -9,6 +9,7 @@ pub mod FirstPath
 pub mod ReportOnLiterals
 pub mod WrongTurns
 pub mod CrashAfterLogged
+pub mod ClientKinds
 pub mod Closing
 pub mod ZeroWindow
 pub mod ZeroWindowTrace
@@ -19,6 +20,7 @@ pub mod CrashBeforeSynAck
 pub mod GrammarOnLiterals
 pub mod AcceptedLemmas
 pub mod PlayableLemmas
+pub mod ScriptBytes
 pub mod FitsLemmas
 pub mod ReportWords
 pub mod ReportParts

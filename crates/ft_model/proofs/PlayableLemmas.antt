@@ -20,6 +20,9 @@ use Rattle.ft_model.specs.declared.schedule.ClientLine.{ClientLine}
 use Rattle.ft_model.specs.declared.schedule.Schedule.{Schedule}
 use Rattle.ft_model.specs.declared.schedule.ServiceKind.{ServiceKind}
 use Rattle.ft_model.specs.declared.schedule.ServiceKind.TheVariants as service
+use Rattle.ft_model.specs.Readable.{FitsClient}
+use Rattle.ft_model.proofs.FitsLemmas.{client_fits}
+use Rattle.ft_model.proofs.ScriptBytes.{script_bytes}
 use Rattle.ft_model.proofs.AcceptedLemmas.{Passes, says_client, client_kept, all_push, text_keeps}
 
 -- What the test `built` lets through.
@@ -65,11 +68,13 @@ apart_alone s c e =
     let free : (s.server.ip == c.key.ip && s.server.port == c.key.port) ≡ false = neither _ _ e in
     rw (equal_either_way c.key.ip s.server.ip, equal_either_way c.key.port s.server.port, free) refl
 
-with_client : (s : Schedule) (c : ClientLine) → IsPlayable s → s.clients ≡ [] → is_taken (Begun s) (record { ip = c.key.ip; port = c.key.port }) ≡ false → length (bytes_of c.script) ≤ 2 ^ 24 → c.isn < 2 ^ 32 → IsPlayable (record s { clients = s.clients ++ c ∷ [] })
-with_client s c h first free short number = record {
+with_client : (s : Schedule) (c : ClientLine) → IsPlayable s → s.clients ≡ [] → is_taken (Begun s) (record { ip = c.key.ip; port = c.key.port }) ≡ false → length (bytes_of c.script) ≤ 2 ^ 24 → c.isn < 2 ^ 32 → FitsClient c
+    → IsPlayable (record s { clients = s.clients ++ c ∷ [] })
+with_client s c h first free short number fits = record {
   alone = rw first (omega arith);
   short = All-push (λ line. length (bytes_of line.script) ≤ 2 ^ 24) s.clients c h.short short;
   numbers = all_push (λ line. line.isn < 2 ^ 32) s.clients c h.numbers number;
+  sizes = all_push FitsClient s.clients c h.sizes fits;
   apart = rw first (apart_alone s c free);
   played = h.played;
   echo = h.echo;
@@ -80,6 +85,7 @@ with_event s e h p = record {
   alone = h.alone;
   short = h.short;
   numbers = h.numbers;
+  sizes = h.sizes;
   apart = h.apart;
   played = all_push (λ e. is_played e ≡ true) s.events e h.played p;
   echo = h.echo;
@@ -100,6 +106,7 @@ line_keeps (Named kind) text (line.Server addr) h few p = record {
   alone = omega arith;
   short = All-nil (λ line. length (bytes_of line.script) ≤ 2 ^ 24);
   numbers = tt;
+  sizes = tt;
   apart = refl;
   played = tt;
   echo = h;
@@ -109,22 +116,27 @@ line_keeps (Named kind) text (line.Event e) h few p = h
 line_keeps (Begun s) text (line.Service kind) h few p = h
 line_keeps (Begun s) text (line.Server addr) h few p = h
 line_keeps (Begun s) text (line.Client c) h few p =
-    let kept = client_kept (Begun s) p.words c (says_client (Begun s) p.k p.words c p.says).1 in
-    with_client s c h (first_is_built s c p.is_built) kept.0 kept.1 kept.2
+    let says = (says_client (Begun s) p.k p.words c p.says).1 in
+    let kept = client_kept (Begun s) p.words c says in
+    with_client s c h (first_is_built s c p.is_built) kept.0 kept.1 kept.2 (client_fits (Begun s) p.words c says)
 line_keeps (Begun s) text (line.Event e) h few p = with_event s e h (played_is_built (Begun s) e p.is_built)
 
 pub playable : (text : List ℕ) (s : Schedule) → read_text text ≡ Ok s → IsPlayable s
 playable text s e = text_keeps Keeps line_keeps text s tt e
 
 -- the clients of a schedule before their first moves
-new_clients : (server : Addr) (lines : List ClientLine) → AllByRecursion (λ line. length (bytes_of line.script) ≤ 2 ^ 24) lines → AllByRecursion (λ line. line.isn < 2 ^ 32) lines → AllByRecursion (IsNewClient server) (clients_of server lines)
-new_clients server [] short numbers = tt
-new_clients server (c ∷ more) short numbers = (record { new = refl; number = numbers.0; short = short.0 }, new_clients server more short.1 numbers.1)
+new_clients : (server : Addr) (lines : List ClientLine) → AllByRecursion (λ line. length (bytes_of line.script) ≤ 2 ^ 24) lines → AllByRecursion (λ line. line.isn < 2 ^ 32) lines → AllByRecursion FitsClient lines
+    → AllByRecursion (IsNewClient server) (clients_of server lines)
+new_clients server [] short numbers sizes = tt
+new_clients server (c ∷ more) short numbers sizes = (
+  record { new = refl; ip = sizes.0.0.0; port = sizes.0.0.1; number = numbers.0; bytes = script_bytes c.script sizes.0.2; short = short.0 },
+  new_clients server more short.1 numbers.1 sizes.1,
+)
 
 pub starts : (s : Schedule) → IsPlayable s → IsStart (start_of s)
 starts s h = record {
   apart = h.apart;
-  clients = new_clients s.server s.clients (recursion_from_All (λ line. length (bytes_of line.script) ≤ 2 ^ 24) s.clients h.short) h.numbers;
+  clients = new_clients s.server s.clients (recursion_from_All (λ line. length (bytes_of line.script) ≤ 2 ^ 24) s.clients h.short) h.numbers h.sizes;
   log = refl;
   packets = refl;
   boot = refl;

@@ -12,6 +12,7 @@ use Rattle.seq_arith.specs.Packet.{Segment}
 use Rattle.seq_arith.specs.Message.{Numbers, Kept, EntryHead, Part, Body, Message}
 use Rattle.seq_arith.specs.Message.Body.{HelloMsg, SummaryMsg, ListMsg, EntryMsg, BytesMsg, PartMsg, CutsMsg, LensMsg, OpenMsg, OpenedMsg, DataMsg, StableMsg, ReadMsg, ReadsMsg, DoneMsg, EndedMsg, StaleMsg, FullMsg}
 use Rattle.ft_model.specs.Client.{Client, new_client}
+use Rattle.ft_model.specs.Client.ClientKind.{Scripted}
 use Rattle.ft_model.specs.Network.{Packet, source_of, destination_of}
 use Rattle.ft_model.specs.Network.Packet.{To_server, To_client, To_logger, From_logger}
 use Rattle.ft_model.specs.declared.way.Way.{Way}
@@ -146,7 +147,7 @@ known_at (Some i) clients key d e h =
 -- a client's number tells its key
 number_same : (clients : List Client) (k l : Key) → 0 < number_of clients k → number_of clients k ≡ number_of clients l → k ≡ l
 number_same clients k l h e =
-    let d : Client = new_client (record { ip = 0; port = 0 }) k 0 [] in
+    let d : Client = new_client Scripted (record { ip = 0; port = 0 }) k 0 [] in
     let also : 0 < number_of clients l = omega (arith, e) in
     sym (known_at (position (λ c. key_eq c.key k) clients) clients k d refl h)
     ∙ ap (λ n. (get_or clients (n - 1) d).key) e

@@ -11,6 +11,7 @@ use Rattle.ft_model.specs.declared.event.Event.{Event}
 use Rattle.ft_model.specs.Rows.Common.{echo, hello_text, client_with, idle, opening_at, serving_at}
 use Rattle.ft_model.specs.Rows.ZeroWindow as turn
 use Rattle.ft_model.specs.Rows.ZeroWindowTrace as row
+use Rattle.ft_model.proofs.FirstPath.{hello_bytes}
 use Rattle.ft_model.proofs.Lists.{none_is_some, some_is}
 use Rattle.ft_model.proofs.Turns.{laws}
 use Rattle.ft_model.proofs.ZeroWindow.{probe_1, probe_2, probe_3, probe_4, probe_5, probe_6, probe_7, probe_8, probe_9, probe_10, probe_11, probe_12, probe_13, probe_14, probe_15}
@@ -19,7 +20,17 @@ starts : IsStart row.start
 unfolding IsLe
 starts = record {
   apart = refl;
-  clients = (record { new = refl; number = le_by_compare 1001 (2 ^ 32) tt; short = le_by_compare 5 (2 ^ 24) tt }, tt);
+  clients = (
+    record {
+      new = refl;
+      ip = le_by_compare 3221225986 (2 ^ 32) tt;
+      port = le_by_compare 40001 (2 ^ 16) tt;
+      number = le_by_compare 1001 (2 ^ 32) tt;
+      bytes = hello_bytes;
+      short = le_by_compare 5 (2 ^ 24) tt;
+    },
+    tt,
+  );
   log = refl;
   packets = refl;
   boot = refl;

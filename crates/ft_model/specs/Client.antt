@@ -1,5 +1,4 @@
--- The client: what it may send, and what it does with what comes (RFC 9293, 3.10). A scripted client follows the schedule; a live
--- client is a TCP of its own, whose packets are moves of this machine too. Its offsets are units: bytes, and one more for a FIN.
+-- The client: what it may send, and what it does with what comes (RFC 9293, 3.10). Its offsets are units: bytes, and one more for a FIN.
 use Rattle.std.specs.Prelude.{◌≡◌, ℕ, ℤ, Bool, true, false, pos, ◌+◌, ◌-◌, ◌+ℤ◌, ◌^◌, ◌==◌, ◌&&◌, ◌||◌, not, nat_lt, nat_le, int_lt, max, min, Option, Some, None, List, [], ◌++◌, length, take, drop, nat_abs, if◌then◌else◌}
 use Rattle.ft_io.specs.declared.Addr.{Addr}
 use Rattle.ft_io.specs.declared.Key.{Key}
@@ -14,7 +13,13 @@ use Rattle.ft_model.specs.declared.event.Event.TheVariants as events
 use Rattle.ft_model.specs.declared.event.EventWhy.{EventWhy}
 use Rattle.ft_model.specs.declared.event.EventWhy.TheVariants.{State, Range}
 
+-- Which of the two a client is, from its start on. A scripted one follows the schedule; a live one is a TCP of its own
+pub data ClientKind : Type 0 where
+  Scripted : ClientKind
+  Live : ClientKind
+
 pub record Client : Type 0 where
+  pub kind : ClientKind
   pub key : Key
   pub server : Addr
   pub isn : ℕ
@@ -26,8 +31,8 @@ pub record Client : Type 0 where
   pub accepted : List ℕ  -- the server's bytes
   pub edge : ℕ  -- the right edge: no byte from here on is accepted
 
-abbrev pub new_client : Addr → Key → ℕ → List ℕ → Client
-new_client server key isn script = record { key = key; server = server; isn = isn; script = script; phase = New; sisn = 0; sent = 0; acknowledged = 0; accepted = []; edge = 0 }
+abbrev pub new_client : ClientKind → Addr → Key → ℕ → List ℕ → Client
+new_client kind server key isn script = record { kind = kind; key = key; server = server; isn = isn; script = script; phase = New; sisn = 0; sent = 0; acknowledged = 0; accepted = []; edge = 0 }
 
 abbrev pub is_new : Phase → Bool
 is_new New = true
@@ -51,8 +56,8 @@ is_open _ = false
 abbrev pub accepted_units : Client → ℕ
 accepted_units client = length client.accepted + one_if (is_ended client.phase)
 
--- What a client may send. A live client's SYN may tell a segment size, and a live client may refuse a wrong acknowledgement of its SYN
--- by a RST with that number, after which it is opening as before.
+-- What a client may send (RFC 9293, 3.10.4 and 3.10.7.3). After a refusal of a wrong acknowledgement of its SYN, by a RST with that number, a
+-- client is opening as before.
 pub data Move : Type 0 where
   Syn : (mss : Option ℕ) → Move
   Text : (from len : ℕ) → Move
@@ -60,6 +65,21 @@ pub data Move : Type 0 where
   Acknowledge : Move
   Rst : Move
   Refuse : (number : ℕ) → Move
+
+abbrev pub is_live : ClientKind → Bool
+is_live Scripted = false
+is_live Live = true
+
+-- a live client's SYN may offer a segment size, of 16 bits (RFC 9293, 3.2)
+abbrev pub may_offer : ClientKind → Option ℕ → Bool
+may_offer kind None = true
+may_offer kind (Some mss) = is_live kind && nat_lt mss (2 ^ 16)
+
+-- only a live client offers a size, and only a live client refuses
+abbrev pub suits_kind : ClientKind → Move → Bool
+suits_kind kind (Syn mss) = may_offer kind mss
+suits_kind kind (Refuse number) = is_live kind
+suits_kind kind move = true
 
 -- the phases in which the move may be made. After its FIN was acknowledged a client sends neither text nor FIN
 abbrev pub suits_phase : Client → Move → Bool
@@ -79,7 +99,7 @@ suits_range client (Refuse number) = nat_lt number (2 ^ 32) && not (number == nu
 suits_range client _ = true
 
 abbrev pub may_move : Client → Move → Bool
-may_move client move = suits_phase client move && suits_range client move
+may_move client move = suits_kind client.kind move && suits_phase client move && suits_range client move
 
 -- the flags of a move: SYN 2, FIN 1, RST 4, ACK 16
 abbrev pub flags_of : Move → ℕ
@@ -233,6 +253,6 @@ arrived client segment =
     else (if has_syn segment || not (has_ack segment) then client else used client segment))
     else client
 
--- a client with a packet that came to it. A client that is new or reset drops it
+-- a client of either kind with a packet that came to it. A client that is new or reset drops it
 abbrev pub received : Client → Segment → Client
 received client segment = if is_opening client.phase then opened_by client segment else (if is_open client.phase then arrived client segment else client)

@@ -2,6 +2,7 @@
 -- are built.
 use Rattle.std.specs.Prelude.{◌≡◌, Bool, true, false, ◌<◌, ◌≤◌, ◌^◌, length, All}
 use Rattle.std.specs.List.{AllByRecursion}
+use Rattle.ft_model.specs.Readable.{FitsClient}
 use Rattle.ft_model.specs.Schedule.{bytes_of, clients_of}
 use Rattle.ft_model.specs.World.{are_apart}
 use Rattle.ft_model.specs.declared.event.Event.{Event}
@@ -18,12 +19,13 @@ is_played (Send client from len) = true
 is_played (Ack client window) = true
 is_played _ = false
 
--- One client at most, whose script fits a stream and whose initial number is modulo 2^32, at an address that isn't the server's; and
--- the echo service
+-- One client at most, whose script fits a stream and whose numbers have their sizes, at an address that isn't the server's; and the echo
+-- service
 pub record IsPlayable (schedule : Schedule) : Type 0 where
   pub alone : length schedule.clients ≤ 1
   pub short : All (λ line. length (bytes_of line.script) ≤ 2 ^ 24) schedule.clients
   pub numbers : AllByRecursion (λ line. line.isn < 2 ^ 32) schedule.clients
+  pub sizes : AllByRecursion FitsClient schedule.clients
   pub apart : are_apart schedule.server (clients_of schedule.server schedule.clients) ≡ true
   pub played : AllByRecursion (λ e. is_played e ≡ true) schedule.events
   pub echo : schedule.service ≡ Echo

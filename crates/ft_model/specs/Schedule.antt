@@ -1,7 +1,8 @@
--- A schedule's clients as they start.
+-- A schedule's clients as they start: all are scripted.
 use Rattle.std.specs.Prelude.{ℕ, zero, suc, ◌+◌, ◌%◌, List, [], ◌∷◌, ◌++◌, map}
 use Rattle.ft_io.specs.declared.Addr.{Addr}
 use Rattle.ft_model.specs.Client.{Client, new_client}
+use Rattle.ft_model.specs.Client.ClientKind.{Scripted}
 use Rattle.ft_model.specs.declared.schedule.Script.{Script}
 use Rattle.ft_model.specs.declared.schedule.Script.TheVariants.{Bytes, Fill}
 use Rattle.ft_model.specs.declared.schedule.ClientLine.{ClientLine}
@@ -17,7 +18,7 @@ bytes_of (Bytes bytes) = bytes
 bytes_of (Fill n) = letters n
 
 abbrev pub client_of : Addr → ClientLine → Client
-client_of server line = new_client server line.key line.isn (bytes_of line.script)
+client_of server line = new_client Scripted server line.key line.isn (bytes_of line.script)
 
 abbrev pub clients_of : Addr → List ClientLine → List Client
 clients_of server lines = map (client_of server) lines

@@ -7,7 +7,7 @@ use Rattle.ft_io.specs.declared.Addr.{Addr}
 use Rattle.ft_io.specs.declared.Key.{Key}
 use Rattle.ft_io.specs.Key.{key_eq}
 use Rattle.seq_arith.specs.Packet.{Segment}
-use Rattle.server_trait.specs.Service.{Machine}
+use Rattle.server_trait.specs.Service.{Machine, AreBytes}
 use Rattle.ft_model.specs.Client.{Client, IsMove, received, new_client}
 use Rattle.ft_model.specs.Log.{Log, empty_log, log_after, answer_to}
 use Rattle.ft_model.specs.Network.{Packet, packet_at, destination_of}
@@ -113,10 +113,14 @@ abbrev pub are_apart : Addr → List Client → Bool
 are_apart server [] = true
 are_apart server (c ∷ clients) = is_apart server c.key clients && are_apart server clients
 
--- a client before its first move: its number is modulo 2^32, and its script fits a stream
+-- a client before its first move: address, port and number are those that a packet can hold (RFC 791, 3.1; RFC 9293, 3.1), and its script is
+-- of bytes and fits a stream
 pub record IsNewClient (server : Addr) (client : Client) : Type 0 where
-  pub new : client ≡ new_client server client.key client.isn client.script
+  pub new : client ≡ new_client client.kind server client.key client.isn client.script
+  pub ip : client.key.ip < 2 ^ 32
+  pub port : client.key.port < 2 ^ 16
   pub number : client.isn < 2 ^ 32
+  pub bytes : AreBytes client.script
   pub short : length client.script ≤ 2 ^ 24
 
 -- where a trace starts: new clients with keys of their own, the empty log, nothing sent, and no server

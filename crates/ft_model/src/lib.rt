@@ -14,6 +14,7 @@ pub use schedule::{
 };
 pub use way::Way;
 
+pub mod clients;
 mod event;
 pub mod grammar;
 pub mod headline;

@@ -1,5 +1,5 @@
 -- A client's move is what may happen in the world of the definitions.
-use Rattle.std.proofs.Common.{◌≡◌, ◌∙◌, sym, ap, subst, ℕ, ◌-◌, ◌<◌, ◌≤◌, ◌^◌, Bool, true, false, cond, None, Some, List, [], ◌∷◌, ◌++◌, map, length, refl, arith, zero, suc, slice_get, get_or, Result, Ok, Err, sub-one}
+use Rattle.std.proofs.Common.{◌≡◌, ◌∙◌, sym, ap, subst, ℕ, ◌-◌, ◌<◌, ◌≤◌, ◌^◌, Bool, true, false, ◌&&◌, cond, None, Some, List, [], ◌∷◌, ◌++◌, map, length, refl, arith, zero, suc, slice_get, get_or, Result, Ok, Err, sub-one}
 use Rattle.std.proofs.lemmas.Bool.{lt-ltb}
 use Rattle.std.proofs.Math.ListN.{set, length-set}
 use Rattle.std.specs.List.{AllByRecursion}
@@ -8,7 +8,7 @@ use Rattle.ft_io.specs.declared.Key.{Key}
 use Rattle.ft_io.specs.Key.{key_eq}
 use Rattle.server_trait.specs.Service.{Machine}
 use Rattle.seq_arith.specs.Packet.{Segment}
-use Rattle.ft_model.specs.Client.{Client, Move, move_of, window_of, refusal_of_move, may_move, may_announce, segment_of, moved}
+use Rattle.ft_model.specs.Client.{Client, Move, move_of, window_of, refusal_of_move, may_move, suits_kind, suits_phase, suits_range, may_announce, segment_of, moved}
 use Rattle.ft_model.specs.Client.Move.{Syn, Text, Acknowledge}
 use Rattle.ft_model.specs.Network.{Packet}
 use Rattle.ft_model.specs.Network.Packet.{To_server}
@@ -25,6 +25,7 @@ use Rattle.ft_model.specs.declared.event.EventWhy.TheVariants as why
 use Rattle.std.specs.Prelude.{IsErrAnd, IfErr}
 use Rattle.net_schedule.specs.Server.{IsOfStage}
 use Rattle.net_schedule.specs.Standing.{Kept, NodeStands, IsSentInStage, IsClientOfStage, WorldStands, Advances, EndsStep}
+use Rattle.ft_model.proofs.ClientKinds.{suits_either}
 use Rattle.net_schedule.proofs.Stepping.{all_append}
 
 key_eq_same : (k : Key) → key_eq k k ≡ true
@@ -42,8 +43,14 @@ alone_moves (x ∷ []) (suc (suc n)) c later h e = cc
 alone_moves (x ∷ y ∷ clients) n c later h e = absurd (omega arith)
 
 -- what is refused for no cause is a move
-may : (client : Client) (move : Move) → refusal_of_move client move ≡ None → may_move client move ≡ true
-may client move e = grind arith
+may_if : (kind phase range : Bool) → kind ≡ true → cond phase (cond range None (Some why.Range)) (Some why.State) ≡ None → (kind && phase && range) ≡ true
+may_if true true true k e = refl
+may_if true true false k e = cc
+may_if true false range k e = cc
+may_if false phase range k e = absurd (cc)
+
+may : (client : Client) (event : Event) (move : Move) → move_of event ≡ Some move → refusal_of_move client move ≡ None → may_move client move ≡ true
+may client event move m e = may_if (suits_kind client.kind move) (suits_phase client move) (suits_range client move) (suits_either client.kind event move m) e
 
 -- keys that compare equal are equal
 is_same : (a b : Key) → key_eq a b ≡ true → a ≡ b
@@ -177,7 +184,7 @@ module _ {State : Type 0} (service : Machine State) where
               segment = segment;
               later = later;
               is_there = ce;
-              move = record { move = m.move; window = window_of client event; may = may client m.move m.allowed; fits = announces client event m.move i m.asked m.fits; segment_is = m.segment_is; after_is = m.after_is };
+              move = record { move = m.move; window = window_of client event; may = may client event m.move m.asked m.allowed; fits = announces client event m.move i m.asked m.fits; segment_is = m.segment_is; after_is = m.after_is };
               sent_is = refl;
               after_is = refl;
             });

@@ -1,5 +1,5 @@
 -- What each event does to the code's world is what may happen in the world of the definitions at which it stands.
-use Rattle.std.proofs.Common.{◌≡◌, ℤ, pos, ◌==◌, ◌&&◌, ◌||◌, not, ◌∙◌, sym, ap, subst, ℕ, ◌+◌, ◌<◌, ◌≤◌, Bool, true, false, Option, None, Some, List, [], ◌∷◌, ◌++◌, length, map, nat_le, is_some, refl, arith, cond, option_map, append-nil, zero, suc, slice_get, Result, Ok, Err, ◌-◌, length-append}
+use Rattle.std.proofs.Common.{◌≡◌, ℤ, pos, ◌==◌, ◌&&◌, ◌||◌, not, ◌∙◌, sym, ap, subst, ℕ, ◌+◌, ◌<◌, ◌≤◌, Bool, true, false, Option, None, Some, List, [], ◌∷◌, ◌++◌, length, take, drop, int_lt, ◌+ℤ◌, nat_lt, map, nat_le, is_some, refl, arith, cond, option_map, append-nil, zero, suc, slice_get, Result, Ok, Err, ◌-◌, length-append}
 use Rattle.std.specs.List.{AllByRecursion}
 use Rattle.std.specs.Option.{option_to_list}
 use Rattle.ft_io.specs.declared.Addr.{Addr}
@@ -10,12 +10,12 @@ use Rattle.seq_arith.specs.Message.{Message}
 use Rattle.std.proofs.lemmas.List.{length-map}
 use Rattle.std.proofs.lemmas.Option.{none-some}
 use Rattle.ft_io.specs.Key.{key_eq}
-use Rattle.ft_model.specs.Offset.{first_of, ack_of, length_of}
+use Rattle.ft_model.specs.Offset.{first_of, ack_of, text_of, fin_of, length_of}
 use Rattle.seq_arith.specs.Number.{number_at}
-use Rattle.seq_arith.specs.Arrival.{int_eq, is_acceptable}
+use Rattle.seq_arith.specs.Arrival.{int_eq, is_acceptable, below}
 use Rattle.ft_model.specs.declared.phase.Phase.{Phase}
-use Rattle.ft_model.specs.declared.phase.Phase.TheVariants.{Established, Reset}
-use Rattle.ft_model.specs.Client.{Client, received, arrived, opened_by, used, with_fin, with_text, with_ack, next_of, room_of, is_opening, is_open}
+use Rattle.ft_model.specs.declared.phase.Phase.TheVariants.{Established, Ended, Reset}
+use Rattle.ft_model.specs.Client.{Client, received, arrived, opened_by, used, with_fin, with_text, with_ack, next_of, room_of, is_opening, is_open, is_ended}
 use Rattle.ft_model.specs.Log.{log_after, answer_to}
 use Rattle.ft_model.specs.Network.{Packet, packet_at, destination_of}
 use Rattle.net_schedule.specs.Sending.{is_of_server}
@@ -75,17 +75,26 @@ module _ (server : Addr) (key : Key) where
 
   text_stays : (c : Client) (first : ℤ) (text : List ℕ) → Stays c → Stays (with_text c first text)
   unfolding Stays
-  text_stays c first text p = both (IsClientOfStage server key) _ _ _ p (record { key_is = p.key_is; server_is = p.server_is })
+  text_stays c first text p =
+      both (IsClientOfStage server key) (is_ended c.phase || int_lt (pos (length c.accepted)) first) c
+      (record c { accepted = c.accepted ++ take (c.edge - length c.accepted) (drop (below (length c.accepted) first) text) }) p
+      (record { key_is = p.key_is; server_is = p.server_is })
 
   fin_stays : (c : Client) (behind : ℤ) (fin : Bool) → Stays c → Stays (with_fin c behind fin)
   unfolding Stays
-  fin_stays c behind fin p = both (IsClientOfStage server key) _ _ _ (record { key_is = p.key_is; server_is = p.server_is }) p
+  fin_stays c behind fin p =
+      both (IsClientOfStage server key) (fin && not (is_ended c.phase) && int_eq behind (pos (length c.accepted)) && nat_lt (length c.accepted) c.edge)
+      (record c { phase = Ended }) c (record { key_is = p.key_is; server_is = p.server_is }) p
 
   used_stays : (c : Client) (segment : Segment) → Stays c → Stays (used c segment)
   unfolding Stays
   used_stays c segment p =
-      both (IsClientOfStage server key) _ _ _ p
-      (fin_stays _ _ _ (text_stays (with_ack c (ack_of c.isn segment)) _ _ (record { key_is = p.key_is; server_is = p.server_is })))
+      let acked : Client = with_ack c (ack_of c.isn segment) in
+      let texted : Client = with_text acked (first_of c.sisn segment) (text_of segment) in
+      let behind : ℤ = first_of c.sisn segment +ℤ pos (length (text_of segment)) in
+      both (IsClientOfStage server key) (int_lt (pos c.sent) (ack_of c.isn segment)) c (with_fin texted behind (fin_of segment)) p
+      (fin_stays texted behind (fin_of segment)
+      (text_stays acked (first_of c.sisn segment) (text_of segment) (record { key_is = p.key_is; server_is = p.server_is })))
 
   reset_stays : (c : Client) (phase : Phase) → Stays c → Stays (record c { phase = phase })
   unfolding Stays

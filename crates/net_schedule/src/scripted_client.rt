@@ -56,22 +56,24 @@ pub struct ScriptedClient {
 impl Model for ScriptedClient {
     ghost use Rattle.std.specs.Prelude.{ℕ, ◌≤◌, ◌+◌, ◌^◌, length};
     ghost use Rattle.ft_model.specs.Client.{Client};
+    ghost use Rattle.ft_model.specs.Client.ClientKind.{Scripted};
 
     ghost Value = { Client };
 
-    ghost view = { λ c. record { key = c.key; server = c.server; isn = c.isn; script = c.script.items; phase = c.phase; sisn = c.sisn; sent = c.sent; acknowledged = c.acknowledged; accepted = c.accepted.items; edge = c.edge } };
+    ghost view = { λ c. record { kind = Scripted; key = c.key; server = c.server; isn = c.isn; script = c.script.items; phase = c.phase; sisn = c.sisn; sent = c.sent; acknowledged = c.acknowledged; accepted = c.accepted.items; edge = c.edge } };
 
     ghost invariant = { λ c. (length c.script.items ≤ 2 ^ 24) × (c.sent ≤ 2 ^ 24 + 1) };
 }
 
 impl ScriptedClient {
     ghost use Rattle.net_schedule.specs.Moving.{Makes, IsRefusal};
+    ghost use Rattle.ft_model.specs.Client.ClientKind.{Scripted};
     ghost use Rattle.ft_model.specs.Client.{new_client, accepted_units as units_lem, next_of, room_of, with_ack as with_ack_lem, with_text as with_text_lem, with_fin as with_fin_lem, used as used_lem, arrived as arrived_lem, opened_by as opened_lem, received as received_lem, suits_phase, suits_range, seq_of, ack_number_of, payload_of, segment_of, sent_after, phase_after, moved, move_of, window_of, refusal_of_move, is_ended as ended_lem, is_open as open_lem};
 
     /// A client that has sent nothing. It takes no memory.
     pub fn new(alloc: Global, key: Key, server: Addr, isn: u32, script: Vec<u8>) -> ScriptedClient
         requires { length script.items ≤ 2 ^ 24 }
-        ensures { result ≡ new_client server key isn script.items }
+        ensures { result ≡ new_client Scripted server key isn script.items }
     {
         ScriptedClient {
             key,

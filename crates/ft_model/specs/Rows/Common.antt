@@ -6,6 +6,7 @@ use Rattle.seq_arith.specs.Packet.{Segment}
 use Rattle.seq_arith.specs.Message.{Numbers, Kept, EntryHead, Part, Body}
 use Rattle.server_trait.specs.Service.{Served, Machine}
 use Rattle.ft_model.specs.Client.{Client, new_client}
+use Rattle.ft_model.specs.Client.ClientKind.{Scripted}
 use Rattle.ft_model.specs.Log.{empty_log}
 use Rattle.ft_model.specs.Network.{Packet}
 use Rattle.ft_model.specs.Network.Packet.{To_server, To_client, To_logger, From_logger}
@@ -39,7 +40,7 @@ hello_text = 104 ∷ 101 ∷ 108 ∷ 108 ∷ 111 ∷ []
 
 -- client 1, with initial number 1000
 abbrev pub client_with : List ℕ → Client
-client_with script = new_client server key 1000 script
+client_with script = new_client Scripted server key 1000 script
 
 abbrev pub start_with : List ℕ → World
 start_with script = record { server = server; clients = client_with script ∷ []; log = empty_log; packets = []; boot = 0; node = None }
