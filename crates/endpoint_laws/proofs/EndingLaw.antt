@@ -1,11 +1,10 @@
 -- The state of a connection through a turn: it follows what its halves tell, and it is CLOSED by a RST or once both FINs are through.
-use Rattle.std.proofs.Common.{◌≡◌, ◌⊎◌, inl, inr, ℕ, ◌≤◌, ◌+◌, ◌-◌, ◌*◌, Bool, true, false, not, Option, None, List, [], ◌∷◌, length, min, refl, sym, ap, subst, arith, ◌∙◌}
+use Rattle.std.proofs.Common.{◌≡◌, ◌⊎◌, inl, inr, ℕ, ◌≤◌, ◌+◌, ◌-◌, ◌*◌, Bool, true, false, not, None, List, [], ◌∷◌, length, min, refl, sym, ap, subst, arith, ◌∙◌}
 use Rattle.std.specs.Prelude.{ℤ, pos, ◌+ℤ◌, ◌==◌, ◌&&◌, ◌||◌, nat_abs, nat_lt, int_lt, if◌then◌else◌}
 use Rattle.std.proofs.lemmas.Int.{ints}
 use Rattle.std.proofs.lemmas.Bool.{false≢true}
 use Rattle.seq_arith.specs.Arrival.{int_eq, is_acceptable, is_new_ack}
 use Rattle.seq_arith.specs.Packet.{Segment, has_fin, has_syn, has_rst, has_ack}
-use Rattle.segment_codec.specs.declared.Head.{Head}
 use Rattle.seq_arith.specs.Offset.{one_if, length_of}
 use Rattle.ft_model.specs.Opening.{is_syn}
 use Rattle.ft_model.specs.News.{News}
@@ -18,7 +17,7 @@ use Rattle.tcp_endpoint.specs.Receiving.{Receiving, next, taken, window, with_te
 use Rattle.tcp_endpoint.specs.Sending.{Sending, opened_by, acknowledged, fin_acked, sendable, sends_fin, timed, expires, with_sent, with_fin_sent}
 use Rattle.tcp_endpoint.specs.Tcb.{Tcb}
 use Rattle.tcp_endpoint.specs.Arrival.{first, ack_at, owing_if, killed, entering, refusing, begun, with_text_and_fin, with_fin_acked, with_first_ack, with_ack, check_ack, check_syn, check_rst, waiting_again, check_place, in_others, received}
-use Rattle.tcp_endpoint.specs.Leaving.{probes_text, probes_fin, with_probe, with_text_sent, with_fin_out, after_full, announced, settled, flushed, answer_out, again_out, probe_out, text_out, texts, fin_out, full_out, is_owed, leaving}
+use Rattle.tcp_endpoint.specs.Leaving.{probes_text, probes_fin, with_probe, with_text_sent, with_fin_out, after_full, announced, settled, flushed, answer_segments}
 use Rattle.tcp_endpoint.specs.Turning.{after_tick, timer_ticked, waited}
 use Rattle.endpoint_laws.specs.Turn.{Call, called, used, IsBetweenTurns, arrived, before_flush, turned, sent_in}
 use Rattle.endpoint_laws.specs.Turn.Call.{Reads, Writes, Closes}
@@ -27,6 +26,7 @@ use Rattle.endpoint_laws.specs.Listening.{IsListening}
 use Rattle.endpoint_laws.proofs.TakenLaw.{begun_is}
 use Rattle.endpoint_laws.proofs.Listening.{begun_by}
 use Rattle.endpoint_laws.proofs.TurnLaw.{after_steps}
+use Rattle.endpoint_laws.proofs.ClosedSends.{closed_sends}
 
 -- the states of a connection that no RST has reset: CLOSED only once all is through
 abbrev pub IsPlaced : StateName → (opened closed fin acked : Bool) → Type 0
@@ -505,7 +505,7 @@ by_cases false p q = q refl
 pub named_at : (e : Tcb) → FollowsAt e → IsNamedRightly e
 named_at e h = named_of e.name e.sending.opened e.sending.closed e.receiving.fin (fin_acked e.sending) h.placed
 
-unreset_follows : (news : News) (calls : List Call) (e : Tcb) → has_begun e.name ≡ true → IsBetweenTurns e → IsNamedRightly e → resets news e ≡ false
+pub unreset_follows : (news : News) (calls : List Call) (e : Tcb) → has_begun e.name ≡ true → IsBetweenTurns e → IsNamedRightly e → resets news e ≡ false
     → FollowsAt (before_flush news calls e)
 unreset_follows news calls e begun between named unreset =
     used_follows calls (arrived news e) (arrived_follows news e begun unreset (between_follows e begun between named))
@@ -608,7 +608,7 @@ unreset_same Ticks e begun h = refl
 unreset_same Begins e begun h = refl
 
 -- parts that no call of the user touches
-used_keeps : {X : Type 0} (f : Tcb → X) → ((call : Call) (t : Tcb) → f (called call t) ≡ f t) → (calls : List Call) (t : Tcb) → f (used calls t) ≡ f t
+pub used_keeps : {X : Type 0} (f : Tcb → X) → ((call : Call) (t : Tcb) → f (called call t) ≡ f t) → (calls : List Call) (t : Tcb) → f (used calls t) ≡ f t
 used_keeps f same [] t = refl
 used_keeps f same (call ∷ calls) t = used_keeps f same calls (called call t) ∙ same call t
 
@@ -632,32 +632,17 @@ reset_law news calls e begun =
     (λ h. ap (λ (t : Tcb). t.reset) (arrived_reset news e begun h).1 ∙ or_true e.reset ∙ ap (λ b. e.reset || b) (sym h))
     (λ h. unreset_same news e begun h ∙ or_false e.reset ∙ ap (λ b. e.reset || b) (sym h))
 
--- what is due in a turn
-abbrev Due : Type 0
-Due = Bool × Bool × Option Head
-
-due : Tcb → Due
-due t = (t.again, t.probe, t.answer)
-
-call_due : (call : Call) (t : Tcb) → due (called call t) ≡ due t
-unfolding due
-call_due (Reads n) t = refl
-call_due (Writes bytes) t = refl
-call_due Closes t = refl
-
--- from a CLOSED endpoint that has nothing to send again and no RST to answer with nothing leaves
-silent : (u : Tcb) → u.name ≡ Closed → due u ≡ (false, false, None) → leaving u ≡ []
-unfolding due leaving full_out answer_out again_out probe_out with_probe text_out texts with_text_sent fin_out is_owed after_full with_fin_out
-silent u closed none =
-    let quiet : leaving (record u { name = Closed; again = false; probe = false; answer = None }) ≡ [] = refl in
-    (λ i. leaving (record u { name = closed i; again = (none i).0; probe = (none i).1; answer = (none i).2 })) ∙ quiet
+-- from a CLOSED endpoint that has no RST to answer with nothing leaves
+pub call_answers : (call : Call) (t : Tcb) → (called call t).answer ≡ t.answer
+call_answers (Reads n) t = refl
+call_answers (Writes bytes) t = refl
+call_answers Closes t = refl
 
 pub silent_law : (news : News) (calls : List Call) (e : Tcb) → has_begun e.name ≡ true → IsBetweenTurns e → resets news e ≡ true
     → ((before_flush news calls e).name ≡ Closed) × (sent_in news calls e ≡ [])
-unfolding due
 silent_law news calls e begun between h =
-    let none : due e ≡ (false, false, None) = λ i. (between.again i, between.probe i, between.answer i) in
-    let closed : (before_flush news calls e).name ≡ Closed = reset_closed news calls e begun h in (
-      closed,
-      silent (before_flush news calls e) closed (used_keeps due call_due calls (arrived news e) ∙ ap due (arrived_reset news e begun h).1 ∙ none),
-    )
+    let u : Tcb = before_flush news calls e in
+    let closed : u.name ≡ Closed = reset_closed news calls e begun h in
+    let none : u.answer ≡ None =
+    used_keeps (λ (t : Tcb). t.answer) call_answers calls (arrived news e) ∙ ap (λ (t : Tcb). t.answer) (arrived_reset news e begun h).1 ∙ between.answer in
+    (closed, closed_sends u closed ∙ ap answer_segments none)

@@ -16,7 +16,9 @@ pub mod Turns
 pub mod Points
 pub mod Listening
 pub mod Beginning
+pub mod ClosedSends
 pub mod EndingLaw
+pub mod Ends
 pub mod Announced
 pub mod Connecting
 pub mod Anywhere

@@ -35,7 +35,7 @@ use Rattle.endpoint_laws.proofs.TimerAt.{Timed, timer_at}
 use Rattle.endpoint_laws.proofs.SegmentsLaw.{full_is, bare_is}
 
 -- from the news to the end of the turn: the calls lead the endpoint on to the point after
-receives_of : {State : Type 0} (service : Machine State) (news : News) (before after : Point) (m u : Tcb) → ReceivesAt (moved news before) m → IsUsed m u
+pub receives_of : {State : Type 0} (service : Machine State) (news : News) (before after : Point) (m u : Tcb) → ReceivesAt (moved news before) m → IsUsed m u
     → MeetsLaws service news before after → IsUsedAt service after u → ReceivesAt after u
 receives_of service news before after m u r a laws user =
     let rest : drop (m.receiving.read + after.fetched) after.taken ≡ m.receiving.unread =
@@ -49,7 +49,7 @@ receives_of service news before after m u r a laws user =
       fin = laws.fin ∙ r.fin ∙ sym a.fin;
     }
 
-sends_of : {State : Type 0} (service : Machine State) (news : News) (before after : Point) (m u : Tcb) → SendsAt (moved news before) m → IsUsed m u
+pub sends_of : {State : Type 0} (service : Machine State) (news : News) (before after : Point) (m u : Tcb) → SendsAt (moved news before) m → IsUsed m u
     → MeetsLaws service news before after → SendsAt after u
 sends_of service news before after m u s a laws = record {
   sisn = laws.same.sisn ∙ s.sisn ∙ sym a.sends.iss;
@@ -91,7 +91,7 @@ flushes service news before after e m u stands came a bounds begun laws user = r
 }
 
 -- what is sent in the turn
-probes_by : (x c y : Bool) → (x && not (not c || y)) ≡ (x && c && not y)
+pub probes_by : (x c y : Bool) → (x && not (not c || y)) ≡ (x && c && not y)
 probes_by true true y = refl
 probes_by true false y = refl
 probes_by false c y = refl

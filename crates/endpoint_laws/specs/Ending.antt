@@ -27,6 +27,14 @@ IsNamed Closing opened closed fin acked = (opened ≡ true) × (closed ≡ true)
 IsNamed LastAck opened closed fin acked = (opened ≡ true) × (closed ≡ true) × (fin ≡ true) × (acked ≡ false)
 IsNamed TimeWait opened closed fin acked = (opened ≡ true) × (closed ≡ true) × (fin ≡ true) × (acked ≡ true)
 
+-- the states of a connection that has begun in which the peer's FIN is taken. CLOSED doesn't tell: a RST leads there too
+abbrev pub has_taken_fin : StateName → Bool
+has_taken_fin CloseWait = true
+has_taken_fin Closing = true
+has_taken_fin LastAck = true
+has_taken_fin TimeWait = true
+has_taken_fin name = false
+
 -- an endpoint in the state that its halves tell of
 abbrev pub IsNamedRightly : Tcb → Type 0
 IsNamedRightly e = IsNamed e.name e.sending.opened e.sending.closed e.receiving.fin (fin_acked e.sending)

@@ -21,10 +21,12 @@ use Rattle.ft_model.specs.Timer.{interval_after, rest_after}
 use Rattle.ft_model.specs.Owed.{is_refused, owes}
 use Rattle.ft_model.specs.Refusal.{rst_at_ack}
 use Rattle.ft_model.specs.Segments.{syn_ack, bare_segment, resent, new_texts, new_fin, or_bare}
+use Rattle.tcp_endpoint.specs.declared.states.StateName.TheVariants.{Closed}
 use Rattle.tcp_endpoint.specs.States.{has_begun}
 use Rattle.tcp_endpoint.specs.Receiving.{taken}
 use Rattle.tcp_endpoint.specs.Sending.{Sending, bytes_end}
 use Rattle.tcp_endpoint.specs.Tcb.{Tcb}
+use Rattle.tcp_endpoint.specs.Leaving.{leaving}
 use Rattle.endpoint_laws.specs.Ending.{resets, is_over}
 use Rattle.endpoint_laws.specs.Turn.{Call, MayUse, IsUsualNews, IsBetweenTurns, arrived, before_flush, turned, sent_in}
 
@@ -134,6 +136,15 @@ pub record LeadsTo {State : Type 0} (service : Machine State) (news : News) (bef
   pub between : IsBetweenTurns (turned news calls e)
   pub stands : StandsAt after (turned news calls e)
   pub segments : sent_in news calls e ≡ segments_by_laws service e.local news before after
+
+-- a turn in which both FINs are through: the endpoint is CLOSED, nothing leaves, and its halves stand at the point after it
+pub record EndsAt (after : Point) (u : Tcb) : Type 0 where
+  pub closed : u.name ≡ Closed
+  pub over : is_over u ≡ true
+  pub receives : ReceivesAt after u
+  pub sends : SendsAt after u
+  pub sent : after.sent ≡ u.sending.sent
+  pub silent : leaving u ≡ []
 
 -- a turn of a run: what comes, what the user does, a service that has read and written like the user up to then, and the point after it.
 -- Whatever a user writes, some service has written that, and only that counts: so the services of two turns need have nothing in common

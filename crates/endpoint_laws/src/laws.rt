@@ -20,12 +20,12 @@ ghost use Rattle.ft_model.specs.Opening.{is_syn};
 ghost use Rattle.ft_model.specs.Point.{Point};
 ghost use Rattle.endpoint_laws.specs.Turn.{Call, MayUse, IsUsualNews, IsBetweenTurns, arrived, before_flush, turned};
 ghost use Rattle.endpoint_laws.specs.Listening.{IsListening, brings_syn};
-ghost use Rattle.endpoint_laws.specs.Standing.{StandsAt, MeetsLaws, IsUsedAt, LeadsTo, BeginsAt, Step, RunsByLaws, numbers_with, point_begun};
+ghost use Rattle.endpoint_laws.specs.Standing.{StandsAt, MeetsLaws, IsUsedAt, LeadsTo, EndsAt, BeginsAt, Step, RunsByLaws, numbers_with, point_begun};
 ghost use Rattle.std.specs.Prelude.{◌⊎◌, ◌||◌, [], None};
 ghost use Rattle.std.specs.List.{AllByRecursion};
 ghost use Rattle.tcp_endpoint.specs.declared.states.StateName.TheVariants.{Closed};
 ghost use Rattle.endpoint_laws.specs.Turn.{sent_in};
-ghost use Rattle.endpoint_laws.specs.Ending.{IsNamedRightly, resets, is_over};
+ghost use Rattle.endpoint_laws.specs.Ending.{IsNamedRightly, has_taken_fin, resets, is_over};
 ghost use Rattle.endpoint_laws.specs.Announcing.{Announces, is_told};
 ghost use Rattle.std.specs.Prelude.{◌∷◌};
 ghost use Rattle.tcp_endpoint.specs.Leaving.{opening_segment};
@@ -192,6 +192,21 @@ pub fn endpoints_run_by_the_laws()
         → MayUse calls (received e syn)
         → BeginsAt (point_begun fetched (numbers_with cisn iss syn)) e syn calls
         × RunsByLaws (point_begun fetched (numbers_with cisn iss syn)) (turned (Comes syn) calls e) steps }
+{}
+
+/// The turn in which both FINs are through leaves the endpoint CLOSED, in silence, and its halves at the point after it.
+pub fn connections_end_at_points<S: Service>()
+    ensures { (kind : ℕ) (news : News) (calls : List Call) (before after : Point) (e : Tcb)
+        → has_begun e.name ≡ true → IsBetweenTurns e → IsNamedRightly e → StandsAt before e → IsUsualNews news e → MayUse calls (arrived news e)
+        → resets news e ≡ false → has_begun (before_flush news calls e).name ≡ false
+        → MeetsLaws (machine (S.started kind) S.after) news before after
+        → IsUsedAt (machine (S.started kind) S.after) after (before_flush news calls e)
+        → EndsAt after (before_flush news calls e) }
+{}
+
+/// The state of a connection that has begun tells whether the peer's FIN is taken.
+pub fn states_tell_the_peers_fin()
+    ensures { (e : Tcb) → has_begun e.name ≡ true → IsNamedRightly e → e.receiving.fin ≡ has_taken_fin e.name }
 {}
 
 /// The law on a segment without data, at the end of a turn with a segment: it goes out exactly where one is owed and no other segment does.

@@ -1,0 +1,169 @@
+-- The turn in which both FINs are through and the endpoint becomes CLOSED: nothing leaves, and it stands at the point after it.
+use Rattle.std.proofs.Common.{◌≡◌, ℕ, ◌≤◌, ◌+◌, Bool, true, false, not, Option, Some, None, List, [], ◌∷◌, length, min, max, refl, sym, ap, arith, ◌∙◌}
+use Rattle.std.specs.Prelude.{ℤ, pos, ◌==◌, ◌&&◌, ◌||◌, nat_lt, int_lt, int_le, if◌then◌else◌}
+use Rattle.std.proofs.lemmas.Bool.{false≢true}
+use Rattle.std.proofs.lemmas.Int.{ints}
+use Rattle.segment_codec.specs.declared.Head.{Head}
+use Rattle.ft_io.specs.declared.Addr.{Addr}
+use Rattle.seq_arith.specs.Packet.{Segment, has_syn, has_rst, has_ack}
+use Rattle.server_trait.specs.Service.{Machine}
+use Rattle.seq_arith.specs.Offset.{one_if, ack_of}
+use Rattle.ft_model.specs.Point.{Point}
+use Rattle.ft_model.specs.Point as point
+use Rattle.ft_model.specs.News.{News}
+use Rattle.ft_model.specs.News.News.{Comes, Logged, Ticks, Begins}
+use Rattle.ft_model.specs.Taken.{accepts, counts}
+use Rattle.ft_model.specs.Owed.{is_refused}
+use Rattle.ft_model.specs.Sending.{counted_after, sent_at_once, sent_after}
+use Rattle.ft_model.specs.Timer as timer
+use Rattle.tcp_endpoint.specs.declared.states.StateName.{StateName}
+use Rattle.tcp_endpoint.specs.declared.states.StateName.TheVariants.{Closed, Listen, SynSent, SynReceived, Established, FinWait1, FinWait2, CloseWait, Closing, LastAck, TimeWait}
+use Rattle.tcp_endpoint.specs.States.{has_begun}
+use Rattle.tcp_endpoint.specs.Sending.{target, fin_acked}
+use Rattle.tcp_endpoint.specs.Tcb.{Tcb}
+use Rattle.tcp_endpoint.specs.Leaving.{answer_segments, answer_out}
+use Rattle.endpoint_laws.specs.Laws.{ProbesRightly}
+use Rattle.endpoint_laws.specs.Turn.{Call, MayUse, IsUsualNews, IsBetweenTurns, arrived, used, before_flush}
+use Rattle.endpoint_laws.specs.Standing.{SendsAt, StandsAt, MeetsLaws, IsUsedAt, EndsAt, refuses, refusals}
+use Rattle.endpoint_laws.specs.Ending.{IsNamed, IsNamedRightly, has_taken_fin, resets}
+use Rattle.endpoint_laws.proofs.Calls.{FinIsLast, IsUsed, used_is, bounded_used, last_used, probes_used}
+use Rattle.endpoint_laws.proofs.Arrivals.{Arrived, arrives}
+use Rattle.endpoint_laws.proofs.ClosedSends.{closed_sends}
+use Rattle.endpoint_laws.proofs.EndingLaw.{IsPlaced, FollowsAt, unreset_follows}
+use Rattle.endpoint_laws.proofs.TurnEnd.{sent_at}
+use Rattle.endpoint_laws.proofs.Turns.{receives_of, sends_of, probes_by}
+
+record IsEnded (name : StateName) (o c f a : Bool) : Type 0 where
+  name_is : name ≡ Closed
+  opened : o ≡ true
+  fin : f ≡ true
+  acked : a ≡ true
+
+ended_by : (name : StateName) (o c f a : Bool) → has_begun name ≡ false → IsPlaced name o c f a → IsEnded name o c f a
+ended_by Closed o c f a ended h = record { name_is = refl; opened = h.0; fin = h.2; acked = h.3 }
+ended_by Listen o c f a ended h = absurd h
+ended_by SynSent o c f a ended h = absurd h
+ended_by SynReceived o c f a ended h = absurd (false≢true (sym ended))
+ended_by Established o c f a ended h = absurd (false≢true (sym ended))
+ended_by FinWait1 o c f a ended h = absurd (false≢true (sym ended))
+ended_by FinWait2 o c f a ended h = absurd (false≢true (sym ended))
+ended_by CloseWait o c f a ended h = absurd (false≢true (sym ended))
+ended_by Closing o c f a ended h = absurd (false≢true (sym ended))
+ended_by LastAck o c f a ended h = absurd (false≢true (sym ended))
+ended_by TimeWait o c f a ended h = absurd (false≢true (sym ended))
+
+-- no RST answers where an acknowledgement has counted
+last_of : (a b c d e : Bool) → (a && b && c && d && e) ≡ true → e ≡ true
+last_of true true true true e h = h
+last_of true true true false e h = absurd (false≢true h)
+last_of true true false d e h = absurd (false≢true h)
+last_of true false c d e h = absurd (false≢true h)
+last_of false b c d e h = absurd (false≢true h)
+
+off_four : (a b c d : Bool) → d ≡ false → (a && b && c && d) ≡ false
+off_four true true true d h = h
+off_four true true false d h = refl
+off_four true false c d h = refl
+off_four false b c d h = refl
+
+off_three : (a b c : Bool) → c ≡ false → (a && b && c) ≡ false
+off_three true true c h = h
+off_three true false c h = refl
+off_three false b c h = refl
+
+less_is : (z : ℤ) → int_lt z (pos 0) ≡ not (int_le (pos 0) z)
+less_is z = grind (arith, ints)
+
+unrefused : (acc rst syn counted ack low neg : Bool) → neg ≡ not low → (counted || (ack && not syn && not rst && acc && (counted || low))) ≡ true
+    → (not counted && ack && neg) ≡ false
+unrefused acc rst syn true ack low neg is h = refl
+unrefused acc rst syn false ack low neg is h = off_three true ack neg (is ∙ ap not (last_of ack (not syn) (not rst) acc low h))
+
+none_if : (b : Bool) (x : Segment) → b ≡ false → (if b then x ∷ [] else []) ≡ []
+none_if true x h = absurd (false≢true (sym h))
+none_if false x h = refl
+
+no_answer : (server : Addr) (news : News) (before : Point) → counted_after news before ≡ true → refusals server news before ≡ []
+unfolding counted_after counts
+no_answer server (Comes segment) before h =
+    none_if (refuses before segment) _ (off_four (accepts before segment) (not (has_rst segment)) (not (has_syn segment)) (is_refused before segment)
+    (unrefused (accepts before segment) (has_rst segment) (has_syn segment) before.counted (has_ack segment) (int_le (pos 0) (ack_of before.sisn segment))
+    (int_lt (ack_of before.sisn segment) (pos 0)) (less_is (ack_of before.sisn segment)) h))
+no_answer server (Logged kept) before h = refl
+no_answer server Ticks before h = refl
+no_answer server Begins before h = refl
+
+is_some : List Segment → Bool
+is_some [] = false
+is_some (x ∷ xs) = true
+
+answer_none : (x : Option Head) → answer_segments x ≡ [] → x ≡ None
+unfolding is_some
+answer_none None h = refl
+answer_none (Some head) h = absurd (false≢true (sym (ap is_some h)))
+
+fin_parts : (f e : Bool) → (f && e) ≡ true → (f ≡ true) × (e ≡ true)
+fin_parts true e h = (refl, h)
+fin_parts false e h = absurd (false≢true h)
+
+target_sent : (f : Bool) (sent n : ℕ) → f ≡ true → (if f then sent else n) ≡ sent
+target_sent true sent n h = refl
+target_sent false sent n h = absurd (false≢true h)
+
+no_probe : (b : Bool) (sent t : ℕ) → (b ≡ true → sent + 1 ≤ t) → t ≡ sent → b ≡ false
+no_probe true sent t waits is = absurd (omega (arith, waits refl, is))
+no_probe false sent t waits is = refl
+
+max_itself : (s e : ℕ) → max s (min s e) + 0 ≡ s
+max_itself s e = omega arith
+
+-- the state tells whether the peer's FIN is taken
+pub fin_by_name : (name : StateName) (o c f a : Bool) → has_begun name ≡ true → IsNamed name o c f a → f ≡ has_taken_fin name
+fin_by_name Closed o c f a begun h = absurd (false≢true begun)
+fin_by_name Listen o c f a begun h = absurd (false≢true begun)
+fin_by_name SynSent o c f a begun h = absurd (false≢true begun)
+fin_by_name SynReceived o c f a begun h = h.1
+fin_by_name Established o c f a begun h = h.2
+fin_by_name FinWait1 o c f a begun h = h.2
+fin_by_name FinWait2 o c f a begun h = h.2
+fin_by_name CloseWait o c f a begun h = h.2
+fin_by_name Closing o c f a begun h = h.2
+fin_by_name LastAck o c f a begun h = h.2
+fin_by_name TimeWait o c f a begun h = h.2
+
+pub ends_law : {State : Type 0} (service : Machine State) (news : News) (calls : List Call) (before after : Point) (e : Tcb)
+    → has_begun e.name ≡ true → IsBetweenTurns e → IsNamedRightly e → StandsAt before e → IsUsualNews news e → MayUse calls (arrived news e) → resets news e ≡ false
+    → has_begun (before_flush news calls e).name ≡ false → MeetsLaws service news before after → IsUsedAt service after (before_flush news calls e)
+    → EndsAt after (before_flush news calls e)
+unfolding answer_out sent_after sent_at_once
+ends_law service news calls before after e begun between named stands usual may unreset ended laws user =
+    let m : Tcb = arrived news e in
+    let u : Tcb = used calls m in
+    let came : Arrived news before e m = arrives news before e begun between stands usual in
+    let a : IsUsed m u = used_is calls m may in
+    let f : FollowsAt u = unreset_follows news calls e begun between named unreset in
+    let x : IsEnded u.name u.sending.opened u.sending.closed u.receiving.fin (fin_acked u.sending) =
+    ended_by u.name u.sending.opened u.sending.closed u.receiving.fin (fin_acked u.sending) ended f.placed in
+    let acked = fin_parts u.sending.fin_sent (u.sending.una == u.sending.sent) x.acked in
+    let counted : counted_after news before ≡ true = came.sends.counted ∙ sym a.sends.opened ∙ x.opened in
+    let answer : u.answer ≡ None = a.answer ∙ answer_none m.answer (came.answer ∙ no_answer e.local news before counted) in
+    let last : FinIsLast u.sending = last_used m.sending u.sending a.sends came.fin_last in
+    let bounds = bounded_used calls m may came.fin_last came.bounds in
+    let full : target u.sending ≡ u.sending.sent = target_sent u.sending.fin_sent u.sending.sent (u.sending.una + length u.sending.held + one_if u.sending.closed) acked.0 in
+    let probes : ProbesRightly u = probes_used m u a came.probes in
+    let none : u.probe ≡ false = no_probe u.probe u.sending.sent (target u.sending) probes.waits full in
+    let probe : timer.probes news before ≡ u.probe =
+    (λ i. timer.expires news before && stands.sends.counted i && not (nat_lt (stands.sends.una i) (stands.sent i)))
+    ∙ sym (probes_by (timer.expires news before) e.sending.opened (nat_lt e.sending.una e.sending.sent)) ∙ sym (a.probe ∙ came.probe) in
+    let s : SendsAt after u = sends_of service news before after m u came.sends a laws in
+    record {
+      closed = x.name_is;
+      over = λ i. x.fin i && x.acked i;
+      receives = receives_of service news before after m u came.receives a laws user;
+      sends = s;
+      sent = laws.sent
+          ∙ (λ i. max ((stands.sent ∙ sym (a.sends.sent ∙ came.sent)) i) (min (point.target service after) (s.edge i)) + one_if ((probe ∙ none) i))
+          ∙ ap (λ n. n + 0) (sent_at service after u bounds last user)
+          ∙ (λ i. max u.sending.sent (min (full i) u.sending.edge) + 0) ∙ max_itself u.sending.sent u.sending.edge;
+      silent = closed_sends u x.name_is ∙ ap answer_segments answer;
+    }
