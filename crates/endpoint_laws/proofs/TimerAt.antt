@@ -94,7 +94,7 @@ pub record Timed {State : Type 0} (service : Machine State) (news : News) (befor
   pub still : must_run u.sending ≡ true → timer.must_run service after ≡ true
 
 starts_is : {State : Type 0} (service : Machine State) (news : News) (before after : Point) (e m u : Tcb) → Timed service news before after e m u
-    → timer.starts before after ≡ starts e.sending m.sending
+    → timer.is_set_anew before after ≡ starts e.sending m.sending
 starts_is service news before after e m u t =
     (λ i. (t.stands.rest i == 0) || (nat_lt (t.stands.sends.una i) (t.una i) || (t.counted i && not (t.stands.sends.counted i))))
     ∙ or_apart (e.sending.rest == 0) (nat_lt e.sending.una m.sending.una) (m.sending.opened && not e.sending.opened)
@@ -143,7 +143,7 @@ tick_timer service before after e m u t =
     let same : m.sending ≡ (after_tick e).sending = ap (λ (x : Tcb). x.sending) t.news_are in
     let by = ticked_law e u t.between.interval (t.used.sends.interval ∙ ap (λ (q : Sending). q.interval) same)
     (t.used.sends.rest ∙ ap (λ (q : Sending). q.rest) same) in
-    let anew : timer.starts before after ≡ (s.rest == 0) =
+    let anew : timer.is_set_anew before after ≡ (s.rest == 0) =
     (λ i. (t.stands.rest i == 0) || (nat_lt before.una (t.laws.una i) || (t.laws.counted i && not before.counted))) ∙ same_starts (s.rest == 0) before.una before.counted in
     let on : (s.rest == 0) ≡ false → r ≡ true = λ h.
     t.runs ∙ runs_on service Ticks before after e m u t (sym (starts_is service Ticks before after e m u t) ∙ anew ∙ h) in (
@@ -164,7 +164,7 @@ quiet_timer service news before after e m u t same still counted una =
     let s : Sending = e.sending in
     let r : Bool = is_timed (after_full u) in
     let by = flushed_timer u s.interval s.rest (t.used.sends.interval ∙ ap (λ (x : Tcb). x.sending.interval) same) (t.used.sends.rest ∙ ap (λ (x : Tcb). x.sending.rest) same) in
-    let anew : timer.starts before after ≡ (s.rest == 0) =
+    let anew : timer.is_set_anew before after ≡ (s.rest == 0) =
     (λ i. (t.stands.rest i == 0) || (nat_lt before.una ((t.laws.una ∙ una) i) || ((t.laws.counted ∙ counted) i && not before.counted)))
     ∙ same_starts (s.rest == 0) before.una before.counted in
     let on : (s.rest == 0) ≡ false → r ≡ true = λ h.

@@ -148,7 +148,7 @@ some_interval false false n some = some
 
 interval_is_some : (news : News) (before after : Point) → 1 ≤ before.interval → 1 ≤ timer.interval_after news before after
 unfolding timer.interval_after
-interval_is_some news before after some = some_interval (timer.starts before after) (timer.expires news before) before.interval some
+interval_is_some news before after some = some_interval (timer.is_set_anew before after) (timer.expires news before) before.interval some
 
 -- between two turns again
 pub between_again : (u : Tcb) → has_begun u.name ≡ true → IsBounded u → ProbesRightly u → FinIsLast u.sending → 1 ≤ (flushed u).sending.interval → IsBetweenTurns (flushed u)

@@ -1,17 +1,16 @@
 -- Well formed: what is under way between a client and the server has their addresses, every number fits, and every byte is one.
-use Rattle.std.proofs.Common.{◌≡◌, ℕ, zero, suc, ◌+◌, ◌-◌, ◌<◌, ◌≤◌, ◌^◌, ◌%◌, pos, negsuc, ◌+ℤ◌, nat_abs, ℤ, nat_lt, sym, subst, Some, List, [], ◌∷◌, ◌++◌, length, take, drop, sum, arith}
+use Rattle.std.proofs.Common.{max, ◌≡◌, ℕ, zero, suc, ◌+◌, ◌-◌, ◌<◌, ◌≤◌, ◌^◌, ◌%◌, pos, negsuc, nat_abs, ℤ, nat_lt, sym, subst, Some, List, [], ◌∷◌, ◌++◌, length, take, drop, sum, arith}
 use Rattle.std.specs.List.{AllByRecursion}
-use Rattle.std.proofs.lemmas.Int.{ints}
 use Rattle.hex.specs.Hex.{IsBytes}
 use Rattle.ft_io.specs.declared.Key.{Key}
 use Rattle.seq_arith.specs.Number.{distance, offset_of}
-use Rattle.seq_arith.specs.Arrival.{below}
 use Rattle.seq_arith.specs.Packet.{Segment}
 use Rattle.seq_arith.specs.Message.{Numbers, Kept, EntryHead, Part, Body}
 use Rattle.seq_arith.specs.Message.Body.{HelloMsg, SummaryMsg, ListMsg, EntryMsg, BytesMsg, PartMsg, CutsMsg, LensMsg, OpenMsg, OpenedMsg, DataMsg, StableMsg, ReadMsg, ReadsMsg, DoneMsg, EndedMsg, StaleMsg, FullMsg}
 use Rattle.server_trait.specs.Service.{Machine, Run, begun, fed, with_served, fold_from, cut, reference}
 use Rattle.ft_model.specs.Client.{Client}
 use Rattle.ft_model.specs.Log.{Entry}
+use Rattle.ft_model.specs.Copy.{from_start}
 use Rattle.ft_model.specs.Network.{Packet, source_of, destination_of}
 use Rattle.ft_model.specs.Network.Packet.{To_server, To_client, To_logger, From_logger}
 use Rattle.ft_model.specs.Point.{Point}
@@ -90,9 +89,9 @@ offset_small isn number =
     of_choice (λ z. nat_abs z ≤ 2 ^ 31) (nat_lt (distance number ((isn + 1) % 2 ^ 32)) (2 ^ 31)) (pos (distance number ((isn + 1) % 2 ^ 32)))
     (negsuc (2 ^ 32 - 1 - distance number ((isn + 1) % 2 ^ 32))) (λ t. grind (arith, t)) (λ t. grind (arith, t))
 
-pub start_small : (answered : ℕ) (z : ℤ) → nat_abs z ≤ 2 ^ 31 → nat_abs (z +ℤ pos (below answered z)) ≤ 2 ^ 31 + answered
+pub start_small : (answered : ℕ) (z : ℤ) → nat_abs z ≤ 2 ^ 31 → max answered (from_start z) ≤ 2 ^ 31 + answered
 start_small answered (pos n) h = omega (arith, h)
-start_small answered (negsuc n) h = omega (arith, ints, h)
+start_small answered (negsuc n) h = omega arith
 
 -- the key is that of a client of the start
 abbrev pub HasClient : World → Key → Type 0

@@ -1,5 +1,5 @@
 -- Every byte of a client that is under way, logged or taken is its script's at that offset, and a FIN stands only at the script's end.
-use Rattle.std.proofs.Common.{◌≡◌, ℕ, ◌+◌, ◌-◌, ◌≤◌, ◌^◌, pos, ◌+ℤ◌, nat_abs, int_le, Bool, true, false, ◌==◌, ◌&&◌, ◌||◌, not, nat_lt, nat_le, min, refl, sym, ap, ◌∙◌, subst, true≢false, inl, inr, ◌⊎◌, ⊎_elim, List, [], ◌∷◌, ◌++◌, length, take, drop, arith, append-nil, length-take, length-drop, leb-true, ltb-false, eqb-true, if◌then◌else◌}
+use Rattle.std.proofs.Common.{ap₂, ◌≡◌, ℕ, ◌+◌, ◌-◌, ◌≤◌, ◌^◌, pos, ◌+ℤ◌, int_le, Bool, true, false, ◌==◌, ◌&&◌, ◌||◌, not, nat_lt, nat_le, min, refl, sym, ap, ◌∙◌, subst, true≢false, inl, inr, ◌⊎◌, ⊎_elim, List, [], ◌∷◌, ◌++◌, length, take, drop, arith, append-nil, length-take, length-drop, leb-true, ltb-false, eqb-true, if◌then◌else◌}
 use Rattle.std.specs.List.{AllByRecursion}
 use Rattle.ft_io.specs.declared.Key.{Key}
 use Rattle.seq_arith.specs.Arrival.{int_eq, below}
@@ -15,7 +15,7 @@ use Rattle.ft_model.specs.Point.{Point, receive_edge}
 use Rattle.ft_model.specs.News.{News}
 use Rattle.ft_model.specs.News.News.{Comes, Logged, Ticks, Begins}
 use Rattle.ft_model.specs.Taken.{counts, continues, end_of, taken_after, takes_fin, fin_after}
-use Rattle.ft_model.specs.Copy.{copy_start, copied_text, copies_fin, una_part, copied_part, copies}
+use Rattle.ft_model.specs.Copy.{from_start, copy_start, copied_text, copies_fin, una_part, copied_part, copies}
 use Rattle.ft_model.specs.Growth.{IsPrefix}
 use Rattle.ft_model.proofs.Lists.{take_first, of_choice, both, neither, or_cases}
 use Rattle.ft_model.proofs.Stands.{nothing_first, part_stands, goes_on, goes_on_all, take_nothing}
@@ -138,9 +138,10 @@ copied_fits script isn segment p f h =
     (λ c. let o : ℕ = c.0 in
     let text : List ℕ = text_of segment in
     let at : first_of p.cisn segment ≡ pos o = subst (λ n. first_of n segment ≡ pos o) (sym h.cisn) c.1 in
-    let start : copy_start p segment ≡ o + (p.answered - o) = ap (λ z. nat_abs (z +ℤ pos (below p.answered z))) at in
+    let first : from_start (first_of p.cisn segment) ≡ o = ap from_start at in
+    let start : copy_start p segment ≡ o + (p.answered - o) = omega (arith, first) in
     let text_is : copied_text p segment ≡ take (length p.taken - (o + (p.answered - o))) (drop (p.answered - o) text) =
-    ap (λ z. take (length p.taken - nat_abs (z +ℤ pos (below p.answered z))) (drop (below p.answered z) text)) at in
+    ap₂ (λ k z. take (length p.taken - k) (drop (below p.answered z) text)) start at in
     record {
       stands = subst (λ l. IsPrefix l (drop (copy_start p segment) script)) (sym text_is)
           (subst (λ k. IsPrefix (take (length p.taken - (o + (p.answered - o))) (drop (p.answered - o) text)) (drop k script)) (sym start)

@@ -1,6 +1,6 @@
 -- The law Copy: what of a segment goes to the logger (FT-TCP, INFOCOM 2001: the south side wrapper). Nothing is kept for sending again:
 -- the client is not acknowledged, so it repeats. Whether the segment was acceptable plays no part.
-use Rattle.std.specs.Prelude.{ℕ, Bool, false, pos, ◌-◌, ◌+ℤ◌, ◌&&◌, ◌||◌, nat_lt, nat_le, nat_abs, min, List, [], ◌∷◌, length, take, drop, if◌then◌else◌}
+use Rattle.std.specs.Prelude.{ℕ, ℤ, Bool, false, pos, negsuc, ◌-◌, ◌&&◌, ◌||◌, nat_lt, nat_le, max, min, List, [], ◌∷◌, length, take, drop, if◌then◌else◌}
 use Rattle.seq_arith.specs.Arrival.{int_eq, below}
 use Rattle.seq_arith.specs.Packet.{Segment}
 use Rattle.seq_arith.specs.Message.{Part, Body}
@@ -11,9 +11,14 @@ use Rattle.ft_model.specs.News.{News}
 use Rattle.ft_model.specs.News.News.{Comes}
 use Rattle.ft_model.specs.Taken.{end_of}
 
+-- an offset of the stream; a segment that begins before its first byte, as a repeated SYN, counts from there
+abbrev pub from_start : ℤ → ℕ
+from_start (pos offset) = offset
+from_start (negsuc before) = 0
+
 -- where the part of the text begins that isn't known to be logged
 abbrev pub copy_start : Point → Segment → ℕ
-copy_start p segment = nat_abs (first_of p.cisn segment +ℤ pos (below p.answered (first_of p.cisn segment)))
+copy_start p segment = max p.answered (from_start (first_of p.cisn segment))
 
 -- the text from there up to the bytes taken
 abbrev pub copied_text : Point → Segment → List ℕ

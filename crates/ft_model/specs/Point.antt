@@ -19,7 +19,7 @@ pub record Point : Type 0 where
   pub reads_answered : ℕ  -- how many of these, from the first on, are known to be logged
   pub una : ℕ  -- SND.UNA: the units of output that are acknowledged
   pub sent : ℕ  -- SND.NXT: the units of output that are sent
-  pub edge : ℕ  -- SND.UNA + SND.WND: the client's right edge, from which on nothing may be sent
+  pub edge : ℕ  -- the client's right edge, from which on nothing may be sent. It is absolute: SND.UNA + SND.WND when a segment sets it, and it stays where only SND.UNA moves
   pub wl1 : ℤ  -- SND.WL1: where the segment began that set the edge last
   pub wl2 : ℕ  -- SND.WL2: what it acknowledged
   pub counted : Bool  -- whether an acknowledgement has counted. Until then the SYN is unacknowledged

@@ -5,6 +5,7 @@ use Rattle.std.specs.List.{list_any}
 use Rattle.ft_io.specs.declared.Addr.{Addr}
 use Rattle.ft_io.specs.declared.Key.{Key}
 use Rattle.ft_io.specs.Key.{key_eq}
+use Rattle.seq_arith.specs.declared.flags.TheConstants.{ACK}
 use Rattle.seq_arith.specs.Number.{number_at}
 use Rattle.seq_arith.specs.Packet.{Segment}
 use Rattle.seq_arith.specs.Message.{EntryHead, Body}
@@ -109,7 +110,7 @@ holding_segment server head = record {
     dport = head.key.port;
     seq = number_at head.sisn head.acked;
     ack = number_at head.cisn (head.length + one_if head.fin);
-    flags = 16;
+    flags = ACK;
     window = 0;
     mss = None;
   };

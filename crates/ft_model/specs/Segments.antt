@@ -2,6 +2,7 @@
 -- are in the one head that all these segments share, the law Output in `text_at` and `fin_if_closed`.
 use Rattle.std.specs.Prelude.{ℕ, Bool, false, zero, suc, ◌+◌, ◌-◌, ◌==◌, ◌&&◌, ◌||◌, not, nat_lt, nat_le, max, min, Option, Some, None, List, [], ◌∷◌, ◌++◌, take, drop, if◌then◌else◌}
 use Rattle.ft_io.specs.declared.Addr.{Addr}
+use Rattle.seq_arith.specs.declared.flags.TheConstants.{FIN, SYN, ACK}
 use Rattle.seq_arith.specs.Number.{number_at}
 use Rattle.seq_arith.specs.Packet.{Head, Segment}
 use Rattle.server_trait.specs.Service.{Machine}
@@ -31,21 +32,21 @@ head_to server p seq flags mss = record {
   mss = mss;
 }
 
--- a segment at an offset of the output, with ACK alone (16), or FIN and ACK (17)
+-- a segment at an offset of the output
 abbrev pub segment_at : Addr → Point → (offset flags : ℕ) → List ℕ → Segment
 segment_at server p offset flags payload = record { head = head_to server p (number_at p.sisn offset) flags None; payload = payload }
 
 -- the SYN-ACK, with the kept numbers. No client byte is taken where it is sent, so it acknowledges the SYN and has the whole window
 abbrev pub syn_ack : Addr → Point → Segment
-syn_ack server p = record { head = head_to server p p.sisn 18 (Some 1460); payload = [] }
+syn_ack server p = record { head = head_to server p p.sisn (SYN + ACK) (Some 1460); payload = [] }
 
 -- Output: text is a part of the uncrashed server's output over the logged reads
 abbrev pub text_at : {State : Type 0} → Machine State → Addr → Point → (offset n : ℕ) → Segment
-text_at service server p offset n = segment_at server p offset 16 (take n (drop offset (answered_run service p).output))
+text_at service server p offset n = segment_at server p offset ACK (take n (drop offset (answered_run service p).output))
 
 -- Output: the FIN stands behind all of it, in a segment of its own ..
 abbrev pub fin_segment : {State : Type 0} → Machine State → Addr → Point → Segment
-fin_segment service server p = segment_at server p (released service p) 17 []
+fin_segment service server p = segment_at server p (released service p) (FIN + ACK) []
 
 -- .. and goes out only where a logged read has closed the service. So it is new, sent again or probed
 abbrev pub fin_if_closed : {State : Type 0} → Machine State → Addr → Point → List Segment
@@ -53,7 +54,7 @@ fin_if_closed service server p = if (answered_run service p).closed then fin_seg
 
 -- a segment without data stands at SND.NXT
 abbrev pub bare_segment : Addr → Point → Segment
-bare_segment server p = segment_at server p p.sent 16 []
+bare_segment server p = segment_at server p p.sent ACK []
 
 -- so many bytes from an offset on, in at most k segments, of the segment size each but the last
 abbrev pub texts : {State : Type 0} → Machine State → Addr → Point → (k offset left : ℕ) → List Segment

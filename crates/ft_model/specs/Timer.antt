@@ -25,18 +25,19 @@ must_run service p = not p.counted || nat_lt p.una (max p.sent (target service p
 abbrev pub is_renewed : Point → Point → Bool
 is_renewed before after = nat_lt before.una after.una || (after.counted && not before.counted)
 
--- it starts anew: it didn't run, or something new was acknowledged
-abbrev pub starts : Point → Point → Bool
-starts before after = before.rest == 0 || is_renewed before after
+-- what the timer did before counts no more: it stood still, or something new was acknowledged. Whether it runs now is asked apart, so this holds too
+-- of a timer that goes on standing still
+abbrev pub is_set_anew : Point → Point → Bool
+is_set_anew before after = before.rest == 0 || is_renewed before after
 
--- the interval is 1 tick at the start and doubles at each expiry, up to 64
+-- the interval is 1 tick when it is set anew and doubles at each expiry, up to 64
 unfoldable pub interval_after : News → Point → Point → ℕ
-interval_after news before after = if starts before after then 1 else (if expires news before then min 64 (2 * before.interval) else before.interval)
+interval_after news before after = if is_set_anew before after then 1 else (if expires news before then min 64 (2 * before.interval) else before.interval)
 
--- the ticks that are left: a whole interval when it starts or has expired, and one less at each other tick
+-- the ticks that are left, if it must run: a whole interval when it is set anew or has expired, and one less at each other tick
 unfoldable pub rest_after : {State : Type 0} → Machine State → News → Point → Point → ℕ
 rest_after service news before after =
     if must_run service after
-    then (if starts before after || expires news before then interval_after news before after
+    then (if is_set_anew before after || expires news before then interval_after news before after
     else (if is_tick news then before.rest - 1 else before.rest))
     else 0

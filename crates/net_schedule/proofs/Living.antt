@@ -13,7 +13,7 @@ use Rattle.ft_model.specs.Taken.{accepts, counts, taken_after, fin_after, contin
 use Rattle.ft_model.specs.Answered.{answered_after, reads_answered_after}
 use Rattle.ft_model.specs.Reads.{Makes, reads_told, read_messages}
 use Rattle.ft_model.specs.Sending.{counted_after, acknowledged_after, edge_after, wl1_after, wl2_after, sent_at_once, sent_after}
-use Rattle.ft_model.specs.Timer.{is_tick, expires, starts, must_run, interval_after, rest_after}
+use Rattle.ft_model.specs.Timer.{is_tick, expires, is_set_anew, must_run, interval_after, rest_after}
 use Rattle.ft_model.specs.Owed.{owes, asks, is_owed}
 use Rattle.ft_model.specs.Segments.{opens_with, resent, new_texts, new_fin, full_segments, segments_of}
 use Rattle.ft_model.specs.Copy.{copies}
@@ -81,7 +81,7 @@ sent_is service news r v w calm runs at = rw (target_is service w runs, no_tick 
 interval_is : (news : News) (r : ℕ) {State : Type 0} (v : Live State) (q : Point) → IsCalm news → 1 ≡ interval_after news (point_with r v) q
 unfolding interval_after
 interval_is news r v q calm =
-    both_ways (starts (point_with r v) q) (λ e. rw e refl) (λ e. rw (e, no_tick news calm) refl)
+    both_ways (is_set_anew (point_with r v) q) (λ e. rw e refl) (λ e. rw (e, no_tick news calm) refl)
 
 started_again : (r : ℕ) → r ≤ 1 → (r == 0) ≡ false → r ≡ 1
 started_again r h e = grind (arith, nat_tests)
@@ -91,10 +91,10 @@ or_left true c e = e
 or_left false c e = refl
 
 running : {State : Type 0} (news : News) (r : ℕ) (v : Live State) (q : Point) → IsCalm news → r ≤ 1
-    → 1 ≡ (if starts (point_with r v) q || expires news (point_with r v) then interval_after news (point_with r v) q else (if is_tick news then r - 1 else r))
+    → 1 ≡ (if is_set_anew (point_with r v) q || expires news (point_with r v) then interval_after news (point_with r v) q else (if is_tick news then r - 1 else r))
 unfolding interval_after
 running news r v q calm h =
-    both_ways (starts (point_with r v) q)
+    both_ways (is_set_anew (point_with r v) q)
     (λ e. rw e refl)
     (λ e. let one : r ≡ 1 = started_again r h (or_left (r == 0) _ e) in rw (e, no_tick news calm) (sym one))
 

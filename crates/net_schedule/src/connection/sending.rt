@@ -1,10 +1,11 @@
 //! What a connection sends to its client and tells the logger: each packet says how the connection stands after the turn.
 
-ghost use Rattle.std.specs.Prelude.{◌≡◌, ℕ, ◌&&◌, pos, nat_abs, ◌+ℤ◌, ◌+◌, ◌-◌, ◌<◌, ◌≤◌, ◌^◌, take, ◌||◌, not, ◌==◌, nat_lt, false, [], ◌∷◌, ◌++◌, List, length, map, drop, OnOk, if◌then◌else◌, IfOk, Some};
+ghost use Rattle.std.specs.Prelude.{◌≡◌, ℕ, ◌&&◌, max, ◌+◌, ◌-◌, ◌<◌, ◌≤◌, ◌^◌, take, ◌||◌, not, ◌==◌, nat_lt, false, [], ◌∷◌, ◌++◌, List, length, map, drop, OnOk, if◌then◌else◌, IfOk, Some};
 ghost use Rattle.schedule_text.specs.Packet.{segment_of, packet_of};
 ghost use Rattle.ft_model.specs.Network.Packet.{To_client};
 ghost use Rattle.ft_model.specs.Connection.{told_by};
 ghost use Rattle.ft_model.specs.Reads.{read_messages};
+ghost use Rattle.ft_model.specs.Copy.{from_start};
 ghost use Rattle.seq_arith.specs.Arrival.{below};
 ghost use Rattle.seq_arith.specs.Value.{said};
 
@@ -64,7 +65,7 @@ pub fn put_reads(
 /// Where the part of a text that begins at `first` begins that is not known to be logged.
 fn copy_start(answered: u64, first: i64) -> u64
     requires { answered < 2 ^ 63 }
-    ensures { result ≡ nat_abs (first +ℤ pos (below answered first)) }
+    ensures { result ≡ max answered (from_start first) }
 {
     if first >= 0 {
         answered.max(first as u64)
