@@ -5,6 +5,10 @@ use Rattle.seq_arith.specs.Packet.{Segment, with_seq, with_ack, with_window}
 use Rattle.seq_arith.specs.PacketGrammar.{tcp_text, spelled, spelling}
 use Rattle.segment_codec.specs.Change.{put, sealed}
 
+pub spelling_is_sealed : (segment : Segment) → sealed (spelling segment) ≡ spelling segment
+unfolding sealed put two four spelling spelled tcp_text
+spelling_is_sealed segment = refl
+
 pub seq_spelled : (segment : Segment) (seq : ℕ) → sealed (put 24 (four seq) (spelling segment)) ≡ spelling (with_seq seq segment)
 unfolding sealed put two four spelling spelled tcp_text
 seq_spelled segment seq = refl

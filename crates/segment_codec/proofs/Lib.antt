@@ -4,3 +4,5 @@ pub mod Options
 pub mod Pieces
 pub mod Placing
 pub mod Refusals
+pub mod Patching
+pub mod Setters

@@ -1,9 +1,11 @@
 //! Packets from outside: most were made by scapy 2.5.0 (Debian's python3-scapy), with `raw(IP(..)/TCP(..))` or with bytes
 //! changed and both checksums then summed by scapy's `checksum`. A row of a table gives the bytes in which its packet differs from `SYN`.
+//! What a setter is to leave was summed anew by a few lines of Python.
 
 ghost use Rattle.std.specs.Prelude.{◌≤◌};
 
 use super::*;
+use seq_arith::{Seq, flip};
 
 /// A SYN from 192.0.2.1:40000 to 192.0.2.100:7, number 1000, window 65535, no option.
 const SYN: &[u8; 40] =
@@ -16,7 +18,7 @@ const SYN_HEAD: Head = Head {
     dport: 7,
     seq: Seq(1000),
     ack: Seq(0),
-    flags: 0x02,
+    flags: seq_arith::SYN,
     window: 65_535,
     mss: None,
 };
@@ -53,7 +55,7 @@ fn linux_syn(rt: HostRuntime) {
     match read_packet(LINUX_SYN) {
         Ok(packet) => {
             assert_eq!(rt; packet.head.seq, Seq(1000));
-            assert_eq!(rt; packet.head.flags, 0x02);
+            assert_eq!(rt; packet.head.flags, seq_arith::SYN);
             assert_eq!(rt; packet.head.window, 64_240);
             assert_eq!(rt; packet.head.mss, Some(1460));
             assert_eq!(rt; packet.payload.len(), 0);
@@ -445,32 +447,100 @@ fn written_packet(rt: HostRuntime) {
     );
 }
 
+/// The SYN with the number that makes its TCP checksum 0000, and then with FFFF in that place, which sums as well.
+const ZERO: &[u8; 40] =
+    b"\x45\x00\x00\x28\x00\x00\x40\x00\x40\x06\xb6\x6a\xc0\x00\x02\x01\xc0\x00\x02\x64\x9c\x40\x00\x07\x8b\x4d\x03\xe8\x00\x00\x00\x00\x50\x02\xff\xff\x00\x00\x00\x00";
+
+const ONES: &[u8; 40] =
+    b"\x45\x00\x00\x28\x00\x00\x40\x00\x40\x06\xb6\x6a\xc0\x00\x02\x01\xc0\x00\x02\x64\x9c\x40\x00\x07\x8b\x4d\x03\xe8\x00\x00\x00\x00\x50\x02\xff\xff\xff\xff\x00\x00";
+
+#[derive(Clone, Copy)]
+enum Field {
+    Seq(u32),
+    Ack(u32),
+    Window(u16),
+}
+
 #[test]
 fn patch(rt: HostRuntime) {
-    for (what, field, want) in [
+    for (what, from, field, want) in [
         (
-            "seq",
-            0,
-            &b"\x45\x00\x00\x28\x00\x00\x40\x00\x40\x06\xb6\x6a\xc0\x00\x02\x01\xc0\x00\x02\x64\x9c\x40\x00\x07\x00\x00\x03\xe9\x00\x00\x00\x00\x50\x02\xff\xff\x8b\x4c\x00\x00"[..],
+            "number 1001",
+            SYN,
+            Field::Seq(1001),
+            b"\x00\x00\x03\xe9\x00\x00\x00\x00\x50\x02\xff\xff\x8b\x4c",
         ),
         (
-            "ack",
-            1,
-            &b"\x45\x00\x00\x28\x00\x00\x40\x00\x40\x06\xb6\x6a\xc0\x00\x02\x01\xc0\x00\x02\x64\x9c\x40\x00\x07\x00\x00\x03\xe8\x00\x00\x00\x4d\x50\x02\xff\xff\x8b\x00\x00\x00"[..],
+            "number 0",
+            SYN,
+            Field::Seq(0),
+            b"\x00\x00\x00\x00\x00\x00\x00\x00\x50\x02\xff\xff\x8f\x35",
         ),
         (
-            "window",
-            2,
-            &b"\x45\x00\x00\x28\x00\x00\x40\x00\x40\x06\xb6\x6a\xc0\x00\x02\x01\xc0\x00\x02\x64\x9c\x40\x00\x07\x00\x00\x03\xe8\x00\x00\x00\x00\x50\x02\x00\x09\x8b\x44\x00\x00"[..],
+            "a sum of 0000",
+            SYN,
+            Field::Seq(0x8B4D_03E8),
+            b"\x8b\x4d\x03\xe8\x00\x00\x00\x00\x50\x02\xff\xff\x00\x00",
+        ),
+        (
+            "acknowledgement 77",
+            SYN,
+            Field::Ack(77),
+            b"\x00\x00\x03\xe8\x00\x00\x00\x4d\x50\x02\xff\xff\x8b\x00",
+        ),
+        (
+            "the last acknowledgement",
+            SYN,
+            Field::Ack(0xFFFF_FFFF),
+            b"\x00\x00\x03\xe8\xff\xff\xff\xff\x50\x02\xff\xff\x8b\x4d",
+        ),
+        (
+            "window 9",
+            SYN,
+            Field::Window(9),
+            b"\x00\x00\x03\xe8\x00\x00\x00\x00\x50\x02\x00\x09\x8b\x44",
+        ),
+        (
+            "window 9 from 0000",
+            ZERO,
+            Field::Window(9),
+            b"\x8b\x4d\x03\xe8\x00\x00\x00\x00\x50\x02\x00\x09\xff\xf6",
+        ),
+        (
+            "window 9 from FFFF",
+            ONES,
+            Field::Window(9),
+            b"\x8b\x4d\x03\xe8\x00\x00\x00\x00\x50\x02\x00\x09\xff\xf6",
         ),
     ] {
-        let mut bytes = *SYN;
-        match read_packet(&bytes) {
-            Ok(_) if field == 0 => set_seq(&mut bytes, Seq(1001)),
-            Ok(_) if field == 1 => set_ack(&mut bytes, Seq(77)),
-            Ok(_) => set_window(&mut bytes, 9),
-            Err(bad) => panic!(rt; "{bad:?}"),
+        assert_eq!(rt; refusal_of(from), None, "{what}");
+        let mut bytes = *from;
+        match field {
+            Field::Seq(seq) => set_seq(&mut bytes, Seq(seq)),
+            Field::Ack(ack) => set_ack(&mut bytes, Seq(ack)),
+            Field::Window(window) => set_window(&mut bytes, window),
         }
-        assert_eq!(rt; bytes.as_slice(), want, "{what}");
+        assert_eq!(rt; &bytes[..24], &from[..24], "{what}");
+        assert_eq!(rt; &bytes[24..38], &want[..], "{what}");
+        assert_eq!(rt; &bytes[38..], &from[38..], "{what}");
+    }
+}
+
+#[test]
+fn flipped_bits(rt: HostRuntime) {
+    for packet in [
+        &SYN[..],
+        &LINUX_SYN[..],
+        &b"\x45\x00\x00\x2f\x00\x00\x40\x00\x40\x06\xb6\x63\xc0\x00\x02\x01\xc0\x00\x02\x64\x9c\x40\x00\x07\xff\xff\xff\xfe\x00\x00\x13\x89\x60\xf9\x10\x00\x7f\x92\x00\x00\x02\x04\x05\xb4\x6f\x64\x64"[..],
+    ] {
+        assert_eq!(rt; refusal_of(packet), None);
+        let mut bytes = [0u8; 64];
+        let len = packet.len().min(64);
+        bytes[..len].copy_from_slice(&packet[..len]);
+        for bit in 0..8 * len {
+            flip(&mut bytes[..len], bit);
+            assert!(rt; refusal_of(&bytes[..len]).is_some(), "bit {bit}");
+            flip(&mut bytes[..len], bit);
+        }
     }
 }

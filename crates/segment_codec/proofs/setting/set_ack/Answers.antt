@@ -1,28 +1,22 @@
-use Rattle.std.proofs.Common.{ap, arith, ◌∙◌}
+use Rattle.std.proofs.Common.{◌%◌, ◌++◌, ap, sym, arith, ◌∙◌}
 use Rattle.seq_arith.specs.Bytes.{four}
-use Rattle.segment_codec.specs.Change.{put, sealed}
-use Rattle.segment_codec.proofs.Canonical.{ack_spelled}
-use Rattle.segment_codec.proofs.Cells.{ack_set, long_enough, short_enough, still_accepted}
-use Rattle.seq_arith.specs.Packet.{with_ack}
 use Rattle.seq_arith.specs.PacketGrammar.{reading}
+use Rattle.segment_codec.specs.Change.{put, sealed, patched_at}
+use Rattle.segment_codec.proofs.Canonical.{ack_spelled, spelling_is_sealed}
+use Rattle.segment_codec.proofs.Setters.{ack_read, ack_summed}
 use Rattle.segment_codec.proofs.setting.set_ack.Goals as goal
 
-pub put_long-requires : goal.put_long-requires
-put_long-requires c = omega (arith, long_enough c.args.bytes.now c.requires)
-
-pub seal-requires-clause-long : goal.seal-requires-clause-long
-seal-requires-clause-long c = omega (arith, long_enough c.args.bytes.now c.requires)
-
-pub seal-requires-clause-short : goal.seal-requires-clause-short
-seal-requires-clause-short c = omega (arith, short_enough c.args.bytes.now c.requires)
+pub returns-clause-bytes : goal.returns-clause-bytes
+returns-clause-bytes c = c.patch_word-2.ensures.bytes ∙ ap (patched_at 30 (c.args.ack.0 % 65536)) c.patch_word.ensures.bytes
 
 pub returns-clause-read : goal.returns-clause-read
-returns-clause-read c =
-    ap reading (c.seal.ensures ∙ ap sealed c.put_long.ensures) ∙ ack_set c.args.bytes.now c.args.ack.0 (omega arith) c.requires
+returns-clause-read c rest ok =
+    ap (λ b. reading (b ++ rest)) (returns-clause-bytes c) ∙ ack_read c.args.head.now rest c.args.ack.0 (omega arith) c.requires c.patch_word.ensures.octets ok
+
+pub returns-clause-summed : goal.returns-clause-summed
+returns-clause-summed c rest is =
+    ap (λ b. b ++ rest) (returns-clause-bytes c) ∙ ack_summed c.args.head.now rest c.args.ack.0 (omega arith) c.requires c.patch_word.ensures.octets is
 
 pub returns-clause-canonical : goal.returns-clause-canonical
-returns-clause-canonical c segment is =
-    c.seal.ensures ∙ ap sealed (c.put_long.ensures ∙ ap (put 28 (four c.args.ack.0)) is) ∙ ack_spelled segment c.args.ack.0
-
-pub returns-clause-accepted : goal.returns-clause-accepted
-returns-clause-accepted c = still_accepted (with_ack c.args.ack.0) c.args.bytes.now c.seal.new.bytes c.requires (returns-clause-read c)
+returns-clause-canonical c segment rest is =
+    returns-clause-summed c rest (ap sealed is ∙ spelling_is_sealed segment ∙ sym is) ∙ ap (λ b. sealed (put 28 (four c.args.ack.0) b)) is ∙ ack_spelled segment c.args.ack.0

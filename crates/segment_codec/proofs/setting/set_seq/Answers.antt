@@ -1,28 +1,22 @@
-use Rattle.std.proofs.Common.{ap, arith, ◌∙◌}
+use Rattle.std.proofs.Common.{◌%◌, ◌++◌, ap, sym, arith, ◌∙◌}
 use Rattle.seq_arith.specs.Bytes.{four}
-use Rattle.segment_codec.specs.Change.{put, sealed}
-use Rattle.segment_codec.proofs.Canonical.{seq_spelled}
-use Rattle.segment_codec.proofs.Cells.{seq_set, long_enough, short_enough, still_accepted}
-use Rattle.seq_arith.specs.Packet.{with_seq}
 use Rattle.seq_arith.specs.PacketGrammar.{reading}
+use Rattle.segment_codec.specs.Change.{put, sealed, patched_at}
+use Rattle.segment_codec.proofs.Canonical.{seq_spelled, spelling_is_sealed}
+use Rattle.segment_codec.proofs.Setters.{seq_read, seq_summed}
 use Rattle.segment_codec.proofs.setting.set_seq.Goals as goal
 
-pub put_long-requires : goal.put_long-requires
-put_long-requires c = omega (arith, long_enough c.args.bytes.now c.requires)
-
-pub seal-requires-clause-long : goal.seal-requires-clause-long
-seal-requires-clause-long c = omega (arith, long_enough c.args.bytes.now c.requires)
-
-pub seal-requires-clause-short : goal.seal-requires-clause-short
-seal-requires-clause-short c = omega (arith, short_enough c.args.bytes.now c.requires)
+pub returns-clause-bytes : goal.returns-clause-bytes
+returns-clause-bytes c = c.patch_word-2.ensures.bytes ∙ ap (patched_at 26 (c.args.seq.0 % 65536)) c.patch_word.ensures.bytes
 
 pub returns-clause-read : goal.returns-clause-read
-returns-clause-read c =
-    ap reading (c.seal.ensures ∙ ap sealed c.put_long.ensures) ∙ seq_set c.args.bytes.now c.args.seq.0 (omega arith) c.requires
+returns-clause-read c rest ok =
+    ap (λ b. reading (b ++ rest)) (returns-clause-bytes c) ∙ seq_read c.args.head.now rest c.args.seq.0 (omega arith) c.requires c.patch_word.ensures.octets ok
+
+pub returns-clause-summed : goal.returns-clause-summed
+returns-clause-summed c rest is =
+    ap (λ b. b ++ rest) (returns-clause-bytes c) ∙ seq_summed c.args.head.now rest c.args.seq.0 (omega arith) c.requires c.patch_word.ensures.octets is
 
 pub returns-clause-canonical : goal.returns-clause-canonical
-returns-clause-canonical c segment is =
-    c.seal.ensures ∙ ap sealed (c.put_long.ensures ∙ ap (put 24 (four c.args.seq.0)) is) ∙ seq_spelled segment c.args.seq.0
-
-pub returns-clause-accepted : goal.returns-clause-accepted
-returns-clause-accepted c = still_accepted (with_seq c.args.seq.0) c.args.bytes.now c.seal.new.bytes c.requires (returns-clause-read c)
+returns-clause-canonical c segment rest is =
+    returns-clause-summed c rest (ap sealed is ∙ spelling_is_sealed segment ∙ sym is) ∙ ap (λ b. sealed (put 24 (four c.args.seq.0) b)) is ∙ seq_spelled segment c.args.seq.0
