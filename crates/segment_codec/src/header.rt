@@ -26,8 +26,8 @@ pub fn write_header(head: &Head, packet: &mut [u8])
     seal_both(packet);
 }
 
-/// Where the payload stands behind the options.
-pub(crate) fn payload_start(mss: Option<u16>) -> usize
+/// Where the payload stands in a packet that is written: behind the headers, in bytes from its beginning.
+pub fn payload_start(mss: Option<u16>) -> usize
     ensures { result ≡ 40 + length (mss_option mss) }
 {
     match mss {

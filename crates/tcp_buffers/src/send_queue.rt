@@ -4,7 +4,7 @@
 ghost use Rattle.std.specs.Prelude.{◌≡◌, ◌+◌, ◌-◌, ◌≤◌, ◌==◌, List, [], ◌++◌, length, min, take, drop, IfOk};
 
 use crate::QUEUE_ROOM;
-use crate::copying::copy_behind;
+use crate::copying::{copy_behind, first_of, halves_behind};
 use circular_buffer::HeapCircularBuffer;
 use ft_io::NoMemory;
 use std::alloc::Global;
@@ -71,6 +71,15 @@ impl SendQueue {
         ensures bytes { out.new ≡ take result (drop from self.now) ++ drop result out.old }
     {
         copy_behind(&self.bytes, from, out)
+    }
+
+    /// The `n` bytes from place `from` on, in two pieces, as they lie.
+    pub fn text(&self, from: usize, n: usize) -> (&[u8], &[u8])
+        requires { from + n ≤ length self.now }
+        ensures { result.0.now ++ result.1.now ≡ take n (drop from self.now) }
+    {
+        let (front, back) = halves_behind(&self.bytes, from);
+        first_of(front, back, n)
     }
 
     /// Lets go of the `n` oldest bytes.

@@ -43,6 +43,19 @@ pieces_push start (end ∷ ends) bytes packet h =
     let within : end ≤ length bytes = climbs_over end ends (length bytes) h.1
     in rw (first_kept start end bytes packet h.0 within, pieces_push end ends bytes packet h.1) refl
 
+-- a packet that is appended, and its end noted, is one more piece
+pub appended : (ends bytes packet ends' bytes' : List ℕ) (end : ℕ) → ClimbsTo 0 ends (length bytes) → bytes' ≡ bytes ++ packet → ends' ≡ ends ++ end ∷ [] → end ≡ length bytes'
+    → pieces 0 ends' bytes' ≡ pieces 0 ends bytes ++ packet ∷ []
+appended ends bytes packet ends' bytes' end h bytes_is ends_is is =
+    let size : end ≡ length bytes + length packet = is ∙ ap length bytes_is ∙ length-append bytes packet
+    in rw (ends_is, bytes_is, size) (pieces_push 0 ends bytes packet h)
+
+pub appended_climbs : (ends bytes packet ends' bytes' : List ℕ) (end : ℕ) → ClimbsTo 0 ends (length bytes) → bytes' ≡ bytes ++ packet → ends' ≡ ends ++ end ∷ [] → end ≡ length bytes'
+    → ClimbsTo 0 ends' (length bytes')
+appended_climbs ends bytes packet ends' bytes' end h bytes_is ends_is is =
+    let up : length bytes ≤ length bytes' = omega (arith, ap length bytes_is, length-append bytes packet)
+    in rw (ends_is, is) (climbs_push 0 ends (length bytes) (length bytes') h up)
+
 -- piece i begins where the one before it ends, and lies within the string
 pub bounds_at : (start : ℕ) (ends : List ℕ) (end i : ℕ) → ClimbsTo start ends end → i < length ends
     → (slice_index (start ∷ ends) i ≤ slice_index ends i) × (slice_index ends i ≤ end)

@@ -1,11 +1,12 @@
 -- What goes out, as lists of packets.
-use Rattle.std.proofs.Common.{◌≡◌, ℕ, ◌<◌, ◌≤◌, ◌+◌, ◌-◌, zero, suc, Bool, true, false, min, List, [], ◌∷◌, ◌++◌, length, refl, sym, ap, arith, ◌∙◌, append_assoc, append-nil}
-use Rattle.std.specs.Prelude.{Option, None, Some, if◌then◌else◌, nat_lt}
+use Rattle.std.proofs.Common.{◌≡◌, ℕ, ◌<◌, ◌≤◌, ◌+◌, ◌-◌, zero, suc, Bool, true, false, min, List, [], ◌∷◌, ◌++◌, length, refl, sym, ap, subst, arith, ◌∙◌, append_assoc, append-nil}
+use Rattle.std.specs.Prelude.{Option, None, Some, if◌then◌else◌, nat_lt, ◌==◌, ◌&&◌}
+use Rattle.std.proofs.lemmas.Bool.{false≢true}
 use Rattle.std.proofs.lemmas.List.{map-append}
 use Rattle.seq_arith.specs.Packet.{Segment}
 use Rattle.seq_arith.specs.PacketGrammar.{mss_option, packet_length, spelling}
 use Rattle.seq_arith.proofs.Spelling.{size}
-use Rattle.tcp_endpoint.specs.Packets.{byte_count}
+use Rattle.tcp_endpoint.specs.Packets.{byte_count, IsReadable, AreReadable}
 use Rattle.tcp_endpoint.specs.Tcb.{Tcb}
 use Rattle.tcp_endpoint.specs.Leaving.{text_at, texts, answer_out, again_out, probe_out, with_probe, text_out, with_text_sent, fin_out, full_out, after_full, is_owed, bare_segment, leaving, packets, or_bare}
 
@@ -60,10 +61,10 @@ enough (suc j) (suc k) e place left m p q =
     (λ some. enough j k e (place + min left e.sending.mss) (left - min left e.sending.mss) m (grind arith) (grind arith))
 
 -- the first segment of a text, and the rest
-pub texts_begin : (e : Tcb) (place left : ℕ) → 0 < e.sending.mss → 0 < left
-    → packets (texts left e place left)
-    ≡ spelling (text_at e place (min left e.sending.mss)) ∷ packets (texts (left - min left e.sending.mss) e (place + min left e.sending.mss) (left - min left e.sending.mss))
-unfolding texts packets
+texts_begin : (e : Tcb) (place left : ℕ) → 0 < e.sending.mss → 0 < left
+    → texts left e place left
+    ≡ text_at e place (min left e.sending.mss) ∷ texts (left - min left e.sending.mss) e (place + min left e.sending.mss) (left - min left e.sending.mss)
+unfolding texts
 texts_begin e place zero m some = absurd (omega arith)
 texts_begin e place (suc left) m some =
     let rest : texts left e (place + min (suc left) e.sending.mss) (suc left - min (suc left) e.sending.mss)
@@ -71,6 +72,10 @@ texts_begin e place (suc left) m some =
     enough left (suc left - min (suc left) e.sending.mss) e _ _ m (grind arith) (omega arith)
     in let test : nat_lt 0 (suc left) ≡ true = grind arith
     in rw (test, rest) refl
+
+packets_begin : (first : Segment) (rest : List Segment) → packets (first ∷ rest) ≡ spelling first ∷ packets rest
+unfolding packets
+packets_begin first rest = refl
 
 pub texts_end : (k : ℕ) (e : Tcb) (place : ℕ) → packets (texts k e place 0) ≡ []
 unfolding texts packets
@@ -98,7 +103,7 @@ pub texts_step : (e : Tcb) (out after whole : List (List ℕ)) (place left n : �
     → after ++ packets (texts (left - n) e (place + n) (left - n)) ≡ whole
 texts_step e out after whole place left n m some is put before =
     let begins : packets (texts left e place left) ≡ spelling (text_at e place n) ∷ packets (texts (left - n) e (place + n) (left - n)) =
-    rw is (texts_begin e place left m some)
+    rw is (ap packets (texts_begin e place left m some) ∙ packets_begin _ _)
     in ap (λ ps. ps ++ packets (texts (left - n) e (place + n) (left - n))) put
     ∙ append_assoc out (spelling (text_at e place n) ∷ []) (packets (texts (left - n) e (place + n) (left - n)))
     ∙ ap (λ ps. out ++ ps) (sym begins)
@@ -108,3 +113,53 @@ texts_step e out after whole place left n m some is put before =
 pub texts_done : (e : Tcb) (out whole : List (List ℕ)) (place left : ℕ) → left ≡ 0 → out ++ packets (texts left e place left) ≡ whole → out ≡ whole
 texts_done e out whole place left none before =
     sym (append-nil out) ∙ ap (λ ps. out ++ ps) (sym (rw none (texts_end 0 e place))) ∙ before
+
+-- a text is readable where its first segment and the rest are
+pub text_readable : (e : Tcb) (place left n : ℕ) → 0 < e.sending.mss → 0 < left → n ≡ min left e.sending.mss
+    → IsReadable (text_at e place n) → AreReadable (texts (left - n) e (place + n) (left - n)) → AreReadable (texts left e place left)
+text_readable e place left n m some is first rest =
+    let begins : texts left e place left ≡ text_at e place n ∷ texts (left - n) e (place + n) (left - n) = rw is (texts_begin e place left m some)
+    in subst AreReadable (sym begins) (first, rest)
+
+pub no_text_readable : (e : Tcb) (place left : ℕ) → left ≡ 0 → AreReadable (texts left e place left)
+unfolding texts
+no_text_readable e place zero none = tt
+no_text_readable e place (suc left) none = absurd (omega arith)
+
+pub all_readable : (xs ys : List Segment) → AreReadable xs → AreReadable ys → AreReadable (xs ++ ys)
+all_readable [] ys h g = g
+all_readable (x ∷ xs) ys h g = (h.0, all_readable xs ys h.1 g)
+
+-- a segment without data goes out alone
+pub bare_readable : (bare : Segment) (owed : Bool) (full : List Segment) → IsReadable bare → AreReadable full → AreReadable (or_bare owed bare full)
+bare_readable bare true [] first all = (first, tt)
+bare_readable bare false [] first all = tt
+bare_readable bare owed (segment ∷ segments) first all = all
+
+-- or not at all, where it isn't owed or another goes out
+pub unowed_readable : (bare : Segment) (owed : Bool) (full : List Segment) → owed ≡ false → AreReadable full → AreReadable (or_bare owed bare full)
+unowed_readable bare true [] none all = absurd (false≢true (sym none))
+unowed_readable bare false [] none all = tt
+unowed_readable bare owed (segment ∷ segments) none all = all
+
+pub full_is_readable : (bare : Segment) (owed : Bool) (full : List Segment) → (length (packets full) == 0) ≡ false → AreReadable full → AreReadable (or_bare owed bare full)
+unfolding packets
+full_is_readable bare owed [] some all = absurd (false≢true (sym some))
+full_is_readable bare owed (segment ∷ segments) some all = all
+
+pub full_readable : (e : Tcb) → AreReadable (answer_out e) → AreReadable (again_out e) → AreReadable (probe_out e) → AreReadable (text_out (with_probe e))
+    → AreReadable (fin_out (with_text_sent (with_probe e))) → AreReadable (full_out e)
+unfolding full_out
+full_readable e answer again probe text fin =
+    all_readable (answer_out e ++ again_out e ++ probe_out e ++ text_out (with_probe e)) (fin_out (with_text_sent (with_probe e)))
+    (all_readable (answer_out e ++ again_out e ++ probe_out e) (text_out (with_probe e))
+    (all_readable (answer_out e ++ again_out e) (probe_out e) (all_readable (answer_out e) (again_out e) answer again) probe) text) fin
+
+pub packets_full : (e : Tcb)
+    → packets (answer_out e) ++ packets (again_out e) ++ packets (probe_out e) ++ packets (text_out (with_probe e)) ++ packets (fin_out (with_text_sent (with_probe e))) ≡ packets (full_out e)
+unfolding full_out
+packets_full e = sym (packets_of_five (answer_out e) (again_out e) (probe_out e) (text_out (with_probe e)) (fin_out (with_text_sent (with_probe e))))
+
+pub leaving_readable : (e after : Tcb) → after ≡ after_full e → AreReadable (or_bare (is_owed after) (bare_segment after) (full_out e)) → AreReadable (leaving e)
+unfolding leaving
+leaving_readable e after is h = subst (λ (f : Tcb). AreReadable (or_bare (is_owed f) (bare_segment f) (full_out e))) is h

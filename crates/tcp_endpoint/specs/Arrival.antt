@@ -1,5 +1,5 @@
 -- What a segment that arrives makes of an endpoint: the checks of RFC 9293, 3.10.7, in their order, one definition a check.
-use Rattle.std.specs.Prelude.{ℕ, ℤ, Bool, true, pos, ◌+◌, ◌%◌, ◌^◌, ◌&&◌, ◌||◌, not, nat_lt, int_lt, None, Some, if◌then◌else◌, ◌+ℤ◌, length}
+use Rattle.std.specs.Prelude.{ℕ, ℤ, Bool, true, pos, ◌+◌, ◌%◌, ◌^◌, ◌&&◌, ◌||◌, not, nat_lt, int_lt, None, Some, if◌then◌else◌, ◌+ℤ◌, length, take}
 use Rattle.seq_arith.specs.Arrival.{int_eq, is_acceptable}
 use Rattle.seq_arith.specs.Packet.{Segment, has_fin, has_syn, has_rst, has_ack}
 use Rattle.ft_io.specs.declared.Addr.{Addr}
@@ -159,3 +159,7 @@ received_in name e p = in_others e p
 -- a segment arrives
 unfoldable pub received : Tcb → Segment → Tcb
 received e p = received_in e.name e p
+
+-- a segment with no more text than IP's total length of two bytes has room for (RFC 791, 3.1)
+abbrev pub within_ip : Segment → Segment
+within_ip p = record p { payload = take 65535 p.payload }

@@ -1,6 +1,8 @@
 -- The packets of an outbox, in order, and how they stand one behind another in one string of bytes.
-use Rattle.std.specs.Prelude.{ℕ, List, [], ◌∷◌, ◌++◌, ◌+◌, ◌-◌, ◌≡◌, ◌≤◌, length, take, drop}
-use Rattle.std.specs.List.{refill}
+use Rattle.std.specs.Prelude.{ℕ, Ok, List, [], ◌∷◌, ◌++◌, ◌+◌, ◌-◌, ◌≡◌, ◌≤◌, length, take, drop}
+use Rattle.std.specs.List.{refill, AllByRecursion}
+use Rattle.seq_arith.specs.Packet.{Segment}
+use Rattle.seq_arith.specs.PacketGrammar.{reading, spelling}
 
 -- how many bytes these packets have
 abbrev pub byte_count : List (List ℕ) → ℕ
@@ -40,3 +42,10 @@ unfoldable pub with_bytes_at : List (List ℕ) → ℕ → List ℕ → List (Li
 with_bytes_at packets i bytes =
     let start : ℕ = byte_count (take i packets)
     in recut packets (refill (length (joined packets)) (joined packets) (take start (joined packets) ++ (bytes ++ drop (length bytes) (drop start (joined packets)))))
+
+-- a segment's spelling says that segment, so it is an accepted packet
+abbrev pub IsReadable : Segment → Type 0
+IsReadable segment = reading (spelling segment) ≡ Ok segment
+
+abbrev pub AreReadable : List Segment → Type 0
+AreReadable segments = AllByRecursion IsReadable segments

@@ -1,48 +1,44 @@
 //! A segment arrives: the checks of RFC 9293, 3.10.7, in their order, one function a check.
 
 ghost use Rattle.std.specs.Prelude.{◌≡◌, ◌+◌, ◌/◌, ◌%◌, ◌^◌, ◌<◌, ◌≤◌, ◌==◌, ◌&&◌, not, nat_lt, Bool, true, false, length, if◌then◌else◌};
-ghost use Rattle.seq_arith.specs.Packet.{is_flagged, has_fin, has_syn, has_rst, has_ack};
+ghost use Rattle.seq_arith.specs.Packet.{has_fin, has_syn, has_rst, has_ack};
 ghost use Rattle.segment_codec.specs.Value.{segment_of};
 ghost use Rattle.seq_arith.specs.Offset.{length_of};
 ghost use Rattle.tcp_buffers.specs.Near.{IsNearFirst};
 ghost use Rattle.tcp_endpoint.specs.Sending.{IsShort};
-ghost use Rattle.tcp_endpoint.specs.Arrival.{first, ack_at, refusing, refusing_without_ack, owing_if, killed, entering, in_closed, begun, in_listen, answered, in_syn_sent, with_text_and_fin, with_fin_acked, with_first_ack, with_ack, check_ack, check_syn, check_rst, waiting_again, check_place, in_others, received};
+ghost use Rattle.tcp_endpoint.specs.Arrival.{first, ack_at, refusing, refusing_without_ack, owing_if, killed, entering, in_closed, begun, in_listen, answered, in_syn_sent, with_text_and_fin, with_fin_acked, with_first_ack, with_ack, check_ack, check_syn, check_rst, waiting_again, check_place, in_others, received, within_ip};
 
 use crate::endpoint::Endpoint;
 use crate::states::StateName;
 use ft_io::Addr;
 use segment_codec::{Head, PacketRef};
-use seq_arith::Seq;
+use seq_arith::{ACK, FIN, RST, SYN, Seq, has};
 
-fn is_flagged(flag: u8, flags: u8) -> bool
-    requires { 0 < flag }
-    ensures { result ≡ is_flagged flag flags }
-{
-    flags / flag % 2 == 1
-}
+/// The most bytes that a packet of IP can have.
+const LONGEST: usize = 65_535;
 
 fn has_fin(p: PacketRef<'_>) -> bool
     ensures { result ≡ has_fin (segment_of p.entry) }
 {
-    is_flagged(1, p.head.flags)
+    has(p.head.flags, FIN)
 }
 
 fn has_syn(p: PacketRef<'_>) -> bool
     ensures { result ≡ has_syn (segment_of p.entry) }
 {
-    is_flagged(2, p.head.flags)
+    has(p.head.flags, SYN)
 }
 
 fn has_rst(p: PacketRef<'_>) -> bool
     ensures { result ≡ has_rst (segment_of p.entry) }
 {
-    is_flagged(4, p.head.flags)
+    has(p.head.flags, RST)
 }
 
 fn has_ack(p: PacketRef<'_>) -> bool
     ensures { result ≡ has_ack (segment_of p.entry) }
 {
-    is_flagged(16, p.head.flags)
+    has(p.head.flags, ACK)
 }
 
 /// SEG.LEN: data and FIN, or the SYN alone; nothing of a RST.
@@ -60,23 +56,26 @@ fn length_of(p: PacketRef<'_>) -> u32
     p.payload.len() as u32 + u32::from(has_fin(p))
 }
 
-/// The packet with at most 65,535 bytes of text. No packet of IP has more.
-#[tactic(auto, using(std::proofs::lemmas::List::take_all))]
+/// The packet with the first 65,535 bytes of its text. No packet of IP has more.
+#[tactic(auto, using(std::proofs::lemmas::List::take_all, std::proofs::lemmas::List::take_min))]
 fn shortened(p: PacketRef<'_>) -> PacketRef<'_>
     ensures short { length result.payload.now ≤ 65535 }
+    ensures cut { segment_of result ≡ within_ip (segment_of p.entry) }
     ensures same { length p.entry.payload.now ≤ 65535 → segment_of result ≡ segment_of p.entry }
 {
     PacketRef {
         head: p.head,
-        payload: &p.payload[..p.payload.len().min(65_535)],
+        payload: &p.payload[..LONGEST.min(p.payload.len())],
     }
 }
 
 impl Endpoint {
-    /// A packet of the peer arrives. What it makes of the endpoint is said of every packet of at most 65,535 bytes of text, which is more than
-    /// IP carries, and of an endpoint whose own offsets are at most 2^30, so that numbers tell their order.
+    /// A packet of the peer arrives. Text past 65,535 bytes, which is more than IP carries, isn't looked at. What the packet makes of the
+    /// endpoint is said where the endpoint's own offsets are at most 2^30, so that numbers tell their order.
     pub fn on_packet(&mut self, p: PacketRef<'_>)
-        ensures { length p.entry.payload.now ≤ 65535 → IsShort self.old.sending → self.new ≡ received self.old (segment_of p.entry) }
+        ensures any { IsShort self.old.sending → self.new ≡ received self.old (within_ip (segment_of p.entry)) }
+        // So a packet of IP counts whole.
+        ensures whole { length p.entry.payload.now ≤ 65535 → IsShort self.old.sending → self.new ≡ received self.old (segment_of p.entry) }
     {
         self.receive(shortened(p));
     }
@@ -106,7 +105,7 @@ impl Endpoint {
             dport: p.head.sport,
             seq: p.head.ack,
             ack: Seq(0),
-            flags: 4,
+            flags: RST,
             window: 0,
             mss: None,
         });
@@ -125,7 +124,7 @@ impl Endpoint {
             dport: p.head.sport,
             seq: Seq(0),
             ack: Seq(p.head.seq.add(length_of(p)).0),
-            flags: 20,
+            flags: RST | ACK,
             window: 0,
             mss: None,
         });

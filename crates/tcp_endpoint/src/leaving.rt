@@ -1,32 +1,18 @@
 //! The end of a turn: what goes out, in order (RFC 9293, 3.7, 3.8.1, 3.8.6.1 and 3.10.7.4), and the timer.
 
 ghost use Rattle.std.specs.Prelude.{◌≡◌, ℕ, ◌+◌, ◌*◌, ◌-◌, ◌<◌, ◌≤◌, ◌==◌, ◌&&◌, ◌||◌, Bool, true, false, None, Some, List, [], ◌∷◌, ◌++◌, length, if◌then◌else◌};
-ghost use Rattle.seq_arith.specs.PacketGrammar.{packet_length, spelling};
+ghost use Rattle.seq_arith.specs.Packet.{Segment};
+ghost use Rattle.seq_arith.specs.PacketGrammar.{spelling};
 ghost use Rattle.segment_codec.specs.Value.{said};
 ghost use Rattle.segment_codec.specs.Written.{segment_with};
-ghost use Rattle.tcp_endpoint.specs.Packets.{byte_count};
+ghost use Rattle.tcp_endpoint.specs.Packets.{byte_count, IsReadable, AreReadable};
 ghost use Rattle.tcp_endpoint.specs.Sending.{in_flight};
 ghost use Rattle.tcp_endpoint.specs.Leaving.{head_at, opening_segment, text_at, fin_at, texts, answer_out, again_out, probe_out, with_probe, text_out, with_text_sent, new_length, fin_out, with_fin_out, is_owed, bare_segment, leaving, announced, is_timed, settled, flushed, packets, or_bare};
 
 use crate::endpoint::Endpoint;
 use crate::outbox::Outbox;
-use segment_codec::{Head, write_packet};
-use seq_arith::Seq;
-
-/// Puts a packet behind the others in the outbox, which has room for it.
-#[tactic(auto, using(std::proofs::lemmas::List::take_at, seq_arith::proofs::Spelling::size, crate::proofs::Spelled::spelled_bytes, std::proofs::lemmas::List::length_push))]
-fn emit(head: &Head, payload: &[u8], out: &mut Outbox)
-    requires size { packet_length (segment_with head.now payload.now) ≤ 1500 }
-    requires count { length out.old < 1100 }
-    requires bytes { byte_count out.old ≤ 118000 }
-    ensures sent { out.new ≡ out.old ++ spelling (segment_with head.now payload.now) ∷ [] }
-    ensures count { length out.new ≡ length out.old + 1 }
-    ensures bytes { byte_count out.new ≡ byte_count out.old + packet_length (segment_with head.now payload.now) }
-{
-    let mut packet = [0u8; 1_500];
-    let len = write_packet(head, payload, &mut packet);
-    let _is_put = out.push(&packet[..len]);
-}
+use segment_codec::Head;
+use seq_arith::{ACK, FIN, SYN, Seq};
 
 impl Endpoint {
     /// Ends the turn: puts into the outbox what goes out, which is at most 1,030 packets and 110,000 bytes.
@@ -37,6 +23,7 @@ impl Endpoint {
         ensures sent { out.new ≡ packets (leaving self.old) }
         ensures count { length out.new ≤ 1030 }
         ensures bytes { byte_count out.new ≤ 110000 }
+        ensures readable { AreReadable (leaving self.old) }
     {
         self.send_answer(out);
         self.send_again(out);
@@ -72,14 +59,14 @@ impl Endpoint {
         ensures { segment_with result [] ≡ opening_segment self.now }
     {
         if self.name.is_syn_sent() {
-            let head = self.head(self.sender.iss(), 2);
+            let head = self.head(self.sender.iss(), SYN);
             return Head {
                 ack: Seq(0),
                 mss: Some(1_460),
                 ..head
             };
         }
-        let head = self.head(self.sender.iss(), 18);
+        let head = self.head(self.sender.iss(), SYN | ACK);
         Head {
             mss: Some(1_460),
             ..head
@@ -93,9 +80,10 @@ impl Endpoint {
         ensures sent { out.new ≡ packets (answer_out self.now) }
         ensures count { length out.new ≤ 1 }
         ensures bytes { byte_count out.new ≤ 44 }
+        ensures readable { AreReadable (answer_out self.now) }
     {
         if let Some(head) = self.answer {
-            emit(&head, &[], out);
+            out.push_segment(&head, &[], &[]);
         }
     }
 
@@ -109,11 +97,11 @@ impl Endpoint {
         ensures sent { out.new ≡ out.old ++ spelling (text_at self.now place n) ∷ [] }
         ensures count { length out.new ≡ length out.old + 1 }
         ensures bytes { byte_count out.new ≡ byte_count out.old + 40 + n }
+        ensures readable { IsReadable (text_at self.now place n) }
     {
-        let mut text = [0u8; 1_460];
-        let part = &mut text[..n as usize];
-        self.sender.copy(place, part);
-        emit(&self.head(self.sender.number_behind(place), 16), part, out);
+        let head = self.head(self.sender.number_behind(place), ACK);
+        let (front, back) = self.sender.text(place, n);
+        out.push_segment(&head, front, back);
     }
 
     /// The FIN, so far behind SND.UNA.
@@ -124,8 +112,10 @@ impl Endpoint {
         ensures sent { out.new ≡ out.old ++ spelling (fin_at self.now place) ∷ [] }
         ensures count { length out.new ≡ length out.old + 1 }
         ensures bytes { byte_count out.new ≡ byte_count out.old + 40 }
+        ensures readable { IsReadable (fin_at self.now place) }
     {
-        emit(&self.head(self.sender.number_behind(place), 17), &[], out);
+        let head = self.head(self.sender.number_behind(place), FIN | ACK);
+        out.push_segment(&head, &[], &[]);
     }
 
     /// The first segment that is unacknowledged, where it is due again.
@@ -136,12 +126,13 @@ impl Endpoint {
         ensures sent { out.new ≡ out.old ++ packets (again_out self.now) }
         ensures count { length out.new ≤ length out.old + 1 }
         ensures bytes { byte_count out.new ≤ byte_count out.old + 1500 }
+        ensures readable { AreReadable (again_out self.now) }
     {
         if !self.again || self.name.is_closed() || !self.sender.is_unacknowledged() {
             return;
         }
         if !self.sender.is_opened() {
-            emit(&self.opening_head(), &[], out);
+            out.push_segment(&self.opening_head(), &[], &[]);
         } else if self.sender.held() == 0 {
             self.send_fin_at(0, out);
         } else {
@@ -158,6 +149,7 @@ impl Endpoint {
         ensures sent { out.new ≡ out.old ++ packets (probe_out self.old) }
         ensures count { length out.new ≤ length out.old + 1 }
         ensures bytes { byte_count out.new ≤ byte_count out.old + 41 }
+        ensures readable { AreReadable (probe_out self.old) }
     {
         if !self.probe
             || !self.name.has_begun()
@@ -198,6 +190,7 @@ impl Endpoint {
         ensures sent { out.new ≡ out.old ++ packets (text_out self.old) }
         ensures count { length out.new ≤ length out.old + 1024 }
         ensures bytes { byte_count out.new ≤ byte_count out.old + 106495 }
+        ensures readable { AreReadable (text_out self.old) }
     {
         let n = self.new_length();
         self.send_texts(self.sender.in_flight(), n, out);
@@ -214,6 +207,7 @@ impl Endpoint {
         ensures sent { out.new ≡ out.old ++ packets (texts left self.now place left) }
         ensures count { length out.new ≤ length out.old + 1024 }
         ensures bytes { byte_count out.new ≤ byte_count out.old + 106495 }
+        ensures readable { AreReadable (texts left self.now place left) }
     {
         while left > 0 {
             let n = left.min(u32::from(self.sender.mss()));
@@ -232,6 +226,7 @@ impl Endpoint {
         ensures sent { out.new ≡ out.old ++ packets (fin_out self.old) }
         ensures count { length out.new ≤ length out.old + 1 }
         ensures bytes { byte_count out.new ≤ byte_count out.old + 40 }
+        ensures readable { AreReadable (fin_out self.old) }
     {
         if self.name.has_begun() && self.sender.sends_fin() {
             self.send_fin_at(self.sender.in_flight(), out);
@@ -258,10 +253,11 @@ impl Endpoint {
         ensures sent { out.new ≡ or_bare (is_owed self.now) (spelling (bare_segment self.now)) out.old }
         ensures count { length out.new ≤ length out.old + 1 }
         ensures bytes { byte_count out.new ≤ byte_count out.old + 40 }
+        ensures readable { (full : List Segment) → out.old ≡ packets full → AreReadable full → AreReadable (or_bare (is_owed self.now) (bare_segment self.now) full) }
     {
         if out.is_empty() && self.is_owed() {
             let seq = self.sender.number_behind(self.sender.in_flight());
-            emit(&self.head(seq, 16), &[], out);
+            out.push_segment(&self.head(seq, ACK), &[], &[]);
         }
     }
 

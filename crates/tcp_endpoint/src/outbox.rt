@@ -1,12 +1,15 @@
 //! The packets that a turn sends, in order, in room that is made once.
 
-ghost use Rattle.std.specs.Prelude.{◌≡◌, ℕ, ◌+◌, ◌-◌, ◌<◌, ◌≤◌, ◌==◌, ◌&&◌, ◌↔◌, List, [], ◌∷◌, ◌++◌, Some, length, nat_lt, nat_le, IfOk, IsTrue, slice_get, slice_index, slice_set};
+ghost use Rattle.std.specs.Prelude.{◌≡◌, ℕ, ◌+◌, ◌-◌, ◌<◌, ◌≤◌, ◌==◌, ◌&&◌, ◌↔◌, List, [], ◌∷◌, ◌++◌, Some, length, nat_lt, nat_le, IfOk, IsTrue, slice_get, slice_index, slice_set, take, drop, vec_capacity};
 ghost use Rattle.std.specs.Borrow.{sem};
 ghost use Rattle.std.specs.Bool.{OnTrue, OnFalse};
-ghost use Rattle.tcp_endpoint.specs.Packets.{byte_count, with_bytes_at};
+ghost use Rattle.seq_arith.specs.PacketGrammar.{packet_length, spelling};
+ghost use Rattle.segment_codec.specs.Written.{segment_with};
+ghost use Rattle.tcp_endpoint.specs.Packets.{byte_count, with_bytes_at, IsReadable};
 ghost use Rattle.tcp_endpoint.specs.Lending.{LendsPacket};
 
 use ft_io::NoMemory;
+use segment_codec::{Head, payload_start, write_header};
 use std::alloc::Global;
 use std::marker::Model;
 
@@ -15,6 +18,9 @@ const PACKET_ROOM: usize = 1_100;
 
 /// How many bytes these packets have in all.
 const BYTE_ROOM: usize = 120_000;
+
+/// Room for the headers of a packet, until they are written.
+const BLANK: [u8; 44] = [0; 44];
 
 /// At most 1,100 packets of at most 120,000 bytes in all. Contracts see their list.
 #[derive(Debug, Drop)]
@@ -98,6 +104,21 @@ impl Outbox {
         true
     }
 
+    /// Puts a segment behind the others. Its text is given in two pieces. It is written once, where it stays.
+    #[tactic(auto, using(crate::proofs::Pieces::length_pieces, crate::proofs::Pieces::byte_count_pieces))]
+    pub(crate) fn push_segment(&mut self, head: &Head, front: &[u8], back: &[u8])
+        requires size { packet_length (segment_with head.now (front.now ++ back.now)) ≤ 1500 }
+        requires count { length self.old < PACKET_ROOM }
+        requires bytes { byte_count self.old ≤ 118000 }
+        ensures sent { self.new ≡ self.old ++ spelling (segment_with head.now (front.now ++ back.now)) ∷ [] }
+        ensures count { length self.new ≡ length self.old + 1 }
+        ensures bytes { byte_count self.new ≡ byte_count self.old + packet_length (segment_with head.now (front.now ++ back.now)) }
+        ensures readable { IsReadable (segment_with head.now (front.now ++ back.now)) }
+    {
+        append_segment(head, front, back, &mut self.bytes);
+        note_end(self.bytes.len(), &mut self.ends);
+    }
+
     /// Takes all packets out.
     pub fn clear(&mut self)
         ensures { self.new ≡ [] }
@@ -115,4 +136,40 @@ fn bounds(ends: &[usize], i: usize) -> (usize, usize)
 {
     let start = if i == 0 { 0 } else { ends[i - 1] };
     (start, ends[i])
+}
+
+/// Notes where a packet ends.
+fn note_end(end: usize, ends: &mut Vec<usize>)
+    requires { length ends.old.items < vec_capacity ends.old }
+    ensures items { ends.new.items ≡ ends.old.items ++ end ∷ [] }
+    ensures capacity { vec_capacity ends.old ≤ vec_capacity ends.new }
+{
+    ends.push(end).unwrap();
+}
+
+/// Appends a segment to bytes that have room for it.
+fn append_segment(head: &Head, front: &[u8], back: &[u8], bytes: &mut Vec<u8>)
+    requires size { packet_length (segment_with head.now (front.now ++ back.now)) ≤ 1500 }
+    requires room { length bytes.old.items + 1500 ≤ vec_capacity bytes.old }
+    ensures bytes { bytes.new.items ≡ bytes.old.items ++ spelling (segment_with head.now (front.now ++ back.now)) }
+    ensures capacity { vec_capacity bytes.old ≤ vec_capacity bytes.new }
+    ensures readable { IsReadable (segment_with head.now (front.now ++ back.now)) }
+{
+    let start = bytes.len();
+    append_text(payload_start(head.mss), front, back, bytes);
+    write_header(head, &mut bytes[start..]);
+}
+
+/// Appends room for headers of so many bytes, and a text behind it.
+fn append_text(size: usize, front: &[u8], back: &[u8], bytes: &mut Vec<u8>)
+    requires size { size ≤ 44 }
+    requires room { length bytes.old.items + size + length (front.now ++ back.now) ≤ vec_capacity bytes.old }
+    ensures begins { take (length bytes.old.items) bytes.new.items ≡ bytes.old.items }
+    ensures text { drop (length bytes.old.items + size) bytes.new.items ≡ front.now ++ back.now }
+    ensures length { length bytes.new.items ≡ length bytes.old.items + size + length (front.now ++ back.now) }
+    ensures capacity { vec_capacity bytes.old ≤ vec_capacity bytes.new }
+{
+    bytes.extend_from_slice(&BLANK[..size]).unwrap();
+    bytes.extend_from_slice(front).unwrap();
+    bytes.extend_from_slice(back).unwrap();
 }

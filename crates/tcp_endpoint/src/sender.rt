@@ -246,13 +246,12 @@ impl Sender {
         self.held.room()
     }
 
-    /// Copies held bytes from a place on.
-    #[tactic(auto, using(std::proofs::lemmas::List::drop_all))]
-    pub(crate) fn copy(&self, place: u32, out: &mut [u8])
-        requires { place + length out.old ≤ length self.now.held }
-        ensures { out.new ≡ take (length out.old) (drop place self.now.held) }
+    /// So many held bytes from a place on, in two pieces.
+    pub(crate) fn text(&self, place: u32, n: u32) -> (&[u8], &[u8])
+        requires { place + n ≤ length self.now.held }
+        ensures { result.0.now ++ result.1.now ≡ take n (drop place self.now.held) }
     {
-        let _count = self.held.copy(place as usize, out);
+        self.held.text(place as usize, n as usize)
     }
 
     /// Notes that so many bytes more are sent.

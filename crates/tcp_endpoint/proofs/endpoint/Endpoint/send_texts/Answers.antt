@@ -1,6 +1,6 @@
 use Rattle.std.proofs.Common.{◌∙◌, ◌≡◌, ap, arith, min}
 use Rattle.tcp_endpoint.specs.Tcb.{Tcb}
-use Rattle.tcp_endpoint.proofs.Spelled.{texts_step, texts_done}
+use Rattle.tcp_endpoint.proofs.Spelled.{texts_step, texts_done, text_readable, no_text_readable}
 use Rattle.tcp_endpoint.proofs.endpoint.Endpoint.send_texts.Goals as goal
 
 pub send_text_at-requires-clause-text : goal.send_text_at-requires-clause-text
@@ -15,6 +15,7 @@ loop-left-preserved c =
       less = omega (arith, c.min-n.ensures);
       place = omega (arith, c.min-n.ensures);
       sent = texts_step e c.loop-left.out c.send_text_at.new.out _ c.loop-left.place c.loop-left.left c.min-n.result (omega (arith, size, c.mss.ensures.least)) (omega arith) n c.send_text_at.ensures.sent c.loop-left.invariant.sent;
+      readable = λ rest. c.loop-left.invariant.readable (text_readable e c.loop-left.place c.loop-left.left c.min-n.result (omega (arith, size, c.mss.ensures.least)) (omega arith) n c.send_text_at.ensures.readable rest);
       packets = omega (arith, c.min-n.ensures, c.send_text_at.ensures.count, c.loop-left.invariant.open_packets (omega arith));
       open_packets = λ some. omega (arith, c.min-n.ensures, c.send_text_at.ensures.count, c.mss.ensures.least, c.from.ensures, c.loop-left.invariant.open_packets (omega arith));
       bytes = omega (arith, c.min-n.ensures, c.send_text_at.ensures.bytes, c.send_text_at.ensures.count);
@@ -22,3 +23,6 @@ loop-left-preserved c =
 
 pub returns-clause-sent : goal.returns-clause-sent
 returns-clause-sent c = texts_done c.args.self.now c.loop-left.out _ c.loop-left.place c.loop-left.left (omega arith) c.loop-left.invariant.sent
+
+pub returns-clause-readable : goal.returns-clause-readable
+returns-clause-readable c = c.loop-left.invariant.readable (no_text_readable c.args.self.now c.loop-left.place c.loop-left.left (omega arith))

@@ -1,5 +1,5 @@
 use Rattle.std.proofs.Common.{◌≡◌, ◌+◌, ◌*◌, ◌<◌, ◌≤◌, ◌++◌, length}
-use Rattle.tcp_endpoint.specs.Packets.{byte_count}
+use Rattle.tcp_endpoint.specs.Packets.{byte_count, AreReadable}
 use Rattle.tcp_endpoint.specs.Leaving.{texts, packets}
 use Rattle.tcp_endpoint.proofs.endpoint.Endpoint.send_texts.Given as goal
 
@@ -8,6 +8,7 @@ invariant-loop-left l = record {
   less : l.left ≤ l.fn.left;
   place : l.place + l.left ≡ l.fn.place + l.fn.left;
   sent : l.out ++ packets (texts l.left l.self l.place l.left) ≡ l.initial.out ++ packets (texts l.fn.left l.self l.fn.place l.fn.left);
+  readable : AreReadable (texts l.left l.self l.place l.left) → AreReadable (texts l.fn.left l.self l.fn.place l.fn.left);
   packets : 64 * length l.out + l.left ≤ 64 * length l.initial.out + l.fn.left + 63;
   open_packets : 0 < l.left → 64 * length l.out + l.left ≤ 64 * length l.initial.out + l.fn.left;
   bytes : byte_count l.out + l.left + 40 * length l.initial.out ≤ byte_count l.initial.out + l.fn.left + 40 * length l.out;
