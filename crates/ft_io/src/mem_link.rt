@@ -271,3 +271,95 @@ impl Link for MemLink {
         self.hear(buf)
     }
 }
+
+#[cfg(test)]
+mod tests {
+    use super::*;
+    use std::test::Fail;
+
+    const HOME: Addr = Addr {
+        ip: 0x7F00_0001,
+        port: 7007,
+    };
+
+    const PEER: Addr = Addr {
+        ip: 0x7F00_0001,
+        port: 7008,
+    };
+
+    /// A link to which come a short datagram, silence, one longer than the buffer, and one of length 0.
+    fn link_of_four(
+        alloc: Global,
+        send_fails: u32,
+        recv_fails: u32,
+        bind_fails: bool,
+    ) -> Result<MemLink, Fail> {
+        let mut arrivals = Vec::new(alloc);
+        for bytes in [
+            b"hello".to_vec(alloc)?,
+            vec![in alloc; 7; 3000]?,
+            Vec::new(alloc),
+        ] {
+            if arrivals.len() == 1 {
+                arrivals.push(Arrival::Nothing)?;
+            }
+            arrivals.push(Arrival::Datagram {
+                from: PEER,
+                bytes: Octets::new(bytes),
+            })?;
+        }
+        let send_fails = vec![in alloc; send_fails]?;
+        let recv_fails = vec![in alloc; recv_fails]?;
+        Ok(MemLink::new(alloc, arrivals, send_fails, recv_fails, bind_fails))
+    }
+
+    /// What is told of five receives, a number for each: the length of what came, or -1 for silence and -2 for a failed one.
+    #[test]
+    fn a_failed_receive_uses_up_no_arrival(rt: HostRuntime) -> Result<(), Fail> {
+        let rows: [(u32, [i64; 5]); 5] = [
+            (0, [5, -1, 2048, 0, -1]),
+            (1, [-2, 5, -1, 2048, 0]),
+            (3, [5, -1, -2, 2048, 0]),
+            (5, [5, -1, 2048, 0, -2]),
+            (6, [5, -1, 2048, 0, -1]),
+        ];
+        for (fails, want) in rows {
+            let mut link = link_of_four(rt.alloc(), 0, fails, false)?;
+            for length in want {
+                let mut buf = [1u8; 2048];
+                let heard = match link.recv(&mut buf) {
+                    Ok(Heard::Got { len, from }) if from == PEER => len as i64,
+                    Ok(Heard::Nothing) => -1,
+                    _ => -2,
+                };
+                if link.starved() == 0 {
+                    assert_eq!(rt; heard, length, "at {fails}");
+                    assert!(rt; length != 5 || buf.starts_with(b"hello"));
+                }
+            }
+        }
+        Ok(())
+    }
+
+    #[test]
+    fn binds_and_sends_fail_where_they_are_listed(rt: HostRuntime) -> Result<(), Fail> {
+        for (fails, bind_fails) in [(0, false), (1, true), (2, false), (3, true)] {
+            let mut link = link_of_four(rt.alloc(), fails, 0, bind_fails)?;
+            let bound = link.bind(HOME);
+            let first = link.send(PEER, b"abc");
+            let second = link.send(PEER, b"");
+            let Some(calls) = link.told() else {
+                continue;
+            };
+            assert_eq!(rt; bound.is_err(), bind_fails);
+            assert_eq!(rt; (first.is_err(), second.is_err()), (fails == 1, fails == 2));
+            assert_eq!(rt; calls.len(), if bind_fails { 2 } else { 3 });
+            assert_eq!(rt; link.bind_faults(), u64::from(bind_fails));
+            assert_eq!(rt;
+                link.faults(),
+                u64::from(bind_fails) + u64::from(fails == 1 || fails == 2)
+            );
+        }
+        Ok(())
+    }
+}

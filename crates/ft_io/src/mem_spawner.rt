@@ -184,3 +184,51 @@ fn status_at(statuses: &[i32], at: usize) -> i32
         None => 0,
     }
 }
+
+#[cfg(test)]
+mod tests {
+    use super::*;
+    use std::test::Fail;
+
+    /// Two starts, and then a wait for each child: what they answered, `Err` where they failed.
+    #[test]
+    fn children_end_with_the_listed_statuses(rt: HostRuntime) -> Result<(), Fail> {
+        let alloc = rt.alloc();
+        let words = vec![in alloc; String::from_str(alloc, "echo")?]?;
+        let rows = [
+            (0, Ok(7), Ok(0), 0),
+            (3, Err(Failed), Ok(0), 1),
+            (4, Ok(7), Err(Failed), 1),
+            (5, Ok(7), Ok(0), 0),
+        ];
+        for (fails, first, second, faults) in rows {
+            let fails = vec![in alloc; fails]?;
+            let mut spawner = MemSpawner::new(alloc, vec![in alloc; 7]?, fails);
+            let (Ok(one), Ok(two)) = (spawner.start(&words), spawner.start(&words)) else {
+                assert!(rt; spawner.starved() > 0);
+                continue;
+            };
+            assert_eq!(rt; (one, two), (1, 2));
+            let (third, fourth) = (spawner.wait(one), spawner.wait(two));
+            if spawner.starved() == 0 {
+                assert_eq!(rt; (third, fourth), (first, second));
+                assert_eq!(rt; spawner.faults(), faults);
+            }
+        }
+        Ok(())
+    }
+
+    #[test]
+    fn a_failed_start_makes_no_child(rt: HostRuntime) -> Result<(), Fail> {
+        let alloc = rt.alloc();
+        let words = Vec::new(alloc);
+        let mut spawner = MemSpawner::new(alloc, Vec::new(alloc), vec![in alloc; 1]?);
+        assert_eq!(rt; spawner.start(&words), Err(Failed));
+        let number = spawner.start(&words);
+        match spawner.told() {
+            Some(calls) => assert_eq!(rt; (number, calls.len()), (Ok(1), 1)),
+            None => assert_eq!(rt; number, Err(Failed)),
+        }
+        Ok(())
+    }
+}

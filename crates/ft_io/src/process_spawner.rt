@@ -106,25 +106,29 @@ mod tests {
     use super::*;
     use std::test::Fail;
 
+    /// The words that run this script by a shell.
+    fn shell(alloc: Global, program: &str, script: &str) -> Result<Vec<String>, Fail> {
+        let mut words = Vec::new(alloc);
+        for word in [program, "-c", script] {
+            words.push(String::from_str(alloc, word)?)?;
+        }
+        Ok(words)
+    }
+
     #[test]
     fn a_program_is_started_and_waited_for(rt: HostRuntime) -> Result<(), Fail> {
         let alloc = rt.alloc();
+        let ends = shell(alloc, "/bin/sh", "cat; echo seen; exit 7")?;
+        let killed = shell(alloc, "/bin/sh", "kill -9 $$")?;
+        let missing = shell(alloc, "/no/such/program", "")?;
         let mut spawner = ProcessSpawner::new(&rt, alloc);
-        let mut words = Vec::new(alloc);
-        assert_eq!(rt; spawner.start(&words), Err(Failed));
-        for word in ["/bin/sh", "-c", "cat; echo seen; exit 7"] {
-            words.push(String::from_str(alloc, word)?)?;
-        }
-        assert_eq!(rt; spawner.start(&words), Ok(1));
-        assert_eq!(rt; spawner.wait(1), Ok(7));
-        words[0] = String::from_str(alloc, "/no/such/program")?;
-        assert_eq!(rt; spawner.start(&words), Err(Failed));
-        words[0] = String::from_str(alloc, "/bin/sh")?;
-        words[2] = String::from_str(alloc, "kill -9 $$")?;
-        assert_eq!(rt; spawner.start(&words), Ok(2));
-        assert_eq!(rt; spawner.wait(2), Err(Failed));
-        assert_eq!(rt; spawner.wait(1), Ok(7));
-        assert_eq!(rt; spawner.faults(), 3);
+        assert_eq!(rt; spawner.start(&[]), Err(Failed));
+        assert_eq!(rt; spawner.start(&missing), Err(Failed));
+        let first = spawner.start(&ends)?;
+        assert_eq!(rt; spawner.wait(first), Ok(7));
+        let second = spawner.start(&killed)?;
+        assert_eq!(rt; spawner.wait(second), Err(Failed));
+        assert_eq!(rt; (first, second, spawner.faults()), (1, 2, 3));
         Ok(())
     }
 }

@@ -147,36 +147,40 @@ fn addr_of(from: SocketAddr) -> Option<Addr> {
 mod tests {
     use super::*;
 
-    const HERE: Addr = Addr {
-        ip: 0x7F00_0001,
-        port: 7431,
-    };
+    /// Binds the link to a port of this machine, one of 16 of which some may be taken.
+    fn bind_somewhere<L: Link>(link: &mut L) -> Option<Addr> {
+        for port in 7431..7447u16 {
+            let here = Addr {
+                ip: 0x7F00_0001,
+                port,
+            };
+            if link.bind(here).is_ok() {
+                return Some(here);
+            }
+        }
+        None
+    }
 
     #[test]
     fn a_datagram_to_itself_comes_back(rt: HostRuntime) {
         let mut link = UdpLink::new(&rt);
         let mut buf = [0u8; 2048];
-        assert_eq!(rt; link.send(HERE, b"early"), Err(Failed));
         assert_eq!(rt; link.recv(&mut buf), Err(Failed));
-        assert_eq!(rt; link.bind(HERE), Ok(()));
+        let here = bind_somewhere(&mut link).expect(&rt, "a port is free");
+        let (faults, bind_faults) = (link.faults(), link.bind_faults());
+        let got = |len| Ok(Heard::Got { len, from: here });
         for text in [b"hello".as_slice(), b"", [7u8; 2048].as_slice()] {
-            let len = text.len();
-            assert_eq!(rt; link.send(HERE, text), Ok(()));
-            assert_eq!(rt; link.recv(&mut buf), Ok(Heard::Got { len, from: HERE }));
+            assert_eq!(rt; link.send(here, text), Ok(()));
+            assert_eq!(rt; link.recv(&mut buf), got(text.len()));
             assert!(rt; buf.starts_with(text));
         }
-        assert_eq!(rt; link.send(HERE, &[9u8; 3000]), Ok(()));
-        assert_eq!(rt;
-            link.recv(&mut buf),
-            Ok(Heard::Got {
-                len: 2048,
-                from: HERE
-            })
-        );
+        assert_eq!(rt; link.send(here, &[9u8; 3000]), Ok(()));
+        assert_eq!(rt; link.recv(&mut buf), got(2048));
         assert_eq!(rt; link.recv(&mut buf), Ok(Heard::Nothing));
+        assert_eq!(rt; (link.faults(), link.bind_faults()), (faults, bind_faults));
         let mut other = UdpLink::new(&rt);
-        assert_eq!(rt; other.bind(HERE), Err(Failed));
-        assert_eq!(rt; (other.faults(), other.bind_faults()), (1, 1));
-        assert_eq!(rt; (link.faults(), link.bind_faults()), (2, 0));
+        assert_eq!(rt; other.bind(here), Err(Failed));
+        assert_eq!(rt; other.send(here, b"early"), Err(Failed));
+        assert_eq!(rt; (other.faults(), other.bind_faults()), (2, 1));
     }
 }
