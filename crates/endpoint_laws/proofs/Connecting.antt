@@ -34,10 +34,10 @@ use Rattle.endpoint_laws.proofs.EndingLaw.{FollowsAt, holds_if, used_follows, fl
 use Rattle.endpoint_laws.proofs.Announced.{none_announces, leaving_announces, unanswered_tells}
 
 -- the sending half of an endpoint whose SYN is unacknowledged
-record Unanswered (iss : ℕ) (s : Sending) : Type 0 where
-  same : s ≡ record (sending_from iss) { held = s.held; interval = s.interval; rest = s.rest }
-  written : length s.held ≤ 2 ^ 24
-  interval : 1 ≤ s.interval
+pub record Unanswered (iss : ℕ) (s : Sending) : Type 0 where
+  pub same : s ≡ record (sending_from iss) { held = s.held; interval = s.interval; rest = s.rest }
+  pub written : length s.held ≤ 2 ^ 24
+  pub interval : 1 ≤ s.interval
 
 retimed : (iss interval rest : ℕ) (s : Sending) → 1 ≤ interval → Unanswered iss s → Unanswered iss (record s { interval = interval; rest = rest })
 retimed iss interval rest s some u = record {
@@ -63,13 +63,13 @@ runs_timed s =
     holds_if (λ (t : Sending). 1 ≤ t.rest) (s.rest == 0) (record s { interval = 1; rest = 1 }) s (λ h. omega arith) (λ h. grind (arith, h))
 
 -- an endpoint in SYN-SENT within a turn, where something may be due
-record Connects (local remote : Addr) (iss limit : ℕ) (u : Tcb) : Type 0 where
-  local_is : u.local ≡ local
-  remote_is : u.remote ≡ remote
-  name : u.name ≡ SynSent
-  receiving : u.receiving ≡ receiving_up_to (kept_limit limit)
-  sending : Unanswered iss u.sending
-  probe : u.probe ≡ false
+pub record Connects (local remote : Addr) (iss limit : ℕ) (u : Tcb) : Type 0 where
+  pub local_is : u.local ≡ local
+  pub remote_is : u.remote ≡ remote
+  pub name : u.name ≡ SynSent
+  pub receiving : u.receiving ≡ receiving_up_to (kept_limit limit)
+  pub sending : Unanswered iss u.sending
+  pub probe : u.probe ≡ false
 
 connects_between : (iss limit : ℕ) (e : Tcb) → IsConnecting iss limit e → Connects e.local e.remote iss limit e
 connects_between iss limit e c = record {
@@ -81,7 +81,7 @@ connects_between iss limit e c = record {
   probe = c.probe;
 }
 
-connects_at_connect : (local remote : Addr) (iss limit : ℕ) → Connects local remote iss limit (connecting local remote iss limit)
+pub connects_at_connect : (local remote : Addr) (iss limit : ℕ) → Connects local remote iss limit (connecting local remote iss limit)
 unfolding connecting listening
 connects_at_connect local remote iss limit = record {
   local_is = refl;
@@ -115,17 +115,17 @@ unfolding refusing
 connects_refusing local remote iss limit e p c =
     record { local_is = c.local_is; remote_is = c.remote_is; name = c.name; receiving = c.receiving; sending = c.sending; probe = c.probe }
 
-begun_name : (name : StateName) → has_begun name ≡ true → name ≡ SynSent → ⊥
+pub begun_name : (name : StateName) → has_begun name ≡ true → name ≡ SynSent → ⊥
 begun_name name begun sent = false≢true (sym (ap has_begun sent) ∙ begun)
 
-closed_name : (name : StateName) → name ≡ Closed → name ≡ SynSent → ⊥
+pub closed_name : (name : StateName) → name ≡ Closed → name ≡ SynSent → ⊥
 closed_name name closed sent = false≢true (ap is_closed (sym sent ∙ closed))
 
-answered_name : (e : Tcb) (p : Segment) → (answered e p).name ≡ Established
+pub answered_name : (e : Tcb) (p : Segment) → (answered e p).name ≡ Established
 unfolding answered
 answered_name e p = refl
 
-refusing_name : (e : Tcb) (p : Segment) → (refusing e p).name ≡ e.name
+pub refusing_name : (e : Tcb) (p : Segment) → (refusing e p).name ≡ e.name
 unfolding refusing
 refusing_name e p = refl
 
@@ -145,12 +145,12 @@ connects_in local remote iss limit e p c =
     (λ b. holds_if P (has_rst p) e (refusing e p) (λ r h. c) (λ r h. connects_refusing local remote iss limit e p c)))
     (λ a h. c)
 
-received_by : (e : Tcb) (p : Segment) → e.name ≡ SynSent → received e p ≡ in_syn_sent e p
+pub received_by : (e : Tcb) (p : Segment) → e.name ≡ SynSent → received e p ≡ in_syn_sent e p
 unfolding received
 received_by e p name = ap (λ n. received_in n e p) name
 
 -- what comes
-connects_arrived : (iss limit : ℕ) (news : News) (e : Tcb) → IsConnecting iss limit e → (arrived news e).name ≡ SynSent
+pub connects_arrived : (iss limit : ℕ) (news : News) (e : Tcb) → IsConnecting iss limit e → (arrived news e).name ≡ SynSent
     → Connects e.local e.remote iss limit (arrived news e)
 connects_arrived iss limit (Comes segment) e c still =
     let same : received e segment ≡ in_syn_sent e segment = received_by e segment c.name in
@@ -187,7 +187,7 @@ begun_before_close Closing h = refl
 begun_before_close LastAck h = refl
 begun_before_close TimeWait h = refl
 
-sent_before : (calls : List Call) (m : Tcb) → (used calls m).name ≡ SynSent → m.name ≡ SynSent
+pub sent_before : (calls : List Call) (m : Tcb) → (used calls m).name ≡ SynSent → m.name ≡ SynSent
 sent_before [] m h = h
 sent_before (Reads n ∷ calls) m h = sent_before calls (called (Reads n) m) h
 sent_before (Writes bytes ∷ calls) m h = sent_before calls (called (Writes bytes) m) h
@@ -231,7 +231,7 @@ connects_called local remote iss limit (Writes bytes) m may still c =
 connects_called local remote iss limit Closes m may still c =
     absurd (closed_name (called Closes m).name (ap after_close c.name) still)
 
-connects_used : (local remote : Addr) (iss limit : ℕ) (calls : List Call) (m : Tcb) → MayUse calls m → (used calls m).name ≡ SynSent
+pub connects_used : (local remote : Addr) (iss limit : ℕ) (calls : List Call) (m : Tcb) → MayUse calls m → (used calls m).name ≡ SynSent
     → Connects local remote iss limit m → Connects local remote iss limit (used calls m)
 connects_used local remote iss limit [] m may still c = c
 connects_used local remote iss limit (call ∷ calls) m may still c =
@@ -242,7 +242,7 @@ connects_used local remote iss limit (call ∷ calls) m may still c =
 abbrev Flushed : Addr → Addr → ℕ → ℕ → Tcb → Type 0
 Flushed local remote iss limit e = IsConnecting iss limit e × (e.local ≡ local) × (e.remote ≡ remote)
 
-still_connecting : (local remote : Addr) (iss limit : ℕ) (u : Tcb) → Connects local remote iss limit u
+pub still_connecting : (local remote : Addr) (iss limit : ℕ) (u : Tcb) → Connects local remote iss limit u
     → u ≡ record u {
       name = SynSent;
       receiving = receiving_up_to (kept_limit limit);
@@ -283,7 +283,7 @@ connecting_law iss limit news calls e c may still =
     (connects_arrived iss limit news e c (sent_before calls (arrived news e) still)))
 
 -- an active open sends its SYN
-syn_leaves : (local remote : Addr) (iss limit : ℕ) (u : Tcb) → Connects local remote iss limit u → u.again ≡ true → u.answer ≡ None
+pub syn_leaves : (local remote : Addr) (iss limit : ℕ) (u : Tcb) → Connects local remote iss limit u → u.again ≡ true → u.answer ≡ None
     → leaving u ≡ opening_segment (connecting local remote iss limit) ∷ []
 unfolding leaving full_out answer_out again_out again_segment probe_out with_probe text_out texts with_text_sent fin_out is_owed after_full with_fin_out opening_segment head_at connecting listening
 syn_leaves local remote iss limit u c again answer =

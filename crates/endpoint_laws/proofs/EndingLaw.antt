@@ -26,7 +26,7 @@ use Rattle.endpoint_laws.specs.Listening.{IsListening}
 use Rattle.endpoint_laws.proofs.TakenLaw.{begun_is}
 use Rattle.endpoint_laws.proofs.Listening.{begun_by}
 use Rattle.endpoint_laws.proofs.TurnLaw.{after_steps}
-use Rattle.endpoint_laws.proofs.ClosedSends.{closed_sends}
+use Rattle.endpoint_laws.proofs.AnswersAlone.{closed_sends}
 
 -- the states of a connection that no RST has reset: CLOSED only once all is through
 abbrev pub IsPlaced : StateName → (opened closed fin acked : Bool) → Type 0
@@ -481,7 +481,7 @@ arrived_reset Ticks e begun h = absurd (false≢true h)
 arrived_reset Begins e begun h = absurd (false≢true h)
 
 -- CLOSED stays so whatever the user does
-stays_closed : (calls : List Call) (u : Tcb) → u.name ≡ Closed → (used calls u).name ≡ Closed
+pub stays_closed : (calls : List Call) (u : Tcb) → u.name ≡ Closed → (used calls u).name ≡ Closed
 stays_closed [] u h = h
 stays_closed (Reads n ∷ calls) u h = stays_closed calls (called (Reads n) u) h
 stays_closed (Writes bytes ∷ calls) u h = stays_closed calls (called (Writes bytes) u) h
@@ -612,7 +612,7 @@ pub used_keeps : {X : Type 0} (f : Tcb → X) → ((call : Call) (t : Tcb) → f
 used_keeps f same [] t = refl
 used_keeps f same (call ∷ calls) t = used_keeps f same calls (called call t) ∙ same call t
 
-call_resets : (call : Call) (t : Tcb) → (called call t).reset ≡ t.reset
+pub call_resets : (call : Call) (t : Tcb) → (called call t).reset ≡ t.reset
 call_resets (Reads n) t = refl
 call_resets (Writes bytes) t = refl
 call_resets Closes t = refl

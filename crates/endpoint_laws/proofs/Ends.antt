@@ -28,7 +28,7 @@ use Rattle.endpoint_laws.specs.Standing.{SendsAt, StandsAt, MeetsLaws, IsUsedAt,
 use Rattle.endpoint_laws.specs.Ending.{IsNamed, IsNamedRightly, has_taken_fin, resets}
 use Rattle.endpoint_laws.proofs.Calls.{FinIsLast, IsUsed, used_is, bounded_used, last_used, probes_used}
 use Rattle.endpoint_laws.proofs.Arrivals.{Arrived, arrives}
-use Rattle.endpoint_laws.proofs.ClosedSends.{closed_sends}
+use Rattle.endpoint_laws.proofs.AnswersAlone.{closed_sends}
 use Rattle.endpoint_laws.proofs.EndingLaw.{IsPlaced, FollowsAt, unreset_follows}
 use Rattle.endpoint_laws.proofs.TurnEnd.{sent_at}
 use Rattle.endpoint_laws.proofs.Turns.{receives_of, sends_of, probes_by}

@@ -16,9 +16,10 @@ pub mod Turns
 pub mod Points
 pub mod Listening
 pub mod Beginning
-pub mod ClosedSends
+pub mod AnswersAlone
 pub mod EndingLaw
 pub mod Ends
 pub mod Announced
 pub mod Connecting
 pub mod Anywhere
+pub mod NoConnection

@@ -61,13 +61,13 @@ bounded_listening iss limit e small l =
     subst P (sym l.receiving) (subst Q (sym l.sending) (unsent_bounds iss limit e.sending.held small l.written))
 
 -- the same within a turn, where a RST may be due
-record Listens (local : Addr) (iss limit : ℕ) (u : Tcb) : Type 0 where
-  local_is : u.local ≡ local
-  name : u.name ≡ Listen
-  receiving : u.receiving ≡ receiving_up_to (kept_limit limit)
-  sending : u.sending ≡ record (sending_from iss) { held = u.sending.held }
-  written : length u.sending.held ≤ 2 ^ 24
-  probe : u.probe ≡ false
+pub record Listens (local : Addr) (iss limit : ℕ) (u : Tcb) : Type 0 where
+  pub local_is : u.local ≡ local
+  pub name : u.name ≡ Listen
+  pub receiving : u.receiving ≡ receiving_up_to (kept_limit limit)
+  pub sending : u.sending ≡ record (sending_from iss) { held = u.sending.held }
+  pub written : length u.sending.held ≤ 2 ^ 24
+  pub probe : u.probe ≡ false
 
 listens_between : (iss limit : ℕ) (e : Tcb) → IsListening iss limit e → Listens e.local iss limit e
 listens_between iss limit e l = record { local_is = refl; name = l.name; receiving = l.receiving; sending = l.sending; written = l.written; probe = l.probe }
@@ -92,7 +92,7 @@ listens_in local iss limit e p none l =
     listens_by local iss limit (has_syn p) (has_ack p) (has_rst p) (refusing e p) (begun e p) e none (listens_refusing local iss limit e p l) l
 
 -- a tick, where the timer doesn't run
-listening_is : (iss limit : ℕ) (e : Tcb) → IsListening iss limit e
+pub listening_is : (iss limit : ℕ) (e : Tcb) → IsListening iss limit e
     → e ≡ record e {
       name = Listen;
       receiving = receiving_up_to (kept_limit limit);
@@ -112,7 +112,7 @@ listens_ticked iss limit e l =
     subst P (sym (listening_is iss limit e l)) (record { local_is = refl; name = refl; receiving = refl; sending = refl; written = l.written; probe = refl })
 
 -- what comes
-listens_arrived : (iss limit : ℕ) (news : News) (e : Tcb) → brings_syn news ≡ false → IsListening iss limit e → Listens e.local iss limit (arrived news e)
+pub listens_arrived : (iss limit : ℕ) (news : News) (e : Tcb) → brings_syn news ≡ false → IsListening iss limit e → Listens e.local iss limit (arrived news e)
 unfolding received
 listens_arrived iss limit (Comes segment) e none l =
     let P : StateName → Type 0 = λ n. Listens e.local iss limit (received_in n e segment) in

@@ -5,3 +5,5 @@ pub mod Ending
 pub mod Standing
 pub mod Announcing
 pub mod Connecting
+pub mod Unconnected
+pub mod Waiting

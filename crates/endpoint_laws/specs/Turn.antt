@@ -45,6 +45,11 @@ turned news calls e = flushed (before_flush news calls e)
 abbrev pub sent_in : News → List Call → Tcb → List Segment
 sent_in news calls e = leaving (before_flush news calls e)
 
+-- what happens in a turn
+pub record Events : Type 0 where
+  pub news : News
+  pub calls : List Call
+
 -- a call that may be: no more is read than there is, no more is written than there is room for, and a stream has at most 2^24 bytes
 abbrev pub MayCall : Call → Tcb → Type 0
 MayCall (Reads n) e = n ≤ length e.receiving.unread

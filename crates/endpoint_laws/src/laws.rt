@@ -28,7 +28,7 @@ ghost use Rattle.endpoint_laws.specs.Turn.{sent_in};
 ghost use Rattle.endpoint_laws.specs.Ending.{IsNamedRightly, has_taken_fin, resets, is_over};
 ghost use Rattle.endpoint_laws.specs.Announcing.{Announces, is_told};
 ghost use Rattle.std.specs.Prelude.{◌∷◌};
-ghost use Rattle.tcp_endpoint.specs.Leaving.{opening_segment};
+ghost use Rattle.endpoint_laws.specs.Unconnected.{syn_of};
 ghost use Rattle.endpoint_laws.specs.Turn.{used};
 ghost use Rattle.endpoint_laws.specs.Connecting.{IsConnecting, FieldsFit};
 
@@ -307,13 +307,14 @@ pub fn what_is_taken_is_told()
         → is_told (sent_in news calls e) ≡ true }
 {}
 
-/// An active open connects: whatever its user writes before the first flush, the SYN is all that leaves. Its timer runs from then on, and nothing
-/// else is due.
+/// An active open connects: whatever its user writes before the first flush, the SYN is all that leaves. Its timer runs from then on, with
+/// one tick to go, and nothing else is due.
 pub fn active_opens_connect()
     ensures { (local remote : Addr) (iss limit : ℕ) (calls : List Call) → MayUse calls (connecting local remote iss limit)
         → (used calls (connecting local remote iss limit)).name ≡ SynSent
         → IsConnecting iss limit (flushed (used calls (connecting local remote iss limit)))
-        × (leaving (used calls (connecting local remote iss limit)) ≡ opening_segment (connecting local remote iss limit) ∷ []) }
+        × (leaving (used calls (connecting local remote iss limit)) ≡ syn_of local remote iss limit ∷ [])
+        × IsTimedBy (flushed (used calls (connecting local remote iss limit))).sending 1 1 }
 {}
 
 /// It still connects, between the same addresses, after each turn that leaves it in SYN-SENT: nothing is received, and nothing but the SYN is sent.
