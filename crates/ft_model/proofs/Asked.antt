@@ -234,7 +234,7 @@ asked_goes_on service before sent after f a (server_turned input node later brou
     subst IsAsked (sym e) (turned_asked service before node later input sent a is brought turn)
 asked_goes_on service before sent after f a (server_booted boot isn down larger s e) =
     subst IsAsked (sym (e ∙ ap (λ x. record before { boot = boot; node = Some (booted before.server boot isn); packets = before.packets ++ x }) s))
-    (booted_asked before boot isn f a larger)
+    (booted_asked before boot isn f a larger.0)
 asked_goes_on service before sent after f a (server_down s e) =
     subst IsAsked (sym e) (record { distinct = a.distinct; node = λ x g r. none_is_some x g })
 

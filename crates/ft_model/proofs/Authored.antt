@@ -131,7 +131,7 @@ spoken_so : {State : Type 0} (service : Machine State) (server : Addr) (news : N
     → Spoken service server news p q segment → IsSpoken service script log (destination_of segment) segment
 spoken_so service server news p q segment script log k small g (spoken_syn e) =
     subst (λ s. IsSpoken service script log (destination_of s) s) (sym e) (record { entry = k.entry; found = k.found; syn = λ x. sym k.sisn; text = inr (refl, refl) })
-spoken_so service server news p q segment script log k small g (spoken_text offset n e) =
+spoken_so service server news p q segment script log k small g (spoken_text offset n short e) =
     subst (λ s. IsSpoken service script log (destination_of s) s) (sym e)
     (record {
       entry = k.entry;

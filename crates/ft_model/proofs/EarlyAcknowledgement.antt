@@ -1,5 +1,5 @@
 -- The trace with the early acknowledgement: each other moment happens, and the bytes are lost.
-use Rattle.std.proofs.Common.{◌≡◌, ℕ, pos, ◌≤ℤ◌, false, refl, ◌∷◌, ◌++◌, arith}
+use Rattle.std.proofs.Common.{◌^◌, ◌≡◌, ℕ, pos, ◌≤ℤ◌, false, refl, ◌∷◌, ◌++◌, arith}
 use Rattle.std.specs.List.{AllByRecursion}
 use Rattle.std.proofs.lemmas.Int.{ints}
 use native.Mathlib.Bridge.{le_by_compare, IsLe}
@@ -27,7 +27,7 @@ happens_14 = (refl, refl, refl)
 
 happens_15 : Happens echo row.moment_14.world row.moment_15.event row.moment_15.sent row.moment_15.world
 unfolding IsLe
-happens_15 = (refl, le_by_compare 2 2 tt, refl, refl)
+happens_15 = (refl, (le_by_compare 2 2 tt, le_by_compare 3 (2 ^ 64) tt), refl, refl)
 
 happens_16 : Happens echo row.moment_15.world row.moment_16.event row.moment_16.sent row.moment_16.world
 unfolding laws

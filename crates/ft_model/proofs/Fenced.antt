@@ -378,7 +378,7 @@ fenced_goes_on service before sent after f (server_turned input node later broug
     subst IsFenced (sym e) (turned_fenced service before node later input sent f is brought turn)
 fenced_goes_on service before sent after f (server_booted boot isn down larger s e) =
     subst IsFenced (sym (e ∙ ap (λ x. record before { boot = boot; node = Some (booted before.server boot isn); packets = before.packets ++ x }) s))
-    (booted_fenced before boot isn f larger)
+    (booted_fenced before boot isn f larger.0)
 fenced_goes_on service before sent after f (server_down s e) =
     subst IsFenced (sym e) (record {
       log = f.log;

@@ -28,6 +28,8 @@ hello_bytes =
 starts : IsStart row.start
 unfolding IsLe
 starts = record {
+  ip = le_by_compare 3221226085 (2 ^ 32) tt;
+  port = le_by_compare 8 (2 ^ 16) tt;
   apart = refl;
   clients = (
     record {
@@ -107,7 +109,7 @@ turn_16 = record { server = refl; boot = refl; isn = refl; live = refl; stage = 
 -- what happens in each moment
 happens_1 : {State : Type 0} (service : Machine State) → Happens service row.start row.moment_1.event row.moment_1.sent row.moment_1.world
 unfolding laws IsLe
-happens_1 service = (refl, le_by_compare 1 1 tt, refl, refl)
+happens_1 service = (refl, (le_by_compare 1 1 tt, le_by_compare 2 (2 ^ 64) tt), refl, refl)
 
 happens_2 : {State : Type 0} (service : Machine State) → Happens service row.moment_1.world row.moment_2.event row.moment_2.sent row.moment_2.world
 unfolding laws IsLe

@@ -25,7 +25,7 @@ use Rattle.ft_model.specs.declared.schedule.LineWhy.TheVariants as why
 use Rattle.ft_model.specs.declared.schedule.Schedule.{Schedule}
 use Rattle.ft_model.specs.declared.schedule.Script.{Script}
 use Rattle.ft_model.specs.declared.schedule.Script.TheVariants.{Bytes, Fill}
-use Rattle.ft_model.specs.Readable.{FitsEvent, FitsScript, FitsClient, FitsSchedule}
+use Rattle.ft_model.specs.Readable.{FitsAddr, FitsEvent, FitsScript, FitsClient, FitsSchedule}
 use Rattle.ft_model.proofs.AcceptedLemmas.{Passes, bind_ok, ok_or_ok, unless, both_left, both_right, within_bound, number_bound, tested, says_client, room_for_client, all_push, text_keeps}
 
 number_fits : (least most : ℕ) (word : List ℕ) (n : ℕ) → number least most word ≡ Ok n → n ≤ most
@@ -59,12 +59,8 @@ host_bound : (word : List ℕ) (n : ℕ) → host_of word ≡ Some n → n < 2 ^
 unfolding host_of
 host_bound word n e = host_within (slice_split (is 46) word) n e
 
-FitsAddr : Addr → Type 0
-FitsAddr a = (a.ip < 2 ^ 32) × (a.port < 2 ^ 16)
-
 addr_fits : (host port : Option ℕ) (a : Addr) → ((x : ℕ) → host ≡ Some x → x < 2 ^ 32) → ((x : ℕ) → port ≡ Some x → x ≤ 65535)
     → addr_from host port ≡ Some a → FitsAddr a
-unfolding FitsAddr
 addr_fits (Some ip) (Some port) a f g e =
     let whole : record { ip = ip; port = port } ≡ a = cc in
     subst (λ x. (x.ip < 2 ^ 32) × (x.port < 2 ^ 16)) whole (f ip refl, omega (arith, g port refl))
@@ -255,7 +251,7 @@ says_event draft (keyword.Event v) words e h =
     let b = bind_ok (event_line v words) (λ x. Ok (line.Event x)) (line.Event e) h in
     let same : b.0 ≡ e = cc b.2 in subst FitsEvent same (event_fits v words b.0 b.1)
 
-says_server : (draft : Draft) (k : Keyword) (words : List (List ℕ)) (a : Addr) → line_from draft k words ≡ Ok (line.Server a) → FitsAddr a
+pub says_server : (draft : Draft) (k : Keyword) (words : List (List ℕ)) (a : Addr) → line_from draft k words ≡ Ok (line.Server a) → FitsAddr a
 says_server draft keyword.Service words a h = let b = bind_ok (service_line words) (λ kind. Ok (line.Service kind)) (line.Server a) h in absurd (cc b.2)
 says_server draft keyword.Server words a h =
     let b = bind_ok (server_line words) (λ x. Ok (line.Server x)) (line.Server a) h in
@@ -269,7 +265,6 @@ FitsDraft (Named kind) = Unit {0}
 FitsDraft (Begun s) = FitsSchedule s
 
 line_fits : (draft : Draft) (text : List ℕ) (l : Line) → FitsDraft draft → is_too_much draft text ≡ false → Passes draft text l → FitsDraft (with_line draft l)
-unfolding FitsAddr
 line_fits Empty text (line.Service kind) h few p = tt
 line_fits Empty text (line.Server addr) h few p = tt
 line_fits Empty text (line.Client c) h few p = tt

@@ -1,15 +1,15 @@
 -- The log keeps what is well formed, and tells nothing else.
-use Rattle.std.proofs.Common.{◌≡◌, ℕ, zero, suc, ◌+◌, ◌-◌, ◌<◌, ◌≤◌, ◌^◌, true, false, ◌==◌, ◌&&◌, ◌||◌, not, nat_lt, nat_le, refl, sym, subst, Option, Some, None, List, [], ◌∷◌, ◌++◌, map, length, take, drop, sum, slice_get, arith, length-append, leb-true, if◌then◌else◌}
+use Rattle.std.proofs.Common.{◌≡◌, ℕ, zero, suc, ◌+◌, ◌-◌, ◌<◌, ◌≤◌, ◌^◌, Bool, true, false, ◌==◌, ◌&&◌, ◌||◌, not, nat_lt, nat_le, refl, sym, subst, Option, Some, None, List, [], ◌∷◌, ◌++◌, map, length, take, drop, sum, slice_get, arith, length-append, length-take, length-drop, leb-true, ltb-true, if◌then◌else◌}
 use Rattle.std.specs.List.{AllByRecursion, list_any}
 use Rattle.std.proofs.lemmas.Bool.{leb-false}
 use Rattle.ft_io.specs.declared.Key.{Key}
 use Rattle.ft_io.specs.Key.{key_eq}
 use Rattle.seq_arith.specs.Message.{Numbers, Part, Body, Message}
 use Rattle.seq_arith.specs.Message.Body.{HelloMsg, ListMsg, EntryMsg, BytesMsg, PartMsg, CutsMsg, LensMsg, OpenMsg, DataMsg, StableMsg, ReadMsg, ReadsMsg, DoneMsg, EndedMsg}
+use Rattle.server_trait.specs.Service.{AreBytes}
 use Rattle.ft_model.specs.Log.{Log, Entry, entry_of, new_entry, opened, with_bytes, with_its_fin, with_part, may_follow, is_next_read, with_read, kept, kept_of, head_of, part_of, lens_of, opened_answer, told}
 use Rattle.ft_model.specs.World.{World}
-use Rattle.ft_model.specs.Readable.{Fits}
-use Rattle.ft_model.proofs.Lists.{of_choice, both, neither, not_true, all_weaker, all_both, all_map, all_append, all_find, all_slice_get, none_is_some, some_is}
+use Rattle.ft_model.proofs.Lists.{of_choice, both, neither, not_true, all_weaker, all_map, all_append, all_find, all_slice_get, none_is_some, some_is}
 use Rattle.ft_model.proofs.Services.{sum_append, sum_more, prefix_length}
 use Rattle.ft_model.proofs.LogAnswers.{LogWent, kept_boot}
 use Rattle.ft_model.proofs.LogAnswers.LogWent.{ignored, raised, changed}
@@ -18,7 +18,7 @@ use Rattle.ft_model.proofs.Resumed.{length_map}
 use Rattle.ft_model.proofs.Scripts.{EntryFits}
 use Rattle.ft_model.proofs.Faithful.{EntriesFit}
 use Rattle.ft_model.proofs.FaithfulOver.{script_of, isn_of}
-use Rattle.ft_model.proofs.Formed.{AreBytes, bytes_take, bytes_drop, bytes_front, each_within, HasClient, NumbersFormed, KeptFormed, HeadFormed, BodyFormed, StartFormed, EntryFormed}
+use Rattle.ft_model.proofs.Formed.{bytes_take, bytes_drop, bytes_front, HasClient, AreLengths, NumbersFormed, KeptFormed, HeadFormed, AckWithin, BodyFormed, MessageFormed, StartFormed, EntryFormed}
 
 -- no read has length 0: there are no more of them than bytes
 pub no_zero : (xs : List ℕ) → list_any (λ n. n == 0) xs ≡ false → length xs ≤ sum xs
@@ -31,29 +31,29 @@ no_zero (x ∷ xs) e =
     omega (arith, more, rest, some)
 
 new_formed : (start : World) (n : Numbers) → NumbersFormed start n → EntryFormed start (new_entry n)
-new_formed start n h = record { key = h.0; sisn = h.2; mss = h.3; acknowledged = omega arith; enough = omega arith; count = omega arith }
+new_formed start n h = record { key = h.0; sisn = h.2; mss = h.3; enough = omega arith; count = omega arith; lengths = tt }
 
-part_formed : (start : World) (part : Part) (e : Entry) → part.acked ≤ 2 ^ 31 → EntryFormed start e → EntryFormed start (with_part part e)
-part_formed start part e low h =
+part_formed : (start : World) (part : Part) (e : Entry) → EntryFormed start e → EntryFormed start (with_part part e)
+part_formed start part e h =
     let more = length-append e.bytes (drop (length e.bytes - part.offset) part.bytes) in
     let bytes : EntryFormed start (with_bytes part e) =
     of_choice (EntryFormed start) (e.fin || nat_lt (length e.bytes) part.offset) e _ (λ t. h)
-    (λ t. record { key = h.key; sisn = h.sisn; mss = h.mss; acknowledged = h.acknowledged; enough = omega (arith, more, h.enough); count = h.count }) in
+    (λ t. record { key = h.key; sisn = h.sisn; mss = h.mss; enough = omega (arith, more, h.enough); count = h.count; lengths = h.lengths }) in
     let x : Entry = with_bytes part e in
     let fin : EntryFormed start (with_its_fin part x) =
     of_choice (EntryFormed start) (part.fin && part.offset + length part.bytes == length x.bytes) (record x { fin = true }) x
-    (λ t. record { key = bytes.key; sisn = bytes.sisn; mss = bytes.mss; acknowledged = bytes.acknowledged; enough = bytes.enough; count = bytes.count }) (λ t. bytes) in
+    (λ t. record { key = bytes.key; sisn = bytes.sisn; mss = bytes.mss; enough = bytes.enough; count = bytes.count; lengths = bytes.lengths }) (λ t. bytes) in
     record {
       key = fin.key;
       sisn = fin.sisn;
       mss = fin.mss;
-      acknowledged = omega (arith, fin.acknowledged, low);
       enough = fin.enough;
       count = fin.count;
+      lengths = fin.lengths;
     }
 
-read_formed : (start : World) (index n : ℕ) (e : Entry) → EntryFormed start e → EntryFormed start (with_read index n e)
-read_formed start index n e h =
+read_formed : (start : World) (index n : ℕ) (e : Entry) → n ≤ 2048 → EntryFormed start e → EntryFormed start (with_read index n e)
+read_formed start index n e low h =
     of_choice (EntryFormed start) (is_next_read e index n) (record e { lengths = e.lengths ++ n ∷ [] }) e
     (λ t. let follows = (both (index == length e.lengths) (may_follow (length e.bytes) e.fin e.lengths n) t).1 in
     let two = (both (not (list_any (λ k. k == 0) e.lengths) && nat_le (sum e.lengths + n) (length e.bytes)) (nat_lt 0 n || (e.fin && sum e.lengths == length e.bytes)) follows).0 in
@@ -62,11 +62,18 @@ read_formed start index n e h =
     let within : sum e.lengths + n ≤ length e.bytes = leb-true _ _ parts.1 in
     let total = sum_append e.lengths n in
     let size = length-append e.lengths (n ∷ []) in
-    record { key = h.key; sisn = h.sisn; mss = h.mss; acknowledged = h.acknowledged; enough = omega (arith, total, within); count = omega (arith, total, size, few) })
+    record {
+      key = h.key;
+      sisn = h.sisn;
+      mss = h.mss;
+      enough = omega (arith, total, within);
+      count = omega (arith, total, size, few);
+      lengths = all_append (λ n. n ≤ 2048) e.lengths (n ∷ []) h.lengths (low, tt);
+    })
     (λ t. h)
 
 done_formed : (start : World) (e : Entry) → EntryFormed start e → EntryFormed start (record e { done = true })
-done_formed start e h = record { key = h.key; sisn = h.sisn; mss = h.mss; acknowledged = h.acknowledged; enough = h.enough; count = h.count }
+done_formed start e h = record { key = h.key; sisn = h.sisn; mss = h.mss; enough = h.enough; count = h.count; lengths = h.lengths }
 
 changed_formed : (start : World) (key : Key) (change : Entry → Entry) (es : List Entry) → ((e : Entry) → EntryFormed start e → EntryFormed start (change e))
     → AllByRecursion (EntryFormed start) es → AllByRecursion (EntryFormed start) (map (λ e. if key_eq e.key key then change e else e) es)
@@ -92,95 +99,135 @@ by_key start key change log f a =
     let size = length_map (λ (e : Entry). if key_eq e.key key then change e else e) log.entries in
     (changed_formed start key change log.entries f a.0, omega (arith, size, a.1))
 
-kept_formed : (start : World) (body : Body) (log : Log) → BodyFormed start body → LogFormed start log.entries → LogFormed start (kept body log).entries
-kept_formed start (OpenMsg n) log h a = opened_formed start n log h a
-kept_formed start (DataMsg part) log h a = by_key start part.key (with_part part) log (λ e f. part_formed start part e h.2 f) a
-kept_formed start (ReadMsg key index n) log h a = by_key start key (with_read index n) log (λ e f. read_formed start index n e f) a
-kept_formed start (DoneMsg key) log h a = by_key start key (λ e. record e { done = true }) log (λ e f. done_formed start e f) a
-kept_formed start _ log h a = a
+kept_formed : (start : World) (boot : ℕ) (body : Body) (log : Log) → BodyFormed start boot body → LogFormed start log.entries → LogFormed start (kept body log).entries
+kept_formed start boot (OpenMsg n) log h a = opened_formed start n log h a
+kept_formed start boot (DataMsg part) log h a = by_key start part.key (with_part part) log (λ e f. part_formed start part e f) a
+kept_formed start boot (ReadMsg key index n) log h a = by_key start key (with_read index n) log (λ e f. read_formed start index n e h.2 f) a
+kept_formed start boot (DoneMsg key) log h a = by_key start key (λ e. record e { done = true }) log (λ e f. done_formed start e f) a
+kept_formed start boot _ log h a = a
 
-pub log_formed : (start : World) (log : Log) (message : Message) (after : Log) → LogWent log message after → BodyFormed start message.body → Fits message.boot → Fits log.boot
-    → LogFormed start log.entries → LogFormed start after.entries × Fits after.boot
-log_formed start log message after (ignored e) h m b a = subst (λ l. LogFormed start l.entries × Fits l.boot) (sym e) (a, b)
-log_formed start log message after (raised r w e) h m b a = subst (λ l. LogFormed start l.entries × Fits l.boot) (sym e) (a, m)
-log_formed start log message after (changed w e) h m b a =
-    subst (λ l. LogFormed start l.entries × Fits l.boot) (sym e) (kept_formed start message.body log h a, subst Fits (sym (kept_boot message.body log)) b)
+pub log_formed : (start : World) (log : Log) (message : Message) (after : Log) → LogWent log message after → MessageFormed start message → log.boot < 2 ^ 64
+    → LogFormed start log.entries → LogFormed start after.entries × (after.boot < 2 ^ 64)
+log_formed start log message after (ignored e) m b a = subst (λ l. LogFormed start l.entries × (l.boot < 2 ^ 64)) (sym e) (a, b)
+log_formed start log message after (raised r w e) m b a = subst (λ l. LogFormed start l.entries × (l.boot < 2 ^ 64)) (sym e) (a, m.0.1)
+log_formed start log message after (changed w e) m b a =
+    subst (λ l. LogFormed start l.entries × (l.boot < 2 ^ 64)) (sym e)
+    (kept_formed start message.boot message.body log m.1 a, subst (λ n. n < 2 ^ 64) (sym (kept_boot message.body log)) b)
 
 -- what an entry tells
 pub record EntryTells (start : World) (e : Entry) : Type 0 where
   pub formed : EntryFormed start e
-  pub cisn : Fits e.cisn
+  pub cisn : e.cisn < 2 ^ 32
   pub short : length e.bytes ≤ 2 ^ 24
   pub bytes : AreBytes e.bytes
+  pub acknowledged : e.acknowledged ≤ 2 ^ 24 + 1
 
-entry_tells : (start : World) → StartFormed start → (e : Entry) → EntryFormed start e → EntryFits (script_of start e.key) (isn_of start e.key) e → EntryTells start e
-entry_tells start s e h f =
+-- its client acknowledged no more than a stream and its FIN
+abbrev pub AckedWithin : Entry → Type 0
+AckedWithin e = e.acknowledged ≤ 2 ^ 24 + 1
+
+entry_tells : (start : World) → StartFormed start → (e : Entry) → EntryFormed start e → EntryFits (script_of start e.key) (isn_of start e.key) e → AckedWithin e → EntryTells start e
+entry_tells start s e h f acked =
     let number = s.isn e.key in
     let size = prefix_length e.bytes (script_of start e.key) f.front in
     let small = s.short e.key in
-    record { formed = h; cisn = omega (arith, number, f.cisn); short = omega (arith, size, small); bytes = bytes_front e.bytes (script_of start e.key) f.front (s.bytes e.key) }
+    record {
+      formed = h;
+      cisn = omega (arith, number, f.cisn);
+      short = omega (arith, size, small);
+      bytes = bytes_front e.bytes (script_of start e.key) f.front (s.bytes e.key);
+      acknowledged = acked;
+    }
 
 pub entries_tell : (start : World) → StartFormed start → (entries : List Entry) → AllByRecursion (EntryFormed start) entries → EntriesFit (script_of start) (isn_of start) entries
-    → AllByRecursion (EntryTells start) entries
-entries_tell start s entries a f = all_both (EntryFormed start) (λ e. EntryFits (script_of start e.key) (isn_of start e.key) e) (EntryTells start) entries (entry_tells start s) a f
+    → AllByRecursion AckedWithin entries → AllByRecursion (EntryTells start) entries
+entries_tell start s [] a f k = tt
+entries_tell start s (e ∷ entries) a f k = (entry_tells start s e a.0 f.0 k.0, entries_tell start s entries a.1 f.1 k.1)
 
 pub head_formed : (start : World) (e : Entry) → EntryTells start e → HeadFormed start (head_of e)
-head_formed start e h = (
-  h.formed.key,
-  h.cisn,
-  h.formed.sisn,
-  h.formed.mss,
-  omega (arith, h.short),
-  omega (arith, h.short, h.formed.enough, h.formed.count),
-  h.formed.acknowledged,
-)
+head_formed start e h =
+    (h.formed.key, h.cisn, h.formed.sisn, h.formed.mss, h.short, omega (arith, h.short, h.formed.enough, h.formed.count), h.acknowledged)
 
 kept_told : (start : World) (e : Entry) → EntryTells start e → KeptFormed start (kept_of e)
-kept_told start e h = (h.formed.key, omega (arith, h.short), omega (arith, h.short, h.formed.enough, h.formed.count))
+kept_told start e h = (h.formed.key, h.short, omega (arith, h.short, h.formed.enough, h.formed.count))
 
-fits_take : (n : ℕ) (xs : List ℕ) → AllByRecursion Fits xs → AllByRecursion Fits (take n xs)
-fits_take zero xs a = tt
-fits_take (suc n) [] a = tt
-fits_take (suc n) (x ∷ xs) a = (a.0, fits_take n xs a.1)
+lengths_take : (n : ℕ) (xs : List ℕ) → AreLengths xs → AreLengths (take n xs)
+lengths_take zero xs a = tt
+lengths_take (suc n) [] a = tt
+lengths_take (suc n) (x ∷ xs) a = (a.0, lengths_take n xs a.1)
 
-pub fits_drop : (n : ℕ) (xs : List ℕ) → AllByRecursion Fits xs → AllByRecursion Fits (drop n xs)
-fits_drop zero xs a = a
-fits_drop (suc n) [] a = tt
-fits_drop (suc n) (x ∷ xs) a = fits_drop n xs a.1
+pub lengths_drop : (n : ℕ) (xs : List ℕ) → AreLengths xs → AreLengths (drop n xs)
+lengths_drop zero xs a = a
+lengths_drop (suc n) [] a = tt
+lengths_drop (suc n) (x ∷ xs) a = lengths_drop n xs a.1
 
-lengths_fit : (first n : ℕ) (xs : List ℕ) → AllByRecursion Fits xs → AllByRecursion Fits (take n (drop first xs))
-lengths_fit first n xs a = fits_take n (drop first xs) (fits_drop first xs a)
+chosen_true : {A : Type 0} (b : Bool) (x y : A) → (if b then Some x else None) ≡ Some y → b ≡ true
+chosen_true true x y e = refl
+chosen_true false x y e = none_is_some y e
 
-opened_told : (start : World) (log : Log) (key : Key) (o : Option Entry) (answer : Body) → HasClient start key → AllByRecursion (EntryTells start) log.entries
-    → entry_of key log ≡ o → opened_answer key o ≡ Some answer → BodyFormed start answer
-opened_told start log key (Some e) answer h a found t =
+-- a chunk of at most so many, from a place that has something behind it
+chunk_within : (most at : ℕ) (xs : List ℕ) → 1 ≤ most → at < length xs
+    → (1 ≤ length (take most (drop at xs))) × (length (take most (drop at xs)) ≤ most) × (at + length (take most (drop at xs)) ≤ length xs)
+chunk_within most at xs some below =
+    let behind = length-drop at xs in
+    let size = length-take most (drop at xs) in
+    (omega (arith, behind, size, some, below), omega (arith, size), omega (arith, behind, size, below))
+
+opened_told : (start : World) (boot : ℕ) (log : Log) (key : Key) (o : Option Entry) (answer : Body) → HasClient start key → AllByRecursion (EntryTells start) log.entries
+    → entry_of key log ≡ o → opened_answer key o ≡ Some answer → BodyFormed start boot answer
+opened_told start boot log key (Some e) answer h a found t =
     let x : EntryTells start e = all_find (EntryTells start) (λ y. key_eq y.key key) log.entries e a found in
-    subst (BodyFormed start) (some_is _ _ t) (x.formed.key, x.cisn, x.formed.sisn, x.formed.mss)
-opened_told start log key None answer h a found t = subst (BodyFormed start) (some_is _ _ t) h
+    subst (BodyFormed start boot) (some_is _ _ t) (x.formed.key, x.cisn, x.formed.sisn, x.formed.mss)
+opened_told start boot log key None answer h a found t = subst (BodyFormed start boot) (some_is _ _ t) h
 
-pub told_formed : (start : World) (body : Body) (log : Log) (answer : Body) → BodyFormed start body → length log.entries ≤ 64 → AllByRecursion (EntryTells start) log.entries
-    → told body log ≡ Some answer → BodyFormed start answer
-told_formed start HelloMsg log answer h few a t = subst (BodyFormed start) (some_is _ _ t) (omega (arith, few))
-told_formed start (ListMsg index) log answer h few a t =
+pub told_formed : (start : World) (boot : ℕ) (body : Body) (log : Log) (answer : Body) → BodyFormed start boot body → length log.entries ≤ 64 → AllByRecursion (EntryTells start) log.entries
+    → told body log ≡ Some answer → BodyFormed start boot answer
+told_formed start boot HelloMsg log answer h few a t = subst (BodyFormed start boot) (some_is _ _ t) few
+told_formed start boot (ListMsg index) log answer h few a t =
     let o = on_some (slice_get log.entries index) (λ e. Some (EntryMsg index (head_of e))) answer t in
-    subst (BodyFormed start) (some_is _ _ o.2) (h, head_formed start o.0 (all_slice_get (EntryTells start) log.entries index o.0 a o.1))
-told_formed start (BytesMsg key offset) log answer h few a t =
+    subst (BodyFormed start boot) (some_is _ _ o.2) (h, head_formed start o.0 (all_slice_get (EntryTells start) log.entries index o.0 a o.1))
+told_formed start boot (BytesMsg key offset) log answer h few a t =
     let o = on_some (entry_of key log) (λ e. part_of e offset) answer t in
     let x : EntryTells start o.0 = all_find (EntryTells start) (λ y. key_eq y.key key) log.entries o.0 a o.1 in
-    subst (BodyFormed start) (chosen_some (nat_lt offset (length o.0.bytes)) (PartMsg o.0.key offset (take 1024 (drop offset o.0.bytes))) answer o.2)
-    (x.formed.key, h.1, bytes_take 1024 (drop offset o.0.bytes) (bytes_drop offset o.0.bytes x.bytes))
-told_formed start (CutsMsg key first) log answer h few a t =
+    subst (BodyFormed start boot) (chosen_some (nat_lt offset (length o.0.bytes)) (PartMsg o.0.key offset (take 1024 (drop offset o.0.bytes))) answer o.2)
+    (let below = chosen_true (nat_lt offset (length o.0.bytes)) (PartMsg o.0.key offset (take 1024 (drop offset o.0.bytes))) answer o.2 in
+    let chunk = chunk_within 1024 offset o.0.bytes (omega arith) (ltb-true _ _ below) in
+    (x.formed.key, omega (arith, chunk.2, x.short), bytes_take 1024 (drop offset o.0.bytes) (bytes_drop offset o.0.bytes x.bytes), chunk.0, chunk.1))
+told_formed start boot (CutsMsg key first) log answer h few a t =
     let o = on_some (entry_of key log) (λ e. lens_of e first) answer t in
     let x : EntryTells start o.0 = all_find (EntryTells start) (λ y. key_eq y.key key) log.entries o.0 a o.1 in
-    subst (BodyFormed start) (chosen_some (nat_lt first (length o.0.lengths)) (LensMsg o.0.key first (take 512 (drop first o.0.lengths))) answer o.2)
-    (x.formed.key, h.1, lengths_fit first 512 o.0.lengths (each_within o.0.lengths (length o.0.bytes) x.formed.enough (omega (arith, x.short))))
-told_formed start (OpenMsg n) log answer h few a t = opened_told start log n.key (entry_of n.key log) answer h.0 a refl t
-told_formed start (DataMsg part) log answer h few a t =
+    subst (BodyFormed start boot) (chosen_some (nat_lt first (length o.0.lengths)) (LensMsg o.0.key first (take 512 (drop first o.0.lengths))) answer o.2)
+    (let below = chosen_true (nat_lt first (length o.0.lengths)) (LensMsg o.0.key first (take 512 (drop first o.0.lengths))) answer o.2 in
+    let chunk = chunk_within 512 first o.0.lengths (omega arith) (ltb-true _ _ below) in
+    (x.formed.key, h.1, lengths_take 512 (drop first o.0.lengths) (lengths_drop first o.0.lengths x.formed.lengths), chunk.0, chunk.1))
+told_formed start boot (OpenMsg n) log answer h few a t = opened_told start boot log n.key (entry_of n.key log) answer h.0 a refl t
+told_formed start boot (DataMsg part) log answer h few a t =
     let o = on_some (entry_of part.key log) (λ e. Some (StableMsg (kept_of e))) answer t in
-    subst (BodyFormed start) (some_is _ _ o.2) (kept_told start o.0 (all_find (EntryTells start) (λ y. key_eq y.key part.key) log.entries o.0 a o.1))
-told_formed start (ReadMsg key index n) log answer h few a t =
+    subst (BodyFormed start boot) (some_is _ _ o.2) (kept_told start o.0 (all_find (EntryTells start) (λ y. key_eq y.key part.key) log.entries o.0 a o.1))
+told_formed start boot (ReadMsg key index n) log answer h few a t =
     let o = on_some (entry_of key log) (λ e. Some (ReadsMsg (kept_of e))) answer t in
-    subst (BodyFormed start) (some_is _ _ o.2) (kept_told start o.0 (all_find (EntryTells start) (λ y. key_eq y.key key) log.entries o.0 a o.1))
-told_formed start (DoneMsg key) log answer h few a t =
-    let o = on_some (entry_of key log) (λ e. Some (EndedMsg key)) answer t in subst (BodyFormed start) (some_is _ _ o.2) h
-told_formed start _ log answer h few a t = none_is_some answer t
+    subst (BodyFormed start boot) (some_is _ _ o.2) (kept_told start o.0 (all_find (EntryTells start) (λ y. key_eq y.key key) log.entries o.0 a o.1))
+told_formed start boot (DoneMsg key) log answer h few a t =
+    let o = on_some (entry_of key log) (λ e. Some (EndedMsg key)) answer t in subst (BodyFormed start boot) (some_is _ _ o.2) h
+told_formed start boot _ log answer h few a t = none_is_some answer t
+
+-- the log tells no Data
+opened_acks : (key : Key) (o : Option Entry) (answer : Body) → opened_answer key o ≡ Some answer → AckWithin answer
+opened_acks key (Some e) answer t = subst AckWithin (some_is _ _ t) tt
+opened_acks key None answer t = subst AckWithin (some_is _ _ t) tt
+
+pub told_acks : (body : Body) (log : Log) (answer : Body) → told body log ≡ Some answer → AckWithin answer
+told_acks HelloMsg log answer t = subst AckWithin (some_is _ _ t) tt
+told_acks (ListMsg index) log answer t =
+    let o = on_some (slice_get log.entries index) (λ e. Some (EntryMsg index (head_of e))) answer t in subst AckWithin (some_is _ _ o.2) tt
+told_acks (BytesMsg key offset) log answer t =
+    let o = on_some (entry_of key log) (λ e. part_of e offset) answer t in
+    subst AckWithin (chosen_some (nat_lt offset (length o.0.bytes)) (PartMsg o.0.key offset (take 1024 (drop offset o.0.bytes))) answer o.2) tt
+told_acks (CutsMsg key first) log answer t =
+    let o = on_some (entry_of key log) (λ e. lens_of e first) answer t in
+    subst AckWithin (chosen_some (nat_lt first (length o.0.lengths)) (LensMsg o.0.key first (take 512 (drop first o.0.lengths))) answer o.2) tt
+told_acks (OpenMsg n) log answer t = opened_acks n.key (entry_of n.key log) answer t
+told_acks (DataMsg part) log answer t = let o = on_some (entry_of part.key log) (λ e. Some (StableMsg (kept_of e))) answer t in subst AckWithin (some_is _ _ o.2) tt
+told_acks (ReadMsg key index n) log answer t = let o = on_some (entry_of key log) (λ e. Some (ReadsMsg (kept_of e))) answer t in subst AckWithin (some_is _ _ o.2) tt
+told_acks (DoneMsg key) log answer t = let o = on_some (entry_of key log) (λ e. Some (EndedMsg key)) answer t in subst AckWithin (some_is _ _ o.2) tt
+told_acks _ log answer t = none_is_some answer t

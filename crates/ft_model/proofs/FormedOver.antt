@@ -1,10 +1,9 @@
 -- A whole turn of a server that has heard what is well formed: while it fetches, when its restart ends, and while it serves.
-use Rattle.std.proofs.Common.{◌≡◌, ℕ, ◌≤◌, true, ◌&&◌, not, nat_lt, refl, sym, ap, ◌∙◌, subst, true≢false, ⊎_elim, Option, Some, None, option_to_list, List, [], ◌∷◌, map, length, arith}
+use Rattle.std.proofs.Common.{◌≡◌, ℕ, ◌+◌, ◌<◌, ◌≤◌, ◌^◌, true, ◌&&◌, not, nat_lt, refl, sym, ap, ◌∙◌, subst, true≢false, ⊎_elim, Option, Some, None, option_to_list, List, [], ◌∷◌, map, length, arith, ltb-true}
 use Rattle.std.specs.List.{AllByRecursion}
-use Rattle.std.proofs.lemmas.Option.{slice_get_within}
 use Rattle.ft_io.specs.Key.{key_eq}
 use Rattle.seq_arith.specs.Packet.{Segment, has_rst}
-use Rattle.server_trait.specs.Service.{Machine}
+use Rattle.server_trait.specs.Service.{Machine, WritesBytes}
 use Rattle.ft_model.specs.Log.{Log, Entry}
 use Rattle.ft_model.specs.Network.{Packet, source_of}
 use Rattle.ft_model.specs.Network.Packet.{To_server, To_client, From_logger}
@@ -19,7 +18,6 @@ use Rattle.ft_model.specs.Lawful.{Revives, all_restored, asked, held}
 use Rattle.ft_model.specs.Serving.{newcomers}
 use Rattle.ft_model.specs.Masked.{is_restarting}
 use Rattle.ft_model.specs.World.{World}
-use Rattle.ft_model.specs.Readable.{Fits, WritesBytes}
 use Rattle.ft_model.proofs.Lists.{of_choice, all_weaker, all_both, all_find, all_slice_get, none_is_some, some_is}
 use Rattle.ft_model.proofs.Services.{prefix_length}
 use Rattle.ft_model.proofs.Happened.{IsBrought, all_sent}
@@ -33,22 +31,18 @@ use Rattle.ft_model.proofs.Faithful.{PlaceFits, StageFits, EntriesFit}
 use Rattle.ft_model.proofs.FaithfulKept.{InputFits, input_fits, new_fits}
 use Rattle.ft_model.proofs.FaithfulOver.{script_of, isn_of, points_fit, restored_all}
 use Rattle.ft_model.proofs.Acknowledged.{IsTrue}
-use Rattle.ft_model.proofs.Formed.{HasClient, PacketFormed, StartFormed, EntryFormed, PointFormed, PlaceFormed, StageFormed, WorldFormed}
-use Rattle.ft_model.proofs.FormedLog.{EntryTells, entries_tell}
+use Rattle.ft_model.proofs.Formed.{HasClient, IsBoot, PacketFormed, StartFormed, EntryFormed, PointFormed, PlaceFormed, StageFormed, WorldFormed}
+use Rattle.ft_model.proofs.FormedLog.{EntryTells, AckedWithin, entries_tell}
 use Rattle.ft_model.proofs.FormedTurns.{InputFormed, PlaceSound, connection_formed, listen_formed, new_formed, place_formed}
 
 -- what a restart asks
-fetched_few : (entries : List Entry) (fetched : List Fetched) → AreFetched entries fetched → length fetched ≤ length entries
-fetched_few entries [] a = omega arith
-fetched_few entries (f ∷ earlier) a = let less = slice_get_within entries (length earlier) a.0 a.1 in omega (arith, less)
-
 abbrev WantedFormed : World → Wanted → Type 0
-WantedFormed start (An_entry index) = Fits index
-WantedFormed start (Its_bytes key offset) = HasClient start key × Fits offset
-WantedFormed start (Its_lengths key first) = HasClient start key × Fits first
+WantedFormed start (An_entry index) = index ≤ 63
+WantedFormed start (Its_bytes key offset) = HasClient start key × (offset ≤ 2 ^ 24)
+WantedFormed start (Its_lengths key first) = HasClient start key × (first ≤ 2 ^ 24 + 1)
 
 newest_formed : (start : World) (entries : List Entry) (f : Fetched) (earlier : List Fetched) → AllByRecursion (EntryTells start) entries → AreFetched entries (f ∷ earlier)
-    → HasClient start f.head.key × Fits (length f.bytes) × Fits (length f.lengths)
+    → HasClient start f.head.key × (length f.bytes ≤ 2 ^ 24) × (length f.lengths ≤ 2 ^ 24 + 1)
 newest_formed start entries f earlier e a =
     let tells : EntryTells start a.0 = all_slice_get (EntryTells start) entries (length earlier) a.0 e a.1 in
     let bytes = prefix_length f.bytes a.0.bytes a.2.bytes in
@@ -58,24 +52,23 @@ newest_formed start entries f earlier e a =
       omega (arith, lengths, tells.formed.count, tells.formed.enough, tells.short),
     )
 
-next_formed : (start : World) (count index : ℕ) (w : Wanted) → Fits index → next_entry count index ≡ Some w → WantedFormed start w
+next_formed : (start : World) (count index : ℕ) (w : Wanted) → count ≤ 64 → next_entry count index ≡ Some w → WantedFormed start w
 next_formed start count index w h =
     of_choice (λ o. o ≡ Some w → WantedFormed start w) (nat_lt index count) (Some (An_entry index)) None
-    (λ t e. subst (WantedFormed start) (some_is _ _ e) h) (λ t e. none_is_some w e)
+    (λ t e. subst (WantedFormed start) (some_is _ _ e) (let less : index < count = ltb-true _ _ t in omega (arith, less, h))) (λ t e. none_is_some w e)
 
-wanted_formed : (start : World) (entries : List Entry) (count : ℕ) (fetched : List Fetched) (w : Wanted) → length entries ≤ 64 → AllByRecursion (EntryTells start) entries
+wanted_formed : (start : World) (entries : List Entry) (count : ℕ) (fetched : List Fetched) (w : Wanted) → count ≤ 64 → AllByRecursion (EntryTells start) entries
     → AreFetched entries fetched → wanted count fetched ≡ Some w → WantedFormed start w
-wanted_formed start entries count [] w few e a g = next_formed start count 0 w (omega arith) g
+wanted_formed start entries count [] w few e a g = next_formed start count 0 w few g
 wanted_formed start entries count (f ∷ earlier) w few e a missing =
     let newest = newest_formed start entries f earlier e a in
-    let size = fetched_few entries (f ∷ earlier) a in
     let Asks : Option Wanted → Type 0 = λ o. o ≡ Some w → WantedFormed start w in
     of_choice Asks (lacks_read_bytes f) (Some (Its_bytes f.head.key (length f.bytes))) _ (λ t g. subst (WantedFormed start) (some_is _ _ g) (newest.0, newest.1))
     (λ t. of_choice Asks (lacks_lengths f) (Some (Its_lengths f.head.key (length f.lengths))) _ (λ x g. subst (WantedFormed start) (some_is _ _ g) (newest.0, newest.2))
     (λ x. of_choice Asks (lacks_bytes f) (Some (Its_bytes f.head.key (length f.bytes))) _ (λ y g. subst (WantedFormed start) (some_is _ _ g) (newest.0, newest.1))
-    (λ y g. next_formed start count (length (f ∷ earlier)) w (omega (arith, size, few)) g))) missing
+    (λ y g. next_formed start count (length (f ∷ earlier)) w few g))) missing
 
-asked_formed : (start : World) (node : Node) (o : Option Wanted) → Fits node.boot → ((w : Wanted) → o ≡ Some w → WantedFormed start w)
+asked_formed : (start : World) (node : Node) (o : Option Wanted) → IsBoot node.boot → ((w : Wanted) → o ≡ Some w → WantedFormed start w)
     → AllByRecursion (PacketFormed start) (asked node o)
 asked_formed start node (Some (An_entry index)) b h = ((b, h (An_entry index) refl), tt)
 asked_formed start node (Some (Its_bytes key offset)) b h = ((b, h (Its_bytes key offset) refl), tt)
@@ -91,7 +84,7 @@ headed_by start entries (f ∷ earlier) e a = ((newest_formed start entries f ea
 one_held : (start : World) (node : Node) (o : Option Fetched) → node.server ≡ start.server → ((f : Fetched) → o ≡ Some f → HasClient start f.head.key)
     → AllByRecursion (PacketFormed start) (map (λ f. To_client (holding_segment node.server f.head)) (option_to_list o))
 one_held start node (Some f) at h =
-    ((h f refl, (ap (λ a. a.ip) at, ap (λ a. a.port) at), (omega arith, omega arith, omega arith, omega arith, tt, tt)), tt)
+    ((h f refl, (ap (λ a. a.ip) at, ap (λ a. a.port) at), (omega arith, omega arith, omega arith, omega arith, tt, tt, omega arith)), tt)
 one_held start node None at h = tt
 
 held_formed : (start : World) (node : Node) (fetched : List Fetched) (segment : Segment) → node.server ≡ start.server
@@ -105,10 +98,10 @@ held_formed start node fetched segment at heads =
 -- the places of a restart
 point_formed : {State : Type 0} (service : Machine State) (start : World) (e : Entry) → EntryFormed start e → PointFormed start (point_of service e)
 point_formed service start e h =
-    record { key = h.key; sisn = h.sisn; una = omega (arith, h.acknowledged); enough = h.enough; fetched = omega arith; count = h.count }
+    record { key = h.key; sisn = h.sisn; mss = h.mss; enough = h.enough; fetched = omega arith; count = h.count; lengths = h.lengths }
 
 revived_formed : {State : Type 0} (service : Machine State) (start : World) (log : Log) (node : Node) → WritesBytes service → StartFormed start
-    → EntriesFit (script_of start) (isn_of start) log.entries → node.server ≡ start.server → Fits node.boot
+    → EntriesFit (script_of start) (isn_of start) log.entries → node.server ≡ start.server → IsBoot node.boot
     → (place : Place) (now : List Place) (sent : List Packet) → PlaceSound start log place → Revives service node place now sent
     → AllByRecursion (PlaceSound start log) now × AllByRecursion (PacketFormed start) sent
 revived_formed service start log node writes s entries at b (Lives p) now sent h t =
@@ -122,10 +115,11 @@ revived_formed service start log node writes s entries at b (Ended k) now sent h
 -- what is known of a world, before a turn
 pub record Knows (start w : World) : Type 0 where
   pub formed : WorldFormed start w
+  pub acked : AllByRecursion AckedWithin w.log.entries
   pub truth : IsTrue start w
 
 tells_of : (start w : World) → StartFormed start → Knows start w → AllByRecursion (EntryTells start) w.log.entries
-tells_of start w s k = entries_tell start s w.log.entries k.formed.entries k.truth.1.entries
+tells_of start w s k = entries_tell start s w.log.entries k.formed.entries k.truth.1.entries k.acked
 
 input_formed : (start w : World) (input : Input) → AllByRecursion (PacketFormed start) w.packets → IsBrought w input → InputFormed start input
 input_formed start w (Packet_comes segment) a b = all_sent (PacketFormed start) w (To_server segment) a b
@@ -138,7 +132,7 @@ missing_formed : (start w : World) (node : Node) (o : Option Wanted) → StartFo
 missing_formed start w node (Some y) s k e m x g =
     let n = k.truth.0.1.node node e (ap is_restarting m.2) in
     let agrees : (m.0 ≡ length w.log.entries) × AreFetched w.log.entries m.1 = subst (StageAgrees w.log.entries) m.2 n.fetched in
-    wanted_formed start w.log.entries m.0 m.1 x k.formed.few (tells_of start w s k) agrees.1 (m.3 ∙ g)
+    wanted_formed start w.log.entries m.0 m.1 x (subst (λ n. n ≤ 64) (sym agrees.0) k.formed.few) (tells_of start w s k) agrees.1 (m.3 ∙ g)
 missing_formed start w node None s k e m x g = none_is_some x g
 
 no_places : (start : World) (stage : Stage) → is_restarting stage ≡ true → StageFormed start stage
@@ -174,7 +168,7 @@ turn_formed service start w node input sent after writes s k e brought (asked_on
     let agrees = progress_agrees w node input count fetched k.truth.0.1 e brought p in (
       subst (StageFormed start) (sym g) tt,
       subst (AllByRecursion (PacketFormed start)) (sym x)
-          (asked_formed start node (wanted count fetched) n.boot (λ y h. wanted_formed start w.log.entries count fetched y k.formed.few (tells_of start w s k) agrees.1 h)),
+          (asked_formed start node (wanted count fetched) n.boot (λ y h. wanted_formed start w.log.entries count fetched y (subst (λ n. n ≤ 64) (sym agrees.0) k.formed.few) (tells_of start w s k) agrees.1 h)),
     )
 turn_formed service start w node input sent after writes s k e brought (resumed count fetched places p none g t) =
     let n = k.formed.node node e in

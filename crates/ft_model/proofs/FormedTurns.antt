@@ -1,13 +1,15 @@
 -- A server that hears what is well formed sends nothing else.
-use Rattle.std.proofs.Common.{◌≡◌, ℕ, ◌+◌, ◌-◌, ◌<◌, ◌≤◌, ◌^◌, ◌==◌, Bool, true, false, ◌&&◌, ◌||◌, not, nat_lt, min, sym, ap, subst, inl, inr, ◌⊎◌, ⊎_elim, Option, Some, None, List, [], ◌∷◌, ◌++◌, map, length, take, drop, sum, arith, append-nil, append_assoc, length-append, length-drop, ltb-true}
+use Rattle.std.proofs.Common.{◌≡◌, ℕ, ◌+◌, ◌-◌, ◌<◌, ◌≤◌, ◌^◌, ◌==◌, ℤ, pos, negsuc, ◌+ℤ◌, true, ◌&&◌, ◌||◌, not, nat_lt, nat_le, min, sym, ap, subst, inl, inr, ◌⊎◌, ⊎_elim, Option, Some, None, List, [], ◌∷◌, ◌++◌, map, length, take, drop, sum, arith, append-nil, append_assoc, length-append, length-drop, length-take, ltb-true, leb-true}
 use Rattle.std.specs.List.{AllByRecursion, list_any}
 use Rattle.ft_io.specs.declared.Addr.{Addr}
 use Rattle.ft_io.specs.declared.Key.{Key}
+use Rattle.seq_arith.specs.Arrival.{int_eq, below}
 use Rattle.seq_arith.specs.Packet.{Segment, has_syn, has_rst, has_ack}
+use Rattle.seq_arith.specs.PacketGrammar.{packet_length}
 use Rattle.seq_arith.specs.Message.{Numbers, Body}
 use Rattle.seq_arith.specs.Message.Body.{DataMsg, DoneMsg}
-use Rattle.server_trait.specs.Service.{Machine}
-use Rattle.ft_model.specs.Offset.{first_of, text_of, one_if}
+use Rattle.server_trait.specs.Service.{Machine, AreBytes, WritesBytes}
+use Rattle.ft_model.specs.Offset.{first_of, text_of, fin_of}
 use Rattle.ft_model.specs.Log.{Log}
 use Rattle.ft_model.specs.Network.{Packet}
 use Rattle.ft_model.specs.Network.Packet.{To_server, To_client, From_logger}
@@ -15,8 +17,7 @@ use Rattle.ft_model.specs.Point.{Point, answered_run}
 use Rattle.ft_model.specs.News.{News}
 use Rattle.ft_model.specs.News.News.{Comes, Logged, Ticks, Begins}
 use Rattle.ft_model.specs.Reads.{next_length, may_read, next_read, with_read, Makes, read_messages, first_told, reads_told}
-use Rattle.ft_model.specs.Sending.{acknowledges, acknowledged_by, acknowledged_after}
-use Rattle.ft_model.specs.Copy.{copy_start, copied_text, copies_fin, una_part, copied_part, copies}
+use Rattle.ft_model.specs.Copy.{from_start, copy_start, copied_text, copies_fin, una_part, copied_part, copies}
 use Rattle.ft_model.specs.Ending.{dones, tells_done}
 use Rattle.ft_model.specs.Segments.{segments_of}
 use Rattle.ft_model.specs.Opening.{is_syn, numbers_for, segment_size, point_opened}
@@ -27,22 +28,21 @@ use Rattle.ft_model.specs.Node.Place.{Opens, Lives}
 use Rattle.ft_model.specs.Node.Input.{Packet_comes, Message_comes, Noise_comes, Tick_comes}
 use Rattle.ft_model.specs.Serving.{newcomers, refusals, is_strange}
 use Rattle.ft_model.specs.World.{World}
-use Rattle.ft_model.specs.Readable.{Fits, WritesBytes}
-use Rattle.ft_model.proofs.Lists.{not_true, of_choice, both, all_weaker, all_map, all_append, none_is_some, some_is}
+use Rattle.ft_model.proofs.Lists.{not_true, of_choice, both, or_cases, all_weaker, all_map, all_append, none_is_some, some_is}
 use Rattle.ft_model.proofs.Services.{sum_append, prefix_length}
-use Rattle.ft_model.specs.Taken.{taken_after}
+use Rattle.ft_model.specs.Taken.{end_of, taken_after}
 use Rattle.ft_model.proofs.Running.{next_within, taken_grows}
 use Rattle.ft_model.proofs.Spoken.{Spoken, segments_spoken}
 use Rattle.ft_model.proofs.Spoken.Spoken.{spoken_syn, spoken_text, spoken_fin, spoken_bare}
 use Rattle.ft_model.proofs.StageTurns.{either_turn}
 use Rattle.ft_model.proofs.PlaceTurns.{PlaceWent, IsNews}
 use Rattle.ft_model.proofs.PlaceTurns.PlaceWent.{stayed, went_on, began, dropped, ended, refused}
-use Rattle.ft_model.proofs.Scripts.{NewsFits}
-use Rattle.ft_model.proofs.Faithful.{AnswerFits, PlaceFits, EntriesFit, NewsKnown, units_within, connection_fits}
+use Rattle.ft_model.proofs.Scripts.{NewsFits, int_same}
+use Rattle.ft_model.proofs.Faithful.{AnswerFits, PlaceFits, EntriesFit, NewsKnown, connection_fits}
 use Rattle.ft_model.proofs.FaithfulKept.{InputFits, news_fit, opened_point}
 use Rattle.ft_model.proofs.FaithfulOver.{script_of, isn_of}
-use Rattle.ft_model.proofs.Formed.{AreBytes, bytes_take, bytes_drop, bytes_front, bytes_output, each_within, offset_small, start_small, HasClient, NumbersFormed, BodyFormed, SegmentFormed, PacketFormed, StartFormed, PointFormed, PlaceFormed}
-use Rattle.ft_model.proofs.FormedLog.{no_zero, fits_drop}
+use Rattle.ft_model.proofs.Formed.{bytes_take, bytes_drop, bytes_front, bytes_output, HasClient, IsSize, AreLengths, IsBoot, NumbersFormed, BodyFormed, SegmentFormed, PacketFormed, StartFormed, PointFormed, PlaceFormed}
+use Rattle.ft_model.proofs.FormedLog.{no_zero, lengths_drop}
 
 -- the reads of a turn: each has a byte, or is the only one of length 0
 has_byte : {State : Type 0} (service : Machine State) (p : Point) (n : ℕ) → next_read service p ≡ Some n → (0 < n) ⊎ (length p.lengths ≤ sum p.lengths)
@@ -61,29 +61,22 @@ has_byte service p n =
     (λ x e. none_is_some n e))))
     (λ m e. none_is_some n e)
 
-makes_counted : {State : Type 0} (service : Machine State) (p : Point) (ns : List ℕ) → p.fetched ≤ length p.taken → sum p.lengths ≤ length p.taken
-    → length p.lengths ≤ sum p.lengths + 1 → Makes service p ns
-    → (sum (p.lengths ++ ns) ≤ length p.taken) × (length (p.lengths ++ ns) ≤ sum (p.lengths ++ ns) + 1)
-makes_counted service p [] f e c m =
-    subst (λ l. (sum l ≤ length p.taken) × (length l ≤ sum l + 1)) (sym (append-nil p.lengths)) (e, c)
-makes_counted service p (n ∷ ns) f e c m =
-    let next = next_within service p n f e m.0 in
+-- the reads of a point: the bytes suffice, there are no more of them than bytes and a closing one, and none is long
+abbrev ReadsFormed : ℕ → List ℕ → Type 0
+ReadsFormed taken lengths = (sum lengths ≤ taken) × (length lengths ≤ sum lengths + 1) × AreLengths lengths
+
+makes_counted : {State : Type 0} (service : Machine State) (p : Point) (ns : List ℕ) → p.fetched ≤ length p.taken → ReadsFormed (length p.taken) p.lengths
+    → Makes service p ns → ReadsFormed (length p.taken) (p.lengths ++ ns)
+makes_counted service p [] f r m = subst (ReadsFormed (length p.taken)) (sym (append-nil p.lengths)) r
+makes_counted service p (n ∷ ns) f r m =
+    let next = next_within service p n f r.0 m.0 in
     let total = sum_append p.lengths n in
     let size = length-append p.lengths (n ∷ []) in
     let count : length (p.lengths ++ n ∷ []) ≤ sum (p.lengths ++ n ∷ []) + 1 =
-    ⊎_elim (λ some. omega (arith, some, total, size, c)) (λ few. omega (arith, few, total, size)) (has_byte service p n m.0) in
-    let rest = makes_counted service (with_read n p) ns f (omega (arith, next.0, total)) count m.1 in
-    subst (λ l. (sum l ≤ length p.taken) × (length l ≤ sum l + 1)) (append_assoc p.lengths (n ∷ []) ns) rest
-
-una_small : (news : News) (p : Point) → p.una ≤ 2 ^ 31 → acknowledged_after news p ≤ 2 ^ 31
-unfolding acknowledged_after
-una_small (Comes segment) p h =
-    let small = offset_small p.sisn segment.head.ack in
-    of_choice (λ n. n ≤ 2 ^ 31) (acknowledges p segment) _ p.una
-    (λ t. of_choice (λ n. n ≤ 2 ^ 31) (nat_lt p.una (acknowledged_by p segment)) (acknowledged_by p segment) p.una (λ s. omega (arith, small)) (λ s. h)) (λ t. h)
-una_small (Logged kept) p h = h
-una_small Ticks p h = h
-una_small Begins p h = h
+    ⊎_elim (λ some. omega (arith, some, total, size, r.1)) (λ few. omega (arith, few, total, size)) (has_byte service p n m.0) in
+    let one : ReadsFormed (length p.taken) (p.lengths ++ n ∷ []) =
+    (omega (arith, next.0, total), count, all_append (λ k. k ≤ 2048) p.lengths (n ∷ []) r.2 (next.1, tt)) in
+    subst (ReadsFormed (length p.taken)) (append_assoc p.lengths (n ∷ []) ns) (makes_counted service (with_read n p) ns f one m.1)
 
 -- what comes
 abbrev pub NewsFormed : News → Type 0
@@ -99,35 +92,27 @@ InputFormed start _ = Unit {0}
 pub record Stands (start : World) (q : Point) : Type 0 where
   pub bytes : AreBytes q.taken
   pub short : length q.taken ≤ 2 ^ 24
-  pub answered : q.answered ≤ 2 ^ 24 + 1
 
-one_at_most : (b : Bool) → one_if b ≤ 1
-one_at_most true = omega arith
-one_at_most false = omega arith
-
-stands : (start : World) (log : Log) (q : Point) → StartFormed start → EntriesFit (script_of start) (isn_of start) log.entries
-    → PlaceFits (script_of start) (isn_of start) log (Lives q) → Stands start q
-stands start log q s entries f =
+stands : (start : World) (log : Log) (q : Point) → StartFormed start → PlaceFits (script_of start) (isn_of start) log (Lives q) → Stands start q
+stands start log q s f =
     let size = prefix_length q.taken (script_of start q.key) f.0.front in
     let small = s.short q.key in
-    let within = units_within (script_of start) (isn_of start) log q.key f.1.entry entries f.1.found in
-    let one = one_at_most f.1.entry.fin in
     record {
       bytes = bytes_front q.taken (script_of start q.key) f.0.front (s.bytes q.key);
       short = omega (arith, size, small);
-      answered = omega (arith, f.1.answered, within.1, one, small);
     }
 
 -- the segments of a turn
 segment_formed : {State : Type 0} (service : Machine State) (start : World) (server : Addr) (news : News) (p q : Point) (segment : Segment) → WritesBytes service
-    → server ≡ start.server → HasClient start q.key → Fits q.sisn → AreBytes q.taken → Spoken service server news p q segment → PacketFormed start (To_client segment)
-segment_formed service start server news p q segment writes at key sisn bytes (spoken_syn e) =
+    → server ≡ start.server → PointFormed start q → AreBytes q.taken → Spoken service server news p q segment → PacketFormed start (To_client segment)
+segment_formed service start server news p q segment writes at h bytes (spoken_syn e) =
     subst (λ s. PacketFormed start (To_client s)) (sym e)
-    (key, (ap (λ a. a.ip) at, ap (λ a. a.port) at), (sisn, omega arith, omega arith, omega arith, omega arith, tt))
-segment_formed service start server news p q segment writes at key sisn bytes (spoken_text offset n e) =
+    (h.key, (ap (λ a. a.ip) at, ap (λ a. a.port) at), (h.sisn, omega arith, omega arith, omega arith, omega arith, tt, omega arith))
+segment_formed service start server news p q segment writes at h bytes (spoken_text offset n short e) =
     let run = bytes_output service writes q.taken (take q.reads_answered q.lengths) bytes in
+    let size = length-take n (drop offset (answered_run service q).output) in
     subst (λ s. PacketFormed start (To_client s)) (sym e) (
-      key,
+      h.key,
       (ap (λ a. a.ip) at, ap (λ a. a.port) at),
       (
         omega arith,
@@ -136,71 +121,99 @@ segment_formed service start server news p q segment writes at key sisn bytes (s
         omega arith,
         tt,
         bytes_take n (drop offset (answered_run service q).output) (bytes_drop offset (answered_run service q).output run),
+        omega (arith, size, short, h.mss),
       ),
     )
-segment_formed service start server news p q segment writes at key sisn bytes (spoken_fin f e) =
+segment_formed service start server news p q segment writes at h bytes (spoken_fin f e) =
     subst (λ s. PacketFormed start (To_client s)) (sym e)
-    (key, (ap (λ a. a.ip) at, ap (λ a. a.port) at), (omega arith, omega arith, omega arith, omega arith, tt, tt))
-segment_formed service start server news p q segment writes at key sisn bytes (spoken_bare offset e) =
+    (h.key, (ap (λ a. a.ip) at, ap (λ a. a.port) at), (omega arith, omega arith, omega arith, omega arith, tt, tt, omega arith))
+segment_formed service start server news p q segment writes at h bytes (spoken_bare offset e) =
     subst (λ s. PacketFormed start (To_client s)) (sym e)
-    (key, (ap (λ a. a.ip) at, ap (λ a. a.port) at), (omega arith, omega arith, omega arith, omega arith, tt, tt))
+    (h.key, (ap (λ a. a.ip) at, ap (λ a. a.port) at), (omega arith, omega arith, omega arith, omega arith, tt, tt, omega arith))
 
 -- and its messages
 text_bytes : (segment : Segment) → AreBytes segment.payload → AreBytes (text_of segment)
 text_bytes segment h = of_choice AreBytes (has_syn segment || has_rst segment) [] segment.payload (λ t. tt) (λ t. h)
 
-copies_formed : (start : World) (news : News) (p q : Point) → NewsFormed news → HasClient start q.key → q.una ≤ 2 ^ 31 → Stands start q
-    → AllByRecursion (BodyFormed start) (copies news p q)
+-- a segment's text is short, as the segment is
+text_short : (segment : Segment) → packet_length segment ≤ 1500 → length (text_of segment) ≤ 1460
+text_short segment h =
+    of_choice (λ t. length t ≤ 1460) (has_syn segment || has_rst segment) [] segment.payload (λ t. omega arith) (λ t. omega (arith, h))
+
+-- the part that is copied begins within what is taken, where its FIN alone is copied
+begins_within : (answered : ℕ) (first : ℤ) (text taken : ℕ) → int_eq (first +ℤ pos text) (pos taken) ≡ true → answered ≤ taken
+    → max answered (from_start first) ≤ taken
+begins_within answered (pos n) text taken e h = let same = int_same (n + text) taken e in omega (arith, same, h)
+begins_within answered (negsuc n) text taken e h = omega (arith, h)
+
+copied_within : (q : Point) (segment : Segment) → (nat_lt 0 (length (copied_text q segment)) || copies_fin q segment) ≡ true
+    → copy_start q segment + length (copied_text q segment) ≤ length q.taken
+copied_within q segment e =
+    let size = length-take (length q.taken - copy_start q segment) (drop (below q.answered (first_of q.cisn segment)) (text_of segment)) in
+    ⊎_elim
+    (λ t. let some : 0 < length (copied_text q segment) = ltb-true _ _ t in omega (arith, size, some))
+    (λ t. let one = both (fin_of segment && q.fin && int_eq (end_of q segment) (pos (length q.taken))) (nat_le q.answered (length q.taken)) t in
+    let two = both (fin_of segment && q.fin) (int_eq (end_of q segment) (pos (length q.taken))) one.0 in
+    let low : q.answered ≤ length q.taken = leb-true _ _ one.1 in
+    let at = begins_within q.answered (first_of q.cisn segment) (length (text_of segment)) (length q.taken) two.1 low in
+    omega (arith, size, at))
+    (or_cases _ _ e)
+
+copies_formed : (start : World) (boot : ℕ) (news : News) (p q : Point) → NewsFormed news → HasClient start q.key → Stands start q
+    → AllByRecursion (BodyFormed start boot) (copies news p q)
 unfolding copies
-copies_formed start (Comes segment) p q n key una s =
-    let near = start_small q.answered (first_of q.cisn segment) (offset_small q.cisn segment.head.seq) in
-    of_choice (AllByRecursion (BodyFormed start)) (nat_lt 0 (length (copied_text q segment)) || copies_fin q segment) (DataMsg (copied_part q segment) ∷ []) _
-    (λ t. (
+copies_formed start boot (Comes segment) p q n key s =
+    let text = text_of segment in
+    let cut = length-take (length q.taken - copy_start q segment) (drop (below q.answered (first_of q.cisn segment)) text) in
+    let behind = length-drop (below q.answered (first_of q.cisn segment)) text in
+    let short = text_short segment n.6 in
+    of_choice (AllByRecursion (BodyFormed start boot)) (nat_lt 0 (length (copied_text q segment)) || copies_fin q segment) (DataMsg (copied_part q segment) ∷ []) _
+    (λ t. let within = copied_within q segment t in (
       (
         key,
-        omega (arith, near, s.answered),
-        una,
+        omega (arith, within, s.short),
         bytes_take (length q.taken - copy_start q segment) _ (bytes_drop _ (text_of segment) (text_bytes segment n.5)),
+        omega (arith, cut, behind, short),
       ),
       tt,
     ))
-    (λ t. of_choice (AllByRecursion (BodyFormed start)) (nat_lt p.una q.una) (DataMsg (una_part q) ∷ []) []
-    (λ x. ((key, omega (arith, s.short), una, tt), tt)) (λ x. tt))
-copies_formed start (Logged kept) p q n key una s = tt
-copies_formed start Ticks p q n key una s = tt
-copies_formed start Begins p q n key una s = tt
+    (λ t. of_choice (AllByRecursion (BodyFormed start boot)) (nat_lt p.una q.una) (DataMsg (una_part q) ∷ []) []
+    (λ x. ((key, omega (arith, s.short), tt, omega arith), tt)) (λ x. tt))
+copies_formed start boot (Logged kept) p q n key s = tt
+copies_formed start boot Ticks p q n key s = tt
+copies_formed start boot Begins p q n key s = tt
 
-messages_formed : (start : World) (key : Key) (index : ℕ) (lengths : List ℕ) → HasClient start key → AllByRecursion Fits lengths
-    → (0 < length lengths → index + length lengths ≤ 2 ^ 64) → AllByRecursion (BodyFormed start) (read_messages key index lengths)
-messages_formed start key index [] h a low = tt
-messages_formed start key index (n ∷ lengths) h a low =
+messages_formed : (start : World) (boot : ℕ) (key : Key) (index : ℕ) (lengths : List ℕ) → HasClient start key → AreLengths lengths
+    → (0 < length lengths → index + length lengths ≤ 2 ^ 24 + 1) → AllByRecursion (BodyFormed start boot) (read_messages key index lengths)
+messages_formed start boot key index [] h a low = tt
+messages_formed start boot key index (n ∷ lengths) h a low =
     let all = low (omega arith) in
-    ((h, omega (arith, all), a.0), messages_formed start key (index + 1) lengths h a.1 (λ some. omega (arith, all)))
+    ((h, omega (arith, all), a.0), messages_formed start boot key (index + 1) lengths h a.1 (λ some. omega (arith, all)))
 
-reads_formed : (start : World) (news : News) (p q : Point) → PointFormed start q → Stands start q → AllByRecursion (BodyFormed start) (reads_told news p q)
+reads_formed : (start : World) (boot : ℕ) (news : News) (p q : Point) → PointFormed start q → Stands start q → AllByRecursion (BodyFormed start boot) (reads_told news p q)
 unfolding reads_told
-reads_formed start news p q h s =
+reads_formed start boot news p q h s =
     let index : ℕ = first_told news p q in
     let rest = length-drop index q.lengths in
-    messages_formed start q.key index (drop index q.lengths) h.key
-    (fits_drop index q.lengths (each_within q.lengths (length q.taken) h.enough (omega (arith, s.short))))
+    messages_formed start boot q.key index (drop index q.lengths) h.key (lengths_drop index q.lengths h.lengths)
     (λ some. omega (arith, some, rest, h.count, h.enough, s.short))
 
-dones_formed : (start : World) (news : News) (p q : Point) → HasClient start q.key → AllByRecursion (BodyFormed start) (dones news p q)
+dones_formed : (start : World) (boot : ℕ) (news : News) (p q : Point) → HasClient start q.key → AllByRecursion (BodyFormed start boot) (dones news p q)
 unfolding dones
-dones_formed start news p q h = of_choice (AllByRecursion (BodyFormed start)) (tells_done news p q) (DoneMsg q.key ∷ []) [] (λ t. (h, tt)) (λ t. tt)
+dones_formed start boot news p q h = of_choice (AllByRecursion (BodyFormed start boot)) (tells_done news p q) (DoneMsg q.key ∷ []) [] (λ t. (h, tt)) (λ t. tt)
 
-bodies_sent : (start : World) (boot : ℕ) (bodies : List Body) → Fits boot → AllByRecursion (BodyFormed start) bodies → AllByRecursion (PacketFormed start) (map (told_by boot) bodies)
+bodies_sent : (start : World) (boot : ℕ) (bodies : List Body) → IsBoot boot → AllByRecursion (BodyFormed start boot) bodies → AllByRecursion (PacketFormed start) (map (told_by boot) bodies)
 bodies_sent start boot [] b a = tt
 bodies_sent start boot (body ∷ bodies) b a = ((b, a.0), bodies_sent start boot bodies b a.1)
 
 -- a turn of a connection
-reset_formed : (start : World) (boot : ℕ) (news : News) (p q : Point) (sent : List Packet) → Fits boot → PointFormed start p → ResetTurn boot news p q sent
+reset_formed : (start : World) (boot : ℕ) (news : News) (p q : Point) (sent : List Packet) → IsBoot boot → PointFormed start p → ResetTurn boot news p q sent
     → PointFormed start q × AllByRecursion (PacketFormed start) sent
 reset_formed start boot news p q sent b h t =
     let key : HasClient start q.key = subst (HasClient start) (sym (ap (λ x. x.key) t.point)) h.key in (
-      subst (PointFormed start) (sym t.point) (record { key = h.key; sisn = h.sisn; una = h.una; enough = h.enough; fetched = h.fetched; count = h.count }),
-      subst (AllByRecursion (PacketFormed start)) (sym t.packets) (bodies_sent start boot (dones news p q) b (dones_formed start news p q key)),
+      subst (PointFormed start) (sym t.point)
+          (record { key = h.key; sisn = h.sisn; mss = h.mss; enough = h.enough; fetched = h.fetched; count = h.count; lengths = h.lengths }),
+      subst (AllByRecursion (PacketFormed start)) (sym t.packets) (bodies_sent start boot (dones news p q) b (dones_formed start boot news p q key)),
     )
 
 taken_more : (news : News) (p q : Point) → q.taken ≡ taken_after news p → length p.taken ≤ length q.taken
@@ -212,31 +225,29 @@ live_point service start server boot news p q sent h t =
     let more : length p.taken ≤ length q.taken = taken_more news p q t.taken in
     let before : Point = record q { lengths = p.lengths } in
     let fetched : q.fetched ≤ length q.taken = omega (arith, t.same.fetched, h.fetched, more) in
-    let reads = makes_counted service before t.reads.news fetched (omega (arith, h.enough, more)) h.count t.reads.makes in
-    let una = una_small news p h.una in
-    let enough : sum q.lengths ≤ length q.taken = subst (λ l. sum l ≤ length q.taken) (sym t.reads.lengths) reads.0 in
-    let count : length q.lengths ≤ sum q.lengths + 1 = subst (λ l. length l ≤ sum l + 1) (sym t.reads.lengths) reads.1 in
+    let reads = makes_counted service before t.reads.news fetched (omega (arith, h.enough, more), h.count, h.lengths) t.reads.makes in
+    let now : ReadsFormed (length q.taken) q.lengths = subst (ReadsFormed (length q.taken)) (sym t.reads.lengths) reads in
     record {
       key = subst (HasClient start) (sym t.same.key) h.key;
-      sisn = subst Fits (sym t.same.sisn) h.sisn;
-      una = omega (arith, t.una, una);
-      enough = enough;
+      sisn = subst (λ n. n < 2 ^ 32) (sym t.same.sisn) h.sisn;
+      mss = subst IsSize (sym t.same.mss) h.mss;
+      enough = now.0;
       fetched = fetched;
-      count = count;
+      count = now.1;
+      lengths = now.2;
     }
 
 live_formed : {State : Type 0} (service : Machine State) (start : World) (server : Addr) (boot : ℕ) (news : News) (p q : Point) (sent : List Packet) → WritesBytes service
-    → server ≡ start.server → Fits boot → NewsFormed news → PointFormed start p → Stands start q → LiveTurn service server boot news p q sent
+    → server ≡ start.server → IsBoot boot → NewsFormed news → PointFormed start p → Stands start q → LiveTurn service server boot news p q sent
     → PointFormed start q × AllByRecursion (PacketFormed start) sent
 live_formed service start server boot news p q sent writes at b n h s t =
     let point : PointFormed start q = live_point service start server boot news p q sent h t in
     let segments : AllByRecursion (λ x. PacketFormed start (To_client x)) (segments_of service server news p q) =
     all_weaker (Spoken service server news p q) _ (segments_of service server news p q)
-    (λ x spoken. segment_formed service start server news p q x writes at point.key point.sisn s.bytes spoken)
-    (segments_spoken service server news p q) in
-    let bodies : AllByRecursion (BodyFormed start) (copies news p q ++ (reads_told news p q ++ dones news p q)) =
-    all_append (BodyFormed start) (copies news p q) _ (copies_formed start news p q n point.key point.una s)
-    (all_append (BodyFormed start) (reads_told news p q) (dones news p q) (reads_formed start news p q point s) (dones_formed start news p q point.key)) in (
+    (λ x spoken. segment_formed service start server news p q x writes at point s.bytes spoken) (segments_spoken service server news p q) in
+    let bodies : AllByRecursion (BodyFormed start boot) (copies news p q ++ (reads_told news p q ++ dones news p q)) =
+    all_append (BodyFormed start boot) (copies news p q) _ (copies_formed start boot news p q n point.key s)
+    (all_append (BodyFormed start boot) (reads_told news p q) (dones news p q) (reads_formed start boot news p q point s) (dones_formed start boot news p q point.key)) in (
       point,
       subst (AllByRecursion (PacketFormed start)) (sym t.packets)
           (all_append (PacketFormed start) (map To_client (segments_of service server news p q)) _ (all_map (PacketFormed start) To_client (segments_of service server news p q) segments)
@@ -248,13 +259,13 @@ abbrev pub PlaceSound : World → Log → Place → Type 0
 PlaceSound start log place = PlaceFits (script_of start) (isn_of start) log place × PlaceFormed start place
 
 pub connection_formed : {State : Type 0} (service : Machine State) (start : World) (log : Log) (node : Node) (news : News) (p q : Point) (sent : List Packet) → WritesBytes service
-    → StartFormed start → EntriesFit (script_of start) (isn_of start) log.entries → node.server ≡ start.server → Fits node.boot → NewsFormed news
+    → StartFormed start → EntriesFit (script_of start) (isn_of start) log.entries → node.server ≡ start.server → IsBoot node.boot → NewsFormed news
     → NewsFits (script_of start p.key) (isn_of start p.key) news → NewsKnown log p news
     → PlaceSound start log (Lives p) → ConnectionTurn service node.server node.boot news p q sent
     → PlaceSound start log (Lives q) × AllByRecursion (PacketFormed start) sent
 connection_formed service start log node news p q sent writes s entries at b n nf nk h t =
     let fits = connection_fits service node.server (script_of start) (isn_of start) log node.boot news p q sent s.short entries nf nk h.0 t in
-    let here : Stands start q = stands start log q s entries fits.0 in
+    let here : Stands start q = stands start log q s fits.0 in
     let formed : PointFormed start q × AllByRecursion (PacketFormed start) sent =
     either_turn service node.server node.boot news p q sent (reset_formed start node.boot news p q sent b h.1)
     (live_formed service start node.server node.boot news p q sent writes at b n h.1 here) t in
@@ -272,7 +283,7 @@ pub listen_formed : (start : World) (node : Node) (input : Input) (places : List
 listen_formed start node (Packet_comes segment) places at h =
     of_choice (AllByRecursion (PacketFormed start)) (is_strange node segment places) (map To_client (as_listen node.server segment)) []
     (λ t. of_choice (λ x. AllByRecursion (PacketFormed start) (map To_client x)) (has_ack segment && not (has_rst segment)) (rst_at_ack node.server segment ∷ []) []
-    (λ s. ((h.0, (ap (λ a. a.ip) at, ap (λ a. a.port) at), (h.2.1, omega arith, omega arith, omega arith, tt, tt)), tt)) (λ s. tt)) (λ t. tt)
+    (λ s. ((h.0, (ap (λ a. a.ip) at, ap (λ a. a.port) at), (h.2.1, omega arith, omega arith, omega arith, tt, tt, omega arith)), tt)) (λ s. tt)) (λ t. tt)
 listen_formed start node (Message_comes message) places at h = tt
 listen_formed start node Noise_comes places at h = tt
 listen_formed start node Tick_comes places at h = tt
@@ -282,33 +293,32 @@ closed_formed : (start : World) (server : Addr) (segment : Segment) → server �
 closed_formed start server segment at h =
     of_choice (λ x. AllByRecursion (PacketFormed start) (map To_client x)) (has_rst segment) [] _ (λ t. tt)
     (λ t. of_choice (λ x. AllByRecursion (PacketFormed start) (map To_client x)) (has_ack segment) (rst_at_ack server segment ∷ []) (rst_behind server segment ∷ [])
-    (λ s. ((h.0, (ap (λ a. a.ip) at, ap (λ a. a.port) at), (h.2.1, omega arith, omega arith, omega arith, tt, tt)), tt))
-    (λ s. ((h.0, (ap (λ a. a.ip) at, ap (λ a. a.port) at), (omega arith, omega arith, omega arith, omega arith, tt, tt)), tt)))
+    (λ s. ((h.0, (ap (λ a. a.ip) at, ap (λ a. a.port) at), (h.2.1, omega arith, omega arith, omega arith, tt, tt, omega arith)), tt))
+    (λ s. ((h.0, (ap (λ a. a.ip) at, ap (λ a. a.port) at), (omega arith, omega arith, omega arith, omega arith, tt, tt, omega arith)), tt)))
 
 full_formed : (start : World) (server : Addr) (asked : Numbers) → server ≡ start.server → NumbersFormed start asked → PacketFormed start (To_client (full_rst server asked))
-full_formed start server asked at h = (h.0, (ap (λ a. a.ip) at, ap (λ a. a.port) at), (omega arith, omega arith, omega arith, omega arith, tt, tt))
+full_formed start server asked at h = (h.0, (ap (λ a. a.ip) at, ap (λ a. a.port) at), (omega arith, omega arith, omega arith, omega arith, tt, tt, omega arith))
 
 -- openings
-size_small : (mss : Option ℕ) → segment_size mss ≤ 1460
-size_small (Some mss) = omega arith
-size_small None = omega arith
+is_size : (mss : Option ℕ) → IsSize (segment_size mss)
+is_size (Some mss) = (omega arith, omega arith)
+is_size None = (omega arith, omega arith)
 
 pub new_formed : (start : World) (node : Node) (input : Input) (opened : ℕ) (places : List Place) → InputFormed start input
     → AllByRecursion (PlaceFormed start) (newcomers node input opened places)
 new_formed start node (Packet_comes segment) opened places h =
-    let size = size_small segment.head.mss in
     of_choice (AllByRecursion (PlaceFormed start)) (is_strange node segment places && is_syn segment && nat_lt (pending_count places) 64)
-    (Opens (numbers_for node.isn opened segment) ∷ []) [] (λ t. ((h.0, h.2.0, omega arith, omega (arith, size)), tt)) (λ t. tt)
+    (Opens (numbers_for node.isn opened segment) ∷ []) [] (λ t. ((h.0, h.2.0, omega arith, is_size segment.head.mss), tt)) (λ t. tt)
 new_formed start node (Message_comes message) opened places h = tt
 new_formed start node Noise_comes opened places h = tt
 new_formed start node Tick_comes opened places h = tt
 
 opened_point_formed : (start : World) (kept : Numbers) → NumbersFormed start kept → PointFormed start (point_opened kept)
-opened_point_formed start kept h = record { key = h.0; sisn = h.2; una = omega arith; enough = omega arith; fetched = omega arith; count = omega arith }
+opened_point_formed start kept h = record { key = h.0; sisn = h.2; mss = h.3; enough = omega arith; fetched = omega arith; count = omega arith; lengths = tt }
 
 -- one place in one turn
 pub place_formed : {State : Type 0} (service : Machine State) (start : World) (log : Log) (node : Node) (input : Input) → WritesBytes service
-    → StartFormed start → EntriesFit (script_of start) (isn_of start) log.entries → node.server ≡ start.server → Fits node.boot
+    → StartFormed start → EntriesFit (script_of start) (isn_of start) log.entries → node.server ≡ start.server → IsBoot node.boot
     → InputFits (script_of start) (isn_of start) log input → InputFormed start input
     → (place : Place) (now : List Place) (sent : List Packet) → PlaceSound start log place → PlaceWent service node input place now sent
     → AllByRecursion (PlaceSound start log) now × AllByRecursion (PacketFormed start) sent
@@ -322,7 +332,7 @@ place_formed service start log node input writes s entries at b i h place now se
 place_formed service start log node input writes s entries at b i h place now sent f (began asked kept after e has n t) =
     let told : InputFits (script_of start) (isn_of start) log (Message_comes has.message) = subst (InputFits (script_of start) (isn_of start) log) has.comes i in
     let came : InputFormed start (Message_comes has.message) = subst (InputFormed start) has.comes h in
-    let numbers : NumbersFormed start kept = subst (BodyFormed start) has.body came.1 in
+    let numbers : NumbersFormed start kept = subst (BodyFormed start has.message.boot) has.body came.0.1 in
     let c = connection_formed service start log node Begins (point_opened kept) after sent writes s entries at b tt tt tt
     (opened_point (script_of start) (isn_of start) log kept entries (subst (AnswerFits log) has.body told), opened_point_formed start kept numbers) t in
     (subst (AllByRecursion (PlaceSound start log)) (sym n) (c.0, tt), c.1)

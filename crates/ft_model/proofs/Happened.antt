@@ -1,5 +1,5 @@
 -- A moment of a trace by its actor: the log, the server, a client. All deliveries and ticks to a server are one case.
-use Rattle.std.proofs.Common.{◌≡◌, ℕ, zero, suc, ◌<◌, refl, ap, ◌∙◌, option_map, option_to_list, Option, Some, None, List, [], ◌∷◌, ◌++◌}
+use Rattle.std.proofs.Common.{◌≡◌, ℕ, zero, suc, refl, ap, ◌∙◌, option_map, option_to_list, Option, Some, None, List, [], ◌∷◌, ◌++◌}
 use Rattle.std.specs.List.{AllByRecursion}
 use Rattle.seq_arith.specs.Packet.{Segment}
 use Rattle.seq_arith.specs.Message.{Message}
@@ -11,7 +11,7 @@ use Rattle.ft_model.specs.Network.Packet.{To_server, To_client, To_logger, From_
 use Rattle.ft_model.specs.Node.{Node, Input, booted}
 use Rattle.ft_model.specs.Node.Input.{Packet_comes, Message_comes, Noise_comes, Tick_comes}
 use Rattle.ft_model.specs.Lawful.{LawfulTurn, hello}
-use Rattle.ft_model.specs.World.{World, Moment, ServerTurn, Delivered, Moves, Happens, Joint, IsStart, world_after, with_client}
+use Rattle.ft_model.specs.World.{World, Moment, IsNextBoot, ServerTurn, Delivered, Moves, Happens, Joint, IsStart, world_after, with_client}
 use Rattle.ft_model.specs.declared.event.Event.{Event}
 use Rattle.ft_model.specs.declared.event.Event.TheVariants.{Boot, Crash, Tick, Deliver, Flip, Begin, Send, Fin, Ack, Reset}
 use Rattle.ft_model.proofs.Lists.{all_slice_get, none_is_some}
@@ -38,7 +38,7 @@ pub data Happened {State : Type 0} (service : Machine State) (before : World) (s
   client_moved : (number : ℕ) → Moves before number sent after → Happened service before sent after
   server_turned : (input : Input) (node later : Node) → IsBrought before input → before.node ≡ Some node → LawfulTurn service node input sent later
       → after ≡ record before { node = Some later; packets = before.packets ++ sent } → Happened service before sent after
-  server_booted : (boot isn : ℕ) → before.node ≡ None → before.boot < boot → sent ≡ hello (booted before.server boot isn)
+  server_booted : (boot isn : ℕ) → before.node ≡ None → IsNextBoot before boot → sent ≡ hello (booted before.server boot isn)
       → after ≡ record before { boot = boot; node = Some (booted before.server boot isn); packets = before.packets ++ sent } → Happened service before sent after
   server_down : sent ≡ [] → after ≡ record before { node = None; packets = before.packets ++ sent } → Happened service before sent after
 

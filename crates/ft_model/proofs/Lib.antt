@@ -24,6 +24,7 @@ pub mod ScriptBytes
 pub mod FitsLemmas
 pub mod ReportWords
 pub mod ReportParts
+pub mod ReportRanges
 pub mod ReportContent
 pub mod ReportPackets
 pub mod Lists
@@ -67,10 +68,14 @@ pub mod OneTrace
 pub mod Outcomes
 pub mod Cuttable
 pub mod Formed
+pub mod Wires
 pub mod FormedLog
 pub mod FormedTurns
 pub mod FormedOver
+pub mod FormedClients
 pub mod FormedWorld
+pub mod Readable
+pub mod WiresTell
 pub mod ReportLines
 pub mod ReportTurns
 pub mod ReportHeader

@@ -1,5 +1,5 @@
 -- What the log answers: Stale to an older boot, and else what the log after the message tells, in the log's boot.
-use Rattle.std.proofs.Common.{◌≡◌, ℕ, ◌≤◌, Bool, true, false, ◌==◌, ◌||◌, nat_lt, nat_le, refl, sym, ◌∙◌, subst, eqb-true, inl, inr, ◌⊎◌, Option, Some, None, option_map, option_to_list, [], ◌∷◌, ◌++◌, length, arith, if◌then◌else◌}
+use Rattle.std.proofs.Common.{◌≡◌, ℕ, ◌<◌, ◌≤◌, Bool, true, false, ◌==◌, ◌||◌, nat_lt, nat_le, refl, sym, ◌∙◌, subst, eqb-true, ltb-true, ⊎_elim, inl, inr, ◌⊎◌, Option, Some, None, option_map, option_to_list, [], ◌∷◌, ◌++◌, length, arith, if◌then◌else◌}
 use Rattle.std.specs.List.{AllByRecursion, list_any}
 use Rattle.seq_arith.specs.Message.{Numbers, Body, Message}
 use Rattle.seq_arith.specs.Message.Body.{OpenMsg, DataMsg, ReadMsg, DoneMsg, StaleMsg}
@@ -45,6 +45,11 @@ abbrev pub IsAnswered : Log → Message → Body → Type 0
 IsAnswered log message body =
     (body ≡ StaleMsg log.boot) ⊎ ((message.boot ≡ (log_after log message).boot) × (told message.body (log_after log message) ≡ Some body))
 
+-- .. and one that is, is of a newer boot
+abbrev pub IsAnsweredSo : Log → Message → Body → Type 0
+IsAnsweredSo log message body =
+    ((body ≡ StaleMsg log.boot) × (message.boot < log.boot)) ⊎ ((message.boot ≡ (log_after log message).boot) × (told message.body (log_after log message) ≡ Some body))
+
 by_hello : (log : Log) (message : Message) (b : Bool) → (b || message.boot == log.boot) ≡ true
     → message.boot ≡ (if b then record log { boot = message.boot } else (if message.boot == log.boot then kept message.body log else log)).boot
 by_hello log message true own = refl
@@ -62,24 +67,28 @@ own_boot log message own quiet current =
 by_answer : (log : Log) (message : Message) (body : Body) (a b c : Bool) → is_answer message.body ≡ a → nat_lt message.boot log.boot ≡ b
     → (is_hello message.body || message.boot == log.boot) ≡ c
     → (if a then None else (if b then Some (StaleMsg log.boot) else (if c then told message.body (log_after log message) else None))) ≡ Some body
-    → IsAnswered log message body
+    → IsAnsweredSo log message body
 by_answer log message body true b c p q r e = none_is_some body e
-by_answer log message body false true c p q r e = inl (sym (some_is _ _ e))
+by_answer log message body false true c p q r e = inl (sym (some_is _ _ e), ltb-true message.boot log.boot q)
 by_answer log message body false false true p q r e = inr (own_boot log message r p q, e)
 by_answer log message body false false false p q r e = none_is_some body e
 
-answered_so : (log : Log) (message : Message) (body : Body) → answer_body log (log_after log message) message ≡ Some body → IsAnswered log message body
+answered_so : (log : Log) (message : Message) (body : Body) → answer_body log (log_after log message) message ≡ Some body → IsAnsweredSo log message body
 answered_so log message body e =
     by_answer log message body (is_answer message.body) (nat_lt message.boot log.boot) (is_hello message.body || message.boot == log.boot) refl refl refl e
 
 by_body : (P : Packet → Type 0) (log : Log) (message : Message)
-    → ((body : Body) → IsAnswered log message body → P (From_logger (record { boot = message.boot; body = body })))
+    → ((body : Body) → IsAnsweredSo log message body → P (From_logger (record { boot = message.boot; body = body })))
     → (o : Option Body) → answer_body log (log_after log message) message ≡ o
     → AllByRecursion P (option_to_list (option_map From_logger (option_map (λ body. record { boot = message.boot; body = body }) o)))
 by_body P log message f (Some body) e = (f body (answered_so log message body e), tt)
 by_body P log message f None e = tt
 
+pub all_answers_so : (P : Packet → Type 0) (log : Log) (message : Message)
+    → ((body : Body) → IsAnsweredSo log message body → P (From_logger (record { boot = message.boot; body = body }))) → AllByRecursion P (answers log message)
+unfolding answer_to
+all_answers_so P log message f = by_body P log message f (answer_body log (log_after log message) message) refl
+
 pub all_answers : (P : Packet → Type 0) (log : Log) (message : Message)
     → ((body : Body) → IsAnswered log message body → P (From_logger (record { boot = message.boot; body = body }))) → AllByRecursion P (answers log message)
-unfolding answer_to
-all_answers P log message f = by_body P log message f (answer_body log (log_after log message) message) refl
+all_answers P log message f = all_answers_so P log message (λ body a. f body (⊎_elim (λ s. inl s.0) (λ o. inr o) a))

@@ -21,7 +21,7 @@ use Rattle.ft_model.specs.declared.schedule.Schedule.{Schedule}
 use Rattle.ft_model.specs.declared.schedule.ServiceKind.{ServiceKind}
 use Rattle.ft_model.specs.declared.schedule.ServiceKind.TheVariants as service
 use Rattle.ft_model.specs.Readable.{FitsClient}
-use Rattle.ft_model.proofs.FitsLemmas.{client_fits}
+use Rattle.ft_model.proofs.FitsLemmas.{client_fits, says_server}
 use Rattle.ft_model.proofs.ScriptBytes.{script_bytes}
 use Rattle.ft_model.proofs.AcceptedLemmas.{Passes, says_client, client_kept, all_push, text_keeps}
 
@@ -71,6 +71,7 @@ apart_alone s c e =
 with_client : (s : Schedule) (c : ClientLine) → IsPlayable s → s.clients ≡ [] → is_taken (Begun s) (record { ip = c.key.ip; port = c.key.port }) ≡ false → length (bytes_of c.script) ≤ 2 ^ 24 → c.isn < 2 ^ 32 → FitsClient c
     → IsPlayable (record s { clients = s.clients ++ c ∷ [] })
 with_client s c h first free short number fits = record {
+  server = h.server;
   alone = rw first (omega arith);
   short = All-push (λ line. length (bytes_of line.script) ≤ 2 ^ 24) s.clients c h.short short;
   numbers = all_push (λ line. line.isn < 2 ^ 32) s.clients c h.numbers number;
@@ -82,6 +83,7 @@ with_client s c h first free short number fits = record {
 
 with_event : (s : Schedule) (e : Event) → IsPlayable s → is_played e ≡ true → IsPlayable (record s { events = s.events ++ e ∷ [] })
 with_event s e h p = record {
+  server = h.server;
   alone = h.alone;
   short = h.short;
   numbers = h.numbers;
@@ -103,6 +105,7 @@ line_keeps Empty text (line.Client c) h few p = tt
 line_keeps Empty text (line.Event e) h few p = tt
 line_keeps (Named kind) text (line.Service name) h few p = h
 line_keeps (Named kind) text (line.Server addr) h few p = record {
+  server = says_server (Named kind) p.k p.words addr p.says;
   alone = omega arith;
   short = All-nil (λ line. length (bytes_of line.script) ≤ 2 ^ 24);
   numbers = tt;
@@ -135,6 +138,8 @@ new_clients server (c ∷ more) short numbers sizes = (
 
 pub starts : (s : Schedule) → IsPlayable s → IsStart (start_of s)
 starts s h = record {
+  ip = h.server.0;
+  port = h.server.1;
   apart = h.apart;
   clients = new_clients s.server s.clients (recursion_from_All (λ line. length (bytes_of line.script) ≤ 2 ^ 24) s.clients h.short) h.numbers h.sizes;
   log = refl;

@@ -15,7 +15,8 @@ use Rattle.ft_model.specs.declared.way.Way.{Way}
 use Rattle.ft_model.specs.declared.way.Way.TheVariants.{ClientToServer, ServerToClient, ServerToLogger, LoggerToServer}
 use Rattle.ft_model.specs.Texts.{or_dash, hex_text, list_text, behind_commas, address_text, key_text, flag_letters, flags_text, mss_text, bit_text, way_text}
 use Rattle.ft_model.specs.Report.{segment_words, name_of, numbers_words, kept_words, entry_words, part_words, field_words, message_words, content_words}
-use Rattle.ft_model.specs.Readable.{IsWord, Fits, FitsOption, FitsWay, FitsKey, FitsSegment, FitsNumbers, FitsKept, FitsEntry, FitsPart, FitsBody, IsReadable}
+use Rattle.ft_model.specs.Readable.{IsWord, Fits, FitsOption, FitsWay, FitsKey, IsReadable}
+use Rattle.ft_model.proofs.ReportRanges.{FitsSegment, FitsNumbers, FitsKept, FitsEntry, FitsPart, FitsBody, segment_fits, message_fits}
 use Rattle.ft_model.proofs.ReportWords.{all_append, word_decimal}
 use Rattle.ft_model.proofs.ReportParts.{or_dash_cons, list_text_nil, list_text_cons}
 
@@ -196,7 +197,7 @@ words_message m boot h = word_name m.body ⊕ lit (codes "boot") refl ⊕ word_d
 
 pub words_content : (server : Addr) (clients : List Client) (p : Packet) → IsReadable server clients p → AllByRecursion IsWord (content_words p)
 unfolding content_words
-words_content server clients (To_server s) h = words_segment s h.2
-words_content server clients (To_client s) h = words_segment s h.2
-words_content server clients (To_logger m) h = words_message m h.0 h.1
-words_content server clients (From_logger m) h = words_message m h.0 h.1
+words_content server clients (To_server s) h = words_segment s (segment_fits s h.1)
+words_content server clients (To_client s) h = words_segment s (segment_fits s h.1)
+words_content server clients (To_logger m) h = let f = message_fits m h.1 in words_message m f.0 f.1
+words_content server clients (From_logger m) h = let f = message_fits m h.1 in words_message m f.0 f.1

@@ -76,10 +76,10 @@ words_event Crash h = (lit (codes "crash") refl, tt)
 words_event Tick h = (lit (codes "tick") refl, tt)
 words_event (Deliver packet) h = (lit (codes "deliver") refl, (word_decimal packet h, tt))
 words_event (Flip packet bit) h = (lit (codes "flip") refl, (word_decimal packet h.0, (word_decimal bit h.1, tt)))
-words_event (Begin client window) h = (lit (codes "open") refl, (word_decimal client h.0, (word_decimal window h.1, tt)))
+words_event (Begin client window) h = (lit (codes "open") refl, (word_decimal client h.0, (word_decimal window (omega (arith, h.1)), tt)))
 words_event (Send client from len) h = (lit (codes "send") refl, (word_decimal client h.0, (word_decimal from h.1, (word_decimal len h.2, tt))))
 words_event (Fin client) h = (lit (codes "fin") refl, (word_decimal client h, tt))
-words_event (Ack client window) h = (lit (codes "ack") refl, (word_decimal client h.0, (word_decimal window h.1, tt)))
+words_event (Ack client window) h = (lit (codes "ack") refl, (word_decimal client h.0, (word_decimal window (omega (arith, h.1)), tt)))
 words_event (Reset client) h = (lit (codes "reset") refl, (word_decimal client h, tt))
 
 -- a number that differs from verb to verb
@@ -103,7 +103,7 @@ event_same (Flip m x) (Flip n y) p q e =
     let b : x ≡ y = decimal_injective x y p.1 q.1 (cc) in λ i. Flip (a i) (b i)
 event_same (Begin m x) (Begin n y) p q e =
     let a : m ≡ n = decimal_injective m n p.0 q.0 (cc) in
-    let b : x ≡ y = decimal_injective x y p.1 q.1 (cc) in λ i. Begin (a i) (b i)
+    let b : x ≡ y = decimal_injective x y (omega (arith, p.1)) (omega (arith, q.1)) (cc) in λ i. Begin (a i) (b i)
 event_same (Send m x f) (Send n y g) p q e =
     let a : m ≡ n = decimal_injective m n p.0 q.0 (cc) in
     let b : x ≡ y = decimal_injective x y p.1 q.1 (cc) in
@@ -111,7 +111,7 @@ event_same (Send m x f) (Send n y g) p q e =
 event_same (Fin m) (Fin n) p q e = ap Fin (decimal_injective m n p q (cc))
 event_same (Ack m x) (Ack n y) p q e =
     let a : m ≡ n = decimal_injective m n p.0 q.0 (cc) in
-    let b : x ≡ y = decimal_injective x y p.1 q.1 (cc) in λ i. Ack (a i) (b i)
+    let b : x ≡ y = decimal_injective x y (omega (arith, p.1)) (omega (arith, q.1)) (cc) in λ i. Ack (a i) (b i)
 event_same (Reset m) (Reset n) p q e = ap Reset (decimal_injective m n p q (cc))
 event_same a b p q e = absurd (omega (arith, ap (λ ws. digest (verb ws)) e))
 

@@ -19,7 +19,8 @@ use Rattle.ft_model.specs.declared.way.Way.{Way}
 use Rattle.ft_model.specs.declared.way.Way.TheVariants.{ClientToServer, ServerToClient}
 use Rattle.ft_model.specs.Texts.{key_text, way_text}
 use Rattle.ft_model.specs.Report.{segment_words, name_of, numbers_words, kept_words, entry_words, part_words, field_words, message_words, content_words, packet_line, number_of, way_of}
-use Rattle.ft_model.specs.Readable.{Fits, FitsWay, FitsKey, FitsSegment, FitsNumbers, FitsKept, FitsEntry, FitsPart, FitsBody, IsOf, IsReadable}
+use Rattle.ft_model.specs.Readable.{Fits, FitsWay, FitsKey, IsOf, IsReadable}
+use Rattle.ft_model.proofs.ReportRanges.{FitsSegment, FitsNumbers, FitsKept, FitsEntry, FitsPart, FitsBody, segment_fits, message_fits}
 use Rattle.ft_model.proofs.ReportWords.{rest_same, word_decimal}
 use Rattle.ft_model.proofs.ReportParts.{hex_same, list_same, address_same, flags_same, mss_same, bit_same, way_same}
 use Rattle.ft_model.proofs.ReportContent.{and_left, and_right, words_content, word_way}
@@ -168,16 +169,16 @@ pub content_same : (server : Addr) (clients : List Client) (p q : Packet) → Is
     → way_of clients p ≡ way_of clients q → content_words p ≡ content_words q → p ≡ q
 unfolding content_words client_number
 content_same server clients (To_server s) (To_server t) p q w e =
-    ap To_server (segment_same s t p.2 q.2 (number_same clients _ _ p.0.0 (ap client_number w)) (of_server server _ _ p.1 q.1) e)
+    ap To_server (segment_same s t (segment_fits s p.1) (segment_fits t q.1) (number_same clients _ _ p.0.0.0 (ap client_number w)) (of_server server _ _ p.0.1 q.0.1) e)
 content_same server clients (To_client s) (To_client t) p q w e =
-    ap To_client (segment_same s t p.2 q.2 (of_server server _ _ p.1 q.1) (number_same clients _ _ p.0.0 (ap client_number w)) e)
-content_same server clients (To_logger m) (To_logger n) p q w e = ap To_logger (message_same m n p.0 q.0 p.1 q.1 e)
-content_same server clients (From_logger m) (From_logger n) p q w e = ap From_logger (message_same m n p.0 q.0 p.1 q.1 e)
+    ap To_client (segment_same s t (segment_fits s p.1) (segment_fits t q.1) (of_server server _ _ p.0.1 q.0.1) (number_same clients _ _ p.0.0.0 (ap client_number w)) e)
+content_same server clients (To_logger m) (To_logger n) p q w e = let f = message_fits m p.1 in let g = message_fits n q.1 in ap To_logger (message_same m n f.0 g.0 f.1 g.1 e)
+content_same server clients (From_logger m) (From_logger n) p q w e = let f = message_fits m p.1 in let g = message_fits n q.1 in ap From_logger (message_same m n f.0 g.0 f.1 g.1 e)
 content_same server clients p q hp hq w e = cc
 
 pub way_fits : (server : Addr) (clients : List Client) (p : Packet) → IsReadable server clients p → FitsWay (way_of clients p)
-way_fits server clients (To_server s) h = h.0.1
-way_fits server clients (To_client s) h = h.0.1
+way_fits server clients (To_server s) h = h.0.0.1
+way_fits server clients (To_client s) h = h.0.0.1
 way_fits server clients (To_logger m) h = tt
 way_fits server clients (From_logger m) h = tt
 

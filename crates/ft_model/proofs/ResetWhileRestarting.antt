@@ -1,5 +1,5 @@
 -- The trace with a RST during the restart: each other moment happens, and the client's connection is gone.
-use Rattle.std.proofs.Common.{◌≡◌, Bool, true, false, refl, sym, ap, true≢false, None, List, [], ◌∷◌, map}
+use Rattle.std.proofs.Common.{◌^◌, ◌≡◌, Bool, true, false, refl, sym, ap, true≢false, None, List, [], ◌∷◌, map}
 use Rattle.std.specs.List.{AllByRecursion}
 use native.Mathlib.Bridge.{le_by_compare, IsLe}
 use Rattle.seq_arith.specs.Message.Body.{HelloMsg, SummaryMsg}
@@ -24,7 +24,7 @@ happens_18 = (refl, refl, refl)
 
 happens_19 : Happens echo row.moment_18.world row.moment_19.event row.moment_19.sent row.moment_19.world
 unfolding IsLe
-happens_19 = (refl, le_by_compare 2 2 tt, refl, refl)
+happens_19 = (refl, (le_by_compare 2 2 tt, le_by_compare 3 (2 ^ 64) tt), refl, refl)
 
 happens_20 : Happens echo row.moment_19.world row.moment_20.event row.moment_20.sent row.moment_20.world
 unfolding laws

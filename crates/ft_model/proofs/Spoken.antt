@@ -1,5 +1,5 @@
 -- Each segment that a live connection sends is the SYN-ACK, a part of the output, the FIN behind it, or bare.
-use Rattle.std.proofs.Common.{◌≡◌, ℕ, zero, suc, ◌+◌, ◌-◌, Bool, true, false, not, nat_lt, min, ◌==◌, refl, sym, subst, List, [], ◌∷◌, if◌then◌else◌}
+use Rattle.std.proofs.Common.{◌≡◌, ℕ, zero, suc, ◌+◌, ◌-◌, Bool, true, false, not, ◌≤◌, nat_lt, min, max, arith, ◌==◌, refl, sym, subst, List, [], ◌∷◌, if◌then◌else◌}
 use Rattle.std.specs.List.{AllByRecursion}
 use Rattle.ft_io.specs.declared.Addr.{Addr}
 use Rattle.seq_arith.specs.Number.{number_at}
@@ -15,7 +15,7 @@ use Rattle.ft_model.proofs.Lists.{of_choice, all_append}
 
 pub data Spoken {State : Type 0} (service : Machine State) (server : Addr) (news : News) (before after : Point) (segment : Segment) : Type 0 where
   spoken_syn : segment ≡ syn_ack server after → Spoken service server news before after segment
-  spoken_text : (offset n : ℕ) → segment ≡ text_at service server after offset n → Spoken service server news before after segment
+  spoken_text : (offset n : ℕ) → n ≤ max 1 after.mss → segment ≡ text_at service server after offset n → Spoken service server news before after segment
   spoken_fin : (answered_run service after).closed ≡ true → segment ≡ fin_segment service server after → Spoken service server news before after segment
   spoken_bare : (offset : ℕ) → segment ≡ segment_at server after offset 16 [] → Spoken service server news before after segment
 
@@ -29,7 +29,7 @@ texts_spoken service server news before p zero offset left = tt
 texts_spoken service server news before p (suc k) offset left =
     of_choice (AllByRecursion (Spoken service server news before p)) (nat_lt 0 left)
     (text_at service server p offset (min left p.mss) ∷ texts service server p k (offset + min left p.mss) (left - min left p.mss)) []
-    (λ t. (spoken_text offset (min left p.mss) refl, texts_spoken service server news before p k (offset + min left p.mss) (left - min left p.mss))) (λ t. tt)
+    (λ t. (spoken_text offset (min left p.mss) (omega arith) refl, texts_spoken service server news before p k (offset + min left p.mss) (left - min left p.mss))) (λ t. tt)
 
 fin_spoken : {State : Type 0} (service : Machine State) (server : Addr) (news : News) (before after : Point)
     → AllByRecursion (Spoken service server news before after) (fin_if_closed service server after)
@@ -42,13 +42,13 @@ first_spoken service server news before after =
     let All : List Segment → Type 0 = AllByRecursion (Spoken service server news before after) in
     of_choice All (not after.counted) (syn_ack server after ∷ []) _ (λ t. (spoken_syn refl, tt))
     (λ t. of_choice All (after.una == released service after) (fin_if_closed service server after) _ (λ s. fin_spoken service server news before after)
-    (λ s. (spoken_text after.una (resent_length service before after) refl, tt)))
+    (λ s. (spoken_text after.una (resent_length service before after) (omega arith) refl, tt)))
 
 probe_spoken : {State : Type 0} (service : Machine State) (server : Addr) (news : News) (before after : Point)
     → AllByRecursion (Spoken service server news before after) (probe service server before after)
 probe_spoken service server news before after =
     of_choice (AllByRecursion (Spoken service server news before after)) (nat_lt before.sent (released service after)) _ (fin_if_closed service server after)
-    (λ t. (spoken_text before.sent probed_length refl, tt)) (λ t. fin_spoken service server news before after)
+    (λ t. (spoken_text before.sent probed_length (omega arith) refl, tt)) (λ t. fin_spoken service server news before after)
 
 resent_spoken : {State : Type 0} (service : Machine State) (server : Addr) (news : News) (before after : Point)
     → AllByRecursion (Spoken service server news before after) (resent service server news before after)
@@ -87,6 +87,6 @@ pub record IsHeaded (p : Point) (segment : Segment) : Type 0 where
 pub headed : {State : Type 0} (service : Machine State) (server : Addr) (news : News) (before after : Point) (segment : Segment)
     → Spoken service server news before after segment → IsHeaded after segment
 headed service server news before after segment (spoken_syn e) = subst (IsHeaded after) (sym e) (record { destination = refl; ack = refl; has_ack_flag = refl; no_rst = refl })
-headed service server news before after segment (spoken_text offset n e) = subst (IsHeaded after) (sym e) (record { destination = refl; ack = refl; has_ack_flag = refl; no_rst = refl })
+headed service server news before after segment (spoken_text offset n short e) = subst (IsHeaded after) (sym e) (record { destination = refl; ack = refl; has_ack_flag = refl; no_rst = refl })
 headed service server news before after segment (spoken_fin f e) = subst (IsHeaded after) (sym e) (record { destination = refl; ack = refl; has_ack_flag = refl; no_rst = refl })
 headed service server news before after segment (spoken_bare offset e) = subst (IsHeaded after) (sym e) (record { destination = refl; ack = refl; has_ack_flag = refl; no_rst = refl })

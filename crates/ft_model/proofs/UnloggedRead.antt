@@ -1,5 +1,5 @@
 -- The two traces about a read that a crash takes away: each moment but the wrong one happens.
-use Rattle.std.proofs.Common.{◌≡◌, ℕ, Bool, false, ◌==◌, refl, sym, ap, true≢false, subst, None, List, [], ◌∷◌, ◌++◌}
+use Rattle.std.proofs.Common.{◌^◌, ◌≡◌, ℕ, Bool, false, ◌==◌, refl, sym, ap, true≢false, subst, None, List, [], ◌∷◌, ◌++◌}
 use Rattle.std.specs.List.{AllByRecursion}
 use native.Mathlib.Bridge.{le_by_compare, IsLe}
 use Rattle.seq_arith.specs.Message.Body.{HelloMsg, SummaryMsg, ListMsg, EntryMsg, ReadsMsg, StaleMsg}
@@ -45,7 +45,7 @@ happens_13 told = (refl, refl, refl)
 
 happens_14 : (told : Packet) → Happens meter (row.moment_13 told).world (row.moment_14 told).event (row.moment_14 told).sent (row.moment_14 told).world
 unfolding IsLe
-happens_14 told = (refl, le_by_compare 2 2 tt, refl, refl)
+happens_14 told = (refl, (le_by_compare 2 2 tt, le_by_compare 3 (2 ^ 64) tt), refl, refl)
 
 happens_15 : (told : Packet) → Happens meter (row.moment_14 told).world (row.moment_15 told).event (row.moment_15 told).sent (row.moment_15 told).world
 unfolding laws

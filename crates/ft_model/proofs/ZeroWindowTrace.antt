@@ -19,6 +19,8 @@ use Rattle.ft_model.proofs.ZeroWindow.{probe_1, probe_2, probe_3, probe_4, probe
 starts : IsStart row.start
 unfolding IsLe
 starts = record {
+  ip = le_by_compare 3221226085 (2 ^ 32) tt;
+  port = le_by_compare 8 (2 ^ 16) tt;
   apart = refl;
   clients = (
     record {
@@ -46,7 +48,7 @@ nth (suc n) (packet ∷ packets) = nth n packets
 -- what happens
 happens_1 : Happens echo row.start row.moment_1.event row.moment_1.sent row.moment_1.world
 unfolding laws IsLe
-happens_1 = (refl, le_by_compare 1 1 tt, refl, refl)
+happens_1 = (refl, (le_by_compare 1 1 tt, le_by_compare 2 (2 ^ 64) tt), refl, refl)
 
 happens_2 : Happens echo row.moment_1.world row.moment_2.event row.moment_2.sent row.moment_2.world
 unfolding laws IsLe

@@ -2,6 +2,7 @@ pub mod Offset
 pub mod Client
 pub mod Log
 pub mod Network
+pub mod Wire
 pub mod Point
 pub mod News
 pub mod Taken
@@ -22,6 +23,7 @@ pub mod Node
 pub mod Serving
 pub mod Lawful
 pub mod World
+pub mod Image
 pub mod Schedule
 pub mod Growth
 pub mod Masked

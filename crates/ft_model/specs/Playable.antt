@@ -2,7 +2,7 @@
 -- are built.
 use Rattle.std.specs.Prelude.{◌≡◌, Bool, true, false, ◌<◌, ◌≤◌, ◌^◌, length, All}
 use Rattle.std.specs.List.{AllByRecursion}
-use Rattle.ft_model.specs.Readable.{FitsClient}
+use Rattle.ft_model.specs.Readable.{FitsAddr, FitsClient}
 use Rattle.ft_model.specs.Schedule.{bytes_of, clients_of}
 use Rattle.ft_model.specs.World.{are_apart}
 use Rattle.ft_model.specs.declared.event.Event.{Event}
@@ -22,6 +22,7 @@ is_played _ = false
 -- One client at most, whose script fits a stream and whose numbers have their sizes, at an address that isn't the server's; and the echo
 -- service
 pub record IsPlayable (schedule : Schedule) : Type 0 where
+  pub server : FitsAddr schedule.server
   pub alone : length schedule.clients ≤ 1
   pub short : All (λ line. length (bytes_of line.script) ≤ 2 ^ 24) schedule.clients
   pub numbers : AllByRecursion (λ line. line.isn < 2 ^ 32) schedule.clients

@@ -4,13 +4,10 @@ use Rattle.std.specs.List.{AllByRecursion}
 use Rattle.hex.specs.Hex.{IsBytes}
 use Rattle.ft_io.specs.declared.Addr.{Addr}
 use Rattle.ft_io.specs.declared.Key.{Key}
-use Rattle.seq_arith.specs.Packet.{Segment}
-use Rattle.seq_arith.specs.Message.{Numbers, Kept, EntryHead, Part, Body}
-use Rattle.seq_arith.specs.Message.Body.{HelloMsg, SummaryMsg, ListMsg, EntryMsg, BytesMsg, PartMsg, CutsMsg, LensMsg, OpenMsg, OpenedMsg, DataMsg, StableMsg, ReadMsg, ReadsMsg, DoneMsg, EndedMsg, StaleMsg, FullMsg}
-use Rattle.server_trait.specs.Service.{Machine}
 use Rattle.ft_model.specs.Client.{Client}
 use Rattle.ft_model.specs.Network.{Packet, source_of, destination_of}
-use Rattle.ft_model.specs.Network.Packet.{To_server, To_client, To_logger, From_logger}
+use Rattle.ft_model.specs.Network.Packet.{To_server, To_client}
+use Rattle.ft_model.specs.Wire.{HasWire}
 use Rattle.ft_model.specs.World.{Moment}
 use Rattle.ft_model.specs.Report.{number_of}
 use Rattle.ft_model.specs.declared.event.Event.{Event}
@@ -40,44 +37,11 @@ FitsWay (ServerToClient n) = Fits n
 FitsWay ServerToLogger = Unit {0}
 FitsWay LoggerToServer = Unit {0}
 
+abbrev pub FitsAddr : Addr → Type 0
+FitsAddr at = (at.ip < 2 ^ 32) × (at.port < 2 ^ 16)
+
 abbrev pub FitsKey : Key → Type 0
 FitsKey key = (key.ip < 2 ^ 32) × (key.port < 2 ^ 16)
-
-abbrev pub FitsSegment : Segment → Type 0
-FitsSegment s = Fits s.head.seq × Fits s.head.ack × (s.head.flags < 256) × Fits s.head.window × FitsOption s.head.mss × IsBytes s.payload
-
-abbrev pub FitsNumbers : Numbers → Type 0
-FitsNumbers n = FitsKey n.key × Fits n.cisn × Fits n.sisn × Fits n.mss
-
-abbrev pub FitsKept : Kept → Type 0
-FitsKept k = FitsKey k.key × Fits k.length × Fits k.reads
-
-abbrev pub FitsEntry : EntryHead → Type 0
-FitsEntry e = FitsKey e.key × Fits e.cisn × Fits e.sisn × Fits e.mss × Fits e.length × Fits e.reads × Fits e.acked
-
-abbrev pub FitsPart : Part → Type 0
-FitsPart p = FitsKey p.key × Fits p.offset × Fits p.acked × IsBytes p.bytes
-
--- every number of a body has at most 64 bits, every address its own size, and every byte is one
-abbrev pub FitsBody : Body → Type 0
-FitsBody HelloMsg = Unit {0}
-FitsBody (SummaryMsg count) = Fits count
-FitsBody (ListMsg index) = Fits index
-FitsBody (EntryMsg index e) = Fits index × FitsEntry e
-FitsBody (BytesMsg key offset) = FitsKey key × Fits offset
-FitsBody (PartMsg key offset bytes) = FitsKey key × Fits offset × IsBytes bytes
-FitsBody (CutsMsg key first) = FitsKey key × Fits first
-FitsBody (LensMsg key first lens) = FitsKey key × Fits first × AllByRecursion Fits lens
-FitsBody (OpenMsg n) = FitsNumbers n
-FitsBody (OpenedMsg n) = FitsNumbers n
-FitsBody (DataMsg part) = FitsPart part
-FitsBody (StableMsg k) = FitsKept k
-FitsBody (ReadMsg key index length) = FitsKey key × Fits index × Fits length
-FitsBody (ReadsMsg k) = FitsKept k
-FitsBody (DoneMsg key) = FitsKey key
-FitsBody (EndedMsg key) = FitsKey key
-FitsBody (StaleMsg newer) = Fits newer
-FitsBody (FullMsg key) = FitsKey key
 
 -- the key is a client's
 abbrev pub IsKnown : List Client → Key → Type 0
@@ -86,24 +50,27 @@ IsKnown clients key = (0 < number_of clients key) × Fits (number_of clients key
 abbrev pub IsOf : Addr → Key → Type 0
 IsOf server key = (key.ip ≡ server.ip) × (key.port ≡ server.port)
 
--- a packet whose line tells all of it: a segment between a client and the server, or a message
-abbrev pub IsReadable : Addr → List Client → Packet → Type 0
-IsReadable server clients (To_server s) = IsKnown clients (source_of s) × IsOf server (destination_of s) × FitsSegment s
-IsReadable server clients (To_client s) = IsKnown clients (destination_of s) × IsOf server (source_of s) × FitsSegment s
-IsReadable server clients (To_logger m) = Fits m.boot × FitsBody m.body
-IsReadable server clients (From_logger m) = Fits m.boot × FitsBody m.body
+-- a segment goes between a client and the server
+abbrev pub HasEnds : Addr → List Client → Packet → Type 0
+HasEnds server clients (To_server s) = IsKnown clients (source_of s) × IsOf server (destination_of s)
+HasEnds server clients (To_client s) = IsKnown clients (destination_of s) × IsOf server (source_of s)
+HasEnds server clients _ = Unit {0}
 
--- every number of an event has at most 64 bits
+-- a packet whose line tells all of it
+abbrev pub IsReadable : Addr → List Client → Packet → Type 0
+IsReadable server clients packet = HasEnds server clients packet × HasWire packet
+
+-- every number of an event has at most 64 bits, and a window 16
 abbrev pub FitsEvent : Event → Type 0
 FitsEvent (Boot boot isn) = Fits boot × Fits isn
 FitsEvent Crash = Unit {0}
 FitsEvent Tick = Unit {0}
 FitsEvent (Deliver packet) = Fits packet
 FitsEvent (Flip packet bit) = Fits packet × Fits bit
-FitsEvent (Begin client window) = Fits client × Fits window
+FitsEvent (Begin client window) = Fits client × (window < 2 ^ 16)
 FitsEvent (Send client from len) = Fits client × Fits from × Fits len
 FitsEvent (Fin client) = Fits client
-FitsEvent (Ack client window) = Fits client × Fits window
+FitsEvent (Ack client window) = Fits client × (window < 2 ^ 16)
 FitsEvent (Reset client) = Fits client
 
 abbrev pub FitsScript : Script → Type 0
@@ -124,7 +91,3 @@ pub record FitsSchedule (schedule : Schedule) : Type 0 where
 -- a turn whose lines tell all of it
 abbrev pub IsReadableTurn : Addr → List Client → Moment → Type 0
 IsReadableTurn server clients moment = FitsEvent moment.event × AllByRecursion (IsReadable server clients) moment.sent
-
--- a service that is given bytes writes bytes
-abbrev pub WritesBytes : {State : Type 0} → Machine State → Type 0
-WritesBytes {State} service = (state : State) (chunk : List ℕ) → IsBytes chunk → IsBytes (service.after state chunk).output

@@ -75,11 +75,15 @@ pub record Moves (before : World) (number : ℕ) (sent : List Packet) (after : W
   pub sent_is : sent ≡ To_server segment ∷ []
   pub after_is : after ≡ record before { clients = with_client client.key (λ _. later) before.clients; packets = before.packets ++ sent }
 
+-- a boot number rises, and has 64 bits
+abbrev pub IsNextBoot : World → ℕ → Type 0
+IsNextBoot w boot = (w.boot < boot) × (boot < 2 ^ 64)
+
 -- what may happen: from the world before, by this event, with these packets sent, to the world after. Boot numbers rise, one server is up
 -- at a time, and a server that goes down loses all that it held
 abbrev pub Happens : {State : Type 0} → Machine State → World → Event → List Packet → World → Type 0
 Happens service before (Boot boot isn) sent after =
-    (before.node ≡ None) × (before.boot < boot) × (sent ≡ hello (booted before.server boot isn))
+    (before.node ≡ None) × IsNextBoot before boot × (sent ≡ hello (booted before.server boot isn))
     × (after ≡ record before { boot = boot; node = Some (booted before.server boot isn); packets = before.packets ++ sent })
 Happens service before Crash sent after =
     (is_some before.node ≡ true) × (sent ≡ []) × (after ≡ record before { node = None; packets = before.packets ++ sent })
@@ -123,8 +127,11 @@ pub record IsNewClient (server : Addr) (client : Client) : Type 0 where
   pub bytes : AreBytes client.script
   pub short : length client.script ≤ 2 ^ 24
 
--- where a trace starts: new clients with keys of their own, the empty log, nothing sent, and no server
+-- where a trace starts: a server's address and port that a packet can hold, new clients with keys of their own, the empty log, nothing
+-- sent, and no server
 pub record IsStart (w : World) : Type 0 where
+  pub ip : w.server.ip < 2 ^ 32
+  pub port : w.server.port < 2 ^ 16
   pub apart : are_apart w.server w.clients ≡ true
   pub clients : AllByRecursion (IsNewClient w.server) w.clients
   pub log : w.log ≡ empty_log

@@ -26,3 +26,4 @@ pub mod rows;
 mod schedule;
 mod way;
 pub mod weakened;
+pub mod wire;

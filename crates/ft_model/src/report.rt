@@ -4,7 +4,7 @@
 ghost use Rattle.std.specs.Prelude.{◌≡◌, ◌<◌, ◌^◌, ℕ, Bool, Option, decimal, List, [], ◌∷◌, codes, None, Some, false};
 ghost use Rattle.std.specs.List.{AllByRecursion};
 ghost use Rattle.hex.specs.Hex.{IsBytes};
-ghost use Rattle.ft_model.specs.Readable.{IsReadable, FitsSchedule, IsReadableTurn, WritesBytes, IsWord, Fits, FitsOption, FitsWay};
+ghost use Rattle.ft_model.specs.Readable.{IsReadable, FitsSchedule, IsReadableTurn, IsWord, Fits, FitsOption, FitsWay};
 ghost use Rattle.ft_model.specs.Texts.{line, hex_text, list_text, mss_text, bit_text, address_text, flags_text, way_text};
 ghost use Rattle.ft_io.specs.declared.Addr.{Addr};
 ghost use Rattle.ft_model.specs.Client.{Client};
@@ -106,10 +106,9 @@ pub fn reports_tell_their_traces<S: Service>()
         → report schedule trace ≡ report other also → (schedule ≡ other) × (trace ≡ also) }
 {}
 
-/// All that is sent in a legal trace has a line that tells it: a segment has the addresses of a client and of the server, every number fits, and
-/// every byte is one. It is so where the schedule's numbers have the sizes of their types, and the service writes bytes.
+/// All that is sent in a legal trace has a line that tells it: it has a wire, and a segment has the addresses of a client and of the server. It
+/// is so where the schedule's numbers have the sizes of their types.
 pub fn legal_turns_are_readable<S: Service>()
-    ensures { (kind : ℕ) (schedule : Schedule) (trace : List Moment) → FitsSchedule schedule → WritesBytes (machine (S.started kind) S.after)
-        → Legal (machine (S.started kind) S.after) schedule trace
+    ensures { (kind : ℕ) (schedule : Schedule) (trace : List Moment) → FitsSchedule schedule → Legal (machine (S.started kind) S.after) schedule trace
         → AllByRecursion (IsReadableTurn schedule.server (clients_of schedule.server schedule.clients)) trace }
 {}

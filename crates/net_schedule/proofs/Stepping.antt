@@ -1,5 +1,5 @@
 -- What each event does to the code's world is what may happen in the world of the definitions at which it stands.
-use Rattle.std.proofs.Common.{◌≡◌, ℤ, pos, ◌==◌, ◌&&◌, ◌||◌, not, ◌∙◌, sym, ap, subst, ℕ, ◌+◌, ◌<◌, ◌≤◌, Bool, true, false, Option, None, Some, List, [], ◌∷◌, ◌++◌, length, take, drop, int_lt, ◌+ℤ◌, nat_lt, map, nat_le, is_some, refl, arith, cond, option_map, append-nil, zero, suc, slice_get, Result, Ok, Err, ◌-◌, length-append}
+use Rattle.std.proofs.Common.{◌^◌, ◌≡◌, ℤ, pos, ◌==◌, ◌&&◌, ◌||◌, not, ◌∙◌, sym, ap, subst, ℕ, ◌+◌, ◌<◌, ◌≤◌, Bool, true, false, Option, None, Some, List, [], ◌∷◌, ◌++◌, length, take, drop, int_lt, ◌+ℤ◌, nat_lt, map, nat_le, is_some, refl, arith, cond, option_map, append-nil, zero, suc, slice_get, Result, Ok, Err, ◌-◌, length-append}
 use Rattle.std.specs.List.{AllByRecursion}
 use Rattle.std.specs.Option.{option_to_list}
 use Rattle.ft_io.specs.declared.Addr.{Addr}
@@ -167,10 +167,10 @@ module _ {State : Type 0} (service : Machine State) where
   no_move v n sent after client move h k = absurd (none-some move k)
 
   -- a boot that the events' tests allow
-  pub boots : (w w' : Kept State) (v : Seen) (boot isn : ℕ) (s : Server State) (more : List Packet) → WorldStands service w v → w.node ≡ None → w.boot < boot
+  pub boots : (w w' : Kept State) (v : Seen) (boot isn : ℕ) (s : Server State) (more : List Packet) → WorldStands service w v → w.node ≡ None → w.boot < boot → boot < 2 ^ 64
       → ((key : Key) → ClosesAtEnd service → ServerStarts service key (booted w.server boot isn) s [] more) → s.kind ≡ w.kind
       → w' ≡ record w { packets = w.packets ++ more; boot = boot; node = Some s } → Advances service v (Boot boot isn) w'
-  boots w w' v boot isn s more st e h starts same e' =
+  boots w w' v boot isn s more st e h fits starts same e' =
       let vn : v.node ≡ None = down service st.key w.node v.node st.node e in
       let node : Node = booted v.server boot isn in
       let t : ServerStarts service st.key node s [] more = subst (λ a. ServerStarts service st.key (booted a boot isn) s [] more) st.server (starts st.key st.closes_at_end) in
@@ -181,7 +181,7 @@ module _ {State : Type 0} (service : Machine State) where
         world = record v { boot = boot; node = Some node; packets = v.packets ++ hello node };
         allowed = rw vn (rw q refl);
         scripted = λ client move h k. absurd (none-some move k);
-        happens = (vn, low, refl, refl);
+        happens = (vn, (low, fits), refl, refl);
         stands = record {
           key = st.key;
           server = ap (λ x. x.server) e' ∙ st.server;

@@ -1,0 +1,96 @@
+-- What has a wire has numbers of at most 64 bits, addresses of their own size, and bytes: so its line can be read.
+use Rattle.std.proofs.Common.{◌≡◌, ℕ, ◌<◌, ◌≤◌, ◌^◌, true, nat_le, Option, IfSome, Some, None, List, [], ◌∷◌, arith, leb-true}
+use Rattle.std.specs.List.{AllByRecursion, list_all}
+use Rattle.hex.specs.Hex.{IsBytes}
+use Rattle.seq_arith.specs.Packet.{Segment}
+use Rattle.seq_arith.specs.Message.{Numbers, Kept, EntryHead, Part, Body, Message}
+use Rattle.seq_arith.specs.Message.Body.{HelloMsg, SummaryMsg, ListMsg, EntryMsg, BytesMsg, PartMsg, CutsMsg, LensMsg, OpenMsg, OpenedMsg, DataMsg, StableMsg, ReadMsg, ReadsMsg, DoneMsg, EndedMsg, StaleMsg, FullMsg}
+use Rattle.seq_arith.specs.MessageGrammar.{fields_of, kind_of, numbers_of, behind_of, lens_of, is_sound, AllFit}
+use Rattle.server_trait.specs.Service.{AreBytes}
+use Rattle.ft_model.specs.Wire.{CanBeSent, CanBeTold}
+use Rattle.ft_model.specs.Readable.{Fits, FitsOption, FitsKey}
+use Rattle.ft_model.proofs.Lists.{both}
+use Rattle.ft_model.proofs.Formed.{bytes_of_all}
+
+-- the sizes of a segment's fields
+abbrev pub FitsSegment : Segment → Type 0
+FitsSegment s = Fits s.head.seq × Fits s.head.ack × (s.head.flags < 256) × Fits s.head.window × FitsOption s.head.mss × IsBytes s.payload
+
+abbrev pub FitsNumbers : Numbers → Type 0
+FitsNumbers n = FitsKey n.key × Fits n.cisn × Fits n.sisn × Fits n.mss
+
+abbrev pub FitsKept : Kept → Type 0
+FitsKept k = FitsKey k.key × Fits k.length × Fits k.reads
+
+abbrev pub FitsEntry : EntryHead → Type 0
+FitsEntry e = FitsKey e.key × Fits e.cisn × Fits e.sisn × Fits e.mss × Fits e.length × Fits e.reads × Fits e.acked
+
+abbrev pub FitsPart : Part → Type 0
+FitsPart p = FitsKey p.key × Fits p.offset × Fits p.acked × IsBytes p.bytes
+
+-- every number of a body has at most 64 bits, every address its own size, and every byte is one
+abbrev pub FitsBody : Body → Type 0
+FitsBody HelloMsg = Unit {0}
+FitsBody (SummaryMsg count) = Fits count
+FitsBody (ListMsg index) = Fits index
+FitsBody (EntryMsg index e) = Fits index × FitsEntry e
+FitsBody (BytesMsg key offset) = FitsKey key × Fits offset
+FitsBody (PartMsg key offset bytes) = FitsKey key × Fits offset × IsBytes bytes
+FitsBody (CutsMsg key first) = FitsKey key × Fits first
+FitsBody (LensMsg key first lens) = FitsKey key × Fits first × AllByRecursion Fits lens
+FitsBody (OpenMsg n) = FitsNumbers n
+FitsBody (OpenedMsg n) = FitsNumbers n
+FitsBody (DataMsg part) = FitsPart part
+FitsBody (StableMsg k) = FitsKept k
+FitsBody (ReadMsg key index length) = FitsKey key × Fits index × Fits length
+FitsBody (ReadsMsg k) = FitsKept k
+FitsBody (DoneMsg key) = FitsKey key
+FitsBody (EndedMsg key) = FitsKey key
+FitsBody (StaleMsg newer) = Fits newer
+FitsBody (FullMsg key) = FitsKey key
+
+option_fits : (o : Option ℕ) → IfSome o (λ n. n < 2 ^ 16) → FitsOption o
+option_fits (Some n) h = omega (arith, h)
+option_fits None h = tt
+
+pub segment_fits : (s : Segment) → CanBeSent s → FitsSegment s
+segment_fits s h =
+    (omega (arith, h.0.seq), omega (arith, h.0.ack), h.0.flags, omega (arith, h.0.window), option_fits s.head.mss h.0.mss, bytes_of_all s.payload h.1)
+
+lengths_fit : (lens : List ℕ) → list_all (λ len. nat_le len 2048) lens ≡ true → AllByRecursion Fits lens
+lengths_fit [] e = tt
+lengths_fit (n ∷ lens) e =
+    let parts = both (nat_le n 2048) (list_all (λ len. nat_le len 2048) lens) e in
+    let low : n ≤ 2048 = leb-true _ _ parts.0 in (omega (arith, low), lengths_fit lens parts.1)
+
+body_fits : (body : Body) → AllFit (fields_of (kind_of body)) (numbers_of body) → AreBytes (behind_of body) → list_all (λ len. nat_le len 2048) (lens_of body) ≡ true → FitsBody body
+body_fits HelloMsg h b l = tt
+body_fits (SummaryMsg count) h b l = omega (arith, h.0)
+body_fits (ListMsg index) h b l = omega (arith, h.0)
+body_fits (EntryMsg index e) h b l =
+    let k = h.1 in
+    let n = k.1.1 in
+    let m = n.1.1.1 in
+    let o = m.1.1.1 in
+    (omega (arith, h.0), ((k.0, k.1.0), omega (arith, n.0), omega (arith, n.1.0), omega (arith, n.1.1.0), omega (arith, m.0), omega (arith, o.0), omega (arith, o.1.0)))
+body_fits (BytesMsg key offset) h b l = ((h.0, h.1.0), omega (arith, h.1.1.0))
+body_fits (PartMsg key offset bytes) h b l = ((h.0, h.1.0), omega (arith, h.1.1.0), bytes_of_all bytes b)
+body_fits (CutsMsg key first) h b l = ((h.0, h.1.0), omega (arith, h.1.1.0))
+body_fits (LensMsg key first lens) h b l = ((h.0, h.1.0), omega (arith, h.1.1.0), lengths_fit lens l)
+body_fits (OpenMsg n) h b l = let m = h.1.1 in ((h.0, h.1.0), omega (arith, m.0), omega (arith, m.1.0), omega (arith, m.1.1.0))
+body_fits (OpenedMsg n) h b l = let m = h.1.1 in ((h.0, h.1.0), omega (arith, m.0), omega (arith, m.1.0), omega (arith, m.1.1.0))
+body_fits (DataMsg part) h b l = let m = h.1.1 in ((h.0, h.1.0), omega (arith, m.0), omega (arith, m.1.0), bytes_of_all part.bytes b)
+body_fits (StableMsg k) h b l = let m = h.1.1 in ((h.0, h.1.0), omega (arith, m.0), omega (arith, m.1.1.0))
+body_fits (ReadMsg key index n) h b l = let m = h.1.1 in ((h.0, h.1.0), omega (arith, m.0), omega (arith, m.1.0))
+body_fits (ReadsMsg k) h b l = let m = h.1.1 in ((h.0, h.1.0), omega (arith, m.0), omega (arith, m.1.1.0))
+body_fits (DoneMsg key) h b l = (h.0, h.1.0)
+body_fits (EndedMsg key) h b l = (h.0, h.1.0)
+body_fits (StaleMsg newer) h b l = omega (arith, h.0)
+body_fits (FullMsg key) h b l = (h.0, h.1.0)
+
+lens_sound : (m : Message) → CanBeTold m → list_all (λ len. nat_le len 2048) (lens_of m.body) ≡ true
+unfolding is_sound
+lens_sound m h = (both _ (list_all (λ len. nat_le len 2048) (lens_of m.body)) h.0.sound).1
+
+pub message_fits : (m : Message) → CanBeTold m → Fits m.boot × FitsBody m.body
+message_fits m h = (omega (arith, h.0.boot), body_fits m.body h.0.numbers h.1 (lens_sound m h))

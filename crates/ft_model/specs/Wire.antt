@@ -1,0 +1,43 @@
+-- A packet as bytes: from whom to whom it goes, and the one spelling in which this project writes it (RFC 791, 3.1; RFC 9293, 3.1; the
+-- messages' own format). The definitions keep values; these are their bytes.
+use Rattle.std.specs.Prelude.{ℕ, List}
+use Rattle.ft_io.specs.declared.Key.{Key}
+use Rattle.seq_arith.specs.Packet.{Segment}
+use Rattle.seq_arith.specs.Message.{Message}
+use Rattle.seq_arith.specs.PacketGrammar as segments
+use Rattle.seq_arith.specs.MessageGrammar as messages
+use Rattle.server_trait.specs.Service.{AreBytes}
+use Rattle.ft_model.specs.Network.{Packet, source_of, destination_of}
+use Rattle.ft_model.specs.Network.Packet.{To_server, To_client, To_logger, From_logger}
+
+-- one end of a packet's way. A client is known by its address and port
+pub data Party : Type 0 where
+  A_client : Key → Party
+  The_server : Party
+  The_logger : Party
+
+pub record Wire : Type 0 where
+  pub from : Party
+  pub to : Party
+  pub bytes : List ℕ
+
+abbrev pub wire_of : Packet → Wire
+wire_of (To_server segment) = record { from = A_client (source_of segment); to = The_server; bytes = segments.spelling segment }
+wire_of (To_client segment) = record { from = The_server; to = A_client (destination_of segment); bytes = segments.spelling segment }
+wire_of (To_logger message) = record { from = The_server; to = The_logger; bytes = messages.spelling message }
+wire_of (From_logger message) = record { from = The_logger; to = The_server; bytes = messages.spelling message }
+
+-- a segment can be written: each field fits its place, the whole fits a packet, and the text is bytes
+abbrev pub CanBeSent : Segment → Type 0
+CanBeSent segment = segments.IsSpellable segment × AreBytes segment.payload
+
+-- so can a message: each number fits its place and is in its field's range, and what stands behind the fields is bytes
+abbrev pub CanBeTold : Message → Type 0
+CanBeTold message = messages.IsSpellable message × AreBytes (messages.behind_of message.body)
+
+-- the packet is one that its wire tells
+abbrev pub HasWire : Packet → Type 0
+HasWire (To_server segment) = CanBeSent segment
+HasWire (To_client segment) = CanBeSent segment
+HasWire (To_logger message) = CanBeTold message
+HasWire (From_logger message) = CanBeTold message

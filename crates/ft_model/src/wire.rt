@@ -1,0 +1,36 @@
+//! Laws of packets as bytes. Nothing here runs; each function is a theorem.
+
+ghost use Rattle.std.specs.Prelude.{◌≡◌, ℕ, List};
+ghost use Rattle.std.specs.List.{AllByRecursion};
+ghost use Rattle.server_trait.specs.Service.{machine};
+ghost use Rattle.ft_model.specs.Network.{Packet};
+ghost use Rattle.ft_model.specs.Wire.{wire_of, HasWire};
+ghost use Rattle.ft_model.specs.World.{World, Moment, Joint, world_after};
+ghost use Rattle.ft_model.specs.Image.{wires_of, HasWires};
+ghost use Rattle.ft_model.specs.Legal.{Legal, start_of};
+ghost use Rattle.ft_model.specs.Report.{turns_of};
+ghost use Rattle.ft_model.specs.declared.schedule.Schedule.{Schedule};
+
+use server_trait::Service;
+
+/// The bytes on the wire tell the packet: of packets that have a wire, no two have the same.
+pub fn wires_tell_packets()
+    ensures packet { (p q : Packet) → HasWire p → HasWire q → wire_of p ≡ wire_of q → p ≡ q }
+    ensures turns { (trace also : List Moment) → AllByRecursion HasWires trace → AllByRecursion HasWires also
+        → wires_of trace ≡ wires_of also → turns_of trace ≡ turns_of also }
+{}
+
+/// Every packet of a joint trace has a wire: each of its numbers fits its field and is in its range, and what it carries is bytes.
+pub fn packets_have_wires<S: Service>()
+    ensures sent { (kind : ℕ) (start : World) (trace : List Moment) → Joint (machine (S.started kind) S.after) start trace
+        → AllByRecursion HasWires trace }
+    ensures all { (kind : ℕ) (start : World) (trace : List Moment) → Joint (machine (S.started kind) S.after) start trace
+        → AllByRecursion HasWire (world_after start trace).packets }
+{}
+
+/// The bytes of a legal trace tell it: two legal traces of a schedule, or of two with the same start, are the same where their bytes are.
+pub fn wires_tell_traces<S: Service>()
+    ensures { (kind : ℕ) (schedule other : Schedule) (trace also : List Moment) → start_of schedule ≡ start_of other
+        → Legal (machine (S.started kind) S.after) schedule trace → Legal (machine (S.started kind) S.after) other also
+        → wires_of trace ≡ wires_of also → trace ≡ also }
+{}
