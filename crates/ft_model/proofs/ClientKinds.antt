@@ -1,5 +1,5 @@
 -- A client's kind, and what it allows.
-use Rattle.std.proofs.Common.{◌≡◌, ℕ, Bool, true, false, refl, sym, ap, subst, true≢false, Some, None, List, [], arith}
+use Rattle.std.proofs.Common.{◌≡◌, ℕ, true, refl, sym, ap, subst, true≢false, Some, None, [], arith}
 use Rattle.seq_arith.specs.Packet.{Segment}
 use Rattle.ft_model.specs.Client.{Client, ClientKind, Move, IsMove, move_of, may_move, suits_kind, segment_of}
 use Rattle.ft_model.specs.Client.ClientKind.{Live}

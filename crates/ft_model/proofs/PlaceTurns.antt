@@ -17,7 +17,7 @@ use Rattle.ft_model.specs.Refusal.{as_closed, full_rst}
 use Rattle.ft_model.specs.Node.{Node, Place, Input, key_of, is_for}
 use Rattle.ft_model.specs.Node.Place.{Opens, Lives, Ended}
 use Rattle.ft_model.specs.Node.Input.{Packet_comes, Message_comes, Tick_comes}
-use Rattle.ft_model.specs.Serving.{Stays, LivesOn, Hears, Meets, PlaceTurn, concerns, names, key_named, AllGo, newcomers, refusals, is_asked, opens_at, ServingTurn}
+use Rattle.ft_model.specs.Serving.{Stays, LivesOn, Hears, Meets, PlaceTurn, concerns, names, AllGo, newcomers, refusals, is_asked, opens_at, ServingTurn}
 use Rattle.ft_model.proofs.Lists.{both, same_key, all_append, of_choice}
 
 -- the news that an input has for a connection
@@ -69,7 +69,7 @@ opens service node input asked kept true now sent o h t = began asked kept t.0 r
 opens service node input asked kept false now sent o h t = dropped asked refl (inl (kept, h, o)) t.0 (inl t.1)
 
 hears : {State : Type 0} (service : Machine State) (node : Node) (message : Message) (body : Body) (place : Place) (now : List Place) (sent : List Packet)
-    → message.body ≡ body → message.boot ≡ node.boot → names (key_named body) (key_of place) ≡ true
+    → message.body ≡ body → message.boot ≡ node.boot → names body (key_of place) ≡ true
     → Hears service node body place now sent → PlaceWent service node (Message_comes message) place now sent
 hears service node message (StableMsg kept) (Lives p) now sent e b n t =
     went_on (Logged kept) p t.0 refl (message, refl, b, same_key kept.key p.key n, inl e) t.1 t.2
@@ -90,7 +90,7 @@ meets service node (Packet_comes segment) (Lives p) now sent c t =
 meets service node (Packet_comes segment) (Ended key) now sent c t =
     refused key segment refl refl (same_key (source_of segment) key (both (is_for node.server segment) _ c).1) t.0 t.1
 meets service node (Message_comes message) place now sent c t =
-    let parts = both (message.boot == node.boot) (names (key_named message.body) (key_of place)) c in
+    let parts = both (message.boot == node.boot) (names message.body (key_of place)) c in
     hears service node message message.body place now sent refl (eqb-true _ _ parts.0) parts.1 t
 meets service node Tick_comes (Lives p) now sent c t = went_on Ticks p t.0 refl refl t.1 t.2
 meets service node input place now sent c t = stays service node input place now sent t

@@ -1,5 +1,5 @@
 -- A turn of a server by its stage: it waits, it asks on, its restart ends, it serves, or a newer incarnation has fenced it.
-use Rattle.std.proofs.Common.{◌≡◌, ℕ, ◌+◌, Bool, true, false, ◌==◌, refl, sym, ap, ◌∙◌, eqb-true, inl, inr, ◌⊎◌, MatchBool, Option, Some, None, List, [], length, if◌then◌else◌}
+use Rattle.std.proofs.Common.{◌≡◌, ℕ, ◌+◌, Bool, true, false, ◌==◌, refl, sym, ap, ◌∙◌, eqb-true, inl, inr, ◌⊎◌, MatchBool, MatchOption, Option, Some, None, List, [], length, if◌then◌else◌}
 use Rattle.ft_io.specs.declared.Addr.{Addr}
 use Rattle.seq_arith.specs.Packet.{Segment}
 use Rattle.seq_arith.specs.Message.{Body, Message}
@@ -15,7 +15,7 @@ use Rattle.ft_model.specs.Node.{Node, Place, Stage, Input}
 use Rattle.ft_model.specs.Node.Stage.{Asking, Fetching, Serving, Fenced}
 use Rattle.ft_model.specs.Node.Input.{Packet_comes, Message_comes, Noise_comes, Tick_comes}
 use Rattle.ft_model.specs.Serving.{AllGo, newcomers, ServingTurn}
-use Rattle.ft_model.specs.Lawful.{Revives, Continues, AskingTurn, FetchingTurn, StageTurn, NodeTurn, LawfulTurn, all_restored, restored_count, hello, asked, held, fence, count_told, fetched_then}
+use Rattle.ft_model.specs.Lawful.{Rests, Revives, Continues, Fetches, StageTurn, NodeTurn, LawfulTurn, all_restored, restored_count, hello, asked, held, fence, count_told, summary_count, fetched_then}
 use Rattle.ft_model.specs.Masked.{is_restarting}
 use Rattle.ft_model.proofs.Lists.{none_is_some, some_is}
 
@@ -31,6 +31,14 @@ pub record Progress (node : Node) (input : Input) (count : ℕ) (fetched : List 
 abbrev pub IsMissing : Node → Option Wanted → Type 0
 IsMissing node (Some w) = (count : ℕ) × (fetched : List Fetched) × (node.stage ≡ Fetching count fetched) × (wanted count fetched ≡ Some w)
 IsMissing node None = Unit {0}
+
+-- a server that waits for the Summary, by the count that is told
+abbrev pub Asks : {State : Type 0} → Machine State → Node → Option ℕ → Stage → List Packet → Type 0
+Asks service node count after sent = MatchOption count (Rests Asking after sent) (λ n. Fetches service node n [] after sent)
+
+-- .. and one that waits for an answer, by what is fetched then
+abbrev pub Gets : {State : Type 0} → Machine State → Node → (count : ℕ) → List Fetched → Option (List Fetched) → Stage → List Packet → Type 0
+Gets service node count fetched more after sent = MatchOption more (Rests (Fetching count fetched) after sent) (λ now. Fetches service node count now after sent)
 
 pub data StageWent {State : Type 0} (service : Machine State) (node : Node) (input : Input) (sent : List Packet) (after : Stage) : Type 0 where
   was_fenced : (newer : ℕ) → after ≡ Fenced newer → sent ≡ [] → StageWent service node input sent after
@@ -49,7 +57,7 @@ continues : {State : Type 0} (service : Machine State) (node : Node) (input : In
 continues service node input count fetched after sent (Some w) e p t = asked_on count fetched p t.0 (t.1 ∙ ap (asked node) (sym e))
 continues service node input count fetched after sent None e p t = resumed count fetched t.0 p e t.1 t.2
 
-summary : (body : Body) (count : ℕ) → count_told body ≡ Some count → body ≡ SummaryMsg count
+summary : (body : Body) (count : ℕ) → summary_count body ≡ Some count → body ≡ SummaryMsg count
 summary (SummaryMsg n) count e = ap SummaryMsg (some_is n count e)
 summary _ count e = none_is_some count e
 
@@ -58,17 +66,17 @@ told_some true o x e = (refl, e)
 told_some false o x e = none_is_some x e
 
 asks_so : {State : Type 0} (service : Machine State) (node : Node) (message : Message) (after : Stage) (sent : List Packet) (o : Option ℕ)
-    → node.stage ≡ Asking → (if message.boot == node.boot then count_told message.body else None) ≡ o → AskingTurn service node o after sent
+    → node.stage ≡ Asking → (count_told node message) ≡ o → Asks service node o after sent
     → StageWent service node (Message_comes message) sent after
 asks_so service node message after sent (Some count) s e t =
-    let parts = told_some (message.boot == node.boot) (count_told message.body) count e in
+    let parts = told_some (message.boot == node.boot) (summary_count message.body) count e in
     continues service node (Message_comes message) count [] after sent (wanted count []) refl
     (record { message = message; comes = refl; boot = eqb-true _ _ parts.0; how = inl (s, summary message.body count parts.1, refl) }) t
 asks_so service node message after sent None s e t = waited (ap is_restarting s) (t.0 ∙ sym s) (inr (None, t.1, tt))
 
 fetches : {State : Type 0} (service : Machine State) (node : Node) (message : Message) (count : ℕ) (fetched : List Fetched) (after : Stage) (sent : List Packet)
     (o : Option (List Fetched)) → node.stage ≡ Fetching count fetched → fetched_then node message count fetched ≡ o
-    → FetchingTurn service node count fetched o after sent → StageWent service node (Message_comes message) sent after
+    → Gets service node count fetched o after sent → StageWent service node (Message_comes message) sent after
 fetches service node message count fetched after sent (Some more) s e t =
     let parts = told_some (message.boot == node.boot) (fetched_after (wanted count fetched) message.body fetched) more e in
     continues service node (Message_comes message) count more after sent (wanted count more) refl
@@ -83,7 +91,7 @@ by_stage : {State : Type 0} (service : Machine State) (node : Node) (input : Inp
     → StageTurn service node stage input after sent → StageWent service node input sent after
 by_stage service node Tick_comes sent after Asking s t = waited (ap is_restarting s) (t.0 ∙ sym s) (inl t.1)
 by_stage service node (Message_comes message) sent after Asking s t =
-    asks_so service node message after sent (if message.boot == node.boot then count_told message.body else None) s refl t
+    asks_so service node message after sent (count_told node message) s refl t
 by_stage service node input sent after Asking s t = waited (ap is_restarting s) (t.0 ∙ sym s) (inr (None, t.1, tt))
 by_stage service node Tick_comes sent after (Fetching count fetched) s t = waited (ap is_restarting s) (t.0 ∙ sym s) (inr (wanted count fetched, t.1, missing node count fetched (wanted count fetched) s refl))
 by_stage service node (Message_comes message) sent after (Fetching count fetched) s t =

@@ -20,7 +20,8 @@ use Rattle.ft_model.specs.Node.Place.{Opens, Lives, Ended}
 use Rattle.ft_model.specs.Node.Stage.{Asking, Fetching, Serving, Fenced}
 use Rattle.ft_model.specs.Node.Input.{Packet_comes, Message_comes, Noise_comes, Tick_comes}
 use Rattle.ft_model.specs.Serving.{Stays, LivesOn, Hears, Meets, PlaceTurn, concerns, AllGo, is_strange, newcomers, refusals, opens_at}
-use Rattle.ft_model.specs.Lawful.{hello, asked, held, restored, all_restored, restored_count, Revives, Continues, AskingTurn, FetchingTurn, fetched_then, count_told, StageTurn, NodeTurn, LawfulTurn, fence, is_fenced}
+use Rattle.ft_model.specs.Lawful.{hello, asked, held, restored, all_restored, restored_count, Revives, Continues, fetched_then, count_told, StageTurn, NodeTurn, LawfulTurn, fence, is_fenced}
+use Rattle.ft_model.proofs.StageTurns.{Asks, Gets}
 use Rattle.ft_model.proofs.LiveTurns.{turned, live_turn, counts_within, reads_from}
 use Rattle.ft_model.proofs.Settled.{noted}
 use Rattle.ft_model.proofs.Lists.{all_append}
@@ -128,19 +129,19 @@ continues service node count fetched None =
     let r = all_go (Revives service node) (revives service node) (all_restored service fetched) (restored_count_reads service fetched) in
     (Serving (restored_count fetched) r.0, r.1, (r.0, refl, r.2), r.3)
 
-asks_on : {State : Type 0} (service : Machine State) (node : Node) (count : Option ℕ) → Reached (AskingTurn service node count)
+asks_on : {State : Type 0} (service : Machine State) (node : Node) (count : Option ℕ) → Reached (Asks service node count)
 asks_on service node (Some count) = continues service node count [] (wanted count [])
 asks_on service node None = (Asking, [], (refl, refl), tt)
 
 fetches_on : {State : Type 0} (service : Machine State) (node : Node) (count : ℕ) (fetched : List Fetched) (more : Option (List Fetched))
-    → Reached (FetchingTurn service node count fetched more)
+    → Reached (Gets service node count fetched more)
 fetches_on service node count fetched (Some more) = continues service node count more (wanted count more)
 fetches_on service node count fetched None = (Fetching count fetched, [], (refl, refl), tt)
 
 stage_turn : {State : Type 0} (service : Machine State) (node : Node) (before : Stage) (input : Input) → is_fenced before ≡ false → AllCount before
     → Reached (StageTurn service node before input)
 stage_turn service node Asking Tick_comes live counts = (Asking, hello node, (refl, refl), tt)
-stage_turn service node Asking (Message_comes message) live counts = asks_on service node (if message.boot == node.boot then count_told message.body else None)
+stage_turn service node Asking (Message_comes message) live counts = asks_on service node (count_told node message)
 stage_turn service node Asking _ live counts = (Asking, [], (refl, refl), tt)
 stage_turn service node (Fetching count fetched) Tick_comes live counts = (Fetching count fetched, asked node (wanted count fetched), (refl, refl), tt)
 stage_turn service node (Fetching count fetched) (Message_comes message) live counts = fetches_on service node count fetched (fetched_then node message count fetched)

@@ -1,5 +1,5 @@
 -- A turn of a server is determined by where it stands and by what comes: place by place, and in each stage.
-use Rattle.std.proofs.Common.{◌≡◌, ℕ, Bool, true, false, sym, ap, ap₂, ◌∙◌, MatchBool, Option, Some, None, List, [], ◌∷◌, ◌++◌, map, length, flat_map, if◌then◌else◌, ◌==◌, ◌+◌}
+use Rattle.std.proofs.Common.{◌≡◌, ℕ, Bool, true, false, sym, ap, ap₂, ◌∙◌, MatchBool, Option, Some, None, List, [], ◌∷◌, ◌++◌, map, length, flat_map, ◌==◌, ◌+◌}
 use Rattle.ft_io.specs.declared.Addr.{Addr}
 use Rattle.seq_arith.specs.Message.{Numbers, Body}
 use Rattle.seq_arith.specs.Message.Body.{OpenedMsg, StableMsg, ReadsMsg, EndedMsg, FullMsg}
@@ -17,7 +17,8 @@ use Rattle.ft_model.specs.Node.Place.{Opens, Lives}
 use Rattle.ft_model.specs.Node.Stage.{Asking, Fetching, Serving, Fenced}
 use Rattle.ft_model.specs.Node.Input.{Packet_comes, Message_comes, Tick_comes}
 use Rattle.ft_model.specs.Serving.{Stays, LivesOn, Hears, Meets, PlaceTurn, concerns, AllGo, newcomers, refusals, opens_at, ServingTurn}
-use Rattle.ft_model.specs.Lawful.{Revives, Continues, AskingTurn, FetchingTurn, StageTurn, NodeTurn, LawfulTurn, all_restored, restored_count, fence, count_told, fetched_then}
+use Rattle.ft_model.specs.Lawful.{Revives, Continues, StageTurn, NodeTurn, LawfulTurn, all_restored, restored_count, fence, count_told, fetched_then}
+use Rattle.ft_model.proofs.StageTurns.{Asks, Gets}
 use Rattle.ft_model.proofs.LiveOnce.{live_once}
 
 -- two pairs that meet the same two equations
@@ -112,12 +113,12 @@ continues_once service node count fetched None after also sent other s t =
     (s.1 ∙ (ap (Serving (restored_count fetched)) once.0 ∙ sym t.1), once.1)
 
 asking_once : {State : Type 0} (service : Machine State) (node : Node) (count : Option ℕ) (after also : Stage) (sent other : List Packet)
-    → AskingTurn service node count after sent → AskingTurn service node count also other → (after ≡ also) × (sent ≡ other)
+    → Asks service node count after sent → Asks service node count also other → (after ≡ also) × (sent ≡ other)
 asking_once service node (Some count) after also sent other s t = continues_once service node count [] (wanted count []) after also sent other s t
 asking_once service node None after also sent other s t = (s.0 ∙ sym t.0, s.1 ∙ sym t.1)
 
 fetching_once : {State : Type 0} (service : Machine State) (node : Node) (count : ℕ) (fetched : List Fetched) (more : Option (List Fetched)) (after also : Stage) (sent other : List Packet)
-    → FetchingTurn service node count fetched more after sent → FetchingTurn service node count fetched more also other → (after ≡ also) × (sent ≡ other)
+    → Gets service node count fetched more after sent → Gets service node count fetched more also other → (after ≡ also) × (sent ≡ other)
 fetching_once service node count fetched (Some more) after also sent other s t =
     continues_once service node count more (wanted count more) after also sent other s t
 fetching_once service node count fetched None after also sent other s t = (s.0 ∙ sym t.0, s.1 ∙ sym t.1)
@@ -125,7 +126,7 @@ fetching_once service node count fetched None after also sent other s t = (s.0 �
 stage_once : {State : Type 0} (service : Machine State) (node : Node) (before : Stage) (input : Input) (after also : Stage) (sent other : List Packet)
     → StageTurn service node before input after sent → StageTurn service node before input also other → (after ≡ also) × (sent ≡ other)
 stage_once service node Asking (Message_comes message) after also sent other s t =
-    asking_once service node (if message.boot == node.boot then count_told message.body else None) after also sent other s t
+    asking_once service node (count_told node message) after also sent other s t
 stage_once service node Asking _ after also sent other s t = (s.0 ∙ sym t.0, s.1 ∙ sym t.1)
 stage_once service node (Fetching count fetched) (Message_comes message) after also sent other s t =
     fetching_once service node count fetched (fetched_then node message count fetched) after also sent other s t

@@ -1,5 +1,5 @@
 -- No fence: a Stale under way names at most the newest boot, which is that of the server that is up. So no server hears of a newer one.
-use Rattle.std.proofs.Common.{◌≡◌, ℕ, ◌<◌, ◌≤◌, ◌==◌, nat_lt, false, le_trans, refl, sym, ap, ◌∙◌, subst, ⊎_elim, ltb-true, Option, Some, None, IfSome, List, [], ◌++◌, slice_get, arith, if◌then◌else◌, length, take, drop}
+use Rattle.std.proofs.Common.{◌≡◌, ℕ, ◌<◌, ◌≤◌, ◌==◌, nat_lt, false, le_trans, refl, sym, ap, ◌∙◌, subst, ⊎_elim, ltb-true, Option, Some, None, IfSome, List, [], ◌++◌, slice_get, arith, length, take, drop}
 use Rattle.std.specs.List.{AllByRecursion}
 use Rattle.ft_io.specs.declared.Key.{Key}
 use Rattle.seq_arith.specs.Message.{Body, Message}
@@ -12,14 +12,14 @@ use Rattle.ft_model.specs.Restart.{Fetched, Wanted, wanted}
 use Rattle.ft_model.specs.Node.{Node, Stage, Input, booted}
 use Rattle.ft_model.specs.Node.Stage.{Asking, Fetching, Serving, Fenced}
 use Rattle.ft_model.specs.Node.Input.{Packet_comes, Message_comes, Noise_comes, Tick_comes}
-use Rattle.ft_model.specs.Lawful.{Continues, AskingTurn, FetchingTurn, StageTurn, NodeTurn, LawfulTurn, fence, newer_than, count_told, fetched_then, is_fenced}
+use Rattle.ft_model.specs.Lawful.{Continues, StageTurn, NodeTurn, LawfulTurn, fence, newer_than, count_told, fetched_then, is_fenced}
 use Rattle.ft_model.specs.World.{World, Moment, MayCome, Joint, IsStart, world_after}
 use Rattle.ft_model.proofs.Lists.{of_choice, all_weaker, all_append, none_is_some, some_is}
 use Rattle.ft_model.proofs.LogAnswers.{all_answers}
 use Rattle.ft_model.proofs.Fetching.{on_some, chosen_some}
 use Rattle.ft_model.proofs.Happened.{Happened, IsBrought, all_sent, answers, holds_after}
 use Rattle.ft_model.proofs.Happened.Happened.{log_heard, client_heard, client_moved, server_turned, server_booted, server_down}
-use Rattle.ft_model.proofs.StageTurns.{stage_went}
+use Rattle.ft_model.proofs.StageTurns.{Asks, Gets, stage_went}
 use Rattle.ft_model.proofs.Fenced.{IsFenced, IsOurs, turn_ours, start_fenced, fenced_goes_on}
 
 -- a Stale names at most this boot
@@ -97,12 +97,12 @@ continues_live : {State : Type 0} (service : Machine State) (node : Node) (count
 continues_live service node count fetched (Some w) after sent t = ap is_fenced t.0
 continues_live service node count fetched None after sent t = ap is_fenced t.1
 
-asks_live : {State : Type 0} (service : Machine State) (node : Node) (o : Option ℕ) (after : Stage) (sent : List Packet) → AskingTurn service node o after sent → is_fenced after ≡ false
+asks_live : {State : Type 0} (service : Machine State) (node : Node) (o : Option ℕ) (after : Stage) (sent : List Packet) → Asks service node o after sent → is_fenced after ≡ false
 asks_live service node (Some count) after sent t = continues_live service node count [] (wanted count []) after sent t
 asks_live service node None after sent t = ap is_fenced t.0
 
 fetches_live : {State : Type 0} (service : Machine State) (node : Node) (count : ℕ) (fetched : List Fetched) (o : Option (List Fetched)) (after : Stage) (sent : List Packet)
-    → FetchingTurn service node count fetched o after sent → is_fenced after ≡ false
+    → Gets service node count fetched o after sent → is_fenced after ≡ false
 fetches_live service node count fetched (Some more) after sent t = continues_live service node count more (wanted count more) after sent t
 fetches_live service node count fetched None after sent t = ap is_fenced t.0
 
@@ -111,7 +111,7 @@ stage_live : {State : Type 0} (service : Machine State) (node : Node) (stage : S
     → StageTurn service node stage input after sent → is_fenced after ≡ false
 stage_live service node Asking Tick_comes after sent t = ap is_fenced t.0
 stage_live service node Asking (Message_comes message) after sent t =
-    asks_live service node (if message.boot == node.boot then count_told message.body else None) after sent t
+    asks_live service node (count_told node message) after sent t
 stage_live service node Asking input after sent t = ap is_fenced t.0
 stage_live service node (Fetching count fetched) Tick_comes after sent t = ap is_fenced t.0
 stage_live service node (Fetching count fetched) (Message_comes message) after sent t =

@@ -1,5 +1,5 @@
 -- A lawful incarnation: it boots, fetches the log, and serves. Each of its turns is determined by where it stands and what comes.
-use Rattle.std.specs.Prelude.{◌≡◌, IfSome, ℕ, Bool, true, false, ◌+◌, ◌==◌, ◌&&◌, not, nat_lt, map, filter, Option, Some, None, List, [], ◌∷◌, ◌++◌, length, if◌then◌else◌}
+use Rattle.std.specs.Prelude.{◌≡◌, IfSome, MatchOption, ℕ, Bool, true, false, ◌+◌, ◌==◌, ◌&&◌, not, nat_lt, map, filter, Option, Some, None, List, [], ◌∷◌, ◌++◌, length, if◌then◌else◌}
 use Rattle.std.specs.List.{AllByRecursion}
 use Rattle.std.specs.Option.{option_to_list}
 use Rattle.ft_io.specs.declared.Addr.{Addr}
@@ -57,23 +57,17 @@ Continues service node count fetched (Some w) after sent = (after ≡ Fetching c
 Continues service node count fetched None after sent =
     (places : List Place) × (after ≡ Serving (restored_count fetched) places) × AllGo (Revives service node) (all_restored service fetched) places sent
 
+-- .. with what is missing of the log's entries now
 abbrev pub Fetches : {State : Type 0} → Machine State → Node → (count : ℕ) → List Fetched → Stage → List Packet → Type 0
 Fetches service node count fetched after sent = Continues service node count fetched (wanted count fetched) after sent
 
--- the count of a Summary
-abbrev pub count_told : Body → Option ℕ
-count_told (SummaryMsg count) = Some count
-count_told _ = None
+-- the count that a Summary of this boot tells
+abbrev pub summary_count : Body → Option ℕ
+summary_count (SummaryMsg count) = Some count
+summary_count _ = None
 
--- what a server does that waits for the Summary
-abbrev pub AskingTurn : {State : Type 0} → Machine State → Node → Option ℕ → Stage → List Packet → Type 0
-AskingTurn service node (Some count) after sent = Fetches service node count [] after sent
-AskingTurn service node None after sent = Rests Asking after sent
-
--- what a server does that waits for an answer: an answer that doesn't fit is dropped
-abbrev pub FetchingTurn : {State : Type 0} → Machine State → Node → (count : ℕ) → List Fetched → Option (List Fetched) → Stage → List Packet → Type 0
-FetchingTurn service node count fetched (Some more) after sent = Fetches service node count more after sent
-FetchingTurn service node count fetched None after sent = Rests (Fetching count fetched) after sent
+abbrev pub count_told : Node → Message → Option ℕ
+count_told node message = if message.boot == node.boot then summary_count message.body else None
 
 -- what is fetched after a message, if it is an answer of this boot that fits
 abbrev pub fetched_then : Node → Message → (count : ℕ) → List Fetched → Option (List Fetched)
@@ -86,15 +80,15 @@ held node fetched segment =
     then map (λ f. To_client (holding_segment node.server f.head)) (option_to_list (live_entry (source_of segment) fetched))
     else []
 
--- a turn, by the stage before it. A message counts only in the server's own boot
+-- a turn, by the stage before it. A message counts only in the server's own boot; an answer that doesn't fit is dropped
 abbrev pub StageTurn : {State : Type 0} → Machine State → Node → Stage → Input → Stage → List Packet → Type 0
 StageTurn service node Asking Tick_comes after sent = (after ≡ Asking) × (sent ≡ hello node)
 StageTurn service node Asking (Message_comes message) after sent =
-    AskingTurn service node (if message.boot == node.boot then count_told message.body else None) after sent
+    MatchOption (count_told node message) (Rests Asking after sent) (λ count. Fetches service node count [] after sent)
 StageTurn service node Asking _ after sent = Rests Asking after sent
 StageTurn service node (Fetching count fetched) Tick_comes after sent = (after ≡ Fetching count fetched) × (sent ≡ asked node (wanted count fetched))
 StageTurn service node (Fetching count fetched) (Message_comes message) after sent =
-    FetchingTurn service node count fetched (fetched_then node message count fetched) after sent
+    MatchOption (fetched_then node message count fetched) (Rests (Fetching count fetched) after sent) (λ more. Fetches service node count more after sent)
 StageTurn service node (Fetching count fetched) (Packet_comes segment) after sent = (after ≡ Fetching count fetched) × (sent ≡ held node fetched segment)
 StageTurn service node (Fetching count fetched) Noise_comes after sent = Rests (Fetching count fetched) after sent
 StageTurn service node (Serving opened places) input after sent =

@@ -65,34 +65,23 @@ question (Its_lengths key first) = CutsMsg key first
 abbrev pub is_fetched : Key → List Fetched → Bool
 is_fetched key fetched = list_any (λ f. key_eq f.head.key key) fetched
 
--- an entry answers, if its key is new
-abbrev pub with_head : Bool → EntryHead → List Fetched → Option (List Fetched)
-with_head fits head fetched = if fits && not (is_fetched head.key fetched) then Some (record { head = head; bytes = []; lengths = [] } ∷ fetched) else None
-
--- bytes answer, if they end within the length
-abbrev pub with_more_bytes : Bool → List ℕ → List Fetched → Option (List Fetched)
-with_more_bytes fits bytes [] = None
-with_more_bytes fits bytes (f ∷ earlier) =
-    if fits && nat_le (length f.bytes + length bytes) f.head.length then Some (record f { bytes = f.bytes ++ bytes } ∷ earlier) else None
-
 -- each of these lengths may follow the ones before it, as the log keeps reads
 abbrev pub all_follow : (len : ℕ) → (fin : Bool) → List ℕ → List ℕ → Bool
 all_follow len fin lengths [] = true
 all_follow len fin lengths (n ∷ more) = may_follow len fin lengths n && all_follow len fin (lengths ++ n ∷ []) more
 
--- lengths answer, if they end within the count and keep the log's rule for reads
-abbrev pub with_more_lengths : Bool → List ℕ → List Fetched → Option (List Fetched)
-with_more_lengths fits lens [] = None
-with_more_lengths fits lens (f ∷ earlier) =
-    if fits && nat_le (length f.lengths + length lens) f.head.reads && all_follow f.head.length f.head.fin f.lengths lens
+-- What is fetched after an answer of this boot, if the answer fits the question: an entry with the asked index, if its key is new; ..
+abbrev pub fetched_by : Wanted → Body → List Fetched → Option (List Fetched)
+fetched_by (An_entry index) (EntryMsg i head) fetched =
+    if i == index && not (is_fetched head.key fetched) then Some (record { head = head; bytes = []; lengths = [] } ∷ fetched) else None
+-- .. bytes of the asked key and place, if they end within the length; ..
+fetched_by (Its_bytes key offset) (PartMsg k o bytes) (f ∷ earlier) =
+    if key_eq k key && o == offset && nat_le (length f.bytes + length bytes) f.head.length then Some (record f { bytes = f.bytes ++ bytes } ∷ earlier) else None
+-- .. lengths of the asked key and place, if they end within the count and keep the log's rule for reads
+fetched_by (Its_lengths key first) (LensMsg k o lens) (f ∷ earlier) =
+    if key_eq k key && o == first && nat_le (length f.lengths + length lens) f.head.reads && all_follow f.head.length f.head.fin f.lengths lens
     then Some (record f { lengths = f.lengths ++ lens } ∷ earlier)
     else None
-
--- what is fetched after an answer of this boot, if the answer fits the question: of its kind, with its index, or its key and place
-abbrev pub fetched_by : Wanted → Body → List Fetched → Option (List Fetched)
-fetched_by (An_entry index) (EntryMsg i head) fetched = with_head (i == index) head fetched
-fetched_by (Its_bytes key offset) (PartMsg k o bytes) fetched = with_more_bytes (key_eq k key && o == offset) bytes fetched
-fetched_by (Its_lengths key first) (LensMsg k o lens) fetched = with_more_lengths (key_eq k key && o == first) lens fetched
 fetched_by _ _ _ = None
 
 -- an answer that comes while nothing is missing fits nothing

@@ -1,5 +1,5 @@
 -- A turn of a server that serves: what it does for each key that it knows, for keys that it doesn't know, and in which order.
-use Rattle.std.specs.Prelude.{◌≡◌, ℕ, Bool, true, false, ◌==◌, ◌&&◌, not, nat_lt, map, Option, Some, None, List, [], ◌∷◌, ◌++◌, if◌then◌else◌}
+use Rattle.std.specs.Prelude.{◌≡◌, ℕ, Bool, true, false, ◌==◌, ◌&&◌, not, nat_lt, map, List, [], ◌∷◌, ◌++◌, if◌then◌else◌}
 use Rattle.std.specs.Bool.{MatchBool}
 use Rattle.std.specs.List.{flat_map}
 use Rattle.ft_io.specs.declared.Key.{Key}
@@ -28,18 +28,14 @@ Stays place now sent = (now ≡ place ∷ []) × (sent ≡ [])
 abbrev pub LivesOn : {State : Type 0} → Machine State → Node → News → Point → List Place → List Packet → Type 0
 LivesOn service node news p now sent = (after : Point) × (now ≡ Lives after ∷ []) × ConnectionTurn service node.server node.boot news p after sent
 
--- Opening: Opened with the client's number makes the connection, by the numbers that the log keeps; with another number it drops the opening
-abbrev pub IsOpened : {State : Type 0} → Machine State → Node → Numbers → Numbers → List Place → List Packet → Type 0
-IsOpened service node asked kept now sent =
-    MatchBool (kept.cisn == asked.cisn) (LivesOn service node Begins (point_opened kept) now sent) ((now ≡ []) × (sent ≡ []))
-
--- what a message of this boot does at the place of its key. Ended ends a live connection, whether or not Done was sent; Full drops an
--- opening and refuses its SYN
+-- what a message of this boot does at the place of its key. Ended ends a live connection, whether or not Done was sent. Opened with the client's
+-- number makes the connection, by the numbers that the log keeps; with another number it drops the opening. Full drops an opening and refuses its SYN
 abbrev pub Hears : {State : Type 0} → Machine State → Node → Body → Place → List Place → List Packet → Type 0
 Hears service node (StableMsg kept) (Lives p) now sent = LivesOn service node (Logged kept) p now sent
 Hears service node (ReadsMsg kept) (Lives p) now sent = LivesOn service node (Logged kept) p now sent
 Hears service node (EndedMsg key) (Lives p) now sent = (now ≡ Ended p.key ∷ []) × (sent ≡ [])
-Hears service node (OpenedMsg kept) (Opens asked) now sent = IsOpened service node asked kept now sent
+Hears service node (OpenedMsg kept) (Opens asked) now sent =
+    MatchBool (kept.cisn == asked.cisn) (LivesOn service node Begins (point_opened kept) now sent) ((now ≡ []) × (sent ≡ []))
 Hears service node (FullMsg key) (Opens asked) now sent = (now ≡ []) × (sent ≡ To_client (full_rst node.server asked) ∷ [])
 Hears service node _ place now sent = Stays place now sent
 
@@ -51,23 +47,19 @@ Meets service node (Message_comes message) place now sent = Hears service node m
 Meets service node Tick_comes (Lives p) now sent = LivesOn service node Ticks p now sent
 Meets service node _ place now sent = Stays place now sent
 
--- the key that a message to a known connection names
-abbrev pub key_named : Body → Option Key
-key_named (OpenedMsg numbers) = Some numbers.key
-key_named (StableMsg kept) = Some kept.key
-key_named (ReadsMsg kept) = Some kept.key
-key_named (EndedMsg key) = Some key
-key_named (FullMsg key) = Some key
-key_named _ = None
-
-abbrev pub names : Option Key → Key → Bool
-names (Some named) key = key_eq named key
-names None key = false
+-- a message to a known connection names its key
+abbrev pub names : Body → Key → Bool
+names (OpenedMsg numbers) key = key_eq numbers.key key
+names (StableMsg kept) key = key_eq kept.key key
+names (ReadsMsg kept) key = key_eq kept.key key
+names (EndedMsg named) key = key_eq named key
+names (FullMsg named) key = key_eq named key
+names _ key = false
 
 -- an input concerns a key: a packet for this server from its client, a message of this boot that names it, and each tick
 abbrev pub concerns : Node → Input → Key → Bool
 concerns node (Packet_comes segment) key = is_for node.server segment && key_eq (source_of segment) key
-concerns node (Message_comes message) key = message.boot == node.boot && names (key_named message.body) key
+concerns node (Message_comes message) key = message.boot == node.boot && names message.body key
 concerns node Noise_comes key = false
 concerns node Tick_comes key = true
 

@@ -21,9 +21,9 @@ use Rattle.ft_model.specs.Node.{Node, Place, key_of}
 use Rattle.ft_model.specs.Node.{Stage as Stages}
 use Rattle.ft_model.specs.Node.Place.{Opens, Lives}
 use Rattle.ft_model.specs.Node.Input.{Message_comes}
-use Rattle.ft_model.specs.Serving.{PlaceTurn, Stays, Meets, LivesOn, IsOpened, concerns, names, key_named, opens_at, ServingTurn}
+use Rattle.ft_model.specs.Serving.{PlaceTurn, Stays, Meets, LivesOn, concerns, names, opens_at, ServingTurn}
 use Rattle.ft_model.specs.Serving as law
-use Rattle.ft_model.specs.Lawful.{NodeTurn, StageTurn, fence, newer_than, count_told, is_fenced}
+use Rattle.ft_model.specs.Lawful.{NodeTurn, StageTurn, fence, newer_than, summary_count, is_fenced}
 use Rattle.net_schedule.specs.Live.{Live, point_in, new_live}
 use Rattle.net_schedule.specs.Sent.{sent_in, Turns}
 use Rattle.net_schedule.specs.Server.{Server, ServerStands, StageStands, ServerActs, is_told, is_newer}
@@ -136,7 +136,7 @@ serves_now service key message node count s before after at told own stands e no
 
 asks_on : {State : Type 0} (service : Machine State) (key : Key) (message : Message) (node : Node) (s : Server State) (before after : List Packet)
     → ServerStands service key s node → is_plain message.body ≡ true → (message.boot == node.boot) ≡ true → StageStands service key (λ n. s.next_isn ≡ initial_number node.isn n) Asking node.stage
-    → count_told message.body ≡ None → after ≡ before → ServerActs service key (Message_comes message) node s before after
+    → summary_count message.body ≡ None → after ≡ before → ServerActs service key (Message_comes message) node s before after
 asks_on service key message node s before after at told own stands none e =
     quiet service key message node Stages.Asking s before after at told stands.0 refl (rw (own, none) (refl, refl)) e
 
@@ -149,7 +149,7 @@ hears_asking service key message (SummaryMsg count) node s new before after at t
     (serves_now service key message node count s before after at (ap is_plain is ∙ told) own stands is none same)
 hears_asking service key message body node s new before after at told none own stands is e same =
     subst (λ x. ServerActs service key (Message_comes message) node x before after) (sym e)
-    (asks_on service key message node s before after at (ap is_plain is ∙ told) own stands (ap count_told is) same)
+    (asks_on service key message node s before after at (ap is_plain is ∙ told) own stands (ap summary_count is) same)
 
 -- one key
 key_is : (a b : Key) → key_eq a b ≡ true → a ≡ b
@@ -158,10 +158,10 @@ key_is a b e =
     let port : a.port ≡ b.port = grind (arith, nat_tests) in
     let same : record { ip = a.ip; port = a.port } ≡ record { ip = b.ip; port = b.port } = cc (ip, port) in same
 
-heard : (node : Node) (message : Message) (key : Key) → (message.boot == node.boot) ≡ true → names (key_named message.body) key ≡ true → concerns node (Message_comes message) key ≡ true
+heard : (node : Node) (message : Message) (key : Key) → (message.boot == node.boot) ≡ true → names message.body key ≡ true → concerns node (Message_comes message) key ≡ true
 heard node message key own named = rw (own, named) refl
 
-passed : (node : Node) (message : Message) (key : Key) → names (key_named message.body) key ≡ false → concerns node (Message_comes message) key ≡ false
+passed : (node : Node) (message : Message) (key : Key) → names message.body key ≡ false → concerns node (Message_comes message) key ≡ false
 passed node message key named = both_ways (message.boot == node.boot) (λ e. rw (e, named) refl) (λ e. rw e refl)
 
 -- a pending opening that is dropped
@@ -260,7 +260,7 @@ hears_opening service key message body node numbers s new before after at told o
 -- a live connection hears what is logged of it
 notes : {State : Type 0} (service : Machine State) (key : Key) (message : Message) (kept : Kept) (node : Node) (s : Server State) (v w : Live State) (before after : List Packet)
     → ServerStands service key s node → is_plain message.body ≡ true → (message.boot == node.boot) ≡ true → StageStands service key (λ n. s.next_isn ≡ initial_number node.isn n) (Serving v) node.stage
-    → names (key_named message.body) v.numbers.key ≡ true
+    → names message.body v.numbers.key ≡ true
     → ((now : List Place) (sent : List Packet) → LivesOn service node (Logged kept) (point_in v) now sent → law.Hears service node message.body (Lives (point_in v)) now sent)
     → Turns service.after s.local s.boot (Logged kept) v w before after → ServerActs service key (Message_comes message) node (record s { stage = Serving w }) before after
 notes service key message kept node s v w before after at told own stands named hears t =
