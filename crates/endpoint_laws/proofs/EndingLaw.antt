@@ -487,7 +487,7 @@ stays_closed (Reads n ∷ calls) u h = stays_closed calls (called (Reads n) u) h
 stays_closed (Writes bytes ∷ calls) u h = stays_closed calls (called (Writes bytes) u) h
 stays_closed (Closes ∷ calls) u h = stays_closed calls (called Closes u) (ap after_close h)
 
-reset_closed : (news : News) (calls : List Call) (e : Tcb) → has_begun e.name ≡ true → resets news e ≡ true → (before_flush news calls e).name ≡ Closed
+pub reset_closed : (news : News) (calls : List Call) (e : Tcb) → has_begun e.name ≡ true → resets news e ≡ true → (before_flush news calls e).name ≡ Closed
 reset_closed news calls e begun h = stays_closed calls (arrived news e) (ap (λ (t : Tcb). t.name) (arrived_reset news e begun h).1)
 
 pub flushed_name : (u : Tcb) → (flushed u).name ≡ u.name

@@ -23,3 +23,4 @@ pub mod Announced
 pub mod Connecting
 pub mod Anywhere
 pub mod NoConnection
+pub mod Waiting

@@ -522,7 +522,7 @@ shut_still u h =
     kept_if P (probes_text u) (with_sent u.sending 1) (if probes_fin u then with_fin_sent u.sending else u.sending) more
     (kept_if P (probes_fin u) (with_fin_sent u.sending) u.sending more h)
 
-kept : (P : Sending → Type 0) → ((t : Sending) (k : ℕ) → P t → P (with_sent t k)) → ((t : Sending) → P t → P (with_fin_sent t))
+pub kept : (P : Sending → Type 0) → ((t : Sending) (k : ℕ) → P t → P (with_sent t k)) → ((t : Sending) → P t → P (with_fin_sent t))
     → (begun pt pf : Bool) (s : Sending) → P s → P (after_steps begun pt pf s)
 kept P more fin begun pt pf s h =
     let probed : Sending = if pt then with_sent s 1 else (if pf then with_fin_sent s else s) in

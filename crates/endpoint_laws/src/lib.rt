@@ -3,4 +3,5 @@
 #![tactic(auto)]
 
 pub mod laws;
+pub mod time_wait;
 pub mod unconnected;
