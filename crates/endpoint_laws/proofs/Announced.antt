@@ -1,30 +1,29 @@
 -- Every segment that leaves tells all that is taken and the window, and where these change a segment leaves.
-use Rattle.std.proofs.Common.{◌≡◌, ℕ, zero, suc, ◌+◌, ◌-◌, ◌/◌, ◌%◌, Bool, true, false, not, List, [], ◌∷◌, ◌++◌, min, Option, Some, None, inl, inr, ◌⊎◌, refl, sym, ap, subst, arith, ◌∙◌}
-use Rattle.std.specs.Prelude.{ℤ, pos, ◌==◌, ◌&&◌, ◌||◌, nat_lt, int_lt, int_le, length, if◌then◌else◌}
+use Rattle.std.proofs.Common.{◌≡◌, ℕ, zero, suc, ◌+◌, ◌-◌, Bool, true, false, not, List, [], ◌∷◌, ◌++◌, min, Option, None, inl, inr, ◌⊎◌, refl, sym, ap, subst, arith, length-drop, ◌∙◌}
+use Rattle.std.specs.Prelude.{◌==◌, ◌&&◌, ◌||◌, nat_lt, if◌then◌else◌}
 use Rattle.std.specs.List.{AllByRecursion}
 use Rattle.std.proofs.lemmas.Bool.{false≢true}
-use Rattle.std.proofs.lemmas.Int.{ints}
+use Rattle.ft_io.specs.declared.Addr.{Addr}
 use Rattle.seq_arith.specs.Number.{number_at}
-use Rattle.seq_arith.specs.Packet.{Segment, has_syn, has_rst, has_ack}
+use Rattle.seq_arith.specs.Packet.{Segment, has_rst, has_ack}
 use Rattle.segment_codec.specs.declared.Head.{Head}
-use Rattle.seq_arith.specs.Offset.{one_if}
 use Rattle.ft_model.specs.News.{News}
 use Rattle.ft_model.specs.News.News.{Comes, Logged, Ticks, Begins}
 use Rattle.tcp_endpoint.specs.States.{is_closed, is_syn_sent, has_begun}
 use Rattle.tcp_endpoint.specs.Receiving.{next, window, announced_edge}
 use Rattle.tcp_endpoint.specs.Sending.{in_flight, is_unacknowledged}
-use Rattle.tcp_endpoint.specs.Tcb.{Tcb}
-use Rattle.tcp_endpoint.specs.Arrival.{ack_at, rst, received}
-use Rattle.tcp_endpoint.specs.Leaving.{or_bare, head_at, opening_segment, text_at, fin_at, texts, answer_segments, answer_out, again_segment, again_out, probes_text, probes_fin, probe_out, with_probe, new_length, text_out, with_text_sent, new_fin, fin_out, with_fin_out, full_out, after_full, is_owed, bare_segment, leaving}
+use Rattle.tcp_endpoint.specs.Tcb.{Tcb, listening, connecting}
+use Rattle.tcp_endpoint.specs.Leaving.{or_bare, head_at, opening_segment, text_at, fin_at, texts, answer_segments, answer_out, again_segment, again_out, probes_text, probes_fin, probe_out, with_probe, new_length, text_out, with_text_sent, new_fin, fin_out, with_fin_out, full_out, after_full, is_owed, bare_segment, leaving, announced, settled, flushed}
 use Rattle.tcp_endpoint.specs.Turning.{after_tick, timer_ticked, waited}
-use Rattle.endpoint_laws.specs.Laws.{accepts, counts, continues, unread_after, takes_fin, taken_by, is_refused, told, asks, IsBounded, IsUsual}
-use Rattle.endpoint_laws.specs.Turn.{Call, MayUse, IsUsualNews, IsBetweenTurns, arrived, before_flush, sent_in}
-use Rattle.endpoint_laws.specs.Announcing.{Announces, is_told}
+use Rattle.endpoint_laws.specs.Laws.{told, asks}
+use Rattle.endpoint_laws.specs.Turn.{Call, Events, arrived, called, used, before_flush, turned, sent_in}
+use Rattle.endpoint_laws.specs.Turn.Call.{Reads, Writes, Closes}
+use Rattle.endpoint_laws.specs.Announcing.{Announces, is_told, ReadsOnlyTaken, AcknowledgesAll}
 use Rattle.endpoint_laws.proofs.SegmentsLaw.{begun_answers}
-use Rattle.endpoint_laws.proofs.TakenLaw.{taken_law}
-use Rattle.endpoint_laws.proofs.ToldLaw.{leaving_by, told_by_segment}
-use Rattle.endpoint_laws.proofs.Answering.{answer_is}
-use Rattle.endpoint_laws.proofs.Calls.{IsUsed, used_is}
+use Rattle.endpoint_laws.proofs.ToldLaw.{leaving_by, told_by_segment, told_by_flush}
+use Rattle.endpoint_laws.proofs.EndingLaw.{used_keeps, call_answers}
+use Rattle.endpoint_laws.proofs.Rsts.{IsRst, Refuses, refuses_arrived, unbegun_same}
+use Rattle.endpoint_laws.proofs.Calls.{begun_closing}
 
 -- a segment that tells it, and no RST
 abbrev Tells : Tcb → Segment → Type 0
@@ -115,32 +114,16 @@ bare_tells : (u : Tcb) → Tells u (bare_segment (after_full u))
 unfolding bare_segment head_at after_full with_fin_out with_text_sent with_probe
 bare_tells u = (refl, refl, refl, refl)
 
--- the answer is a RST, or none
-refusal_announces : (u : Tcb) (refused : Bool) (head : Head) → head.flags ≡ 4 → AllByRecursion (Announces u) (answer_segments (if refused then Some head else None))
-refusal_announces u true head flags = (λ h. absurd (false≢true (sym h ∙ ap (λ (n : ℕ). n / 4 % 2 == 1) flags)), tt)
-refusal_announces u false head flags = tt
+-- a RST answers, or nothing
+rsts_announce : (u : Tcb) (segments : List Segment) → AllByRecursion (λ segment. has_rst segment ≡ true) segments → AllByRecursion (Announces u) segments
+rsts_announce u segments all = all_weaker (λ segment. has_rst segment ≡ true) (Announces u) (λ segment is h. absurd (false≢true (sym h ∙ is))) segments all
 
-pub none_announces : (u : Tcb) (answer : Option Head) → answer ≡ None → AllByRecursion (Announces u) (answer_segments answer)
-none_announces u answer none =
-    let P : Option Head → Type 0 = λ a. AllByRecursion (Announces u) (answer_segments a) in
-    subst P (sym none) tt
-
-answer_is_refusal : (e : Tcb) (segment : Segment) → has_begun e.name ≡ true → IsBetweenTurns e → IsUsual e segment
-    → (received e segment).answer ≡ (if is_refused e segment then Some (rst e segment segment.head.ack 0 4) else None)
-answer_is_refusal e segment begun between usual =
-    answer_is e segment begun between.bounds usual
-    ∙ ap (λ none. if is_refused e segment then Some (rst e segment segment.head.ack 0 4) else none) between.answer
-
-answer_announces : (news : News) (e u v : Tcb) → has_begun e.name ≡ true → IsBetweenTurns e → IsUsualNews news e → v.answer ≡ (arrived news e).answer
-    → AllByRecursion (Announces u) (answer_out v)
-unfolding answer_out after_tick timer_ticked waited
-answer_announces (Comes segment) e u v begun between usual same =
+answer_announces : (taken : ℕ) (u : Tcb) → Refuses taken u → AllByRecursion (Announces u) (answer_out u)
+unfolding answer_out
+answer_announces taken u (inl none) =
     let P : Option Head → Type 0 = λ answer. AllByRecursion (Announces u) (answer_segments answer) in
-    subst P (sym (same ∙ answer_is_refusal e segment begun between usual))
-    (refusal_announces u (is_refused e segment) (rst e segment segment.head.ack 0 4) refl)
-answer_announces (Logged kept) e u v begun between usual same = none_announces u v.answer (same ∙ between.answer)
-answer_announces Ticks e u v begun between usual same = none_announces u v.answer (same ∙ between.answer)
-answer_announces Begins e u v begun between usual same = none_announces u v.answer (same ∙ between.answer)
+    subst P (sym none) tt
+answer_announces taken u (inr refused) = rsts_announce u (answer_segments u.answer) refused.0
 
 -- all that leaves
 full_all : (u : Tcb) (P : Segment → Type 0) → ((segment : Segment) → Tells u segment → P segment) → has_begun u.name ≡ true → AllByRecursion P (answer_out u)
@@ -163,11 +146,41 @@ leaving_announces u begun answer =
     all_or_bare (Announces u) (is_owed (after_full u)) (bare_segment (after_full u)) (full_out u) (announcing u (bare_segment (after_full u)) (bare_tells u))
     (full_all u (Announces u) (announcing u) begun answer)
 
-pub announces_law : (news : News) (calls : List Call) (e : Tcb) → has_begun e.name ≡ true → IsBetweenTurns e → IsUsualNews news e → MayUse calls (arrived news e)
+-- what the user's calls leave
+pub answer_used : (calls : List Call) (m : Tcb) → (used calls m).answer ≡ m.answer
+answer_used calls m = used_keeps (λ (t : Tcb). t.answer) call_answers calls m
+
+call_tells : (call : Call) (t : Tcb) → told (called call t) ≡ told t
+call_tells (Reads n) t = refl
+call_tells (Writes bytes) t = refl
+call_tells Closes t = refl
+
+pub begun_used : (calls : List Call) (m : Tcb) → has_begun m.name ≡ true → has_begun (used calls m).name ≡ true
+begun_used [] m h = h
+begun_used (Reads n ∷ calls) m h = begun_used calls (called (Reads n) m) h
+begun_used (Writes bytes ∷ calls) m h = begun_used calls (called (Writes bytes) m) h
+begun_used (Closes ∷ calls) m h = begun_used calls (called Closes m) (begun_closing m.name h)
+
+next_used : (calls : List Call) (m : Tcb) → ReadsOnlyTaken calls m → next (used calls m).receiving ≡ next m.receiving
+next_used [] m may = refl
+next_used (Reads n ∷ calls) m may =
+    let same : next (called (Reads n) m).receiving ≡ next m.receiving = omega (arith, may.0, length-drop n m.receiving.unread) in
+    next_used calls (called (Reads n) m) may.1 ∙ same
+next_used (Writes bytes ∷ calls) m may = next_used calls (called (Writes bytes) m) may
+next_used (Closes ∷ calls) m may = next_used calls (called Closes m) may
+
+refuses_used : (taken : ℕ) (calls : List Call) (m : Tcb) → ReadsOnlyTaken calls m → Refuses taken m → Refuses taken (used calls m)
+refuses_used taken calls m may (inl none) = inl (answer_used calls m ∙ none)
+refuses_used taken calls m may (inr refused) =
+    let P : Option Head → Type 0 = λ answer. IsRst answer in
+    inr (subst P (sym (answer_used calls m)) refused.0, next_used calls m may ∙ refused.1)
+
+pub announces_law : (news : News) (calls : List Call) (e : Tcb) → e.answer ≡ None → ReadsOnlyTaken calls (arrived news e)
     → has_begun (before_flush news calls e).name ≡ true → AllByRecursion (Announces (before_flush news calls e)) (sent_in news calls e)
-announces_law news calls e begun between usual may begun_after =
+announces_law news calls e none may begun =
     let u : Tcb = before_flush news calls e in
-    leaving_announces u begun_after (answer_announces news e u u begun between usual (used_is calls (arrived news e) may).answer)
+    leaving_announces u begun
+    (answer_announces (next e.receiving) u (refuses_used (next e.receiving) calls (arrived news e) may (refuses_arrived news e none)))
 
 -- what was last announced stays, until the flush
 told_arrived : (news : News) (e : Tcb) → has_begun e.name ≡ true → told (arrived news e) ≡ told e
@@ -195,68 +208,6 @@ asks_where_changed e u heard (inl other) =
 asks_where_changed e u heard (inr other) =
     asks_for_edge u.owed u.told_next (next u.receiving) u.told_edge (announced_edge u.receiving) (λ h. other (h ∙ ap (λ t. t.1) heard))
 
--- nothing is taken of a segment that is refused
-below_or_not : (z : ℤ) → int_le (pos 0) z ≡ not (int_lt z (pos 0))
-below_or_not z = grind (arith, ints)
-
-uncounted_by : (accepted rst syn opened ack less : Bool) → (accepted && not rst && not syn && (not opened && ack && less)) ≡ true
-    → (ack && not syn && not rst && accepted && (opened || not less)) ≡ false
-uncounted_by accepted rst syn opened false less h = refl
-uncounted_by accepted rst true opened true less h = refl
-uncounted_by accepted true false opened true less h = refl
-uncounted_by false false false opened true less h = refl
-uncounted_by true false false true true less h = absurd (false≢true h)
-uncounted_by true false false false true true h = refl
-uncounted_by true false false false true false h = absurd (false≢true h)
-
-uncounted : (e : Tcb) (p : Segment) → is_refused e p ≡ true → counts e p ≡ false
-uncounted e p refused =
-    ap (λ v. has_ack p && not (has_syn p) && not (has_rst p) && accepts e p && (e.sending.opened || v)) (below_or_not (ack_at e p))
-    ∙ uncounted_by (accepts e p) (has_rst p) (has_syn p) e.sending.opened (has_ack p) (int_lt (ack_at e p) (pos 0)) refused
-
-off_continues : (counted fin joins : Bool) → counted ≡ false → (counted && not fin && joins) ≡ false
-off_continues true fin joins h = absurd (false≢true (sym h))
-off_continues false fin joins h = refl
-
-off_fin : (continued fin placed below : Bool) → continued ≡ false → (continued && fin && placed && below) ≡ false
-off_fin true fin placed below h = absurd (false≢true (sym h))
-off_fin false fin placed below h = refl
-
-second_bytes : (chosen : Bool) (first second : List ℕ) → chosen ≡ false → (if chosen then first else second) ≡ second
-second_bytes true first second h = absurd (false≢true (sym h))
-second_bytes false first second h = refl
-
-unless : (fin takes : Bool) → takes ≡ false → (fin || takes) ≡ fin
-unless true takes h = refl
-unless false takes h = h
-
-refused_next : (e : Tcb) (p : Segment) → has_begun e.name ≡ true → IsBounded e → IsUsual e p → is_refused e p ≡ true
-    → next (received e p).receiving ≡ next e.receiving
-unfolding taken_by
-refused_next e p begun bounds usual refused =
-    let continued : continues e p ≡ false = off_continues (counts e p) e.receiving.fin _ (uncounted e p refused) in
-    let unread : unread_after e p ≡ e.receiving.unread = second_bytes (continues e p) _ _ continued in
-    let fin : (e.receiving.fin || takes_fin e p) ≡ e.receiving.fin = unless e.receiving.fin (takes_fin e p) (off_fin (continues e p) _ _ _ continued) in
-    ap next (taken_law e p begun bounds usual) ∙ (λ i. e.receiving.read + length (unread i) + one_if (fin i))
-
--- so where more is taken no RST answers
-unanswered : (refused : Bool) (head : Head) → (refused ≡ true → ⊥) → (if refused then Some head else None) ≡ None
-unanswered true head never = absurd (never refl)
-unanswered false head never = refl
-
-answer_arrived : (news : News) (e : Tcb) → has_begun e.name ≡ true → IsBetweenTurns e → IsUsualNews news e → (next (arrived news e).receiving ≡ next e.receiving → ⊥)
-    → (arrived news e).answer ≡ None
-unfolding after_tick timer_ticked waited
-answer_arrived (Comes segment) e begun between usual changed =
-    answer_is_refusal e segment begun between usual
-    ∙ unanswered (is_refused e segment) (rst e segment segment.head.ack 0 4) (λ h. changed (refused_next e segment begun between.bounds usual h))
-answer_arrived (Logged kept) e begun between usual changed = between.answer
-answer_arrived Ticks e begun between usual changed = between.answer
-answer_arrived Begins e begun between usual changed = between.answer
-
-next_used : (m u : Tcb) → IsUsed m u → next u.receiving ≡ next m.receiving
-next_used m u a = λ i. a.taken i + one_if (a.fin i)
-
 -- and a segment goes out that is no RST
 some_told : (bare : Segment) (segments : List Segment) → has_rst bare ≡ false → AllByRecursion (λ segment. has_rst segment ≡ false) segments
     → is_told (or_bare true bare segments) ≡ true
@@ -272,20 +223,62 @@ unanswered_tells u begun none asked =
     ∙ some_told (bare_segment (after_full u)) (full_out u) (bare_tells u).0
     (full_all u Plain (λ segment tells. tells.0) begun (subst P (sym none) tt))
 
-pub all_told_law : (news : News) (calls : List Call) (e : Tcb) → has_begun e.name ≡ true → IsBetweenTurns e → IsUsualNews news e → MayUse calls (arrived news e)
-    → has_begun (before_flush news calls e).name ≡ true
+-- so where more is taken no RST answers
+unrefused : (taken : ℕ) (u : Tcb) → Refuses taken u → (next u.receiving ≡ taken → ⊥) → u.answer ≡ None
+unrefused taken u (inl none) changed = none
+unrefused taken u (inr refused) changed = absurd (changed refused.1)
+
+by_reason : (u e : Tcb) → has_begun u.name ≡ true → told u ≡ (next e.receiving, announced_edge e.receiving) → Refuses (next e.receiving) u
+    → (next u.receiving ≡ next e.receiving → ⊥) ⊎ ((u.answer ≡ None) × (announced_edge u.receiving ≡ announced_edge e.receiving → ⊥))
+    → is_told (leaving u) ≡ true
+by_reason u e begun heard refuses (inl changed) =
+    unanswered_tells u begun (unrefused (next e.receiving) u refuses changed) (asks_where_changed e u heard (inl changed))
+by_reason u e begun heard refuses (inr moved) = unanswered_tells u begun moved.0 (asks_where_changed e u heard (inr moved.1))
+
+pub all_told_law : (news : News) (calls : List Call) (e : Tcb) → has_begun e.name ≡ true → e.answer ≡ None → told e ≡ (next e.receiving, announced_edge e.receiving)
+    → ReadsOnlyTaken calls (arrived news e) → has_begun (before_flush news calls e).name ≡ true
     → (next (before_flush news calls e).receiving ≡ next e.receiving → ⊥)
     ⊎ (((before_flush news calls e).answer ≡ None) × (announced_edge (before_flush news calls e).receiving ≡ announced_edge e.receiving → ⊥))
     → is_told (sent_in news calls e) ≡ true
-all_told_law news calls e begun between usual may begun_after (inl changed) =
-    let u : Tcb = before_flush news calls e in
-    let a : IsUsed (arrived news e) u = used_is calls (arrived news e) may in
-    let heard : told u ≡ (next e.receiving, announced_edge e.receiving) = a.told ∙ told_arrived news e begun ∙ between.told in
-    unanswered_tells u begun_after
-    (a.answer ∙ answer_arrived news e begun between usual (λ h. changed (next_used (arrived news e) u a ∙ h)))
-    (asks_where_changed e u heard (inl changed))
-all_told_law news calls e begun between usual may begun_after (inr moved) =
-    let u : Tcb = before_flush news calls e in
-    let a : IsUsed (arrived news e) u = used_is calls (arrived news e) may in
-    let heard : told u ≡ (next e.receiving, announced_edge e.receiving) = a.told ∙ told_arrived news e begun ∙ between.told in
-    unanswered_tells u begun_after moved.0 (asks_where_changed e u heard (inr moved.1))
+all_told_law news calls e begun none heard_before may begun_after why =
+    let m : Tcb = arrived news e in
+    let u : Tcb = used calls m in
+    let heard : told u ≡ (next e.receiving, announced_edge e.receiving) = used_keeps told call_tells calls m ∙ told_arrived news e begun ∙ heard_before in
+    by_reason u e begun_after heard (refuses_used (next e.receiving) calls m may (refuses_arrived news e none)) why
+
+-- from turn to turn, whatever the limit and however much is written
+record TellsAll (e : Tcb) : Type 0 where
+  answer : e.answer ≡ None
+  heard : has_begun e.name ≡ true → told e ≡ (next e.receiving, announced_edge e.receiving)
+
+tells_flushed : (u : Tcb) → TellsAll (flushed u)
+unfolding flushed settled announced after_full with_fin_out with_text_sent with_probe
+tells_flushed u = record { answer = refl; heard = λ begun. told_by_flush u begun }
+
+by_begun : {X : Type 0} (b : Bool) → (b ≡ true → X) → (b ≡ false → X) → X
+by_begun true p q = p refl
+by_begun false p q = q refl
+
+turn_told : (news : News) (calls : List Call) (e : Tcb) → TellsAll e → ReadsOnlyTaken calls (arrived news e) → has_begun (before_flush news calls e).name ≡ true
+    → (next (before_flush news calls e).receiving ≡ next e.receiving → ⊥) → is_told (sent_in news calls e) ≡ true
+turn_told news calls e t may begun_after changed =
+    by_begun (has_begun e.name)
+    (λ begun. all_told_law news calls e begun t.answer (t.heard begun) may begun_after (inl changed))
+    (λ unbegun. absurd (changed (next_used calls (arrived news e) may ∙ unbegun_same news e unbegun)))
+
+acknowledges_on : (turns : List Events) (e : Tcb) → TellsAll e → AcknowledgesAll e turns
+acknowledges_on [] e t = tt
+acknowledges_on (turn ∷ turns) e t = (
+  λ may begun. (announces_law turn.news turn.calls e t.answer may begun, turn_told turn.news turn.calls e t may begun),
+  acknowledges_on turns (turned turn.news turn.calls e) (tells_flushed (before_flush turn.news turn.calls e)),
+)
+
+opens_untold : (local remote : Addr) (iss limit : ℕ) → TellsAll (listening local iss limit) × TellsAll (connecting local remote iss limit)
+unfolding connecting listening
+opens_untold local remote iss limit =
+    (record { answer = refl; heard = λ begun. absurd (false≢true begun) }, record { answer = refl; heard = λ begun. absurd (false≢true begun) })
+
+pub acknowledges_law : (local remote : Addr) (iss limit : ℕ) (turns : List Events)
+    → AcknowledgesAll (listening local iss limit) turns × AcknowledgesAll (connecting local remote iss limit) turns
+acknowledges_law local remote iss limit turns =
+    let t = opens_untold local remote iss limit in (acknowledges_on turns (listening local iss limit) t.0, acknowledges_on turns (connecting local remote iss limit) t.1)

@@ -23,7 +23,7 @@ pub record Beside {X : Type 0} (f : Tcb → X) : Type 0 where
   pub using : (e : Tcb) (p : Segment) → f (record e { sending = acknowledged e.sending p.head.seq (ack_at e p) p.head.window }) ≡ f e
   pub opening : (e : Tcb) (p : Segment) → f (record e { name = opened e.sending.closed; sending = opened_by e.sending p.head.seq p.head.window }) ≡ f e
 
-later_part : {X : Type 0} (f : Tcb → X) (e : Tcb) (p : Segment) → Beside f → f (with_ack e p) ≡ f e
+pub later_part : {X : Type 0} (f : Tcb → X) (e : Tcb) (p : Segment) → Beside f → f (with_ack e p) ≡ f e
 unfolding with_ack
 later_part f e p b =
     let used : Tcb = record e { sending = acknowledged e.sending p.head.seq (ack_at e p) p.head.window } in
@@ -131,16 +131,19 @@ apart_beside f a = record {
   opening = λ e p. a.opens e _ _;
 }
 
+pub answer_apart : IsApart (λ (t : Tcb). t.answer)
+answer_apart = record {
+  waits = λ e n. refl;
+  enters = λ e m n. refl;
+  dies = λ e. refl;
+  owes = λ e o. refl;
+  takes = λ e r o. refl;
+  uses = λ e s. refl;
+  opens = λ e m s. refl;
+}
+
 pub answer_is : (e : Tcb) (p : Segment) → has_begun e.name ≡ true → IsBounded e → IsUsual e p
     → (received e p).answer ≡ (if is_refused e p then Some (rst e p p.head.ack 0 4) else e.answer)
 unfolding refusing waiting_again
 answer_is e p begun b usual =
-    beside_is (λ t. t.answer) e p (apart_beside (λ t. t.answer) (record {
-      waits = λ e n. refl;
-      enters = λ e m n. refl;
-      dies = λ e. refl;
-      owes = λ e o. refl;
-      takes = λ e r o. refl;
-      uses = λ e s. refl;
-      opens = λ e m s. refl;
-    })) begun b usual
+    beside_is (λ t. t.answer) e p (apart_beside (λ t. t.answer) answer_apart) begun b usual

@@ -115,7 +115,7 @@ sends_written s held closed more keeps same = record {
   target = target_grows s.fin_sent s.closed closed s.una (length s.held) (length held) s.sent more keeps;
 }
 
-begun_closing : (name : StateName) → has_begun name ≡ true → has_begun (after_close name) ≡ true
+pub begun_closing : (name : StateName) → has_begun name ≡ true → has_begun (after_close name) ≡ true
 begun_closing Closed h = h
 begun_closing Listen h = absurd (false≢true h)
 begun_closing SynSent h = absurd (false≢true h)

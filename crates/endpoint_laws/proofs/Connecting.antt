@@ -22,7 +22,7 @@ use Rattle.endpoint_laws.specs.Laws.{Bounds, IsBounded, asks}
 use Rattle.endpoint_laws.specs.Turn.{Call, MayCall, MayUse, IsBetweenTurns, arrived, called, used, before_flush, turned, sent_in}
 use Rattle.endpoint_laws.specs.Turn.Call.{Reads, Writes, Closes}
 use Rattle.endpoint_laws.specs.Ending.{IsNamedRightly}
-use Rattle.endpoint_laws.specs.Announcing.{Announces, is_told}
+use Rattle.endpoint_laws.specs.Announcing.{Announces, is_told, ReadsOnlyTaken}
 use Rattle.endpoint_laws.specs.Connecting.{IsConnecting, FieldsFit}
 use Rattle.endpoint_laws.proofs.Bounding.{bounded_in_syn_sent}
 use Rattle.endpoint_laws.proofs.Calls.{FinIsLast, IsUsed, used_is, bounded_used}
@@ -30,8 +30,8 @@ use Rattle.endpoint_laws.proofs.Arrivals.{no_probe}
 use Rattle.endpoint_laws.proofs.TurnLaw.{flushed_timer}
 use Rattle.endpoint_laws.proofs.Turns.{between_again}
 use Rattle.endpoint_laws.proofs.Listening.{read_none}
-use Rattle.endpoint_laws.proofs.EndingLaw.{FollowsAt, holds_if, used_follows, flush_follows, named_at, flushed_name}
-use Rattle.endpoint_laws.proofs.Announced.{none_announces, leaving_announces, unanswered_tells}
+use Rattle.endpoint_laws.proofs.EndingLaw.{FollowsAt, holds_if, used_keeps, used_follows, flush_follows, named_at, flushed_name}
+use Rattle.endpoint_laws.proofs.Announced.{answer_used, announces_law, unanswered_tells}
 
 -- the sending half of an endpoint whose SYN is unacknowledged
 pub record Unanswered (iss : ℕ) (s : Sending) : Type 0 where
@@ -395,18 +395,24 @@ answered_in iss limit e p c =
     (λ r h. absurd (begun_name (refusing e p).name h (refusing_name e p ∙ c.name)))))
     (λ a. waits)
 
-answered_arrived : (iss limit : ℕ) (news : News) (e : Tcb) → IsConnecting iss limit e → limit ≤ 2 ^ 24 → FieldsFit news → has_begun (arrived news e).name ≡ true
-    → Answered (arrived news e) × IsBounded (arrived news e)
-answered_arrived iss limit (Comes segment) e c small fit begun =
+answered_by : (iss limit : ℕ) (news : News) (e : Tcb) → IsConnecting iss limit e → has_begun (arrived news e).name ≡ true → Answered (arrived news e)
+answered_by iss limit (Comes segment) e c begun =
     let same : received e segment ≡ in_syn_sent e segment = received_by e segment c.name in
-    let P : Tcb → Type 0 = λ t. Answered t in (
-      subst P (sym same) (answered_in iss limit e segment c (ap (λ (t : Tcb). has_begun t.name) (sym same) ∙ begun)),
-      bounded_in_syn_sent e segment c.name (ap (λ (s : Sending). s.opened) c.sending) (bounded_connecting iss limit e small c) fit.0 fit.1,
-    )
-answered_arrived iss limit (Logged kept) e c small fit begun = absurd (begun_name e.name begun c.name)
-answered_arrived iss limit Ticks e c small fit begun =
+    let P : Tcb → Type 0 = λ t. Answered t in
+    subst P (sym same) (answered_in iss limit e segment c (ap (λ (t : Tcb). has_begun t.name) (sym same) ∙ begun))
+answered_by iss limit (Logged kept) e c begun = absurd (begun_name e.name begun c.name)
+answered_by iss limit Ticks e c begun =
     absurd (begun_name (after_tick e).name begun (connects_ticked e.local e.remote iss limit e (connects_between iss limit e c)).name)
-answered_arrived iss limit Begins e c small fit begun = absurd (begun_name e.name begun c.name)
+answered_by iss limit Begins e c begun = absurd (begun_name e.name begun c.name)
+
+bounded_answered : (iss limit : ℕ) (news : News) (e : Tcb) → IsConnecting iss limit e → limit ≤ 2 ^ 24 → FieldsFit news → has_begun (arrived news e).name ≡ true
+    → IsBounded (arrived news e)
+bounded_answered iss limit (Comes segment) e c small fit begun =
+    bounded_in_syn_sent e segment c.name (ap (λ (s : Sending). s.opened) c.sending) (bounded_connecting iss limit e small c) fit.0 fit.1
+bounded_answered iss limit (Logged kept) e c small fit begun = absurd (begun_name e.name begun c.name)
+bounded_answered iss limit Ticks e c small fit begun =
+    absurd (begun_name (after_tick e).name begun (connects_ticked e.local e.remote iss limit e (connects_between iss limit e c)).name)
+bounded_answered iss limit Begins e c small fit begun = absurd (begun_name e.name begun c.name)
 
 -- from then on it is between two turns of a connection that has begun
 same_interval : (runs : Bool) (n : ℕ) → (if runs then n else n) ≡ n
@@ -419,33 +425,33 @@ pub answers_law : (iss limit : ℕ) (news : News) (calls : List Call) (e : Tcb) 
 answers_law iss limit news calls e c small fit may begun =
     let m : Tcb = arrived news e in
     let u : Tcb = used calls m in
-    let came = answered_arrived iss limit news e c small fit (begun_before calls m begun) in
-    let h : Answered m = came.0 in
+    let h : Answered m = answered_by iss limit news e c (begun_before calls m begun) in
+    let bounds : IsBounded m = bounded_answered iss limit news e c small fit (begun_before calls m begun) in
     let last : FinIsLast m.sending = λ k. absurd (false≢true (sym h.fin_sent ∙ k)) in
     let a : IsUsed m u = used_is calls m may in
     let sent_last : FinIsLast u.sending = λ k. absurd (false≢true (sym (a.sends.fin_sent ∙ h.fin_sent) ∙ k)) in
     let timer = flushed_timer u 1 0 (a.sends.interval ∙ h.interval) (a.sends.rest ∙ h.rest) in
     let interval : (flushed u).sending.interval ≡ 1 = timer.interval ∙ same_interval (is_timed (after_full u)) 1 in (
-      between_again u begun (bounded_used calls m may last came.1) (no_probe u (a.probe ∙ h.probe)) sent_last (omega (arith, interval)),
+      between_again u begun (bounded_used calls m may last bounds) (no_probe u (a.probe ∙ h.probe)) sent_last (omega (arith, interval)),
       named_at (flushed u) (flush_follows u (used_follows calls m h.follows)),
       ap has_begun (flushed_name u) ∙ begun,
     )
 
 -- and a segment leaves that tells what is taken, and no RST does
-answer_none : (u : Tcb) → u.answer ≡ None → AllByRecursion (Announces u) (answer_out u)
-unfolding answer_out
-answer_none u none = none_announces u u.answer none
+call_owes : (call : Call) (t : Tcb) → (called call t).owed ≡ t.owed
+call_owes (Reads n) t = refl
+call_owes (Writes bytes) t = refl
+call_owes Closes t = refl
 
 owed_asks : (u : Tcb) → u.owed ≡ true → asks u.owed u ≡ true
 owed_asks u owed = ap (λ o. asks o u) owed
 
-pub answers_announce_law : (iss limit : ℕ) (news : News) (calls : List Call) (e : Tcb) → IsConnecting iss limit e → limit ≤ 2 ^ 24 → FieldsFit news
-    → MayUse calls (arrived news e) → has_begun (before_flush news calls e).name ≡ true
+pub answers_announce_law : (iss limit : ℕ) (news : News) (calls : List Call) (e : Tcb) → IsConnecting iss limit e → ReadsOnlyTaken calls (arrived news e)
+    → has_begun (before_flush news calls e).name ≡ true
     → AllByRecursion (Announces (before_flush news calls e)) (sent_in news calls e) × (is_told (sent_in news calls e) ≡ true)
-answers_announce_law iss limit news calls e c small fit may begun =
+answers_announce_law iss limit news calls e c may begun =
     let m : Tcb = arrived news e in
     let u : Tcb = used calls m in
-    let h : Answered m = (answered_arrived iss limit news e c small fit (begun_before calls m begun)).0 in
-    let a : IsUsed m u = used_is calls m may in
-    let none : u.answer ≡ None = a.answer ∙ h.answer in
-    (leaving_announces u begun (answer_none u none), unanswered_tells u begun none (owed_asks u (a.owed ∙ h.owed)))
+    let h : Answered m = answered_by iss limit news e c (begun_before calls m begun) in
+    let owed : u.owed ≡ true = used_keeps (λ (t : Tcb). t.owed) call_owes calls m ∙ h.owed in
+    (announces_law news calls e c.answer may begun, unanswered_tells u begun (answer_used calls m ∙ h.answer) (owed_asks u owed))

@@ -19,6 +19,7 @@ pub mod Beginning
 pub mod AnswersAlone
 pub mod EndingLaw
 pub mod Ends
+pub mod Rsts
 pub mod Announced
 pub mod Connecting
 pub mod Anywhere

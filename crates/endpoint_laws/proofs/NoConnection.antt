@@ -28,7 +28,8 @@ use Rattle.endpoint_laws.proofs.AnswersAlone.{closed_sends, listen_sends, syn_se
 use Rattle.endpoint_laws.proofs.Listening.{listening_is, listens_arrived}
 use Rattle.endpoint_laws.proofs.TurnLaw.{flushed_timer, ticked_law}
 use Rattle.endpoint_laws.proofs.Calls.{IsUsed, used_is}
-use Rattle.endpoint_laws.proofs.EndingLaw.{used_keeps, call_answers, call_resets, stays_closed}
+use Rattle.endpoint_laws.proofs.EndingLaw.{used_keeps, call_resets, stays_closed}
+use Rattle.endpoint_laws.proofs.Announced.{answer_used}
 use Rattle.endpoint_laws.proofs.Connecting.{Connects, connects_at_connect, connects_arrived, connects_used, received_by, syn_leaves, still_connecting, sent_before, answered_name, refusing_name, begun_name, closed_name}
 
 call_agains : (call : Call) (t : Tcb) → (called call t).again ≡ t.again
@@ -40,9 +41,6 @@ call_locals : (call : Call) (t : Tcb) → (called call t).local ≡ t.local
 call_locals (Reads n) t = refl
 call_locals (Writes bytes) t = refl
 call_locals Closes t = refl
-
-answer_used : (calls : List Call) (m : Tcb) → (used calls m).answer ≡ m.answer
-answer_used calls m = used_keeps (λ (t : Tcb). t.answer) call_answers calls m
 
 again_used : (calls : List Call) (m : Tcb) → (used calls m).again ≡ m.again
 again_used calls m = used_keeps (λ (t : Tcb). t.again) call_agains calls m

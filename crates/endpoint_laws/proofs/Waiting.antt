@@ -318,15 +318,15 @@ ticked_opened s =
 ticked_waits : (ticks : ℕ) (e : Tcb) → 1 ≤ 4 - ticks → Waits (4 - ticks) e → (ticks + 1 == 4) ≡ false → (1 ≤ 4 - (ticks + 1)) × Waits (4 - (ticks + 1)) (after_tick e)
 unfolding after_tick timer_ticked waited
 ticked_waits ticks e some w more = (
-    grind (arith, some, more),
-    record {
-      name = (λ i. if is_time_wait (w.name i) && nat_lt (w.wait_is i) 2 then Closed else w.name i)
-          ∙ ap (λ b. if b then Closed else TimeWait) (last_tick ticks some ∙ more);
-      wait_is = (λ i. if is_time_wait (w.name i) then w.wait_is i - 1 else w.wait_is i) ∙ omega arith;
-      opened_is = ticked_opened e.sending ∙ w.opened_is;
-      fin = w.fin;
-    },
-  )
+  grind (arith, some, more),
+  record {
+    name = (λ i. if is_time_wait (w.name i) && nat_lt (w.wait_is i) 2 then Closed else w.name i)
+        ∙ ap (λ b. if b then Closed else TimeWait) (last_tick ticks some ∙ more);
+    wait_is = (λ i. if is_time_wait (w.name i) then w.wait_is i - 1 else w.wait_is i) ∙ omega arith;
+    opened_is = ticked_opened e.sending ∙ w.opened_is;
+    fin = w.fin;
+  },
+)
 
 ticked_ends : (ticks : ℕ) (e : Tcb) → 1 ≤ 4 - ticks → Waits (4 - ticks) e → (ticks + 1 == 4) ≡ true → (after_tick e).name ≡ Closed
 unfolding after_tick timer_ticked waited

@@ -18,7 +18,7 @@ ghost use Rattle.ft_model.specs.News.{News};
 ghost use Rattle.ft_model.specs.News.News.{Comes};
 ghost use Rattle.ft_model.specs.Opening.{is_syn};
 ghost use Rattle.ft_model.specs.Point.{Point};
-ghost use Rattle.endpoint_laws.specs.Turn.{Call, MayUse, IsUsualNews, IsBetweenTurns, arrived, before_flush, turned};
+ghost use Rattle.endpoint_laws.specs.Turn.{Call, Events, MayUse, IsUsualNews, IsBetweenTurns, arrived, before_flush, turned};
 ghost use Rattle.endpoint_laws.specs.Listening.{IsListening, brings_syn};
 ghost use Rattle.endpoint_laws.specs.Standing.{StandsAt, MeetsLaws, IsUsedAt, LeadsTo, EndsAt, BeginsAt, Step, RunsByLaws, numbers_with, point_begun};
 ghost use Rattle.std.specs.Prelude.{◌⊎◌, ◌||◌, [], None};
@@ -26,7 +26,7 @@ ghost use Rattle.std.specs.List.{AllByRecursion};
 ghost use Rattle.tcp_endpoint.specs.declared.states.StateName.TheVariants.{Closed};
 ghost use Rattle.endpoint_laws.specs.Turn.{sent_in};
 ghost use Rattle.endpoint_laws.specs.Ending.{IsNamedRightly, has_taken_fin, resets, is_over};
-ghost use Rattle.endpoint_laws.specs.Announcing.{Announces, is_told};
+ghost use Rattle.endpoint_laws.specs.Announcing.{Announces, is_told, ReadsOnlyTaken, AcknowledgesAll};
 ghost use Rattle.std.specs.Prelude.{◌∷◌};
 ghost use Rattle.endpoint_laws.specs.Unconnected.{syn_of};
 ghost use Rattle.endpoint_laws.specs.Turn.{used};
@@ -293,18 +293,25 @@ pub fn turns_keep_what_laws_ask()
 /// Every endpoint acknowledges all that it took: each segment that leaves a connection that has begun, but for a RST, has ACK, acknowledges
 /// just what is taken, and announces the window.
 pub fn segments_acknowledge_all_that_is_taken()
-    ensures { (news : News) (calls : List Call) (e : Tcb) → has_begun e.name ≡ true → IsBetweenTurns e → IsUsualNews news e → MayUse calls (arrived news e)
+    ensures { (news : News) (calls : List Call) (e : Tcb) → e.answer ≡ None → ReadsOnlyTaken calls (arrived news e)
         → has_begun (before_flush news calls e).name ≡ true → AllByRecursion (Announces (before_flush news calls e)) (sent_in news calls e) }
 {}
 
 /// And nothing that is taken stays untold: where more is taken in a turn a segment leaves that isn't a RST, and so tells it. The same where the
 /// edge moves, unless a RST answers.
 pub fn what_is_taken_is_told()
-    ensures { (news : News) (calls : List Call) (e : Tcb) → has_begun e.name ≡ true → IsBetweenTurns e → IsUsualNews news e → MayUse calls (arrived news e)
+    ensures { (news : News) (calls : List Call) (e : Tcb) → has_begun e.name ≡ true → e.answer ≡ None
+        → told e ≡ (next e.receiving, announced_edge e.receiving) → ReadsOnlyTaken calls (arrived news e)
         → has_begun (before_flush news calls e).name ≡ true
         → (next (before_flush news calls e).receiving ≡ next e.receiving → ⊥)
         ⊎ (((before_flush news calls e).answer ≡ None) × (announced_edge (before_flush news calls e).receiving ≡ announced_edge e.receiving → ⊥))
         → is_told (sent_in news calls e) ≡ true }
+{}
+
+/// So over a whole run of every endpoint, passive or active: for every limit, whatever comes and however much is written.
+pub fn endpoints_acknowledge_all_that_they_took()
+    ensures { (local remote : Addr) (iss limit : ℕ) (turns : List Events)
+        → AcknowledgesAll (listening local iss limit) turns × AcknowledgesAll (connecting local remote iss limit) turns }
 {}
 
 /// An active open connects: whatever its user writes before the first flush, the SYN is all that leaves. Its timer runs from then on, with
@@ -334,7 +341,7 @@ pub fn answers_begin()
 
 /// In that turn a segment leaves that isn't a RST, and each such segment has ACK, acknowledges just what is taken, and announces the window.
 pub fn answers_are_acknowledged()
-    ensures { (iss limit : ℕ) (news : News) (calls : List Call) (e : Tcb) → IsConnecting iss limit e → limit ≤ 2 ^ 24 → FieldsFit news
-        → MayUse calls (arrived news e) → has_begun (before_flush news calls e).name ≡ true
+    ensures { (iss limit : ℕ) (news : News) (calls : List Call) (e : Tcb) → IsConnecting iss limit e → ReadsOnlyTaken calls (arrived news e)
+        → has_begun (before_flush news calls e).name ≡ true
         → AllByRecursion (Announces (before_flush news calls e)) (sent_in news calls e) × (is_told (sent_in news calls e) ≡ true) }
 {}

@@ -2,4 +2,4 @@ use Rattle.endpoint_laws.proofs.Connecting.{answers_announce_law}
 use Rattle.endpoint_laws.proofs.laws.answers_are_acknowledged.Goals as goal
 
 pub returns : goal.returns
-returns c = λ iss limit news calls e l small fit may begun. answers_announce_law iss limit news calls e l small fit may begun
+returns c = λ iss limit news calls e l may begun. answers_announce_law iss limit news calls e l may begun

@@ -2,4 +2,4 @@ use Rattle.endpoint_laws.proofs.Announced.{announces_law}
 use Rattle.endpoint_laws.proofs.laws.segments_acknowledge_all_that_is_taken.Goals as goal
 
 pub returns : goal.returns
-returns c = λ news calls e begun between usual may begun_after. announces_law news calls e begun between usual may begun_after
+returns c = λ news calls e none may begun. announces_law news calls e none may begun

@@ -1,0 +1,5 @@
+use Rattle.endpoint_laws.proofs.Announced.{acknowledges_law}
+use Rattle.endpoint_laws.proofs.laws.endpoints_acknowledge_all_that_they_took.Goals as goal
+
+pub returns : goal.returns
+returns c = λ local remote iss limit turns. acknowledges_law local remote iss limit turns
