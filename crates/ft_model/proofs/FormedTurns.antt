@@ -1,5 +1,5 @@
 -- A server that hears what is well formed sends nothing else.
-use Rattle.std.proofs.Common.{◌≡◌, ℕ, ◌+◌, ◌-◌, ◌<◌, ◌≤◌, ◌^◌, ◌==◌, ℤ, pos, negsuc, ◌+ℤ◌, true, ◌&&◌, ◌||◌, not, nat_lt, nat_le, min, sym, ap, subst, inl, inr, ◌⊎◌, ⊎_elim, Option, Some, None, List, [], ◌∷◌, ◌++◌, map, length, take, drop, sum, arith, append-nil, append_assoc, length-append, length-drop, length-take, ltb-true, leb-true}
+use Rattle.std.proofs.Common.{◌≡◌, ℕ, ◌+◌, ◌-◌, ◌<◌, ◌≤◌, ◌^◌, ◌==◌, ℤ, pos, negsuc, ◌+ℤ◌, true, ◌&&◌, ◌||◌, not, nat_lt, nat_le, max, min, sym, ap, subst, inl, inr, ◌⊎◌, ⊎_elim, Option, Some, None, List, [], ◌∷◌, ◌++◌, map, length, take, drop, sum, arith, append-nil, append_assoc, length-append, length-drop, length-take, ltb-true, leb-true}
 use Rattle.std.specs.List.{AllByRecursion, list_any}
 use Rattle.ft_io.specs.declared.Addr.{Addr}
 use Rattle.ft_io.specs.declared.Key.{Key}
