@@ -1,6 +1,6 @@
 -- What goes out, as lists of packets.
 use Rattle.std.proofs.Common.{◌≡◌, ℕ, ◌<◌, ◌≤◌, ◌+◌, ◌-◌, zero, suc, Bool, true, false, min, List, [], ◌∷◌, ◌++◌, length, refl, sym, ap, subst, arith, ◌∙◌, append_assoc, append-nil}
-use Rattle.std.specs.Prelude.{Option, None, Some, if◌then◌else◌, nat_lt, ◌==◌, ◌&&◌}
+use Rattle.std.specs.Prelude.{Option, None, Some, if◌then◌else◌, nat_lt, ◌==◌}
 use Rattle.std.proofs.lemmas.Bool.{false≢true}
 use Rattle.std.proofs.lemmas.List.{map-append}
 use Rattle.seq_arith.specs.Packet.{Segment}

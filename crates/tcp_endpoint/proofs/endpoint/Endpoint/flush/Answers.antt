@@ -1,4 +1,4 @@
-use Rattle.std.proofs.Common.{◌≡◌, List, ℕ, ◌++◌, ap, ◌∙◌, subst}
+use Rattle.std.proofs.Common.{◌≡◌, ◌++◌, ap, ◌∙◌, subst}
 use Rattle.tcp_endpoint.specs.Tcb.{Tcb}
 use Rattle.tcp_endpoint.specs.Packets.{AreReadable}
 use Rattle.tcp_endpoint.specs.Leaving.{answer_out, again_out, probe_out, with_probe, text_out, with_text_sent, fin_out, with_fin_out, full_out, after_full, packets}

@@ -1,4 +1,4 @@
-use Rattle.std.proofs.Common.{◌≡◌, ap, ◌∙◌, sym, length}
+use Rattle.std.proofs.Common.{ap, ◌∙◌, sym, length}
 use Rattle.std.specs.Prelude.{◌==◌}
 use Rattle.tcp_endpoint.specs.Leaving.{is_owed, bare_segment}
 use Rattle.tcp_endpoint.proofs.Spelled.{unowed_readable, full_is_readable}

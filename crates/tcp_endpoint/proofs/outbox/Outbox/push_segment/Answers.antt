@@ -1,7 +1,7 @@
-use Rattle.std.proofs.Common.{rules, ◌≡◌, List, ℕ, [], ◌∷◌, ◌++◌, ap, sym, arith, ◌∙◌, length, length-append, add-zero}
+use Rattle.std.proofs.Common.{rules, ◌≡◌, [], ◌∷◌, ◌++◌, ap, sym, arith, ◌∙◌, length, length-append, add-zero}
 use Rattle.std.proofs.lemmas.List.{length_push}
 use Rattle.seq_arith.specs.Packet.{Segment}
-use Rattle.seq_arith.specs.PacketGrammar.{spelling, packet_length}
+use Rattle.seq_arith.specs.PacketGrammar.{spelling}
 use Rattle.seq_arith.proofs.Spelling.{size}
 use Rattle.segment_codec.specs.Written.{segment_with}
 use Rattle.tcp_endpoint.specs.Packets.{byte_count}
