@@ -19,7 +19,8 @@ use Rattle.endpoint_laws.specs.Laws.{told, asks}
 use Rattle.endpoint_laws.specs.Turn.{Call, Events, arrived, called, used, before_flush, turned, sent_in}
 use Rattle.endpoint_laws.specs.Turn.Call.{Reads, Writes, Closes}
 use Rattle.endpoint_laws.specs.Announcing.{Announces, is_told, ReadsOnlyTaken, AcknowledgesAll}
-use Rattle.endpoint_laws.proofs.SegmentsLaw.{begun_answers}
+use Rattle.endpoint_laws.proofs.AnswersAlone.{is_empty}
+use Rattle.endpoint_laws.proofs.SegmentsLaw.{begun_answers, once_again}
 use Rattle.endpoint_laws.proofs.ToldLaw.{leaving_by, told_by_segment, told_by_flush}
 use Rattle.endpoint_laws.proofs.EndingLaw.{used_keeps, call_answers}
 use Rattle.endpoint_laws.proofs.Rsts.{IsRst, Refuses, refuses_arrived, unbegun_same}
@@ -221,6 +222,33 @@ unanswered_tells u begun none asked =
     let P : Option Head → Type 0 = λ answer. AllByRecursion Plain (answer_segments answer) in
     ap is_told (leaving_by u u.owed begun refl ∙ ap (λ b. or_bare b (bare_segment (after_full u)) (full_out u)) asked)
     ∙ some_told (bare_segment (after_full u)) (full_out u) (bare_tells u).0
+    (full_all u Plain (λ segment tells. tells.0) begun (subst P (sym none) tt))
+
+-- .. and where something goes out again
+front_empty : (first second : List Segment) → first ++ second ≡ [] → first ≡ []
+front_empty [] second h = refl
+front_empty (segment ∷ first) second h = absurd (false≢true (ap is_empty h))
+
+rest_empty : (first second : List Segment) → first ++ second ≡ [] → second ≡ []
+rest_empty [] second h = h
+rest_empty (segment ∷ first) second h = absurd (false≢true (ap is_empty h))
+
+full_empty : (u : Tcb) → full_out u ≡ [] → again_out u ≡ []
+unfolding full_out
+full_empty u h = rest_empty (answer_out u) (again_out u) (front_empty _ _ (front_empty _ _ (front_empty _ _ h)))
+
+told_by_some : (owed : Bool) (bare : Segment) (segments : List Segment) → (segments ≡ [] → ⊥) → AllByRecursion (λ segment. has_rst segment ≡ false) segments
+    → is_told (or_bare owed bare segments) ≡ true
+told_by_some owed bare [] some all = absurd (some refl)
+told_by_some owed bare (segment ∷ segments) some all = ap (λ b. not b || is_told segments) all.0
+
+pub again_is_told : (u : Tcb) → has_begun u.name ≡ true → u.answer ≡ None → u.again ≡ true → is_unacknowledged u.sending ≡ true → is_told (leaving u) ≡ true
+unfolding answer_out leaving
+again_is_told u begun none again waits =
+    let Plain : Segment → Type 0 = λ segment. has_rst segment ≡ false in
+    let P : Option Head → Type 0 = λ answer. AllByRecursion Plain (answer_segments answer) in
+    told_by_some (is_owed (after_full u)) (bare_segment (after_full u)) (full_out u)
+    (λ empty. false≢true (ap is_empty (sym (once_again u begun again waits) ∙ full_empty u empty)))
     (full_all u Plain (λ segment tells. tells.0) begun (subst P (sym none) tt))
 
 -- so where more is taken no RST answers

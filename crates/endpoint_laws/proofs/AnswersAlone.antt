@@ -1,5 +1,7 @@
 -- What an endpoint sends that is in no connection: a RST that answers, and nothing else unless the SYN is due.
-use Rattle.std.proofs.Common.{◌≡◌, Bool, true, false, Option, Some, None, refl, ◌∙◌}
+use Rattle.std.proofs.Common.{◌≡◌, Bool, true, false, Option, Some, None, List, [], ◌∷◌, refl, ap, ◌∙◌}
+use Rattle.std.proofs.lemmas.Bool.{false≢true}
+use Rattle.seq_arith.specs.Packet.{Segment}
 use Rattle.segment_codec.specs.declared.Head.{Head}
 use Rattle.tcp_endpoint.specs.declared.states.StateName.TheVariants.{Closed, Listen, SynSent}
 use Rattle.tcp_endpoint.specs.Tcb.{Tcb}
@@ -16,6 +18,15 @@ answer_alone u true true (Some head) = refl
 answer_alone u true false (Some head) = refl
 answer_alone u false true (Some head) = refl
 answer_alone u false false (Some head) = refl
+
+-- a list with a segment is none without
+abbrev pub is_empty : List Segment → Bool
+is_empty [] = true
+is_empty (segment ∷ segments) = false
+
+pub answer_none : (answer : Option Head) → answer_segments answer ≡ [] → answer ≡ None
+answer_none None h = refl
+answer_none (Some head) h = absurd (false≢true (ap is_empty h))
 
 -- a RST that answers, and nothing else
 pub closed_sends : (u : Tcb) → u.name ≡ Closed → leaving u ≡ answer_segments u.answer

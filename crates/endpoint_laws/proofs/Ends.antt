@@ -1,9 +1,8 @@
 -- The turn in which both FINs are through and the endpoint becomes CLOSED: nothing leaves, and it stands at the point after it.
-use Rattle.std.proofs.Common.{◌≡◌, ℕ, ◌≤◌, ◌+◌, Bool, true, false, not, Option, Some, None, List, [], ◌∷◌, length, min, max, refl, sym, ap, arith, ◌∙◌}
+use Rattle.std.proofs.Common.{◌≡◌, ℕ, ◌≤◌, ◌+◌, Bool, true, false, not, None, List, [], ◌∷◌, length, min, max, refl, sym, ap, arith, ◌∙◌}
 use Rattle.std.specs.Prelude.{ℤ, pos, ◌==◌, ◌&&◌, ◌||◌, nat_lt, int_lt, int_le, if◌then◌else◌}
 use Rattle.std.proofs.lemmas.Bool.{false≢true}
 use Rattle.std.proofs.lemmas.Int.{ints}
-use Rattle.segment_codec.specs.declared.Head.{Head}
 use Rattle.ft_io.specs.declared.Addr.{Addr}
 use Rattle.seq_arith.specs.Packet.{Segment, has_syn, has_rst, has_ack}
 use Rattle.server_trait.specs.Service.{Machine}
@@ -28,7 +27,7 @@ use Rattle.endpoint_laws.specs.Standing.{SendsAt, StandsAt, MeetsLaws, IsUsedAt,
 use Rattle.endpoint_laws.specs.Ending.{IsNamed, IsNamedRightly, has_taken_fin, resets}
 use Rattle.endpoint_laws.proofs.Calls.{FinIsLast, IsUsed, used_is, bounded_used, last_used, probes_used}
 use Rattle.endpoint_laws.proofs.Arrivals.{Arrived, arrives}
-use Rattle.endpoint_laws.proofs.AnswersAlone.{closed_sends}
+use Rattle.endpoint_laws.proofs.AnswersAlone.{answer_none, closed_sends}
 use Rattle.endpoint_laws.proofs.EndingLaw.{IsPlaced, FollowsAt, unreset_follows}
 use Rattle.endpoint_laws.proofs.TurnEnd.{sent_at}
 use Rattle.endpoint_laws.proofs.Turns.{receives_of, sends_of, probes_by}
@@ -92,15 +91,6 @@ no_answer server (Comes segment) before h =
 no_answer server (Logged kept) before h = refl
 no_answer server Ticks before h = refl
 no_answer server Begins before h = refl
-
-is_some : List Segment → Bool
-is_some [] = false
-is_some (x ∷ xs) = true
-
-answer_none : (x : Option Head) → answer_segments x ≡ [] → x ≡ None
-unfolding is_some
-answer_none None h = refl
-answer_none (Some head) h = absurd (false≢true (sym (ap is_some h)))
 
 fin_parts : (f e : Bool) → (f && e) ≡ true → (f ≡ true) × (e ≡ true)
 fin_parts true e h = (refl, h)

@@ -1,3 +1,4 @@
+pub mod AnswersAlone
 pub mod TakenLaw
 pub mod SendingLaw
 pub mod Bounding
@@ -16,7 +17,6 @@ pub mod Turns
 pub mod Points
 pub mod Listening
 pub mod Beginning
-pub mod AnswersAlone
 pub mod EndingLaw
 pub mod Ends
 pub mod Rsts

@@ -1,16 +1,17 @@
 -- An endpoint in CLOSED, LISTEN or SYN-SENT sends what it is to send there, and goes over to the state that it is to go over to.
-use Rattle.std.proofs.Common.{◌≡◌, ◌⊎◌, inl, inr, ℕ, ◌≤◌, Bool, true, false, not, Option, Some, None, List, [], ◌∷◌, ◌++◌, min, refl, sym, ap, subst, arith, append-nil, ⊎_elim, ◌∙◌}
+use Rattle.std.proofs.Common.{◌≡◌, ◌⊎◌, inl, inr, ℕ, ◌≤◌, Bool, true, false, not, Some, None, List, [], ◌∷◌, ◌++◌, min, refl, sym, ap, subst, arith, append-nil, ⊎_elim, ◌∙◌}
 use Rattle.std.specs.Prelude.{pos, ◌==◌, ◌&&◌, ◌||◌, nat_lt, if◌then◌else◌}
+use Rattle.std.specs.List.{AllByRecursion}
 use Rattle.std.proofs.lemmas.Bool.{false≢true}
 use Rattle.ft_io.specs.declared.Addr.{Addr}
 use Rattle.seq_arith.specs.Arrival.{int_eq}
 use Rattle.seq_arith.specs.Packet.{Segment, has_syn, has_rst, has_ack}
-use Rattle.segment_codec.specs.declared.Head.{Head}
 use Rattle.ft_model.specs.News.{News}
 use Rattle.ft_model.specs.News.News.{Comes, Logged, Ticks, Begins}
+use Rattle.ft_model.specs.Opening.{is_syn}
 use Rattle.ft_model.specs.Refusal.{rst_at_ack, rst_behind}
 use Rattle.tcp_endpoint.specs.declared.states.StateName.{StateName}
-use Rattle.tcp_endpoint.specs.declared.states.StateName.TheVariants.{Closed, Listen, SynSent, Established}
+use Rattle.tcp_endpoint.specs.declared.states.StateName.TheVariants.{Closed, Listen, SynSent, SynReceived, Established}
 use Rattle.tcp_endpoint.specs.States.{after_close, is_syn_sent, is_time_wait, has_begun}
 use Rattle.tcp_endpoint.specs.Receiving.{window, receiving_up_to}
 use Rattle.tcp_endpoint.specs.Sending.{Sending, expires}
@@ -21,15 +22,16 @@ use Rattle.tcp_endpoint.specs.Turning.{after_tick, timer_ticked, waited}
 use Rattle.endpoint_laws.specs.Laws.{ticked_interval, ticked_rest, IsTimedBy}
 use Rattle.endpoint_laws.specs.Turn.{Call, MayUse, arrived, called, used, before_flush, turned, sent_in}
 use Rattle.endpoint_laws.specs.Turn.Call.{Reads, Writes, Closes}
+use Rattle.endpoint_laws.specs.Announcing.{Announces, is_told, ReadsOnlyTaken}
 use Rattle.endpoint_laws.specs.Listening.{IsListening, brings_syn}
 use Rattle.endpoint_laws.specs.Connecting.{IsConnecting}
 use Rattle.endpoint_laws.specs.Unconnected.{sent_in_closed, sent_in_listen, acknowledges_syn, refused_in_syn_sent, resets_in_syn_sent, answers_in_syn_sent, state_after_syn_sent, syn_of, expires_at, interval_waiting, rest_waiting}
-use Rattle.endpoint_laws.proofs.AnswersAlone.{closed_sends, listen_sends, syn_sent_sends}
-use Rattle.endpoint_laws.proofs.Listening.{listening_is, listens_arrived}
+use Rattle.endpoint_laws.proofs.AnswersAlone.{answer_none, closed_sends, listen_sends, syn_sent_sends}
+use Rattle.endpoint_laws.proofs.Listening.{begun_by, listening_is, listens_arrived}
 use Rattle.endpoint_laws.proofs.TurnLaw.{flushed_timer, ticked_law}
 use Rattle.endpoint_laws.proofs.Calls.{IsUsed, used_is}
 use Rattle.endpoint_laws.proofs.EndingLaw.{used_keeps, call_resets, stays_closed}
-use Rattle.endpoint_laws.proofs.Announced.{answer_used}
+use Rattle.endpoint_laws.proofs.Announced.{answer_used, begun_used, announces_law, again_is_told}
 use Rattle.endpoint_laws.proofs.Connecting.{Connects, connects_at_connect, connects_arrived, connects_used, received_by, syn_leaves, still_connecting, sent_before, answered_name, refusing_name, begun_name, closed_name}
 
 call_agains : (call : Call) (t : Tcb) → (called call t).again ≡ t.again
@@ -383,15 +385,6 @@ by_due : {X : Type 0} (b : Bool) → (b ≡ true → X) → (b ≡ false → X) 
 by_due true p q = p refl
 by_due false p q = q refl
 
-is_empty : List Segment → Bool
-is_empty [] = true
-is_empty (segment ∷ segments) = false
-
-no_segment : (answer : Option Head) → answer_segments answer ≡ [] → answer ≡ None
-unfolding is_empty
-no_segment None h = refl
-no_segment (Some head) h = absurd (false≢true (ap is_empty h))
-
 -- what leaves, by the state before the flush
 sends_in : (iss limit : ℕ) (news : News) (calls : List Call) (e : Tcb) → IsConnecting iss limit e → MayUse calls (arrived news e) → (before_flush news calls e).name ≡ SynSent
     → sent_in news calls e
@@ -409,7 +402,7 @@ sends_in iss limit news calls e c may still =
     segments ≡ refused_in_syn_sent e.local iss news ++ (if is_syn_sent u.name && expires_at news e.sending then syn ∷ [] else []) in
     by_due (expires_at news e.sending)
     (λ due.
-    let none : u.answer ≡ None = no_segment u.answer (answer ∙ refused_none e.local iss news e.sending due) in
+    let none : u.answer ≡ None = answer_none u.answer (answer ∙ refused_none e.local iss news e.sending due) in
     syn_leaves e.local e.remote iss limit u here (again ∙ due) none ∙ ap (λ x. x ∷ []) (syn_is e.local e.remote iss limit)
     ∙ append_due (is_syn_sent u.name && expires_at news e.sending) syn (both_on (is_syn_sent u.name) (expires_at news e.sending) (ap is_syn_sent still) due)
     ∙ ap (λ xs. xs ++ (if is_syn_sent u.name && expires_at news e.sending then syn ∷ [] else [])) (sym (refused_none e.local iss news e.sending due)))
@@ -521,3 +514,28 @@ opening_times_law local remote iss limit calls may still =
     waiting_is_timed local remote iss limit u (connects_used local remote iss limit calls m may still (connects_at_connect local remote iss limit)) in
     let t = flushed_timer u 1 0 (a.sends.interval ∙ first.0) (a.sends.rest ∙ first.1) in
     record { interval = t.interval ∙ ap (λ b. if b then 1 else 1) runs; rest = t.rest ∙ ap (λ b. if b then 1 else 0) runs }
+
+-- the turn of a SYN: the SYN-ACK leaves
+call_opens : (call : Call) (t : Tcb) → (called call t).sending.opened ≡ t.sending.opened
+call_opens (Reads n) t = refl
+call_opens (Writes bytes) t = refl
+call_opens Closes t = refl
+
+begun_is_due : (e : Tcb) (p : Segment) → ((begun e p).again ≡ true) × ((begun e p).answer ≡ e.answer) × ((begun e p).sending.opened ≡ e.sending.opened) × ((begun e p).name ≡ SynReceived)
+unfolding begun
+begun_is_due e p = (refl, refl, refl, refl)
+
+pub syn_is_told_law : (iss limit : ℕ) (syn : Segment) (calls : List Call) (e : Tcb) → IsListening iss limit e → is_syn syn ≡ true → ReadsOnlyTaken calls (received e syn)
+    → AllByRecursion (Announces (before_flush (Comes syn) calls e)) (sent_in (Comes syn) calls e) × (is_told (sent_in (Comes syn) calls e) ≡ true)
+syn_is_told_law iss limit syn calls e l is may =
+    let m : Tcb = received e syn in
+    let u : Tcb = used calls m in
+    let same : m ≡ begun e syn = begun_by e syn l.name is in
+    let due = begun_is_due e syn in
+    let there : has_begun u.name ≡ true = begun_used calls m (ap (λ (t : Tcb). has_begun t.name) same ∙ ap has_begun due.3) in
+    let unopened : u.sending.opened ≡ false =
+    used_keeps (λ (t : Tcb). t.sending.opened) call_opens calls m ∙ ap (λ (t : Tcb). t.sending.opened) same ∙ due.2 ∙ ap (λ (s : Sending). s.opened) l.sending in (
+      announces_law (Comes syn) calls e l.answer may there,
+      again_is_told u there (answer_used calls m ∙ ap (λ (t : Tcb). t.answer) same ∙ due.1 ∙ l.answer)
+          (again_used calls m ∙ ap (λ (t : Tcb). t.again) same ∙ due.0) (ap (λ b. not b || nat_lt u.sending.una u.sending.sent) unopened),
+    )

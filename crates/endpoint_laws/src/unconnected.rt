@@ -1,7 +1,14 @@
 //! What an endpoint does that is in no connection: in CLOSED, LISTEN and SYN-SENT (RFC 9293, 3.10.7.1 to 3.10.7.3 and 3.10.8).
 
 ghost use Rattle.std.specs.Prelude.{◌≡◌, ℕ, ◌++◌, ◌&&◌, ◌||◌, false, List, [], ◌∷◌, None, if◌then◌else◌};
+ghost use Rattle.std.specs.Prelude.{true};
+ghost use Rattle.std.specs.List.{AllByRecursion};
+ghost use Rattle.seq_arith.specs.Packet.{Segment};
 ghost use Rattle.ft_model.specs.News.{News};
+ghost use Rattle.ft_model.specs.News.News.{Comes};
+ghost use Rattle.ft_model.specs.Opening.{is_syn};
+ghost use Rattle.tcp_endpoint.specs.Arrival.{received};
+ghost use Rattle.endpoint_laws.specs.Announcing.{Announces, is_told, ReadsOnlyTaken};
 ghost use Rattle.tcp_endpoint.specs.declared.states.StateName.TheVariants.{Closed, Listen, SynSent};
 ghost use Rattle.tcp_endpoint.specs.States.{is_syn_sent, has_begun};
 ghost use Rattle.tcp_endpoint.specs.Tcb.{Tcb};
@@ -33,6 +40,15 @@ pub fn listening_endpoints_refuse()
 pub fn listening_endpoints_wait_for_a_syn()
     ensures { (iss limit : ℕ) (news : News) (e : Tcb) → IsListening iss limit e → brings_syn news ≡ false
         → ((arrived news e).name ≡ Listen) × ((arrived news e).reset ≡ e.reset) }
+{}
+
+/// In the turn of that SYN a segment leaves that isn't a RST, and each such segment has ACK, acknowledges just the SYN, and announces the window:
+/// for every limit.
+pub fn syns_are_acknowledged()
+    ensures { (iss limit : ℕ) (syn : Segment) (calls : List Call) (e : Tcb) → IsListening iss limit e → is_syn syn ≡ true
+        → ReadsOnlyTaken calls (received e syn)
+        → AllByRecursion (Announces (before_flush (Comes syn) calls e)) (sent_in (Comes syn) calls e)
+        × (is_told (sent_in (Comes syn) calls e) ≡ true) }
 {}
 
 /// While an active open waits, a RST leaves that answers an acknowledgement of anything but the SYN, and the SYN again at the tick at which the
