@@ -6,8 +6,8 @@ use Rattle.ft_model.specs.Client.ClientKind.{Live}
 use Rattle.ft_model.specs.Client.Move.{Syn, Text, Fin, Acknowledge, Rst, Refuse}
 use Rattle.ft_model.specs.declared.event.Event.{Event}
 use Rattle.ft_model.specs.declared.event.Event.TheVariants as events
-use Rattle.ft_model.specs.Rows.Common.{hello_text, client_with, client_segment}
-use Rattle.ft_model.specs.Rows.FirstPath.{opening}
+use Rattle.ft_model.specs.WorkedRuns.Common.{hello_text, client_with, client_segment}
+use Rattle.ft_model.specs.WorkedRuns.FirstPath.{opening}
 use Rattle.ft_model.proofs.Lists.{none_is_some, some_is}
 
 -- what an event asks for, a client of either kind may do

@@ -16,8 +16,8 @@ use Rattle.ft_model.specs.Serving.{PlaceTurn}
 use Rattle.ft_model.specs.Lawful.{LawfulTurn}
 use Rattle.ft_model.specs.Client.Move.{Syn, Text, Acknowledge}
 use Rattle.ft_model.specs.World.{Joint, Happens, IsStart}
-use Rattle.ft_model.specs.Rows.Common.{echo, server, numbers, hello_text, client_with}
-use Rattle.ft_model.specs.Rows.FirstPath as row
+use Rattle.ft_model.specs.WorkedRuns.Common.{echo, server, numbers, hello_text, client_with}
+use Rattle.ft_model.specs.WorkedRuns.FirstPath as run
 use Rattle.ft_model.proofs.Turns.{laws, alone, goes, segment_in, message_in, kept_in}
 
 pub hello_bytes : AreBytes hello_text
@@ -25,7 +25,7 @@ unfolding IsLe
 hello_bytes =
     (le_by_compare 105 256 tt, (le_by_compare 102 256 tt, (le_by_compare 109 256 tt, (le_by_compare 109 256 tt, (le_by_compare 112 256 tt, tt)))))
 
-starts : IsStart row.start
+starts : IsStart run.start
 unfolding IsLe
 starts = record {
   ip = le_by_compare 3221226085 (2 ^ 32) tt;
@@ -53,133 +53,133 @@ abbrev Goes : {State : Type 0} → Machine State → News → Point → Point �
 Goes service news before after sent = ConnectionTurn service server 1 news before after sent
 
 -- the SYN-ACK leaves
-begins : {State : Type 0} (service : Machine State) → Goes service Begins (point_opened numbers) row.begun_point row.moment_7.sent
+begins : {State : Type 0} (service : Machine State) → Goes service Begins (point_opened numbers) run.begun_point run.moment_7.sent
 unfolding laws
-begins service = goes service server 1 Begins (point_opened numbers) row.begun_point row.moment_7.sent refl refl refl refl
+begins service = goes service server 1 Begins (point_opened numbers) run.begun_point run.moment_7.sent refl refl refl refl
 
 -- the SYN is acknowledged
-opens : {State : Type 0} (service : Machine State) → Goes service (Comes (segment_in row.packet_7)) row.begun_point row.open_point row.moment_10.sent
+opens : {State : Type 0} (service : Machine State) → Goes service (Comes (segment_in run.packet_7)) run.begun_point run.open_point run.moment_10.sent
 unfolding laws
-opens service = goes service server 1 (Comes (segment_in row.packet_7)) row.begun_point row.open_point row.moment_10.sent refl refl refl refl
+opens service = goes service server 1 (Comes (segment_in run.packet_7)) run.begun_point run.open_point run.moment_10.sent refl refl refl refl
 
 -- the text is taken and read
-takes : Goes echo (Comes (segment_in row.packet_8)) row.open_point row.taken_point row.moment_12.sent
+takes : Goes echo (Comes (segment_in run.packet_8)) run.open_point run.taken_point run.moment_12.sent
 unfolding laws
-takes = goes echo server 1 (Comes (segment_in row.packet_8)) row.open_point row.taken_point row.moment_12.sent refl refl refl refl
+takes = goes echo server 1 (Comes (segment_in run.packet_8)) run.open_point run.taken_point run.moment_12.sent refl refl refl refl
 
 -- the text is logged
-hears : Goes echo (Logged (kept_in row.packet_12)) row.taken_point row.logged_point row.moment_14.sent
+hears : Goes echo (Logged (kept_in run.packet_12)) run.taken_point run.logged_point run.moment_14.sent
 unfolding laws
-hears = goes echo server 1 (Logged (kept_in row.packet_12)) row.taken_point row.logged_point row.moment_14.sent refl refl refl refl
+hears = goes echo server 1 (Logged (kept_in run.packet_12)) run.taken_point run.logged_point run.moment_14.sent refl refl refl refl
 
 -- the read is logged
-releases : Goes echo (Logged (kept_in row.packet_14)) row.logged_point row.released_point row.moment_16.sent
+releases : Goes echo (Logged (kept_in run.packet_14)) run.logged_point run.released_point run.moment_16.sent
 unfolding laws
-releases = goes echo server 1 (Logged (kept_in row.packet_14)) row.logged_point row.released_point row.moment_16.sent refl refl refl refl
+releases = goes echo server 1 (Logged (kept_in run.packet_14)) run.logged_point run.released_point run.moment_16.sent refl refl refl refl
 
 -- the server's turns
-turn_3 : {State : Type 0} (service : Machine State) → LawfulTurn service (booted server 1 5000) (Message_comes (message_in row.packet_2)) [] (row.node_at (Serving 0 []))
+turn_3 : {State : Type 0} (service : Machine State) → LawfulTurn service (booted server 1 5000) (Message_comes (message_in run.packet_2)) [] (run.node_at (Serving 0 []))
 unfolding laws
 turn_3 service = record { server = refl; boot = refl; isn = refl; live = refl; stage = ([], refl, (refl, refl)) }
 
-pub turn_5 : {State : Type 0} (service : Machine State) → LawfulTurn service (row.node_at (Serving 0 [])) (Packet_comes (segment_in row.packet_3)) row.moment_5.sent (row.node_at (Serving 1 (Opens numbers ∷ [])))
+pub turn_5 : {State : Type 0} (service : Machine State) → LawfulTurn service (run.node_at (Serving 0 [])) (Packet_comes (segment_in run.packet_3)) run.moment_5.sent (run.node_at (Serving 1 (Opens numbers ∷ [])))
 unfolding laws
 turn_5 service = record { server = refl; boot = refl; isn = refl; live = refl; stage = (Opens numbers ∷ [], refl, record { went = []; by_places = []; all_go = (refl, refl); places = refl; packets = refl }) }
 
-turn_7 : {State : Type 0} (service : Machine State) → LawfulTurn service (row.node_at (Serving 1 (Opens numbers ∷ []))) (Message_comes (message_in row.packet_5)) row.moment_7.sent (row.node_live row.begun_point)
+turn_7 : {State : Type 0} (service : Machine State) → LawfulTurn service (run.node_at (Serving 1 (Opens numbers ∷ []))) (Message_comes (message_in run.packet_5)) run.moment_7.sent (run.node_live run.begun_point)
 unfolding laws
-turn_7 service = record { server = refl; boot = refl; isn = refl; live = refl; stage = (Lives row.begun_point ∷ [], refl, record { went = Lives row.begun_point ∷ []; by_places = row.moment_7.sent; all_go = alone (PlaceTurn service (row.node_at (Serving 1 (Opens numbers ∷ []))) (Message_comes (message_in row.packet_5))) (Opens numbers) (Lives row.begun_point ∷ []) row.moment_7.sent (row.begun_point, refl, begins service); places = refl; packets = refl }) }
+turn_7 service = record { server = refl; boot = refl; isn = refl; live = refl; stage = (Lives run.begun_point ∷ [], refl, record { went = Lives run.begun_point ∷ []; by_places = run.moment_7.sent; all_go = alone (PlaceTurn service (run.node_at (Serving 1 (Opens numbers ∷ []))) (Message_comes (message_in run.packet_5))) (Opens numbers) (Lives run.begun_point ∷ []) run.moment_7.sent (run.begun_point, refl, begins service); places = refl; packets = refl }) }
 
-turn_10 : {State : Type 0} (service : Machine State) → LawfulTurn service (row.node_live row.begun_point) (Packet_comes (segment_in row.packet_7)) row.moment_10.sent (row.node_live row.open_point)
+turn_10 : {State : Type 0} (service : Machine State) → LawfulTurn service (run.node_live run.begun_point) (Packet_comes (segment_in run.packet_7)) run.moment_10.sent (run.node_live run.open_point)
 unfolding laws
-turn_10 service = record { server = refl; boot = refl; isn = refl; live = refl; stage = (Lives row.open_point ∷ [], refl, record { went = Lives row.open_point ∷ []; by_places = row.moment_10.sent; all_go = alone (PlaceTurn service (row.node_live row.begun_point) (Packet_comes (segment_in row.packet_7))) (Lives row.begun_point) (Lives row.open_point ∷ []) row.moment_10.sent (row.open_point, refl, opens service); places = refl; packets = refl }) }
+turn_10 service = record { server = refl; boot = refl; isn = refl; live = refl; stage = (Lives run.open_point ∷ [], refl, record { went = Lives run.open_point ∷ []; by_places = run.moment_10.sent; all_go = alone (PlaceTurn service (run.node_live run.begun_point) (Packet_comes (segment_in run.packet_7))) (Lives run.begun_point) (Lives run.open_point ∷ []) run.moment_10.sent (run.open_point, refl, opens service); places = refl; packets = refl }) }
 
-pub turn_12 : LawfulTurn echo (row.node_live row.open_point) (Packet_comes (segment_in row.packet_8)) row.moment_12.sent (row.node_live row.taken_point)
+pub turn_12 : LawfulTurn echo (run.node_live run.open_point) (Packet_comes (segment_in run.packet_8)) run.moment_12.sent (run.node_live run.taken_point)
 unfolding laws
-turn_12 = record { server = refl; boot = refl; isn = refl; live = refl; stage = (Lives row.taken_point ∷ [], refl, record { went = Lives row.taken_point ∷ []; by_places = row.moment_12.sent; all_go = alone (PlaceTurn echo (row.node_live row.open_point) (Packet_comes (segment_in row.packet_8))) (Lives row.open_point) (Lives row.taken_point ∷ []) row.moment_12.sent (row.taken_point, refl, takes); places = refl; packets = refl }) }
+turn_12 = record { server = refl; boot = refl; isn = refl; live = refl; stage = (Lives run.taken_point ∷ [], refl, record { went = Lives run.taken_point ∷ []; by_places = run.moment_12.sent; all_go = alone (PlaceTurn echo (run.node_live run.open_point) (Packet_comes (segment_in run.packet_8))) (Lives run.open_point) (Lives run.taken_point ∷ []) run.moment_12.sent (run.taken_point, refl, takes); places = refl; packets = refl }) }
 
-pub turn_14 : LawfulTurn echo (row.node_live row.taken_point) (Message_comes (message_in row.packet_12)) row.moment_14.sent (row.node_live row.logged_point)
+pub turn_14 : LawfulTurn echo (run.node_live run.taken_point) (Message_comes (message_in run.packet_12)) run.moment_14.sent (run.node_live run.logged_point)
 unfolding laws
-turn_14 = record { server = refl; boot = refl; isn = refl; live = refl; stage = (Lives row.logged_point ∷ [], refl, record { went = Lives row.logged_point ∷ []; by_places = row.moment_14.sent; all_go = alone (PlaceTurn echo (row.node_live row.taken_point) (Message_comes (message_in row.packet_12))) (Lives row.taken_point) (Lives row.logged_point ∷ []) row.moment_14.sent (row.logged_point, refl, hears); places = refl; packets = refl }) }
+turn_14 = record { server = refl; boot = refl; isn = refl; live = refl; stage = (Lives run.logged_point ∷ [], refl, record { went = Lives run.logged_point ∷ []; by_places = run.moment_14.sent; all_go = alone (PlaceTurn echo (run.node_live run.taken_point) (Message_comes (message_in run.packet_12))) (Lives run.taken_point) (Lives run.logged_point ∷ []) run.moment_14.sent (run.logged_point, refl, hears); places = refl; packets = refl }) }
 
-turn_16 : LawfulTurn echo (row.node_live row.logged_point) (Message_comes (message_in row.packet_14)) row.moment_16.sent (row.node_live row.released_point)
+turn_16 : LawfulTurn echo (run.node_live run.logged_point) (Message_comes (message_in run.packet_14)) run.moment_16.sent (run.node_live run.released_point)
 unfolding laws
-turn_16 = record { server = refl; boot = refl; isn = refl; live = refl; stage = (Lives row.released_point ∷ [], refl, record { went = Lives row.released_point ∷ []; by_places = row.moment_16.sent; all_go = alone (PlaceTurn echo (row.node_live row.logged_point) (Message_comes (message_in row.packet_14))) (Lives row.logged_point) (Lives row.released_point ∷ []) row.moment_16.sent (row.released_point, refl, releases); places = refl; packets = refl }) }
+turn_16 = record { server = refl; boot = refl; isn = refl; live = refl; stage = (Lives run.released_point ∷ [], refl, record { went = Lives run.released_point ∷ []; by_places = run.moment_16.sent; all_go = alone (PlaceTurn echo (run.node_live run.logged_point) (Message_comes (message_in run.packet_14))) (Lives run.logged_point) (Lives run.released_point ∷ []) run.moment_16.sent (run.released_point, refl, releases); places = refl; packets = refl }) }
 
 -- what happens in each moment
-happens_1 : {State : Type 0} (service : Machine State) → Happens service row.start row.moment_1.event row.moment_1.sent row.moment_1.world
+happens_1 : {State : Type 0} (service : Machine State) → Happens service run.start run.moment_1.event run.moment_1.sent run.moment_1.world
 unfolding laws IsLe
 happens_1 service = (refl, (le_by_compare 1 1 tt, le_by_compare 2 (2 ^ 64) tt), refl, refl)
 
-happens_2 : {State : Type 0} (service : Machine State) → Happens service row.moment_1.world row.moment_2.event row.moment_2.sent row.moment_2.world
+happens_2 : {State : Type 0} (service : Machine State) → Happens service run.moment_1.world run.moment_2.event run.moment_2.sent run.moment_2.world
 unfolding laws IsLe
-happens_2 service = (row.packet_1, refl, (refl, refl))
+happens_2 service = (run.packet_1, refl, (refl, refl))
 
-happens_3 : {State : Type 0} (service : Machine State) → Happens service row.moment_2.world row.moment_3.event row.moment_3.sent row.moment_3.world
+happens_3 : {State : Type 0} (service : Machine State) → Happens service run.moment_2.world run.moment_3.event run.moment_3.sent run.moment_3.world
 unfolding laws IsLe
-happens_3 service = (row.packet_2, refl, ((row.node_at (Serving 0 []), refl, turn_3 service), refl))
+happens_3 service = (run.packet_2, refl, ((run.node_at (Serving 0 []), refl, turn_3 service), refl))
 
-happens_4 : {State : Type 0} (service : Machine State) → Happens service row.moment_3.world row.moment_4.event row.moment_4.sent row.moment_4.world
+happens_4 : {State : Type 0} (service : Machine State) → Happens service run.moment_3.world run.moment_4.event run.moment_4.sent run.moment_4.world
 unfolding laws IsLe
-happens_4 service = record { client = client_with hello_text; segment = segment_in row.packet_3; later = row.opening; is_there = refl; move = record { move = Syn None; window = 65535; may = refl; fits = refl; segment_is = refl; after_is = refl }; sent_is = refl; after_is = refl }
+happens_4 service = record { client = client_with hello_text; segment = segment_in run.packet_3; later = run.opening; is_there = refl; move = record { move = Syn None; window = 65535; may = refl; fits = refl; segment_is = refl; after_is = refl }; sent_is = refl; after_is = refl }
 
-happens_5 : {State : Type 0} (service : Machine State) → Happens service row.moment_4.world row.moment_5.event row.moment_5.sent row.moment_5.world
+happens_5 : {State : Type 0} (service : Machine State) → Happens service run.moment_4.world run.moment_5.event run.moment_5.sent run.moment_5.world
 unfolding laws IsLe
-happens_5 service = (row.packet_3, refl, ((row.node_at (Serving 1 (Opens numbers ∷ [])), refl, turn_5 service), refl))
+happens_5 service = (run.packet_3, refl, ((run.node_at (Serving 1 (Opens numbers ∷ [])), refl, turn_5 service), refl))
 
-happens_6 : {State : Type 0} (service : Machine State) → Happens service row.moment_5.world row.moment_6.event row.moment_6.sent row.moment_6.world
+happens_6 : {State : Type 0} (service : Machine State) → Happens service run.moment_5.world run.moment_6.event run.moment_6.sent run.moment_6.world
 unfolding laws IsLe
-happens_6 service = (row.packet_4, refl, (refl, refl))
+happens_6 service = (run.packet_4, refl, (refl, refl))
 
-happens_7 : {State : Type 0} (service : Machine State) → Happens service row.moment_6.world row.moment_7.event row.moment_7.sent row.moment_7.world
+happens_7 : {State : Type 0} (service : Machine State) → Happens service run.moment_6.world run.moment_7.event run.moment_7.sent run.moment_7.world
 unfolding laws IsLe
-happens_7 service = (row.packet_5, refl, ((row.node_live row.begun_point, refl, turn_7 service), refl))
+happens_7 service = (run.packet_5, refl, ((run.node_live run.begun_point, refl, turn_7 service), refl))
 
-happens_8 : {State : Type 0} (service : Machine State) → Happens service row.moment_7.world row.moment_8.event row.moment_8.sent row.moment_8.world
+happens_8 : {State : Type 0} (service : Machine State) → Happens service run.moment_7.world run.moment_8.event run.moment_8.sent run.moment_8.world
 unfolding laws IsLe
-happens_8 service = (row.packet_6, refl, (refl, refl))
+happens_8 service = (run.packet_6, refl, (refl, refl))
 
-happens_9 : {State : Type 0} (service : Machine State) → Happens service row.moment_8.world row.moment_9.event row.moment_9.sent row.moment_9.world
+happens_9 : {State : Type 0} (service : Machine State) → Happens service run.moment_8.world run.moment_9.event run.moment_9.sent run.moment_9.world
 unfolding laws IsLe
-happens_9 service = record { client = row.open_client; segment = segment_in row.packet_7; later = row.open_client; is_there = refl; move = record { move = Acknowledge; window = 65535; may = refl; fits = refl; segment_is = refl; after_is = refl }; sent_is = refl; after_is = refl }
+happens_9 service = record { client = run.open_client; segment = segment_in run.packet_7; later = run.open_client; is_there = refl; move = record { move = Acknowledge; window = 65535; may = refl; fits = refl; segment_is = refl; after_is = refl }; sent_is = refl; after_is = refl }
 
-happens_10 : {State : Type 0} (service : Machine State) → Happens service row.moment_9.world row.moment_10.event row.moment_10.sent row.moment_10.world
+happens_10 : {State : Type 0} (service : Machine State) → Happens service run.moment_9.world run.moment_10.event run.moment_10.sent run.moment_10.world
 unfolding laws IsLe
-happens_10 service = (row.packet_7, refl, ((row.node_live row.open_point, refl, turn_10 service), refl))
+happens_10 service = (run.packet_7, refl, ((run.node_live run.open_point, refl, turn_10 service), refl))
 
-pub happens_11 : Happens echo row.moment_10.world row.moment_11.event row.moment_11.sent row.moment_11.world
+pub happens_11 : Happens echo run.moment_10.world run.moment_11.event run.moment_11.sent run.moment_11.world
 unfolding laws IsLe
-happens_11 = record { client = row.open_client; segment = segment_in row.packet_8; later = row.told_client; is_there = refl; move = record { move = Text 0 5; window = 65535; may = refl; fits = refl; segment_is = refl; after_is = refl }; sent_is = refl; after_is = refl }
+happens_11 = record { client = run.open_client; segment = segment_in run.packet_8; later = run.told_client; is_there = refl; move = record { move = Text 0 5; window = 65535; may = refl; fits = refl; segment_is = refl; after_is = refl }; sent_is = refl; after_is = refl }
 
-pub happens_12 : Happens echo row.moment_11.world row.moment_12.event row.moment_12.sent row.moment_12.world
+pub happens_12 : Happens echo run.moment_11.world run.moment_12.event run.moment_12.sent run.moment_12.world
 unfolding laws IsLe
-happens_12 = (row.packet_8, refl, ((row.node_live row.taken_point, refl, turn_12), refl))
+happens_12 = (run.packet_8, refl, ((run.node_live run.taken_point, refl, turn_12), refl))
 
-happens_13 : Happens echo row.moment_12.world row.moment_13.event row.moment_13.sent row.moment_13.world
+happens_13 : Happens echo run.moment_12.world run.moment_13.event run.moment_13.sent run.moment_13.world
 unfolding laws IsLe
-happens_13 = (row.packet_10, refl, (refl, refl))
+happens_13 = (run.packet_10, refl, (refl, refl))
 
-happens_14 : Happens echo row.moment_13.world row.moment_14.event row.moment_14.sent row.moment_14.world
+happens_14 : Happens echo run.moment_13.world run.moment_14.event run.moment_14.sent run.moment_14.world
 unfolding laws IsLe
-happens_14 = (row.packet_12, refl, ((row.node_live row.logged_point, refl, turn_14), refl))
+happens_14 = (run.packet_12, refl, ((run.node_live run.logged_point, refl, turn_14), refl))
 
-happens_15 : Happens echo row.moment_14.world row.moment_15.event row.moment_15.sent row.moment_15.world
+happens_15 : Happens echo run.moment_14.world run.moment_15.event run.moment_15.sent run.moment_15.world
 unfolding laws IsLe
-happens_15 = (row.packet_11, refl, (refl, refl))
+happens_15 = (run.packet_11, refl, (refl, refl))
 
-happens_16 : Happens echo row.moment_15.world row.moment_16.event row.moment_16.sent row.moment_16.world
+happens_16 : Happens echo run.moment_15.world run.moment_16.event run.moment_16.sent run.moment_16.world
 unfolding laws IsLe
-happens_16 = (row.packet_14, refl, ((row.node_live row.released_point, refl, turn_16), refl))
+happens_16 = (run.packet_14, refl, ((run.node_live run.released_point, refl, turn_16), refl))
 
-happens_17 : Happens echo row.moment_16.world row.moment_17.event row.moment_17.sent row.moment_17.world
+happens_17 : Happens echo run.moment_16.world run.moment_17.event run.moment_17.sent run.moment_17.world
 unfolding laws IsLe
-happens_17 = (row.packet_15, refl, (refl, refl))
+happens_17 = (run.packet_15, refl, (refl, refl))
 
 -- up to the open connection it is the same for every service, ..
-pub opening_is_joint : {State : Type 0} (service : Machine State) → Joint service row.start row.opening_trace
+pub opening_is_joint : {State : Type 0} (service : Machine State) → Joint service run.start run.opening_trace
 opening_is_joint service =
     ((((((((((starts, happens_1 service), happens_2 service), happens_3 service), happens_4 service), happens_5 service), happens_6 service), happens_7 service), happens_8 service), happens_9 service), happens_10 service)
 
 -- .. and whole with echo
-pub is_joint : Joint echo row.start row.trace
+pub is_joint : Joint echo run.start run.trace
 is_joint = (((((((opening_is_joint echo, happens_11), happens_12), happens_13), happens_14), happens_15), happens_16), happens_17)

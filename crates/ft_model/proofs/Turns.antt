@@ -1,4 +1,4 @@
--- Shapes of turns that the worked rows share: with them each equation of a row computes.
+-- Shapes of turns that the worked runs share: with them each equation of a run computes.
 use Rattle.std.proofs.Common.{◌≡◌, ℕ, Bool, true, false, nat_le, MatchBool, None, List, [], ◌∷◌, ◌++◌, length, refl, sym, ap, ◌∙◌, subst, append-nil, ◌+◌, true≢false, arith}
 use Rattle.ft_io.specs.declared.Addr.{Addr}
 use Rattle.seq_arith.specs.Number.{offset_of}
@@ -26,10 +26,10 @@ use Rattle.ft_model.specs.Node.Place.{Lives}
 use Rattle.ft_model.specs.Node.Stage.{Serving}
 use Rattle.ft_model.specs.Serving.{AllGo, PlaceTurn, newcomers, refusals}
 use Rattle.ft_model.specs.Lawful.{LawfulTurn, NodeTurn, fence}
-use Rattle.ft_model.specs.Rows.Common.{serving_at}
+use Rattle.ft_model.specs.WorkedRuns.Common.{serving_at}
 use Rattle.ft_model.proofs.LiveTurns.{turned, live_turn}
 
--- names all laws that a row computes: `unfolding laws` opens them
+-- names all laws that a run computes: `unfolding laws` opens them
 unfoldable pub laws : Type 0
 unfolding turned reference offset_of log_after answer_to accepts counts taken_after fin_after answered_after reads_answered_after next_length may_read reads_told must_run interval_after rest_after counted_after acknowledged_after edge_after wl1_after wl2_after sent_at_once sent_after copies reset_after end_ticks_after dones owes is_owed resent new_texts new_fin full_segments segments_of
 laws = Unit {0}
@@ -39,7 +39,7 @@ pub alone : (Goes : Place → List Place → List Packet → Type 0) (place : Pl
     → Goes place now sent → AllGo Goes (place ∷ []) now sent
 alone Goes place now sent goes = (now, [], sent, [], sym (append-nil now), sym (append-nil sent), goes, (refl, refl))
 
--- what a packet holds; of the other kinds something that no row asks for
+-- what a packet holds; of the other kinds something that no run asks for
 abbrev pub segment_in : Packet → Segment
 segment_in (To_server segment) = segment
 segment_in (To_client segment) = segment

@@ -15,39 +15,39 @@ use Rattle.ft_model.specs.Lawful.{LawfulTurn, Revives}
 use Rattle.ft_model.specs.Masked.{SeesFront, Masked}
 use Rattle.ft_model.specs.World.{Joint, Happens, Delivered}
 use Rattle.ft_model.specs.Weakened.{GoesOn, IsWrongOnce}
-use Rattle.ft_model.specs.Rows.Common.{server, hello_text, client_segment, from_client, to_client, to_log, from_log, kept_with, head_with, fetched_with, fetching, serving_at}
-use Rattle.ft_model.specs.Rows.FirstPath as path
-use Rattle.ft_model.specs.Rows.UnloggedRead as row
-use Rattle.ft_model.specs.Rows.UnloggedRead.{meter}
+use Rattle.ft_model.specs.WorkedRuns.Common.{server, hello_text, client_segment, from_client, to_client, to_log, from_log, kept_with, head_with, fetched_with, fetching, serving_at}
+use Rattle.ft_model.specs.WorkedRuns.FirstPath as path
+use Rattle.ft_model.specs.WorkedRuns.UnloggedRead as run
+use Rattle.ft_model.specs.WorkedRuns.UnloggedRead.{meter}
 use Rattle.ft_model.proofs.Lists.{some_is}
 use Rattle.ft_model.proofs.Turns.{laws, alone, goes, serves, message_in}
 use Rattle.ft_model.proofs.FirstPath.{opening_is_joint}
 use Rattle.ft_model.proofs.WrongTurns.{refused, never_happens}
 
-happens_11 : Happens meter path.moment_10.world row.moment_11.event row.moment_11.sent row.moment_11.world
+happens_11 : Happens meter path.moment_10.world run.moment_11.event run.moment_11.sent run.moment_11.world
 unfolding laws IsLe
-happens_11 = record { client = path.open_client; segment = client_segment 16 1001 5001 65535 row.first_text; later = row.begun_client; is_there = refl; move = record { move = Text 0 3; window = 65535; may = refl; fits = refl; segment_is = refl; after_is = refl }; sent_is = refl; after_is = refl }
+happens_11 = record { client = path.open_client; segment = client_segment 16 1001 5001 65535 run.first_text; later = run.begun_client; is_there = refl; move = record { move = Text 0 3; window = 65535; may = refl; fits = refl; segment_is = refl; after_is = refl }; sent_is = refl; after_is = refl }
 
-sent_is_joint : Joint meter path.start row.sent_trace
+sent_is_joint : Joint meter path.start run.sent_trace
 sent_is_joint = (opening_is_joint meter, happens_11)
 
 -- the lawful turn at the first text
-turn_12 : LawfulTurn meter (path.node_live path.open_point) (Packet_comes (client_segment 16 1001 5001 65535 row.first_text)) (row.moment_12 row.bare).sent (path.node_live row.first_point)
+turn_12 : LawfulTurn meter (path.node_live path.open_point) (Packet_comes (client_segment 16 1001 5001 65535 run.first_text)) (run.moment_12 run.bare).sent (path.node_live run.first_point)
 unfolding laws
-turn_12 = serves meter 1 5000 (Packet_comes (client_segment 16 1001 5001 65535 row.first_text)) path.open_point row.first_point (row.moment_12 row.bare).sent refl refl refl
-    (row.first_point, refl, goes meter server 1 (Comes (client_segment 16 1001 5001 65535 row.first_text)) path.open_point row.first_point (row.moment_12 row.bare).sent refl refl refl refl)
+turn_12 = serves meter 1 5000 (Packet_comes (client_segment 16 1001 5001 65535 run.first_text)) path.open_point run.first_point (run.moment_12 run.bare).sent refl refl refl
+    (run.first_point, refl, goes meter server 1 (Comes (client_segment 16 1001 5001 65535 run.first_text)) path.open_point run.first_point (run.moment_12 run.bare).sent refl refl refl refl)
 
-happens_12 : Happens meter row.moment_11.world (row.moment_12 row.bare).event (row.moment_12 row.bare).sent (row.moment_12 row.bare).world
-happens_12 = (from_client 16 1001 5001 65535 row.first_text, refl, ((path.node_live row.first_point, refl, turn_12), refl))
+happens_12 : Happens meter run.moment_11.world (run.moment_12 run.bare).event (run.moment_12 run.bare).sent (run.moment_12 run.bare).world
+happens_12 = (from_client 16 1001 5001 65535 run.first_text, refl, ((path.node_live run.first_point, refl, turn_12), refl))
 
-happens_13 : (told : Packet) → Happens meter (row.moment_12 told).world (row.moment_13 told).event (row.moment_13 told).sent (row.moment_13 told).world
+happens_13 : (told : Packet) → Happens meter (run.moment_12 told).world (run.moment_13 told).event (run.moment_13 told).sent (run.moment_13 told).world
 happens_13 told = (refl, refl, refl)
 
-happens_14 : (told : Packet) → Happens meter (row.moment_13 told).world (row.moment_14 told).event (row.moment_14 told).sent (row.moment_14 told).world
+happens_14 : (told : Packet) → Happens meter (run.moment_13 told).world (run.moment_14 told).event (run.moment_14 told).sent (run.moment_14 told).world
 unfolding IsLe
 happens_14 told = (refl, (le_by_compare 2 2 tt, le_by_compare 3 (2 ^ 64) tt), refl, refl)
 
-happens_15 : (told : Packet) → Happens meter (row.moment_14 told).world (row.moment_15 told).event (row.moment_15 told).sent (row.moment_15 told).world
+happens_15 : (told : Packet) → Happens meter (run.moment_14 told).world (run.moment_15 told).event (run.moment_15 told).sent (run.moment_15 told).world
 unfolding laws
 happens_15 told = (to_log 2 HelloMsg, refl, (refl, refl))
 
@@ -55,15 +55,15 @@ turn_16 : LawfulTurn meter (booted server 2 900000) (Message_comes (message_in (
 unfolding laws
 turn_16 = record { server = refl; boot = refl; isn = refl; live = refl; stage = (refl, refl) }
 
-happens_16 : (told : Packet) → Happens meter (row.moment_15 told).world (row.moment_16 told).event (row.moment_16 told).sent (row.moment_16 told).world
+happens_16 : (told : Packet) → Happens meter (run.moment_15 told).world (run.moment_16 told).event (run.moment_16 told).sent (run.moment_16 told).world
 unfolding laws
 happens_16 told = (from_log 2 (SummaryMsg 1), refl, ((fetching 2 900000 [], refl, turn_16), refl))
 
-happens_17 : (told : Packet) → Happens meter (row.moment_16 told).world (row.moment_17 told).event (row.moment_17 told).sent (row.moment_17 told).world
+happens_17 : (told : Packet) → Happens meter (run.moment_16 told).world (run.moment_17 told).event (run.moment_17 told).sent (run.moment_17 told).world
 unfolding laws
 happens_17 told = (to_log 2 (ListMsg 0), refl, (refl, refl))
 
-turn_18 : LawfulTurn meter (fetching 2 900000 []) (Message_comes (message_in (from_log 2 (EntryMsg 0 (head_with 0 false 0 0))))) (row.bare ∷ []) (serving_at 2 900000 row.restarted)
+turn_18 : LawfulTurn meter (fetching 2 900000 []) (Message_comes (message_in (from_log 2 (EntryMsg 0 (head_with 0 false 0 0))))) (run.bare ∷ []) (serving_at 2 900000 run.restarted)
 unfolding laws
 turn_18 = record {
   server = refl;
@@ -71,122 +71,122 @@ turn_18 = record {
   isn = refl;
   live = refl;
   stage = (
-    Lives row.restarted ∷ [],
+    Lives run.restarted ∷ [],
     refl,
-    alone (Revives meter (fetching 2 900000 [])) (Lives (point_of meter (entry_in (fetched_with (head_with 0 false 0 0) [] [])))) (Lives row.restarted ∷ []) (row.bare ∷ [])
-        (row.restarted, refl, goes meter server 2 Begins (point_of meter (entry_in (fetched_with (head_with 0 false 0 0) [] []))) row.restarted (row.bare ∷ []) refl refl refl refl),
+    alone (Revives meter (fetching 2 900000 [])) (Lives (point_of meter (entry_in (fetched_with (head_with 0 false 0 0) [] [])))) (Lives run.restarted ∷ []) (run.bare ∷ [])
+        (run.restarted, refl, goes meter server 2 Begins (point_of meter (entry_in (fetched_with (head_with 0 false 0 0) [] []))) run.restarted (run.bare ∷ []) refl refl refl refl),
   );
 }
 
-happens_18 : (told : Packet) → Happens meter (row.moment_17 told).world (row.moment_18 told).event (row.moment_18 told).sent (row.moment_18 told).world
+happens_18 : (told : Packet) → Happens meter (run.moment_17 told).world (run.moment_18 told).event (run.moment_18 told).sent (run.moment_18 told).world
 unfolding laws
-happens_18 told = (from_log 2 (EntryMsg 0 (head_with 0 false 0 0)), refl, ((serving_at 2 900000 row.restarted, refl, turn_18), refl))
+happens_18 told = (from_log 2 (EntryMsg 0 (head_with 0 false 0 0)), refl, ((serving_at 2 900000 run.restarted, refl, turn_18), refl))
 
-happens_19 : (told : Packet) → Happens meter (row.moment_18 told).world (row.moment_19 told).event (row.moment_19 told).sent (row.moment_19 told).world
+happens_19 : (told : Packet) → Happens meter (run.moment_18 told).world (run.moment_19 told).event (run.moment_19 told).sent (run.moment_19 told).world
 unfolding laws IsLe
-happens_19 told = record { client = row.begun_client; segment = client_segment 16 1001 5001 65535 hello_text; later = row.whole_client; is_there = refl; move = record { move = Text 0 5; window = 65535; may = refl; fits = refl; segment_is = refl; after_is = refl }; sent_is = refl; after_is = refl }
+happens_19 told = record { client = run.begun_client; segment = client_segment 16 1001 5001 65535 hello_text; later = run.whole_client; is_there = refl; move = record { move = Text 0 5; window = 65535; may = refl; fits = refl; segment_is = refl; after_is = refl }; sent_is = refl; after_is = refl }
 
-turn_20 : LawfulTurn meter (serving_at 2 900000 row.restarted) (Packet_comes (client_segment 16 1001 5001 65535 hello_text)) (row.bare ∷ row.second_data ∷ row.second_read ∷ []) (serving_at 2 900000 row.second_point)
+turn_20 : LawfulTurn meter (serving_at 2 900000 run.restarted) (Packet_comes (client_segment 16 1001 5001 65535 hello_text)) (run.bare ∷ run.second_data ∷ run.second_read ∷ []) (serving_at 2 900000 run.second_point)
 unfolding laws
-turn_20 = serves meter 2 900000 (Packet_comes (client_segment 16 1001 5001 65535 hello_text)) row.restarted row.second_point (row.bare ∷ row.second_data ∷ row.second_read ∷ []) refl refl refl
-    (row.second_point, refl, goes meter server 2 (Comes (client_segment 16 1001 5001 65535 hello_text)) row.restarted row.second_point (row.bare ∷ row.second_data ∷ row.second_read ∷ []) refl refl refl refl)
+turn_20 = serves meter 2 900000 (Packet_comes (client_segment 16 1001 5001 65535 hello_text)) run.restarted run.second_point (run.bare ∷ run.second_data ∷ run.second_read ∷ []) refl refl refl
+    (run.second_point, refl, goes meter server 2 (Comes (client_segment 16 1001 5001 65535 hello_text)) run.restarted run.second_point (run.bare ∷ run.second_data ∷ run.second_read ∷ []) refl refl refl refl)
 
-happens_20 : (told : Packet) → Happens meter (row.moment_19 told).world (row.moment_20 told).event (row.moment_20 told).sent (row.moment_20 told).world
+happens_20 : (told : Packet) → Happens meter (run.moment_19 told).world (run.moment_20 told).event (run.moment_20 told).sent (run.moment_20 told).world
 unfolding laws
-happens_20 told = (from_client 16 1001 5001 65535 hello_text, refl, ((serving_at 2 900000 row.second_point, refl, turn_20), refl))
+happens_20 told = (from_client 16 1001 5001 65535 hello_text, refl, ((serving_at 2 900000 run.second_point, refl, turn_20), refl))
 
-happens_21 : (told : Packet) → Happens meter (row.moment_20 told).world (row.moment_21 told).event (row.moment_21 told).sent (row.moment_21 told).world
+happens_21 : (told : Packet) → Happens meter (run.moment_20 told).world (run.moment_21 told).event (run.moment_21 told).sent (run.moment_21 told).world
 unfolding laws
-happens_21 told = (row.second_data, refl, (refl, refl))
+happens_21 told = (run.second_data, refl, (refl, refl))
 
-restart_goes_on : (told : Packet) → GoesOn meter (row.moment_12 told).world (row.restart_trace told)
+restart_goes_on : (told : Packet) → GoesOn meter (run.moment_12 told).world (run.restart_trace told)
 restart_goes_on told =
     (((((((((tt, happens_13 told), happens_14 told), happens_15 told), happens_16 told), happens_17 told), happens_18 told), happens_19 told), happens_20 told), happens_21 told)
 
 -- the output leaves before its read is logged
-released_early : (later : Node) → LawfulTurn meter (path.node_live path.open_point) (Packet_comes (client_segment 16 1001 5001 65535 row.first_text)) (row.moment_12 row.early).sent later → ⊥
+released_early : (later : Node) → LawfulTurn meter (path.node_live path.open_point) (Packet_comes (client_segment 16 1001 5001 65535 run.first_text)) (run.moment_12 run.early).sent later → ⊥
 released_early =
-    refused meter (path.node_live path.open_point) (path.node_live row.first_point) (Packet_comes (client_segment 16 1001 5001 65535 row.first_text)) (row.moment_12 row.bare).sent (row.moment_12 row.early).sent
+    refused meter (path.node_live path.open_point) (path.node_live run.first_point) (Packet_comes (client_segment 16 1001 5001 65535 run.first_text)) (run.moment_12 run.bare).sent (run.moment_12 run.early).sent
     turn_12 refl refl
 
-early_22 : Happens meter (row.moment_21 row.early).world row.early_22.event row.early_22.sent row.early_22.world
+early_22 : Happens meter (run.moment_21 run.early).world run.early_22.event run.early_22.sent run.early_22.world
 unfolding laws
-early_22 = (row.second_read, refl, (refl, refl))
+early_22 = (run.second_read, refl, (refl, refl))
 
-early_23 : Happens meter row.early_22.world row.early_23.event row.early_23.sent row.early_23.world
+early_23 : Happens meter run.early_22.world run.early_23.event run.early_23.sent run.early_23.world
 unfolding laws
-early_23 = (row.early, refl, (refl, refl))
+early_23 = (run.early, refl, (refl, refl))
 
-pub early_once : IsWrongOnce meter path.start row.after_early (row.moment_12 row.early) row.sent_trace
+pub early_once : IsWrongOnce meter path.start run.after_early (run.moment_12 run.early) run.sent_trace
 early_once = record {
   before = sent_is_joint;
-  refused = never_happens meter row.moment_11.world (row.moment_12 row.early).world 8 (client_segment 16 1001 5001 65535 row.first_text) (path.node_live path.open_point) (row.moment_12 row.early).sent refl refl released_early;
-  otherwise = ((row.moment_12 row.bare).sent, (row.moment_12 row.bare).world, happens_12);
-  after = ((restart_goes_on row.early, early_22), early_23);
+  refused = never_happens meter run.moment_11.world (run.moment_12 run.early).world 8 (client_segment 16 1001 5001 65535 run.first_text) (path.node_live path.open_point) (run.moment_12 run.early).sent refl refl released_early;
+  otherwise = ((run.moment_12 run.bare).sent, (run.moment_12 run.bare).world, happens_12);
+  after = ((restart_goes_on run.early, early_22), early_23);
 }
 
 abbrev begins_with : ℕ → List ℕ → Bool
 begins_with n [] = false
 begins_with n (x ∷ xs) = x == n
 
-pub early_is_seen : AllByRecursion (SeesFront meter row.early_23.world.log) row.early_23.world.clients → ⊥
+pub early_is_seen : AllByRecursion (SeesFront meter run.early_23.world.log) run.early_23.world.clients → ⊥
 unfolding laws
 early_is_seen s = true≢false (ap (begins_with 3) s.0.accepted.1)
 
-pub early_not_masked : Masked meter path.start (row.after_early ++ row.moment_12 row.early ∷ row.sent_trace) → ⊥
+pub early_not_masked : Masked meter path.start (run.after_early ++ run.moment_12 run.early ∷ run.sent_trace) → ⊥
 early_not_masked m = early_is_seen m.1.clients
 
 -- the log hears an older boot
-plain_is_joint : Joint meter path.start row.before_unfenced
+plain_is_joint : Joint meter path.start run.before_unfenced
 plain_is_joint =
-    ((((((((((sent_is_joint, happens_12), happens_13 row.bare), happens_14 row.bare), happens_15 row.bare), happens_16 row.bare), happens_17 row.bare), happens_18 row.bare), happens_19 row.bare), happens_20 row.bare), happens_21 row.bare)
+    ((((((((((sent_is_joint, happens_12), happens_13 run.bare), happens_14 run.bare), happens_15 run.bare), happens_16 run.bare), happens_17 run.bare), happens_18 run.bare), happens_19 run.bare), happens_20 run.bare), happens_21 run.bare)
 
 abbrev has_first_read : List Entry → Bool
 has_first_read [] = false
 has_first_read (e ∷ es) = begins_with 3 e.lengths
 
-older_is_refused : Happens meter (row.moment_21 row.bare).world row.unfenced.event row.unfenced.sent row.unfenced.world → ⊥
+older_is_refused : Happens meter (run.moment_21 run.bare).world run.unfenced.event run.unfenced.sent run.unfenced.world → ⊥
 unfolding laws
 older_is_refused h =
-    let same : h.0 ≡ row.first_read = some_is _ _ (sym h.1) in
-    let came : Delivered meter (row.moment_21 row.bare).world row.first_read row.unfenced.sent row.unfenced.world =
-    subst (λ p. Delivered meter (row.moment_21 row.bare).world p row.unfenced.sent row.unfenced.world) same h.2 in
+    let same : h.0 ≡ run.first_read = some_is _ _ (sym h.1) in
+    let came : Delivered meter (run.moment_21 run.bare).world run.first_read run.unfenced.sent run.unfenced.world =
+    subst (λ p. Delivered meter (run.moment_21 run.bare).world p run.unfenced.sent run.unfenced.world) same h.2 in
     true≢false (ap (λ w. has_first_read w.log.entries) came.1)
 
 -- the log answers Stale, and stays as it is
-stale : Happens meter (row.moment_21 row.bare).world row.unfenced.event (from_log 1 (StaleMsg 2) ∷ [])
-    (record (row.moment_21 row.bare).world { packets = (row.moment_21 row.bare).world.packets ++ from_log 1 (StaleMsg 2) ∷ [] })
+stale : Happens meter (run.moment_21 run.bare).world run.unfenced.event (from_log 1 (StaleMsg 2) ∷ [])
+    (record (run.moment_21 run.bare).world { packets = (run.moment_21 run.bare).world.packets ++ from_log 1 (StaleMsg 2) ∷ [] })
 unfolding laws
-stale = (row.first_read, refl, (refl, refl))
+stale = (run.first_read, refl, (refl, refl))
 
-unfenced_23 : Happens meter row.unfenced.world row.unfenced_23.event row.unfenced_23.sent row.unfenced_23.world
+unfenced_23 : Happens meter run.unfenced.world run.unfenced_23.event run.unfenced_23.sent run.unfenced_23.world
 unfolding laws
-unfenced_23 = (row.second_read, refl, (refl, refl))
+unfenced_23 = (run.second_read, refl, (refl, refl))
 
-turn_24 : LawfulTurn meter (serving_at 2 900000 row.second_point) (Message_comes (message_in (from_log 2 (ReadsMsg (kept_with 5 false 1))))) row.unfenced_24.sent (serving_at 2 900000 row.released_point)
+turn_24 : LawfulTurn meter (serving_at 2 900000 run.second_point) (Message_comes (message_in (from_log 2 (ReadsMsg (kept_with 5 false 1))))) run.unfenced_24.sent (serving_at 2 900000 run.released_point)
 unfolding laws
-turn_24 = serves meter 2 900000 (Message_comes (message_in (from_log 2 (ReadsMsg (kept_with 5 false 1))))) row.second_point row.released_point row.unfenced_24.sent refl refl refl
-    (row.released_point, refl, goes meter server 2 (Logged (kept_with 5 false 1)) row.second_point row.released_point row.unfenced_24.sent refl refl refl refl)
+turn_24 = serves meter 2 900000 (Message_comes (message_in (from_log 2 (ReadsMsg (kept_with 5 false 1))))) run.second_point run.released_point run.unfenced_24.sent refl refl refl
+    (run.released_point, refl, goes meter server 2 (Logged (kept_with 5 false 1)) run.second_point run.released_point run.unfenced_24.sent refl refl refl refl)
 
-unfenced_24 : Happens meter row.unfenced_23.world row.unfenced_24.event row.unfenced_24.sent row.unfenced_24.world
+unfenced_24 : Happens meter run.unfenced_23.world run.unfenced_24.event run.unfenced_24.sent run.unfenced_24.world
 unfolding laws
-unfenced_24 = (from_log 2 (ReadsMsg (kept_with 5 false 1)), refl, ((serving_at 2 900000 row.released_point, refl, turn_24), refl))
+unfenced_24 = (from_log 2 (ReadsMsg (kept_with 5 false 1)), refl, ((serving_at 2 900000 run.released_point, refl, turn_24), refl))
 
-unfenced_25 : Happens meter row.unfenced_24.world row.unfenced_25.event row.unfenced_25.sent row.unfenced_25.world
+unfenced_25 : Happens meter run.unfenced_24.world run.unfenced_25.event run.unfenced_25.sent run.unfenced_25.world
 unfolding laws
 unfenced_25 = (to_client 16 5001 1006 65535 None (5 ∷ []), refl, (refl, refl))
 
-pub unfenced_once : IsWrongOnce meter path.start row.after_unfenced row.unfenced row.before_unfenced
+pub unfenced_once : IsWrongOnce meter path.start run.after_unfenced run.unfenced run.before_unfenced
 unfenced_once = record {
   before = plain_is_joint;
   refused = older_is_refused;
-  otherwise = (from_log 1 (StaleMsg 2) ∷ [], record (row.moment_21 row.bare).world { packets = (row.moment_21 row.bare).world.packets ++ from_log 1 (StaleMsg 2) ∷ [] }, stale);
+  otherwise = (from_log 1 (StaleMsg 2) ∷ [], record (run.moment_21 run.bare).world { packets = (run.moment_21 run.bare).world.packets ++ from_log 1 (StaleMsg 2) ∷ [] }, stale);
   after = (((tt, unfenced_23), unfenced_24), unfenced_25);
 }
 
-pub unfenced_is_seen : AllByRecursion (SeesFront meter row.unfenced_25.world.log) row.unfenced_25.world.clients → ⊥
+pub unfenced_is_seen : AllByRecursion (SeesFront meter run.unfenced_25.world.log) run.unfenced_25.world.clients → ⊥
 unfolding laws
 unfenced_is_seen s = true≢false (ap (begins_with 5) s.0.accepted.1)
 
-pub unfenced_not_masked : Masked meter path.start (row.after_unfenced ++ row.unfenced ∷ row.before_unfenced) → ⊥
+pub unfenced_not_masked : Masked meter path.start (run.after_unfenced ++ run.unfenced ∷ run.before_unfenced) → ⊥
 unfenced_not_masked m = unfenced_is_seen m.1.clients

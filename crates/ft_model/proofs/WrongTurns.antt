@@ -16,12 +16,12 @@ use Rattle.ft_model.specs.Node.Input.{Tick_comes}
 use Rattle.ft_model.specs.Node.Stage.{Serving}
 use Rattle.ft_model.specs.Node.Place.{Opens}
 use Rattle.ft_model.specs.Lawful.{LawfulTurn}
-use Rattle.ft_model.specs.Rows.Common.{echo, server, numbers, IsRefused}
-use Rattle.ft_model.specs.Rows.FirstPath as row
-use Rattle.ft_model.specs.Rows.Closing as closing
-use Rattle.ft_model.specs.Rows.ZeroWindow as probe
-use Rattle.ft_model.specs.Rows.SegmentWhileRestarting as restart
-use Rattle.ft_model.specs.Rows.RestartInTurns as questions
+use Rattle.ft_model.specs.WorkedRuns.Common.{echo, server, numbers, IsRefused}
+use Rattle.ft_model.specs.WorkedRuns.FirstPath as run
+use Rattle.ft_model.specs.WorkedRuns.Closing as closing
+use Rattle.ft_model.specs.WorkedRuns.ZeroWindow as probe
+use Rattle.ft_model.specs.WorkedRuns.SegmentWhileRestarting as restart
+use Rattle.ft_model.specs.WorkedRuns.RestartInTurns as questions
 use Rattle.ft_model.proofs.TurnOnce.{turn_once}
 use Rattle.ft_model.proofs.FirstPath.{turn_5, turn_12, turn_14}
 use Rattle.ft_model.proofs.Turns.{laws, goes, serves}
@@ -67,34 +67,34 @@ never_happens service before after number segment node sent at up none h =
     none turn.0 turn.2
 
 -- the wrong turns of the text's arrival
-by_text : (wrong : List Packet) → are_same (marks row.moment_12.sent) (marks wrong) ≡ false → IsRefused (row.node_live row.open_point) row.text_comes wrong
-by_text wrong other = refused echo (row.node_live row.open_point) (row.node_live row.taken_point) row.text_comes row.moment_12.sent wrong turn_12 refl other
+by_text : (wrong : List Packet) → are_same (marks run.moment_12.sent) (marks wrong) ≡ false → IsRefused (run.node_live run.open_point) run.text_comes wrong
+by_text wrong other = refused echo (run.node_live run.open_point) (run.node_live run.taken_point) run.text_comes run.moment_12.sent wrong turn_12 refl other
 
-pub without_copy : IsRefused (row.node_live row.open_point) row.text_comes row.without_copy
-without_copy = by_text row.without_copy refl
+pub without_copy : IsRefused (run.node_live run.open_point) run.text_comes run.without_copy
+without_copy = by_text run.without_copy refl
 
-pub one_too_high : IsRefused (row.node_live row.open_point) row.text_comes row.one_too_high
-one_too_high = by_text row.one_too_high refl
+pub one_too_high : IsRefused (run.node_live run.open_point) run.text_comes run.one_too_high
+one_too_high = by_text run.one_too_high refl
 
-pub passed_on : IsRefused (row.node_live row.open_point) row.text_comes row.passed_on
-passed_on = by_text row.passed_on refl
+pub passed_on : IsRefused (run.node_live run.open_point) run.text_comes run.passed_on
+passed_on = by_text run.passed_on refl
 
-pub read_first : IsRefused (row.node_live row.open_point) row.text_comes row.read_first
-read_first = by_text row.read_first refl
+pub read_first : IsRefused (run.node_live run.open_point) run.text_comes run.read_first
+read_first = by_text run.read_first refl
 
-pub one_index_off : IsRefused (row.node_live row.open_point) row.text_comes row.one_index_off
-one_index_off = by_text row.one_index_off refl
+pub one_index_off : IsRefused (run.node_live run.open_point) run.text_comes run.one_index_off
+one_index_off = by_text run.one_index_off refl
 
-pub released_early : IsRefused (row.node_live row.open_point) row.text_comes row.released_early
-released_early = by_text row.released_early refl
+pub released_early : IsRefused (run.node_live run.open_point) run.text_comes run.released_early
+released_early = by_text run.released_early refl
 
 -- silence in the turn of Stable
-pub silent : IsRefused (row.node_live row.taken_point) row.stable_comes []
-silent = refused echo (row.node_live row.taken_point) (row.node_live row.logged_point) row.stable_comes row.moment_14.sent [] turn_14 refl refl
+pub silent : IsRefused (run.node_live run.taken_point) run.stable_comes []
+silent = refused echo (run.node_live run.taken_point) (run.node_live run.logged_point) run.stable_comes run.moment_14.sent [] turn_14 refl refl
 
 -- a SYN-ACK before Opened
-pub answered_early : IsRefused (row.node_at (Serving 0 [])) row.syn_comes (row.packet_6 ∷ [])
-answered_early = refused echo (row.node_at (Serving 0 [])) (row.node_at (Serving 1 (Opens numbers ∷ []))) row.syn_comes row.moment_5.sent (row.packet_6 ∷ []) (turn_5 echo) refl refl
+pub answered_early : IsRefused (run.node_at (Serving 0 [])) run.syn_comes (run.packet_6 ∷ [])
+answered_early = refused echo (run.node_at (Serving 0 [])) (run.node_at (Serving 1 (Opens numbers ∷ []))) run.syn_comes run.moment_5.sent (run.packet_6 ∷ []) (turn_5 echo) refl refl
 
 -- the FIN before its read is logged
 pub fin_with_read : IsRefused closing.first_4.node closing.first_5.input closing.fin_with_read
@@ -104,12 +104,12 @@ pub fin_before_reads : IsRefused closing.first_5.node closing.first_6.input clos
 fin_before_reads = refused echo closing.first_5.node closing.first_6.node closing.first_6.input closing.first_6.sent closing.fin_before_reads first_6 refl refl
 
 -- Reads out of order: a tick sends the unanswered ones again by index
-reads_again : LawfulTurn echo (row.node_live row.twice_read_point) Tick_comes row.reads_again (row.node_live row.twice_read_point)
+reads_again : LawfulTurn echo (run.node_live run.twice_read_point) Tick_comes run.reads_again (run.node_live run.twice_read_point)
 unfolding laws
-reads_again = serves echo 1 5000 Tick_comes row.twice_read_point row.twice_read_point row.reads_again refl refl refl (row.twice_read_point, refl, goes echo server 1 Ticks row.twice_read_point row.twice_read_point row.reads_again refl refl refl refl)
+reads_again = serves echo 1 5000 Tick_comes run.twice_read_point run.twice_read_point run.reads_again refl refl refl (run.twice_read_point, refl, goes echo server 1 Ticks run.twice_read_point run.twice_read_point run.reads_again refl refl refl refl)
 
-pub reads_turned : IsRefused (row.node_live row.twice_read_point) Tick_comes row.reads_turned
-reads_turned = refused echo (row.node_live row.twice_read_point) (row.node_live row.twice_read_point) Tick_comes row.reads_again row.reads_turned reads_again refl refl
+pub reads_turned : IsRefused (run.node_live run.twice_read_point) Tick_comes run.reads_turned
+reads_turned = refused echo (run.node_live run.twice_read_point) (run.node_live run.twice_read_point) Tick_comes run.reads_again run.reads_turned reads_again refl refl
 
 -- no probe, a probe of two bytes, a probe before the timer expires, and output past the edge
 pub no_probe : IsRefused probe.probe_7.node Tick_comes []

@@ -1,4 +1,4 @@
--- The row with a client without room, whole: each moment happens and is allowed, and its report computes.
+-- The run with a client without room, whole: each moment happens and is allowed, and its report computes.
 use Rattle.std.proofs.Common.{◌≡◌, ℕ, zero, suc, ◌^◌, sym, ap, ◌∙◌, refl, subst₂, Some, None, List, [], ◌∷◌}
 use native.Mathlib.Bridge.{le_by_compare, IsLe}
 use Rattle.ft_model.specs.Client.{Client, Move, move_of, segment_of, moved, window_of}
@@ -8,15 +8,15 @@ use Rattle.ft_model.specs.Network.Packet.{To_server}
 use Rattle.ft_model.specs.World.{World, client_at, with_client, Joint, Happens, IsStart}
 use Rattle.ft_model.specs.Legal.{mover_of, IsScripted, IsAllowed, Legal}
 use Rattle.ft_model.specs.declared.event.Event.{Event}
-use Rattle.ft_model.specs.Rows.Common.{echo, hello_text, client_with, idle, opening_at, serving_at}
-use Rattle.ft_model.specs.Rows.ZeroWindow as turn
-use Rattle.ft_model.specs.Rows.ZeroWindowTrace as row
+use Rattle.ft_model.specs.WorkedRuns.Common.{echo, hello_text, client_with, idle, opening_at, serving_at}
+use Rattle.ft_model.specs.WorkedRuns.ZeroWindow as turn
+use Rattle.ft_model.specs.WorkedRuns.ZeroWindowTrace as run
 use Rattle.ft_model.proofs.FirstPath.{hello_bytes}
 use Rattle.ft_model.proofs.Lists.{none_is_some, some_is}
 use Rattle.ft_model.proofs.Turns.{laws}
 use Rattle.ft_model.proofs.ZeroWindow.{probe_1, probe_2, probe_3, probe_4, probe_5, probe_6, probe_7, probe_8, probe_9, probe_10, probe_11, probe_12, probe_13, probe_14, probe_15}
 
-starts : IsStart row.start
+starts : IsStart run.start
 unfolding IsLe
 starts = record {
   ip = le_by_compare 3221226085 (2 ^ 32) tt;
@@ -46,107 +46,107 @@ nth zero (packet ∷ packets) = packet
 nth (suc n) (packet ∷ packets) = nth n packets
 
 -- what happens
-happens_1 : Happens echo row.start row.moment_1.event row.moment_1.sent row.moment_1.world
+happens_1 : Happens echo run.start run.moment_1.event run.moment_1.sent run.moment_1.world
 unfolding laws IsLe
 happens_1 = (refl, (le_by_compare 1 1 tt, le_by_compare 2 (2 ^ 64) tt), refl, refl)
 
-happens_2 : Happens echo row.moment_1.world row.moment_2.event row.moment_2.sent row.moment_2.world
+happens_2 : Happens echo run.moment_1.world run.moment_2.event run.moment_2.sent run.moment_2.world
 unfolding laws IsLe
-happens_2 = ((nth 0 row.moment_1.sent), refl, (refl, refl))
+happens_2 = ((nth 0 run.moment_1.sent), refl, (refl, refl))
 
-happens_3 : Happens echo row.moment_2.world row.moment_3.event row.moment_3.sent row.moment_3.world
+happens_3 : Happens echo run.moment_2.world run.moment_3.event run.moment_3.sent run.moment_3.world
 unfolding laws IsLe
-happens_3 = ((nth 0 row.moment_2.sent), refl, ((idle 1 5000, refl, probe_1), refl))
+happens_3 = ((nth 0 run.moment_2.sent), refl, ((idle 1 5000, refl, probe_1), refl))
 
-happens_4 : Happens echo row.moment_3.world row.moment_4.event row.moment_4.sent row.moment_4.world
+happens_4 : Happens echo run.moment_3.world run.moment_4.event run.moment_4.sent run.moment_4.world
 unfolding laws IsLe
-happens_4 = record { client = client_with hello_text; segment = turn.syn; later = row.opening; is_there = refl; move = record { move = Syn None; window = 0; may = refl; fits = refl; segment_is = refl; after_is = refl }; sent_is = refl; after_is = refl }
+happens_4 = record { client = client_with hello_text; segment = turn.syn; later = run.opening; is_there = refl; move = record { move = Syn None; window = 0; may = refl; fits = refl; segment_is = refl; after_is = refl }; sent_is = refl; after_is = refl }
 
-happens_5 : Happens echo row.moment_4.world row.moment_5.event row.moment_5.sent row.moment_5.world
+happens_5 : Happens echo run.moment_4.world run.moment_5.event run.moment_5.sent run.moment_5.world
 unfolding laws IsLe
-happens_5 = ((nth 0 row.moment_4.sent), refl, ((opening_at 1 5000, refl, probe_2), refl))
+happens_5 = ((nth 0 run.moment_4.sent), refl, ((opening_at 1 5000, refl, probe_2), refl))
 
-happens_6 : Happens echo row.moment_5.world row.moment_6.event row.moment_6.sent row.moment_6.world
+happens_6 : Happens echo run.moment_5.world run.moment_6.event run.moment_6.sent run.moment_6.world
 unfolding laws IsLe
-happens_6 = ((nth 0 row.moment_5.sent), refl, (refl, refl))
+happens_6 = ((nth 0 run.moment_5.sent), refl, (refl, refl))
 
-happens_7 : Happens echo row.moment_6.world row.moment_7.event row.moment_7.sent row.moment_7.world
+happens_7 : Happens echo run.moment_6.world run.moment_7.event run.moment_7.sent run.moment_7.world
 unfolding laws IsLe
-happens_7 = ((nth 0 row.moment_6.sent), refl, ((serving_at 1 5000 turn.begun, refl, probe_3), refl))
+happens_7 = ((nth 0 run.moment_6.sent), refl, ((serving_at 1 5000 turn.begun, refl, probe_3), refl))
 
-happens_8 : Happens echo row.moment_7.world row.moment_8.event row.moment_8.sent row.moment_8.world
+happens_8 : Happens echo run.moment_7.world run.moment_8.event run.moment_8.sent run.moment_8.world
 unfolding laws IsLe
-happens_8 = ((nth 0 row.moment_7.sent), refl, (refl, refl))
+happens_8 = ((nth 0 run.moment_7.sent), refl, (refl, refl))
 
-happens_9 : Happens echo row.moment_8.world row.moment_9.event row.moment_9.sent row.moment_9.world
+happens_9 : Happens echo run.moment_8.world run.moment_9.event run.moment_9.sent run.moment_9.world
 unfolding laws IsLe
-happens_9 = record { client = row.open_client; segment = turn.first_ack; later = row.open_client; is_there = refl; move = record { move = Acknowledge; window = 0; may = refl; fits = refl; segment_is = refl; after_is = refl }; sent_is = refl; after_is = refl }
+happens_9 = record { client = run.open_client; segment = turn.first_ack; later = run.open_client; is_there = refl; move = record { move = Acknowledge; window = 0; may = refl; fits = refl; segment_is = refl; after_is = refl }; sent_is = refl; after_is = refl }
 
-happens_10 : Happens echo row.moment_9.world row.moment_10.event row.moment_10.sent row.moment_10.world
+happens_10 : Happens echo run.moment_9.world run.moment_10.event run.moment_10.sent run.moment_10.world
 unfolding laws IsLe
-happens_10 = ((nth 0 row.moment_9.sent), refl, ((serving_at 1 5000 turn.opened, refl, probe_4), refl))
+happens_10 = ((nth 0 run.moment_9.sent), refl, ((serving_at 1 5000 turn.opened, refl, probe_4), refl))
 
-happens_11 : Happens echo row.moment_10.world row.moment_11.event row.moment_11.sent row.moment_11.world
+happens_11 : Happens echo run.moment_10.world run.moment_11.event run.moment_11.sent run.moment_11.world
 unfolding laws IsLe
-happens_11 = record { client = row.open_client; segment = turn.text; later = row.told_client; is_there = refl; move = record { move = Text 0 5; window = 0; may = refl; fits = refl; segment_is = refl; after_is = refl }; sent_is = refl; after_is = refl }
+happens_11 = record { client = run.open_client; segment = turn.text; later = run.told_client; is_there = refl; move = record { move = Text 0 5; window = 0; may = refl; fits = refl; segment_is = refl; after_is = refl }; sent_is = refl; after_is = refl }
 
-happens_12 : Happens echo row.moment_11.world row.moment_12.event row.moment_12.sent row.moment_12.world
+happens_12 : Happens echo run.moment_11.world run.moment_12.event run.moment_12.sent run.moment_12.world
 unfolding laws IsLe
-happens_12 = ((nth 0 row.moment_11.sent), refl, ((serving_at 1 5000 turn.taken, refl, probe_5), refl))
+happens_12 = ((nth 0 run.moment_11.sent), refl, ((serving_at 1 5000 turn.taken, refl, probe_5), refl))
 
-happens_13 : Happens echo row.moment_12.world row.moment_13.event row.moment_13.sent row.moment_13.world
+happens_13 : Happens echo run.moment_12.world run.moment_13.event run.moment_13.sent run.moment_13.world
 unfolding laws IsLe
-happens_13 = ((nth 1 row.moment_12.sent), refl, (refl, refl))
+happens_13 = ((nth 1 run.moment_12.sent), refl, (refl, refl))
 
-happens_14 : Happens echo row.moment_13.world row.moment_14.event row.moment_14.sent row.moment_14.world
+happens_14 : Happens echo run.moment_13.world run.moment_14.event run.moment_14.sent run.moment_14.world
 unfolding laws IsLe
-happens_14 = ((nth 0 row.moment_13.sent), refl, ((serving_at 1 5000 turn.logged, refl, probe_6), refl))
+happens_14 = ((nth 0 run.moment_13.sent), refl, ((serving_at 1 5000 turn.logged, refl, probe_6), refl))
 
-happens_15 : Happens echo row.moment_14.world row.moment_15.event row.moment_15.sent row.moment_15.world
+happens_15 : Happens echo run.moment_14.world run.moment_15.event run.moment_15.sent run.moment_15.world
 unfolding laws IsLe
-happens_15 = ((nth 2 row.moment_12.sent), refl, (refl, refl))
+happens_15 = ((nth 2 run.moment_12.sent), refl, (refl, refl))
 
-happens_16 : Happens echo row.moment_15.world row.moment_16.event row.moment_16.sent row.moment_16.world
+happens_16 : Happens echo run.moment_15.world run.moment_16.event run.moment_16.sent run.moment_16.world
 unfolding laws IsLe
-happens_16 = ((nth 0 row.moment_15.sent), refl, ((serving_at 1 5000 turn.waiting, refl, probe_7), refl))
+happens_16 = ((nth 0 run.moment_15.sent), refl, ((serving_at 1 5000 turn.waiting, refl, probe_7), refl))
 
-happens_17 : Happens echo row.moment_16.world row.moment_17.event row.moment_17.sent row.moment_17.world
+happens_17 : Happens echo run.moment_16.world run.moment_17.event run.moment_17.sent run.moment_17.world
 unfolding laws IsLe
 happens_17 = (refl, ((serving_at 1 5000 (turn.probed 2 2), refl, probe_8), refl))
 
-happens_18 : Happens echo row.moment_17.world row.moment_18.event row.moment_18.sent row.moment_18.world
+happens_18 : Happens echo run.moment_17.world run.moment_18.event run.moment_18.sent run.moment_18.world
 unfolding laws IsLe
 happens_18 = (refl, ((serving_at 1 5000 (turn.probed 2 1), refl, probe_9), refl))
 
-happens_19 : Happens echo row.moment_18.world row.moment_19.event row.moment_19.sent row.moment_19.world
+happens_19 : Happens echo run.moment_18.world run.moment_19.event run.moment_19.sent run.moment_19.world
 unfolding laws IsLe
 happens_19 = (refl, ((serving_at 1 5000 (turn.probed 4 4), refl, probe_10), refl))
 
-happens_20 : Happens echo row.moment_19.world row.moment_20.event row.moment_20.sent row.moment_20.world
+happens_20 : Happens echo run.moment_19.world run.moment_20.event run.moment_20.sent run.moment_20.world
 unfolding laws IsLe
-happens_20 = record { client = row.told_client; segment = turn.room; later = row.roomy_client; is_there = refl; move = record { move = Acknowledge; window = 5; may = refl; fits = refl; segment_is = refl; after_is = refl }; sent_is = refl; after_is = refl }
+happens_20 = record { client = run.told_client; segment = turn.room; later = run.roomy_client; is_there = refl; move = record { move = Acknowledge; window = 5; may = refl; fits = refl; segment_is = refl; after_is = refl }; sent_is = refl; after_is = refl }
 
-happens_21 : Happens echo row.moment_20.world row.moment_21.event row.moment_21.sent row.moment_21.world
+happens_21 : Happens echo run.moment_20.world run.moment_21.event run.moment_21.sent run.moment_21.world
 unfolding laws IsLe
-happens_21 = ((nth 0 row.moment_20.sent), refl, ((serving_at 1 5000 (turn.given 4 4), refl, probe_11), refl))
+happens_21 = ((nth 0 run.moment_20.sent), refl, ((serving_at 1 5000 (turn.given 4 4), refl, probe_11), refl))
 
-happens_22 : Happens echo row.moment_21.world row.moment_22.event row.moment_22.sent row.moment_22.world
+happens_22 : Happens echo run.moment_21.world run.moment_22.event run.moment_22.sent run.moment_22.world
 unfolding laws IsLe
 happens_22 = (refl, ((serving_at 1 5000 (turn.given 4 3), refl, probe_12), refl))
 
-happens_23 : Happens echo row.moment_22.world row.moment_23.event row.moment_23.sent row.moment_23.world
+happens_23 : Happens echo run.moment_22.world run.moment_23.event run.moment_23.sent run.moment_23.world
 unfolding laws IsLe
 happens_23 = (refl, ((serving_at 1 5000 (turn.given 4 2), refl, probe_13), refl))
 
-happens_24 : Happens echo row.moment_23.world row.moment_24.event row.moment_24.sent row.moment_24.world
+happens_24 : Happens echo run.moment_23.world run.moment_24.event run.moment_24.sent run.moment_24.world
 unfolding laws IsLe
 happens_24 = (refl, ((serving_at 1 5000 (turn.given 4 1), refl, probe_14), refl))
 
-happens_25 : Happens echo row.moment_24.world row.moment_25.event row.moment_25.sent row.moment_25.world
+happens_25 : Happens echo run.moment_24.world run.moment_25.event run.moment_25.sent run.moment_25.world
 unfolding laws IsLe
 happens_25 = (refl, ((serving_at 1 5000 (turn.given 8 8), refl, probe_15), refl))
 
-is_joint : Joint echo row.start row.trace
+is_joint : Joint echo run.start run.trace
 is_joint = (((((((((((((((((((((((((starts, happens_1), happens_2), happens_3), happens_4), happens_5), happens_6), happens_7), happens_8), happens_9), happens_10), happens_11), happens_12), happens_13), happens_14), happens_15), happens_16), happens_17), happens_18), happens_19), happens_20), happens_21), happens_22), happens_23), happens_24), happens_25)
 
 -- what is no client's move is scripted as it is
@@ -166,82 +166,82 @@ scripted w event c m number after at there asks stands = λ d n found asked.
     subst₂ (IsMovedBy w event (To_server (segment_of c m (window_of c event)) ∷ []) after.clients) client move (refl, stands)
 
 -- and is allowed
-allowed_1 : IsAllowed row.start row.moment_1
-allowed_1 = record { allowed = refl; scripted = unmoved row.start row.moment_1.event row.moment_1.sent row.moment_1.world refl }
+allowed_1 : IsAllowed run.start run.moment_1
+allowed_1 = record { allowed = refl; scripted = unmoved run.start run.moment_1.event run.moment_1.sent run.moment_1.world refl }
 
-allowed_2 : IsAllowed row.moment_1.world row.moment_2
-allowed_2 = record { allowed = refl; scripted = unmoved row.moment_1.world row.moment_2.event row.moment_2.sent row.moment_2.world refl }
+allowed_2 : IsAllowed run.moment_1.world run.moment_2
+allowed_2 = record { allowed = refl; scripted = unmoved run.moment_1.world run.moment_2.event run.moment_2.sent run.moment_2.world refl }
 
-allowed_3 : IsAllowed row.moment_2.world row.moment_3
-allowed_3 = record { allowed = refl; scripted = unmoved row.moment_2.world row.moment_3.event row.moment_3.sent row.moment_3.world refl }
+allowed_3 : IsAllowed run.moment_2.world run.moment_3
+allowed_3 = record { allowed = refl; scripted = unmoved run.moment_2.world run.moment_3.event run.moment_3.sent run.moment_3.world refl }
 
-allowed_4 : IsAllowed row.moment_3.world row.moment_4
-allowed_4 = record { allowed = refl; scripted = scripted row.moment_3.world row.moment_4.event (client_with hello_text) (Syn None) 1 row.moment_4.world refl refl refl refl }
+allowed_4 : IsAllowed run.moment_3.world run.moment_4
+allowed_4 = record { allowed = refl; scripted = scripted run.moment_3.world run.moment_4.event (client_with hello_text) (Syn None) 1 run.moment_4.world refl refl refl refl }
 
-allowed_5 : IsAllowed row.moment_4.world row.moment_5
-allowed_5 = record { allowed = refl; scripted = unmoved row.moment_4.world row.moment_5.event row.moment_5.sent row.moment_5.world refl }
+allowed_5 : IsAllowed run.moment_4.world run.moment_5
+allowed_5 = record { allowed = refl; scripted = unmoved run.moment_4.world run.moment_5.event run.moment_5.sent run.moment_5.world refl }
 
-allowed_6 : IsAllowed row.moment_5.world row.moment_6
-allowed_6 = record { allowed = refl; scripted = unmoved row.moment_5.world row.moment_6.event row.moment_6.sent row.moment_6.world refl }
+allowed_6 : IsAllowed run.moment_5.world run.moment_6
+allowed_6 = record { allowed = refl; scripted = unmoved run.moment_5.world run.moment_6.event run.moment_6.sent run.moment_6.world refl }
 
-allowed_7 : IsAllowed row.moment_6.world row.moment_7
-allowed_7 = record { allowed = refl; scripted = unmoved row.moment_6.world row.moment_7.event row.moment_7.sent row.moment_7.world refl }
+allowed_7 : IsAllowed run.moment_6.world run.moment_7
+allowed_7 = record { allowed = refl; scripted = unmoved run.moment_6.world run.moment_7.event run.moment_7.sent run.moment_7.world refl }
 
-allowed_8 : IsAllowed row.moment_7.world row.moment_8
-allowed_8 = record { allowed = refl; scripted = unmoved row.moment_7.world row.moment_8.event row.moment_8.sent row.moment_8.world refl }
+allowed_8 : IsAllowed run.moment_7.world run.moment_8
+allowed_8 = record { allowed = refl; scripted = unmoved run.moment_7.world run.moment_8.event run.moment_8.sent run.moment_8.world refl }
 
-allowed_9 : IsAllowed row.moment_8.world row.moment_9
-allowed_9 = record { allowed = refl; scripted = scripted row.moment_8.world row.moment_9.event row.open_client Acknowledge 1 row.moment_9.world refl refl refl refl }
+allowed_9 : IsAllowed run.moment_8.world run.moment_9
+allowed_9 = record { allowed = refl; scripted = scripted run.moment_8.world run.moment_9.event run.open_client Acknowledge 1 run.moment_9.world refl refl refl refl }
 
-allowed_10 : IsAllowed row.moment_9.world row.moment_10
-allowed_10 = record { allowed = refl; scripted = unmoved row.moment_9.world row.moment_10.event row.moment_10.sent row.moment_10.world refl }
+allowed_10 : IsAllowed run.moment_9.world run.moment_10
+allowed_10 = record { allowed = refl; scripted = unmoved run.moment_9.world run.moment_10.event run.moment_10.sent run.moment_10.world refl }
 
-allowed_11 : IsAllowed row.moment_10.world row.moment_11
-allowed_11 = record { allowed = refl; scripted = scripted row.moment_10.world row.moment_11.event row.open_client (Text 0 5) 1 row.moment_11.world refl refl refl refl }
+allowed_11 : IsAllowed run.moment_10.world run.moment_11
+allowed_11 = record { allowed = refl; scripted = scripted run.moment_10.world run.moment_11.event run.open_client (Text 0 5) 1 run.moment_11.world refl refl refl refl }
 
-allowed_12 : IsAllowed row.moment_11.world row.moment_12
-allowed_12 = record { allowed = refl; scripted = unmoved row.moment_11.world row.moment_12.event row.moment_12.sent row.moment_12.world refl }
+allowed_12 : IsAllowed run.moment_11.world run.moment_12
+allowed_12 = record { allowed = refl; scripted = unmoved run.moment_11.world run.moment_12.event run.moment_12.sent run.moment_12.world refl }
 
-allowed_13 : IsAllowed row.moment_12.world row.moment_13
-allowed_13 = record { allowed = refl; scripted = unmoved row.moment_12.world row.moment_13.event row.moment_13.sent row.moment_13.world refl }
+allowed_13 : IsAllowed run.moment_12.world run.moment_13
+allowed_13 = record { allowed = refl; scripted = unmoved run.moment_12.world run.moment_13.event run.moment_13.sent run.moment_13.world refl }
 
-allowed_14 : IsAllowed row.moment_13.world row.moment_14
-allowed_14 = record { allowed = refl; scripted = unmoved row.moment_13.world row.moment_14.event row.moment_14.sent row.moment_14.world refl }
+allowed_14 : IsAllowed run.moment_13.world run.moment_14
+allowed_14 = record { allowed = refl; scripted = unmoved run.moment_13.world run.moment_14.event run.moment_14.sent run.moment_14.world refl }
 
-allowed_15 : IsAllowed row.moment_14.world row.moment_15
-allowed_15 = record { allowed = refl; scripted = unmoved row.moment_14.world row.moment_15.event row.moment_15.sent row.moment_15.world refl }
+allowed_15 : IsAllowed run.moment_14.world run.moment_15
+allowed_15 = record { allowed = refl; scripted = unmoved run.moment_14.world run.moment_15.event run.moment_15.sent run.moment_15.world refl }
 
-allowed_16 : IsAllowed row.moment_15.world row.moment_16
-allowed_16 = record { allowed = refl; scripted = unmoved row.moment_15.world row.moment_16.event row.moment_16.sent row.moment_16.world refl }
+allowed_16 : IsAllowed run.moment_15.world run.moment_16
+allowed_16 = record { allowed = refl; scripted = unmoved run.moment_15.world run.moment_16.event run.moment_16.sent run.moment_16.world refl }
 
-allowed_17 : IsAllowed row.moment_16.world row.moment_17
-allowed_17 = record { allowed = refl; scripted = unmoved row.moment_16.world row.moment_17.event row.moment_17.sent row.moment_17.world refl }
+allowed_17 : IsAllowed run.moment_16.world run.moment_17
+allowed_17 = record { allowed = refl; scripted = unmoved run.moment_16.world run.moment_17.event run.moment_17.sent run.moment_17.world refl }
 
-allowed_18 : IsAllowed row.moment_17.world row.moment_18
-allowed_18 = record { allowed = refl; scripted = unmoved row.moment_17.world row.moment_18.event row.moment_18.sent row.moment_18.world refl }
+allowed_18 : IsAllowed run.moment_17.world run.moment_18
+allowed_18 = record { allowed = refl; scripted = unmoved run.moment_17.world run.moment_18.event run.moment_18.sent run.moment_18.world refl }
 
-allowed_19 : IsAllowed row.moment_18.world row.moment_19
-allowed_19 = record { allowed = refl; scripted = unmoved row.moment_18.world row.moment_19.event row.moment_19.sent row.moment_19.world refl }
+allowed_19 : IsAllowed run.moment_18.world run.moment_19
+allowed_19 = record { allowed = refl; scripted = unmoved run.moment_18.world run.moment_19.event run.moment_19.sent run.moment_19.world refl }
 
-allowed_20 : IsAllowed row.moment_19.world row.moment_20
-allowed_20 = record { allowed = refl; scripted = scripted row.moment_19.world row.moment_20.event row.told_client Acknowledge 1 row.moment_20.world refl refl refl refl }
+allowed_20 : IsAllowed run.moment_19.world run.moment_20
+allowed_20 = record { allowed = refl; scripted = scripted run.moment_19.world run.moment_20.event run.told_client Acknowledge 1 run.moment_20.world refl refl refl refl }
 
-allowed_21 : IsAllowed row.moment_20.world row.moment_21
-allowed_21 = record { allowed = refl; scripted = unmoved row.moment_20.world row.moment_21.event row.moment_21.sent row.moment_21.world refl }
+allowed_21 : IsAllowed run.moment_20.world run.moment_21
+allowed_21 = record { allowed = refl; scripted = unmoved run.moment_20.world run.moment_21.event run.moment_21.sent run.moment_21.world refl }
 
-allowed_22 : IsAllowed row.moment_21.world row.moment_22
-allowed_22 = record { allowed = refl; scripted = unmoved row.moment_21.world row.moment_22.event row.moment_22.sent row.moment_22.world refl }
+allowed_22 : IsAllowed run.moment_21.world run.moment_22
+allowed_22 = record { allowed = refl; scripted = unmoved run.moment_21.world run.moment_22.event run.moment_22.sent run.moment_22.world refl }
 
-allowed_23 : IsAllowed row.moment_22.world row.moment_23
-allowed_23 = record { allowed = refl; scripted = unmoved row.moment_22.world row.moment_23.event row.moment_23.sent row.moment_23.world refl }
+allowed_23 : IsAllowed run.moment_22.world run.moment_23
+allowed_23 = record { allowed = refl; scripted = unmoved run.moment_22.world run.moment_23.event run.moment_23.sent run.moment_23.world refl }
 
-allowed_24 : IsAllowed row.moment_23.world row.moment_24
-allowed_24 = record { allowed = refl; scripted = unmoved row.moment_23.world row.moment_24.event row.moment_24.sent row.moment_24.world refl }
+allowed_24 : IsAllowed run.moment_23.world run.moment_24
+allowed_24 = record { allowed = refl; scripted = unmoved run.moment_23.world run.moment_24.event run.moment_24.sent run.moment_24.world refl }
 
-allowed_25 : IsAllowed row.moment_24.world row.moment_25
-allowed_25 = record { allowed = refl; scripted = unmoved row.moment_24.world row.moment_25.event row.moment_25.sent row.moment_25.world refl }
+allowed_25 : IsAllowed run.moment_24.world run.moment_25
+allowed_25 = record { allowed = refl; scripted = unmoved run.moment_24.world run.moment_25.event run.moment_25.sent run.moment_25.world refl }
 
-pub is_legal : Legal echo row.schedule row.trace
+pub is_legal : Legal echo run.schedule run.trace
 is_legal = record {
   joint = is_joint;
   events_are = refl;

@@ -31,7 +31,7 @@ pub mod Resets
 pub mod Legal
 pub mod Outcome
 pub mod Weakened
-pub mod Rows
+pub mod WorkedRuns
 pub mod Texts
 pub mod Report
 pub mod FirstPath

@@ -3,8 +3,8 @@
 ghost use Rattle.std.specs.Prelude.{Some, []};
 ghost use Rattle.ft_model.specs.Client.{Client, IsMove};
 ghost use Rattle.ft_model.specs.Client.ClientKind.{Live};
-ghost use Rattle.ft_model.specs.Rows.Common.{client_segment, client_with, hello_text};
-ghost use Rattle.ft_model.specs.Rows.FirstPath;
+ghost use Rattle.ft_model.specs.WorkedRuns.Common.{client_segment, client_with, hello_text};
+ghost use Rattle.ft_model.specs.WorkedRuns.FirstPath;
 
 /// A scripted client that has sent its SYN answers no acknowledgement by a RST with that number, and its SYN offers no size. A live one may do
 /// the first, and stands afterwards as before.

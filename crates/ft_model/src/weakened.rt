@@ -11,12 +11,12 @@ ghost use Rattle.ft_model.specs.Masked.{SeesFront, Masked};
 ghost use Rattle.ft_model.specs.Resets.{ResetsNoLogged};
 ghost use Rattle.ft_model.specs.Weakened.{IsWrongOnce};
 ghost use Rattle.ft_model.specs.declared.phase.Phase.TheVariants.{Reset};
-ghost use Rattle.ft_model.specs.Rows.Common.{echo, key};
-ghost use Rattle.ft_model.specs.Rows.FirstPath;
-ghost use Rattle.ft_model.specs.Rows.EarlyAcknowledgement;
-ghost use Rattle.ft_model.specs.Rows.ResetWhileRestarting;
-ghost use Rattle.ft_model.specs.Rows.UnloggedRead;
-ghost use Rattle.ft_model.specs.Rows.UnloggedRead.{meter};
+ghost use Rattle.ft_model.specs.WorkedRuns.Common.{echo, key};
+ghost use Rattle.ft_model.specs.WorkedRuns.FirstPath;
+ghost use Rattle.ft_model.specs.WorkedRuns.EarlyAcknowledgement;
+ghost use Rattle.ft_model.specs.WorkedRuns.ResetWhileRestarting;
+ghost use Rattle.ft_model.specs.WorkedRuns.UnloggedRead;
+ghost use Rattle.ft_model.specs.WorkedRuns.UnloggedRead.{meter};
 
 /// Where TCP's own acknowledgement is passed on, a crash loses bytes: the log has none of them, the Data that carries them is fenced off, and
 /// the client may not send them again. The law Acknowledgement refuses the turn.

@@ -1,5 +1,0 @@
-use Rattle.ft_model.proofs.rows.crash_after_logged_is_lawful.Goals as goal
-use Rattle.ft_model.proofs.CrashAfterLogged.{restart_is_lawful}
-
-pub returns : goal.returns
-returns c = restart_is_lawful

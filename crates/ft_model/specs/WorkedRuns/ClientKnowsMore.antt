@@ -1,0 +1,78 @@
+-- A client that acknowledges more than the restarted server has sent: its acknowledgement is lowered to that, and used in full when the same
+-- output was sent again.
+use Rattle.std.specs.Prelude.{pos, true, false, None, List, [], ◌∷◌}
+use Rattle.seq_arith.specs.Packet.{Segment}
+use Rattle.seq_arith.specs.Message.{EntryHead}
+use Rattle.seq_arith.specs.Message.Body.{SummaryMsg, ListMsg, EntryMsg, BytesMsg, PartMsg, CutsMsg, LensMsg, DataMsg}
+use Rattle.ft_model.specs.Point.{Point}
+use Rattle.ft_model.specs.Restart.{Fetched}
+use Rattle.ft_model.specs.Lawful.{Turn}
+use Rattle.ft_model.specs.WorkedRuns.Common.{key, hello_text, client_segment, to_client, to_log, part_with, on_message, on_segment, serving_at, fetching, head_with, fetched_with}
+
+-- the client has all five bytes
+abbrev pub known : Segment
+known = client_segment 16 1006 5006 65535 []
+
+-- the entry that the log has, and as its parts come
+abbrev pub head : EntryHead
+head = head_with 5 false 1 0
+
+abbrev pub bare_entry : Fetched
+bare_entry = fetched_with head [] []
+
+abbrev pub entry_with_lengths : Fetched
+entry_with_lengths = fetched_with head [] (5 ∷ [])
+
+-- the connection after the restart, when the output is sent again, and when it is acknowledged
+abbrev pub restarted : Point
+restarted = record {
+  key = key;
+  cisn = 1000;
+  sisn = 5000;
+  mss = 536;
+  fetched = 5;
+  taken = hello_text;
+  fin = false;
+  answered = 5;
+  lengths = 5 ∷ [];
+  reads_answered = 1;
+  una = 0;
+  sent = 0;
+  edge = 0;
+  wl1 = pos 5;
+  wl2 = 0;
+  counted = true;
+  interval = 1;
+  rest = 1;
+  end_ticks = 0;
+  reset = false;
+}
+
+abbrev pub resumed : Point
+resumed = record restarted { edge = 65535; sent = 5 }
+
+abbrev pub acknowledged : Point
+acknowledged = record resumed { una = 5; edge = 65540; wl2 = 5; rest = 0 }
+
+abbrev pub restart_1 : Turn
+restart_1 = on_message 2 (SummaryMsg 1) (to_log 2 (ListMsg 0) ∷ []) (fetching 2 900000 [])
+
+abbrev pub restart_2 : Turn
+restart_2 = on_message 2 (EntryMsg 0 head) (to_log 2 (CutsMsg key 0) ∷ []) (fetching 2 900000 (bare_entry ∷ []))
+
+abbrev pub restart_3 : Turn
+restart_3 = on_message 2 (LensMsg key 0 (5 ∷ [])) (to_log 2 (BytesMsg key 0) ∷ []) (fetching 2 900000 (entry_with_lengths ∷ []))
+
+abbrev pub restart_4 : Turn
+restart_4 = on_message 2 (PartMsg key 0 hello_text) (to_client 16 5001 1006 65535 None [] ∷ []) (serving_at 2 900000 restarted)
+
+abbrev pub restart_5 : Turn
+restart_5 = on_segment known (to_client 16 5001 1006 65535 None hello_text ∷ []) (serving_at 2 900000 resumed)
+
+-- a Data without bytes tells the acknowledgement
+abbrev pub restart_6 : Turn
+restart_6 = on_segment known (to_log 2 (DataMsg (part_with 5 5 false [])) ∷ []) (serving_at 2 900000 acknowledged)
+
+-- the second incarnation's turns, newest first
+abbrev pub restart_turns : List Turn
+restart_turns = restart_6 ∷ restart_5 ∷ restart_4 ∷ restart_3 ∷ restart_2 ∷ restart_1 ∷ []
