@@ -1,4 +1,5 @@
 -- How a line is held and ends, over bytes in parts.
+use Rattle.std.proofs.lemmas.List.Elements.{All-append, All-from_get_or}
 use Rattle.std.proofs.Common.{◌≡◌, ℕ, suc, ◌+◌, ◌-◌, ◌<◌, ◌≤◌, ◌==◌, Bool, true, false, List, [], ◌∷◌, ◌++◌, length, take, drop, get_or, refl, sym, ◌∙◌, ap, subst, arith, append_assoc, append-nil, length-append, length-take}
 use Rattle.std.specs.Prelude.{bytes_eq, nat_eq, nat_lt, decimal}
 use Rattle.std.specs.Cmp.Lexicographic.{pointwise, same_text, other_text}
@@ -6,7 +7,7 @@ use Rattle.std.proofs.lemmas.Bool.{lt-ltb}
 use Rattle.std.proofs.lemmas.Bool.Decides.{nat_tests}
 use Rattle.std.proofs.lemmas.List.{length-take-le, get_or-take, take_all, take_at, take-append-drop, drop_more, take_more}
 use Rattle.sample_servers.specs.Stream.{waiting, and_then, each_byte}
-use Rattle.sample_servers.specs.Line.{LineState, numbered, line_finished, line_byte, EndsAt, StaysOpen}
+use Rattle.sample_servers.specs.Line.{LineState, numbered, line_finished, line_byte, NoFeed, EndsAt, StaysOpen}
 
 -- a line of at most 1,024 bytes comes back whole
 pub numbered_whole : (number : ℕ) (front back : List ℕ) → length front + length back ≤ 1024 → numbered number (front ++ back) ≡ decimal number ++ 32 ∷ (front ++ (back ++ 10 ∷ []))
@@ -120,5 +121,9 @@ ends_when_full s bytes n room full within none =
 pub stays_open : (s : LineState) (bytes : List ℕ) (n : ℕ) → length s.held + n < 1024 → n ≡ length bytes → ((k : ℕ) → 0 ≤ k → k < n → (get_or (take n bytes) k 0 == 10) ≡ true → ⊥) → StaysOpen s bytes
 stays_open s bytes n room all none = record {
   fits = omega arith;
+  no_feed = All-from_get_or (λ byte. (byte == 10) ≡ false) bytes 0 (λ k below. other_before n bytes n (omega arith) none k (omega arith));
   served = each_byte_open s bytes (omega arith) (λ k below. other_before n bytes n (omega arith) none k (omega arith));
 }
+
+pub no_feed_joined : (held bytes : List ℕ) → NoFeed held → NoFeed bytes → NoFeed (held ++ bytes)
+no_feed_joined held bytes = All-append (λ byte. (byte == 10) ≡ false) held bytes

@@ -10,7 +10,7 @@ use Rattle.sample_servers.specs.Echo.{echo_machine}
 use Rattle.sample_servers.specs.Line.{line_byte, line_machine}
 use Rattle.sample_servers.specs.Transfer.{pattern, size_of, request_of, request_served, requests_served, bytes_served, transfer_machine, requests, total_size}
 use Rattle.sample_servers.specs.declared.echo.Echo.{Echo}
-use Rattle.sample_servers.specs.declared.transfer.Transfer.{Transfer}
+use Rattle.sample_servers.specs.Transfer.{TransferState}
 use Rattle.sample_servers.specs.declared.transfer.Held.TheVariants.{Nothing}
 use Rattle.sample_servers.proofs.Patterns.{pattern_none, pattern-append, pattern_round}
 use Rattle.sample_servers.proofs.Streams.{each_byte-append}
@@ -74,12 +74,12 @@ request_served_more place request is = rw is refl
 -- one request and those behind it
 pub requests_served_split : (place a b c d : ℕ) (bytes : List ℕ) (zero : Bool) → (request_of a b c d == 0) ≡ zero → (requests_served ((place + size_of (request_of a b c d)) % 251) bytes).output ≡ pattern ((place + size_of (request_of a b c d)) % 251) (total_size bytes) → (requests_served place (a ∷ b ∷ c ∷ d ∷ bytes)).output ≡ pattern place (total_size (a ∷ b ∷ c ∷ d ∷ bytes))
 requests_served_split place a b c d bytes true is behind =
-    ap (λ served. (and_then served (λ (next : Transfer). requests_served next.place bytes)).output) (request_served_zero place (request_of a b c d) is)
+    ap (λ served. (and_then served (λ (next : TransferState). requests_served next.place bytes)).output) (request_served_zero place (request_of a b c d) is)
     ∙ sym (pattern_none place)
     ∙ ap (pattern place) (sym (total_size_zero a b c d bytes is))
 requests_served_split place a b c d bytes false is behind =
     let size = size_of (request_of a b c d) in
-    ap (λ served. (and_then served (λ (next : Transfer). requests_served next.place bytes)).output) (request_served_more place (request_of a b c d) is)
+    ap (λ served. (and_then served (λ (next : TransferState). requests_served next.place bytes)).output) (request_served_more place (request_of a b c d) is)
     ∙ ap (λ rest. pattern place size ++ rest) (behind ∙ pattern_round (place + size) (total_size bytes))
     ∙ pattern-append place size (total_size bytes)
     ∙ ap (pattern place) (sym (total_size_more a b c d bytes is))

@@ -10,7 +10,7 @@ use Rattle.sample_servers.specs.declared.any_service.AnyService.{AnyService}
 use Rattle.sample_servers.specs.declared.any_service.AnyService.TheVariants.{Echo, Line, Transfer, Meter}
 use Rattle.sample_servers.specs.Line.{LineState, number_after, numbered, line_finished, line_byte, line_end, line_after}
 use Rattle.sample_servers.specs.Transfer.{held_bytes, request_of, pattern, request_served, requests_served, bytes_served, transfer_after}
-use Rattle.sample_servers.specs.declared.transfer.Transfer as transfer
+use Rattle.sample_servers.specs.Transfer as transfer
 use Rattle.sample_servers.specs.declared.transfer.Held.{Held}
 use Rattle.sample_servers.specs.declared.transfer.Held.TheVariants.{Nothing, One, Two, Three}
 
@@ -46,7 +46,7 @@ length-requests_served-le place (a ∷ b ∷ []) = omega arith
 length-requests_served-le place (a ∷ b ∷ c ∷ []) = omega arith
 length-requests_served-le place (a ∷ b ∷ c ∷ d ∷ bytes) =
     let t = request_served place (request_of a b c d) in
-    let rest = λ (next : transfer.Transfer). requests_served next.place bytes in
+    let rest = λ (next : transfer.TransferState). requests_served next.place bytes in
     let first : length t.output ≤ 2047 = length-request_served-le place (request_of a b c d) in
     let later : length (rest t.next).output ≤ 2047 * (length bytes / 4) = length-requests_served-le t.next.place bytes in
     length-and_then-le t.next t.output t.closed rest (2047 * (length (a ∷ b ∷ c ∷ d ∷ bytes) / 4)) (omega arith)
@@ -57,7 +57,7 @@ length-held_bytes-le (One a) = omega arith
 length-held_bytes-le (Two a b) = omega arith
 length-held_bytes-le (Three a b c) = omega arith
 
-pub length-bytes_served-le : (s : transfer.Transfer) (chunk : List ℕ) → length chunk ≤ 2048 → length (bytes_served s chunk).output ≤ 2 ^ 20
+pub length-bytes_served-le : (s : transfer.TransferState) (chunk : List ℕ) → length chunk ≤ 2048 → length (bytes_served s chunk).output ≤ 2 ^ 20
 unfolding bytes_served
 length-bytes_served-le s chunk short =
     let held = length-held_bytes-le s.held in
@@ -65,7 +65,7 @@ length-bytes_served-le s chunk short =
     let most = length-requests_served-le s.place (held_bytes s.held ++ chunk) in
     omega arith
 
-pub length-transfer_after-le : (s : transfer.Transfer) (chunk : List ℕ) → length chunk ≤ 2048 → length (transfer_after s chunk).output ≤ 2 ^ 20
+pub length-transfer_after-le : (s : transfer.TransferState) (chunk : List ℕ) → length chunk ≤ 2048 → length (transfer_after s chunk).output ≤ 2 ^ 20
 length-transfer_after-le s chunk short =
     length-if-le (length chunk == 0) (record { next = s; output = []; closed = true }) (bytes_served s chunk) (2 ^ 20) (omega arith) (length-bytes_served-le s chunk short)
 

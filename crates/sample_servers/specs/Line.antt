@@ -1,6 +1,7 @@
 -- Line: the input is split at line feeds, and each line comes back with its number. It is a fold over the bytes, so that a line may
 -- be cut over any number of chunks.
 use Rattle.std.specs.Prelude.{◌≡◌, ℕ, ◌<◌, ◌≤◌, drop, true, false, List, [], ◌∷◌, ◌++◌, ◌+◌, ◌-◌, ◌^◌, min, take, length, decimal, codes, bytes_eq, nat_lt, ◌==◌, if◌then◌else◌}
+use Rattle.std.specs.List.{All}
 use Rattle.server_trait.specs.Service.{Served, Machine, machine}
 use Rattle.sample_servers.specs.Stream.{waiting, and_then, each_byte}
 use Rattle.sample_servers.specs.declared.line.Piece.{Piece}
@@ -60,6 +61,10 @@ line_after state chunk = if length chunk == 0 then line_end state else each_byte
 abbrev pub line_machine : Machine LineState
 line_machine = machine line_started line_after
 
+-- no line feed is among the bytes
+abbrev pub NoFeed : List ℕ → Type 0
+NoFeed = All (λ byte. (byte == 10) ≡ false)
+
 -- the line that is held ends with `len` bytes more, which uses up `used` bytes
 pub record EndsAt (state : LineState) (bytes : List ℕ) (len used : ℕ) : Type 0 where
   pub fits : length state.held + len ≤ 1024
@@ -71,6 +76,7 @@ pub record EndsAt (state : LineState) (bytes : List ℕ) (len used : ℕ) : Type
 -- the line that is held goes on with all the bytes
 pub record StaysOpen (state : LineState) (bytes : List ℕ) : Type 0 where
   pub fits : length state.held + length bytes < 1024
+  pub no_feed : NoFeed bytes
   pub served : each_byte line_byte state bytes ≡ waiting (record { finished = state.finished; held = state.held ++ bytes })
 
 -- where a line ends in bytes that come behind it

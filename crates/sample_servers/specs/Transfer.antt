@@ -6,10 +6,14 @@ use Rattle.server_trait.specs.Service.{Served, Machine, machine}
 use Rattle.sample_servers.specs.Stream.{waiting, and_then}
 use Rattle.sample_servers.specs.declared.transfer.Held.{Held}
 use Rattle.sample_servers.specs.declared.transfer.Held.TheVariants.{Nothing, One, Two, Three}
-use Rattle.sample_servers.specs.declared.transfer.Transfer.{Transfer}
+
+-- how many bytes are written, modulo 251, and the bytes that are held
+pub record TransferState : Type 0 where
+  pub place : ℕ
+  pub held : Held
 
 -- nothing is written or held yet
-abbrev pub transfer_started : Transfer
+abbrev pub transfer_started : TransferState
 transfer_started = record { place = 0; held = Nothing }
 
 -- the bytes that are held, short of a request
@@ -33,11 +37,11 @@ pattern place zero = []
 pattern place (suc size) = place % 251 ∷ pattern (place + 1) size
 
 -- the place and the held bytes from which the service goes on
-abbrev pub holding : ℕ → Held → Served Transfer
+abbrev pub holding : ℕ → Held → Served TransferState
 holding place held = waiting (record { place = place; held = held })
 
 -- what one request does: 0 closes, and another is given its bytes of the pattern
-unfoldable pub request_served : ℕ → ℕ → Served Transfer
+unfoldable pub request_served : ℕ → ℕ → Served TransferState
 request_served place request =
     if request == 0
     then record { next = record { place = place; held = Nothing }; output = []; closed = true }
@@ -48,7 +52,7 @@ request_served place request =
     }
 
 -- what bytes do from a place of the pattern on: request after request, and what is short of one is held
-abbrev pub requests_served : ℕ → List ℕ → Served Transfer
+abbrev pub requests_served : ℕ → List ℕ → Served TransferState
 requests_served place [] = holding place Nothing
 requests_served place (a ∷ []) = holding place (One a)
 requests_served place (a ∷ b ∷ []) = holding place (Two a b)
@@ -57,18 +61,18 @@ requests_served place (a ∷ b ∷ c ∷ d ∷ bytes) =
     and_then (request_served place (request_of a b c d)) (λ next. requests_served next.place bytes)
 
 -- what bytes do behind those that are held
-unfoldable pub bytes_served : Transfer → List ℕ → Served Transfer
+unfoldable pub bytes_served : TransferState → List ℕ → Served TransferState
 bytes_served transfer bytes = requests_served transfer.place (held_bytes transfer.held ++ bytes)
 
 -- what a chunk does. An empty one is the end of input, which closes, and a held rest is ignored
-abbrev pub transfer_after : Transfer → List ℕ → Served Transfer
+abbrev pub transfer_after : TransferState → List ℕ → Served TransferState
 transfer_after transfer chunk =
     if length chunk == 0
     then record { next = transfer; output = []; closed = true }
     else bytes_served transfer chunk
 
 -- the service as runs see it
-abbrev pub transfer_machine : Machine Transfer
+abbrev pub transfer_machine : Machine TransferState
 transfer_machine = machine transfer_started transfer_after
 
 -- the requests that these bytes spell, without what is short of one

@@ -12,7 +12,7 @@ use Rattle.sample_servers.specs.declared.any_service.AnyService.{AnyService}
 use Rattle.sample_servers.specs.declared.any_service.AnyService.TheVariants.{Echo, Line, Transfer, Meter}
 use Rattle.sample_servers.specs.Line.{LineState, number_after, numbered, line_started, line_finished, line_longer, line_byte, line_end, line_after}
 use Rattle.sample_servers.specs.Transfer.{held_bytes, request_of, size_of, pattern, request_served, requests_served, bytes_served, transfer_started, transfer_after}
-use Rattle.sample_servers.specs.declared.transfer.Transfer as transfer
+use Rattle.sample_servers.specs.Transfer as transfer
 use Rattle.sample_servers.specs.declared.transfer.Held.TheVariants.{Nothing}
 
 bytes_append : (xs ys : List ℕ) → AreBytes xs → AreBytes ys → AreBytes (xs ++ ys)
@@ -101,7 +101,7 @@ served_requests place (a ∷ b ∷ c ∷ d ∷ bytes) =
     served_and_then Anything t.next t.output t.closed (λ next. requests_served next.place bytes) (served_request place (request_of a b c d)).0 tt
     (λ s _. served_requests s.place bytes)
 
-served_transfer : (s : transfer.Transfer) (chunk : List ℕ) → IsServed Anything (transfer_after s chunk)
+served_transfer : (s : transfer.TransferState) (chunk : List ℕ) → IsServed Anything (transfer_after s chunk)
 unfolding bytes_served
 served_transfer s chunk = served_if Anything (length chunk == 0) (record { next = s; output = []; closed = true })
     (requests_served s.place (held_bytes s.held ++ chunk)) (tt, tt) (served_requests s.place (held_bytes s.held ++ chunk))

@@ -3,7 +3,7 @@
 ghost use Rattle.std.specs.Prelude.{◌≡◌, ℕ, ◌^◌, ◌≤◌, ◌<◌, ◌+◌, ◌-◌, List, [], ◌++◌, length, take, drop, true, codes, bytes_eq, IfOk, OnOk};
 ghost use Rattle.server_trait.specs.Service.{next_of};
 ghost use Rattle.sample_servers.specs.Stream.{waiting, and_then, each_byte};
-ghost use Rattle.sample_servers.specs.Line.{LineState, numbered, line_finished, line_end, line_byte, Splits};
+ghost use Rattle.sample_servers.specs.Line.{LineState, numbered, line_finished, line_end, line_byte, NoFeed, Splits};
 
 use ft_io::NoMemory;
 use itoa::Buffer;
@@ -22,7 +22,7 @@ const LINE_LIMIT: usize = 1_024;
 pub struct Line {
     // The number of the last line that is finished.
     finished: u64,
-    // The bytes of the line that goes on, fewer than 1,024.
+    // The bytes of the line that goes on, fewer than 1,024, with no line feed among them.
     held: Vec<u8>,
 }
 
@@ -31,7 +31,7 @@ impl Model for Line {
 
     ghost view = { λ line. record { finished = line.finished; held = line.held.items } };
 
-    ghost invariant = { λ line. length line.held.items < 1024 };
+    ghost invariant = { λ line. (length line.held.items < 1024) × NoFeed line.held.items };
 }
 
 /// What the bytes of a chunk do to a line that is held.
@@ -62,8 +62,10 @@ impl Line {
     }
 
     // Goes on with the line that is held.
+    #[tactic(auto, using(crate::proofs::Lines::no_feed_joined))]
     fn hold(&mut self, bytes: &[u8]) -> Result<(), NoMemory>
-        requires { length self.old.held + length bytes.now < 1024 }
+        requires room { length self.old.held + length bytes.now < 1024 }
+        requires no_feed { NoFeed bytes.now }
         ensures { OnOk result (self.new ≡ record self.old { held = self.old.held ++ bytes.now }) }
     {
         self.held.extend_from_slice(bytes)?;

@@ -2,11 +2,12 @@
 
 ghost use Rattle.std.specs.Prelude.{◌≡◌, ℕ, ◌^◌, ◌<◌, ◌≤◌, ◌+◌, ◌%◌, List, [], ◌∷◌, ◌++◌, length, true, IfOk, OnOk};
 ghost use Rattle.server_trait.specs.Service.{next_of};
-ghost use Rattle.sample_servers.specs.Transfer.{request_of, request_served, bytes_served, pattern};
+ghost use Rattle.sample_servers.specs.Transfer.{TransferState, request_of, request_served, bytes_served, pattern};
 
 use ft_io::NoMemory;
 use server_trait::{Next, Service};
 use std::alloc::Global;
+use std::marker::Model;
 
 /// The most bytes that one request is given.
 const SIZE_LIMIT: u32 = 2_047;
@@ -26,12 +27,20 @@ enum Held {
 /// The transfer service. Its input is requests of four bytes, a big-endian number each, and a request gives as many bytes as it says, at
 /// most 2,047: byte i of the whole output is i modulo 251. Request 0 closes. Bytes short of a request are held, and ignored at the end of
 /// input.
-#[derive(Clone, Copy, Debug, PartialEq, Eq)]
+#[derive(Debug, Drop)]
 pub struct Transfer {
-    // How many bytes are written, modulo 251.
+    // How many bytes are written, modulo 251, and so below it.
     place: u8,
     // The bytes that are held, short of a request.
     held: Held,
+}
+
+impl Model for Transfer {
+    ghost Value = { TransferState };
+
+    ghost view = { λ transfer. record { place = transfer.place; held = transfer.held } };
+
+    ghost invariant = { λ transfer. transfer.place < 251 };
 }
 
 impl Transfer {
