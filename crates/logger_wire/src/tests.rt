@@ -5,7 +5,7 @@
 ghost use Rattle.std.specs.Prelude.{◌<◌, ◌≤◌};
 
 use super::*;
-use seq_arith::Sum16;
+use seq_arith::{Sum16, flip};
 
 const KEY: Key = Key {
     ip: 0xC000_0201,
@@ -614,6 +614,21 @@ fn damaged_messages(rt: HostRuntime) {
     assert_eq!(rt; refusal_of(&HELLO[..15]), Some(BadMsg::Short));
     for (at, byte, want) in DAMAGES {
         assert_eq!(rt; damaged(*at, *byte), Some(*want), "{at} {byte}");
+    }
+}
+
+#[test]
+fn flipped_bits(rt: HostRuntime) {
+    for message in [&HELLO[..], &SUMMARY[..], &DATA[..]] {
+        assert_eq!(rt; refusal_of(message), None);
+        let mut bytes = [0u8; 64];
+        let len = message.len().min(64);
+        bytes[..len].copy_from_slice(&message[..len]);
+        for bit in 0..8 * len {
+            flip(&mut bytes[..len], bit);
+            assert!(rt; refusal_of(&bytes[..len]).is_some(), "bit {bit}");
+            flip(&mut bytes[..len], bit);
+        }
     }
 }
 
