@@ -1,32 +1,23 @@
--- Where what is sent lies within what may leave, a FIN's unit among it means that a logged read has closed the service. So the law on the FIN asks
--- nothing more of a sender that keeps to the laws of sending.
-use Rattle.std.proofs.Common.{◌≡◌, ℕ, ◌<◌, ◌≤◌, ◌+◌, Bool, true, false, nat_lt, nat_le, refl, ap, [], ◌∷◌, arith, ltb-true, leb-true, if◌then◌else◌}
+-- Where what is sent lies within what may leave, a FIN's unit among it means that a logged read has closed the service. So of a new FIN the law on
+-- output asks nothing that the laws of sending don't give.
+use Rattle.std.proofs.Common.{◌≡◌, ℕ, ◌<◌, ◌≤◌, ◌+◌, Bool, true, false, ◌&&◌, nat_lt, nat_le, refl, ap, List, [], ◌∷◌, arith, ltb-true, leb-true, if◌then◌else◌}
 use Rattle.ft_io.specs.declared.Addr.{Addr}
 use Rattle.seq_arith.specs.Packet.{Segment}
 use Rattle.server_trait.specs.Service.{Machine}
 use Rattle.ft_model.specs.Offset.{one_if}
 use Rattle.ft_model.specs.Point.{Point, answered_run, released, target}
 use Rattle.ft_model.specs.Sending.{sent_at_once}
-use Rattle.ft_model.specs.Segments.{fin_segment, fin_if_closed, sends_fin, new_fin}
+use Rattle.ft_model.specs.Segments.{fin_segment, sends_fin, new_fin}
 use Rattle.ft_model.proofs.Lists.{both}
 
 closed_by : (b : Bool) (n m : ℕ) → n < m → m ≤ n + one_if b → b ≡ true
 closed_by true n m h k = refl
 closed_by false n m h k = absurd (omega (arith, h, k))
 
--- a unit past the output that may leave is the FIN's
-pub closed_past : {State : Type 0} (service : Machine State) (p : Point) (n : ℕ) → released service p < n → n ≤ target service p → (answered_run service p).closed ≡ true
-closed_past service p n = closed_by (answered_run service p).closed (released service p) n
-
-pub fin_goes_out : {State : Type 0} (service : Machine State) (server : Addr) (p : Point) → (answered_run service p).closed ≡ true
-    → fin_if_closed service server p ≡ fin_segment service server p ∷ []
-fin_goes_out service server p closed = ap (λ b. if b then fin_segment service server p ∷ [] else []) closed
-
 one_fin : (b c : Bool) (fin : Segment) → (b ≡ true → c ≡ true) → (if b then (if c then fin ∷ [] else []) else []) ≡ (if b then fin ∷ [] else [])
 one_fin true c fin h = ap (λ x. if x then fin ∷ [] else []) (h refl)
 one_fin false c fin h = refl
 
--- a new FIN lies within what may leave by itself
 pub new_fin_is : {State : Type 0} (service : Machine State) (server : Addr) (before after : Point)
     → new_fin service server before after ≡ (if sends_fin service before after then fin_segment service server after ∷ [] else [])
 unfolding new_fin sent_at_once

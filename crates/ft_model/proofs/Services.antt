@@ -129,11 +129,3 @@ sum_take (suc k) (x ∷ xs) =
     let two = sum_more x xs in
     let three = sum_take k xs in
     omega (arith, one, two, three)
-
--- a longer front of a longer list
-pub take_goes_on : (k m : ℕ) (xs ys : List ℕ) → k ≤ m → IsPrefix (take k xs) (take m (xs ++ ys))
-take_goes_on zero m xs ys h = (take m (xs ++ ys), refl)
-take_goes_on (suc k) zero xs ys h = absurd (omega (arith, h))
-take_goes_on (suc k) (suc m) [] ys h = (take (suc m) ys, refl)
-take_goes_on (suc k) (suc m) (x ∷ xs) ys h =
-    let more = take_goes_on k m xs ys (omega (arith, h)) in (more.0, ap (λ l. x ∷ l) more.1)

@@ -141,13 +141,13 @@ silent_or_told o packets a e f = ap (λ x. or_before x packets) e ∙ f
 pub told_or : (o packets : Option ℕ) (a : ℕ) → o ≡ Some a → or_before o packets ≡ Some a
 told_or o packets a e = ap (λ x. or_before x packets) e
 
-pub by_reset : {State : Type 0} {X : Type 0} (service : Machine State) (server : Addr) (boot : ℕ) (news : News) (p q : Point) (sent : List Packet) (b : Bool) → reset_after news p ≡ b
+by_reset : {State : Type 0} {X : Type 0} (service : Machine State) (server : Addr) (boot : ℕ) (news : News) (p q : Point) (sent : List Packet) (b : Bool) → reset_after news p ≡ b
     → (ResetTurn boot news p q sent → X) → (reset_after news p ≡ false → LiveTurn service server boot news p q sent → X)
     → MatchBool b (ResetTurn boot news p q sent) (LiveTurn service server boot news p q sent) → X
 by_reset service server boot news p q sent true e f g t = f t
 by_reset service server boot news p q sent false e f g t = g e t
 
-pub was_not_reset : (news : News) (p : Point) → reset_after news p ≡ false → p.reset ≡ false
+was_not_reset : (news : News) (p : Point) → reset_after news p ≡ false → p.reset ≡ false
 unfolding reset_after
 was_not_reset (Comes segment) p e = (neither p.reset _ e).0
 was_not_reset (Logged kept) p e = e

@@ -1,6 +1,6 @@
 //! Laws over the definitions. Nothing here runs; each function is a theorem.
 
-ghost use Rattle.std.specs.Prelude.{◌≡◌, ℕ, true, false, None, List};
+ghost use Rattle.std.specs.Prelude.{◌≡◌, ℕ, true, false, None, List, [], ◌∷◌, if◌then◌else◌};
 ghost use Rattle.std.specs.List.{list_any};
 ghost use Rattle.ft_io.specs.declared.Addr.{Addr};
 ghost use Rattle.server_trait.specs.Service.{machine};
@@ -8,6 +8,7 @@ ghost use Rattle.ft_model.specs.Network.{Packet};
 ghost use Rattle.ft_model.specs.News.{News};
 ghost use Rattle.ft_model.specs.News.News.{Begins};
 ghost use Rattle.ft_model.specs.Reads.{next_read};
+ghost use Rattle.ft_model.specs.Segments.{fin_segment, sends_fin, new_fin};
 ghost use Rattle.ft_model.specs.Told.{is_segment, IsTold};
 ghost use Rattle.ft_model.specs.Point.{Point};
 ghost use Rattle.ft_model.specs.Connection.{LiveTurn};
@@ -54,6 +55,14 @@ pub fn turns_leave_no_read<S: Service>()
     ensures { (kind boot : ℕ) (server : Addr) (news : News) (before after : Point) (sent : List Packet)
         → LiveTurn (machine (S.started kind) S.after) server boot news before after sent
         → next_read (machine (S.started kind) S.after) after ≡ None }
+{}
+
+/// Where the unit behind all output is sent for the first time, a logged read has closed the service: so of a new FIN the law on output asks nothing
+/// that the laws of sending don't give.
+pub fn new_fins_are_closed<S: Service>()
+    ensures { (kind : ℕ) (server : Addr) (before after : Point)
+        → new_fin (machine (S.started kind) S.after) server before after
+        ≡ (if sends_fin (machine (S.started kind) S.after) before after then fin_segment (machine (S.started kind) S.after) server after ∷ [] else []) }
 {}
 
 /// A schedule has at most one legal trace: its events, the scripted clients and the laws of the server leave nothing open.
