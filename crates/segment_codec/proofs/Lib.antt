@@ -1,3 +1,4 @@
+pub mod Accepting
 pub mod Canonical
 pub mod Cells
 pub mod Options

@@ -2,12 +2,14 @@
 //! says, and which refusal it gets, is the packet grammar of `seq_arith`. Nothing here takes memory.
 #![tactic(auto)]
 
+pub use accepted::read_accepted;
 pub use header::{payload_start, write_header};
 pub use reading::read_packet;
 pub use seq_arith::{BadPacket, Head};
 pub use setting::{set_ack, set_seq, set_window};
 pub use writing::write_packet;
 
+mod accepted;
 mod fields;
 mod header;
 mod reading;

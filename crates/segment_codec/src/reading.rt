@@ -79,7 +79,7 @@ fn read_tcp(bytes: &[u8]) -> Result<PacketRef<'_>, BadPacket>
 }
 
 #[tactic(auto, unfolding(seq_arith::specs::PacketGrammar::payload_at))]
-fn payload_start(bytes: &[u8]) -> usize
+pub(crate) fn payload_start(bytes: &[u8]) -> usize
     requires { 40 ≤ length bytes.now }
     ensures { result ≡ payload_at bytes.now }
 {
@@ -87,7 +87,7 @@ fn payload_start(bytes: &[u8]) -> usize
 }
 
 #[tactic(auto, unfolding(seq_arith::specs::PacketGrammar::head_in))]
-fn read_head(bytes: &[u8], mss: Option<u16>) -> Head
+pub(crate) fn read_head(bytes: &[u8], mss: Option<u16>) -> Head
     requires long { 40 ≤ length bytes.now }
     requires offered { mss ≡ mss_in 0 (options_in bytes.now) }
     ensures { said result ≡ head_in bytes.now }
@@ -106,7 +106,7 @@ fn read_head(bytes: &[u8], mss: Option<u16>) -> Head
 }
 
 /// The segment size that the options offer, if they do. `None` where an option's length is wrong.
-fn offered_mss(options: &[u8]) -> Option<Option<u16>>
+pub(crate) fn offered_mss(options: &[u8]) -> Option<Option<u16>>
     ensures good { IfSome result (λ _. has_bad_option 0 options.now ≡ false) }
     ensures offered { IfSome result (λ mss. mss ≡ mss_in 0 options.now) }
     ensures bad { IfNone result (has_bad_option 0 options.now ≡ true) }

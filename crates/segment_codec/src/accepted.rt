@@ -1,0 +1,49 @@
+//! A packet that is known to be accepted is read without its tests, and so without a sum.
+
+ghost use Rattle.std.specs.Prelude.{◌≡◌, ◌≤◌, ◌-◌, Ok, IsOk, length, drop};
+ghost use Rattle.seq_arith.specs.PacketGrammar.{reading, payload_at, options_in, mss_in};
+ghost use Rattle.segment_codec.specs.Value.{segment_of};
+
+use crate::PacketRef;
+use crate::reading::{offered_mss, payload_start, read_head};
+
+/// Reads a packet that `read_packet` accepts. It looks at the headers alone.
+#[tactic(auto, using(crate::proofs::Accepting::header_is_long, crate::proofs::Accepting::packet_is_short, crate::proofs::Accepting::is_read), unfolding(seq_arith::specs::PacketGrammar::segment_in))]
+pub fn read_accepted(bytes: &[u8]) -> PacketRef<'_>
+    requires { IsOk (reading bytes.now) }
+    ensures read { reading bytes.now ≡ Ok (segment_of result) }
+    // The payload is the end of the bytes.
+    ensures place { result.payload.now ≡ drop (length bytes.now - length result.payload.now) bytes.now }
+    ensures within { length result.payload.now ≤ length bytes.now }
+    ensures most { length result.payload.now ≤ 1460 }
+    ensures short { length bytes.now ≤ 1500 }
+{
+    let start = accepted_start(bytes);
+    PacketRef {
+        head: read_head(bytes, accepted_mss(bytes, start)),
+        payload: &bytes[start..],
+    }
+}
+
+/// Where the payload begins.
+#[tactic(auto, using(crate::proofs::Accepting::header_is_long, crate::proofs::Accepting::start_is_there))]
+fn accepted_start(bytes: &[u8]) -> usize
+    requires { IsOk (reading bytes.now) }
+    ensures value { result ≡ payload_at bytes.now }
+    ensures behind { 40 ≤ result }
+    ensures within { result ≤ length bytes.now }
+{
+    payload_start(bytes)
+}
+
+/// The segment size that the options offer.
+#[tactic(auto, using(crate::proofs::Accepting::options_are_good), unfolding(seq_arith::specs::PacketGrammar::options_in))]
+fn accepted_mss(bytes: &[u8], start: usize) -> Option<u16>
+    requires accepted { IsOk (reading bytes.now) }
+    requires start { start ≡ payload_at bytes.now }
+    requires behind { 40 ≤ start }
+    requires within { start ≤ length bytes.now }
+    ensures { result ≡ mss_in 0 (options_in bytes.now) }
+{
+    offered_mss(&bytes[40..start]).unwrap_or(None)
+}

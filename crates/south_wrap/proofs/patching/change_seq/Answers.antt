@@ -1,0 +1,22 @@
+use Rattle.std.proofs.Common.{sym}
+use Rattle.seq_arith.specs.Packet.{with_seq}
+use Rattle.south_wrap.proofs.Heads.{head_is_there, head_length, read_behind, still_a_packet, spelled_behind}
+use Rattle.south_wrap.proofs.patching.change_seq.Goals as goal
+
+pub slice_bounds-set_seq-end : goal.slice_bounds-set_seq-end
+slice_bounds-set_seq-end c = head_is_there c.args.packet.now c.requires
+
+pub slice_bounds-set_seq-end-2 : goal.slice_bounds-set_seq-end-2
+slice_bounds-set_seq-end-2 c = sym (head_length c.args.packet.now c.requires)
+
+pub set_seq-requires : goal.set_seq-requires
+set_seq-requires c = head_length c.args.packet.now c.requires
+
+pub returns-clause-read : goal.returns-clause-read
+returns-clause-read c = read_behind c.args.packet.now c.set_seq.new.head (with_seq c.args.seq.0) c.requires c.set_seq.ensures.read
+
+pub returns-clause-accepted : goal.returns-clause-accepted
+returns-clause-accepted c = still_a_packet c.args.packet.now c.set_seq.new.head (with_seq c.args.seq.0) c.requires (returns-clause-read c)
+
+pub returns-clause-canonical : goal.returns-clause-canonical
+returns-clause-canonical c = spelled_behind c.args.packet.now c.set_seq.new.head (with_seq c.args.seq.0) c.set_seq.ensures.canonical

@@ -1,0 +1,3 @@
+pub mod SouthState
+pub mod Patching
+pub mod Standing

@@ -1,0 +1,59 @@
+-- What becomes of a segment on its way between the client and TCP, and what of it goes to the logger.
+use Rattle.std.specs.Prelude.{◌≡◌, ◌≤◌, ℕ, ℤ, Bool, pos, ◌+◌, ◌-◌, ◌+ℤ◌, ◌==◌, ◌&&◌, ◌||◌, max, nat_lt, nat_le, List, length, take, drop, if◌then◌else◌}
+use Rattle.seq_arith.specs.Number.{number_at}
+use Rattle.seq_arith.specs.Arrival.{below, int_eq}
+use Rattle.seq_arith.specs.Offset.{first_of, text_of, fin_of}
+use Rattle.seq_arith.specs.Packet.{Segment, has_rst}
+use Rattle.ft_model.specs.Copy.{from_start}
+use Rattle.ft_model.specs.Opening.{is_syn}
+use Rattle.south_wrap.specs.declared.answers.CopyPart.{CopyPart}
+use Rattle.south_wrap.specs.declared.answers.Inward.{Inward}
+use Rattle.south_wrap.specs.declared.answers.Inward.TheVariants.{Pass, Repeat}
+use Rattle.south_wrap.specs.SouthState.{SouthState, taken_units, acknowledged, window, raised, inner_ack, inner_window}
+
+-- Outward: the sequence number is raised by delta, and acknowledgement and window are those of the laws
+abbrev pub outward : SouthState → Segment → Segment
+outward s segment = record segment { head = record segment.head { seq = raised s segment.head.seq; ack = number_at s.cisn (acknowledged s); window = window s } }
+
+-- Inward: acknowledgement and window are those that TCP is to see. The client's own numbers stay
+abbrev pub inward : SouthState → Segment → Segment
+inward s segment = record segment { head = record segment.head { ack = inner_ack s segment.head.ack; window = inner_window s segment.head.ack segment.head.window } }
+
+-- the client's own SYN comes again, and nothing of it or of the output has gone further: the kept SYN-ACK answers it, and TCP doesn't see it
+abbrev pub repeats_syn : SouthState → Segment → Bool
+repeats_syn s segment = is_syn segment && segment.head.seq == s.cisn && taken_units s == 0 && s.una == 0
+
+abbrev pub answer_in : SouthState → Segment → Inward
+answer_in s segment = if repeats_syn s segment then Repeat else Pass
+
+abbrev pub passed_in : SouthState → Segment → Segment
+passed_in s segment = if repeats_syn s segment then segment else inward s segment
+
+-- a RST of TCP doesn't go to the client
+abbrev pub passed_out : SouthState → Segment → Segment
+passed_out s segment = if has_rst segment then segment else outward s segment
+
+-- Copy: what of a segment is taken and not known to be logged, with the place in the stream where that begins
+pub record Copied : Type 0 where
+  pub offset : ℕ
+  pub text : List ℕ
+  pub fin : Bool
+
+abbrev pub copied : SouthState → Segment → Copied
+copied s segment = let start : ℕ = max s.answered (from_start (first_of s.cisn segment)) in record {
+  offset = start;
+  text = take (s.taken - start) (drop (below s.answered (first_of s.cisn segment)) (text_of segment));
+  fin = fin_of segment && (s.fin && int_eq (first_of s.cisn segment +ℤ pos (length (text_of segment))) (pos s.taken) && nat_le s.answered s.taken);
+}
+
+-- there is some
+abbrev pub is_some_copied : Copied → Bool
+is_some_copied c = nat_lt 0 (length c.text) || c.fin
+
+-- a part of a packet's bytes is that
+pub record IsPart (bytes : List ℕ) (part : CopyPart) (c : Copied) : Type 0 where
+  pub offset : part.offset ≡ c.offset
+  pub order : part.from ≤ part.to
+  pub within : part.to ≤ length bytes
+  pub text : take (part.to - part.from) (drop part.from bytes) ≡ c.text
+  pub fin : part.fin ≡ c.fin

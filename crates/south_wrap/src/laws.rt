@@ -1,0 +1,33 @@
+//! The wrapper's words are the model's, at the point of its connection.
+
+ghost use Rattle.std.specs.Prelude.{◌≡◌, ◌≤◌, ◌+◌, ℕ, max, length};
+ghost use Rattle.seq_arith.specs.Packet.{Segment};
+ghost use Rattle.ft_model.specs.Point.{Point, acknowledgement};
+ghost use Rattle.ft_model.specs.Copy.{copy_start, copied_text, copies_fin};
+ghost use Rattle.ft_model.specs.Segments as model;
+ghost use Rattle.south_wrap.specs.SouthState.{acknowledged, window, with_stable};
+ghost use Rattle.south_wrap.specs.Patching.{repeats_syn, copied};
+ghost use Rattle.south_wrap.specs.Standing.{south_at};
+
+/// It acknowledges and announces what the laws Acknowledgement and Window say.
+pub fn it_tells_what_the_laws_say()
+    ensures acknowledgement { (delta : ℕ) (p : Point) → acknowledged (south_at delta p) ≡ acknowledgement p }
+    ensures window { (delta : ℕ) (p : Point) → window (south_at delta p) ≡ model.window p }
+{}
+
+/// It copies what the law Copy says.
+pub fn it_copies_what_the_law_says()
+    ensures offset { (delta : ℕ) (p : Point) (segment : Segment) → (copied (south_at delta p) segment).offset ≡ copy_start p segment }
+    ensures text { (delta : ℕ) (p : Point) (segment : Segment) → (copied (south_at delta p) segment).text ≡ copied_text p segment }
+    ensures fin { (delta : ℕ) (p : Point) (segment : Segment) → (copied (south_at delta p) segment).fin ≡ copies_fin p segment }
+{}
+
+/// It answers with the kept SYN-ACK where the law on segments does.
+pub fn it_repeats_the_syn_ack_as_the_law_says()
+    ensures { (delta : ℕ) (p : Point) (segment : Segment) → repeats_syn (south_at delta p) segment ≡ model.repeats_syn p segment }
+{}
+
+/// What is known to be logged rises as the law Answered says.
+pub fn it_hears_what_is_logged()
+    ensures { (delta : ℕ) (p : Point) (units : ℕ) → with_stable units (south_at delta p) ≡ south_at delta (record p { answered = max p.answered units }) }
+{}

@@ -1,0 +1,53 @@
+//! A segment on its way between the client and TCP.
+
+ghost use Rattle.std.specs.Prelude.{◌≡◌, Ok, IsOk, IfOk, not};
+ghost use Rattle.seq_arith.specs.Packet.{Segment, has_rst};
+ghost use Rattle.seq_arith.specs.PacketGrammar.{reading, spelling};
+ghost use Rattle.segment_codec.specs.Change.{changed};
+ghost use Rattle.south_wrap.specs.Patching.{answer_in, passed_in, passed_out};
+
+use crate::answers::Inward;
+use crate::patching::{change_ack, change_seq, change_window};
+use crate::south::South;
+use segment_codec::read_accepted;
+use seq_arith::{RST, has};
+
+impl South {
+    /// A segment from the client, on its way to TCP. Its acknowledgement is lowered by delta; one above what this incarnation has sent is
+    /// lowered to that before, and its window raised by as much, at most to 65,535. All else stays.
+    pub fn inward(&mut self, packet: &mut [u8]) -> Inward
+        requires { IsOk (reading packet.old) }
+        ensures answer { IfOk (reading packet.old) (λ segment. result ≡ answer_in self.old segment) }
+        ensures state { self.new ≡ self.old }
+        ensures read { reading packet.new ≡ changed (passed_in self.old) (reading packet.old) }
+        ensures canonical { (segment : Segment) → reading packet.old ≡ Ok segment → packet.old ≡ spelling segment → packet.new ≡ spelling (passed_in self.old segment) }
+    {
+        let head = read_accepted(packet).head;
+        if self.repeats_syn(&head) {
+            return Inward::Repeat;
+        }
+        change_ack(packet, self.inner_ack(head.ack));
+        change_window(packet, self.inner_window(head.ack, head.window));
+        Inward::Pass
+    }
+
+    /// A segment from TCP, on its way to the client: whether it goes on. A RST doesn't. All others have their number raised by delta, and
+    /// acknowledge what is both taken and known to be logged, with the window behind that.
+    pub fn outward(&mut self, packet: &mut [u8]) -> bool
+        requires { IsOk (reading packet.old) }
+        ensures answer { IfOk (reading packet.old) (λ segment. result ≡ not (has_rst segment)) }
+        ensures state { self.new ≡ self.old }
+        ensures read { reading packet.new ≡ changed (passed_out self.old) (reading packet.old) }
+        ensures canonical { (segment : Segment) → reading packet.old ≡ Ok segment → packet.old ≡ spelling segment → packet.new ≡ spelling (passed_out self.old segment) }
+    {
+        let head = read_accepted(packet).head;
+        if has(head.flags, RST) {
+            return false;
+        }
+        let told = self.ack_now();
+        change_seq(packet, head.seq.add(self.delta()));
+        change_ack(packet, told.ack);
+        change_window(packet, told.window);
+        true
+    }
+}

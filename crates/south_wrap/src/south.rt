@@ -1,0 +1,309 @@
+//! What the wrapper knows of its connection.
+
+ghost use Rattle.std.specs.Prelude.{◌≡◌, ◌≤◌, ◌<◌, ◌+◌, ◌^◌, ◌&&◌, ℕ, List, pos, nat_abs, is_some, ◌-◌, nat_le, IfNone, IfSome};
+ghost use Rattle.seq_arith.specs.Arrival.{int_eq};
+ghost use Rattle.segment_codec.specs.Value.{said};
+ghost use Rattle.seq_arith.specs.Number.{number_at, offset_of};
+ghost use Rattle.seq_arith.specs.Offset.{one_if};
+ghost use Rattle.south_wrap.specs.SouthState.{acknowledged, receive_edge, window, first_south, resumed_south, with_stable, is_high, inner_ack, inner_window};
+ghost use Rattle.south_wrap.specs.Patching.{repeats_syn};
+
+use crate::answers::AckOut;
+use segment_codec::Head;
+use seq_arith::{ACK, RST, SYN, Seq, has};
+use std::marker::Model;
+
+/// The bytes of a stream.
+const STREAM: u32 = 16_777_216;
+
+/// The bytes that TCP buffers for a reader.
+const BUFFER: u32 = 65_535;
+
+/// The south wrapper of one connection. Lengths are in bytes; units are bytes and one more for a FIN.
+#[derive(Drop)]
+pub struct South {
+    cisn: Seq,
+    sisn: Seq,
+    delta: u32,
+    fetched: u32,
+    taken: u32,
+    fin: bool,
+    answered: u32,
+    read: u32,
+    una: u32,
+    sent: u32,
+}
+
+impl Model for South {
+    ghost use Rattle.std.specs.Prelude.{◌≤◌, ◌+◌, ◌^◌};
+    ghost use Rattle.seq_arith.specs.Offset.{one_if};
+    ghost use Rattle.south_wrap.specs.SouthState.{SouthState, receive_edge};
+
+    ghost Value = { SouthState };
+
+    ghost view = { λ s. record {
+      cisn = s.cisn.0;
+      sisn = s.sisn.0;
+      delta = s.delta;
+      fetched = s.fetched;
+      taken = s.taken;
+      fin = s.fin;
+      answered = s.answered;
+      read = s.read;
+      una = s.una;
+      sent = s.sent;
+    } };
+
+    ghost invariant = { λ s. (s.fetched ≤ 2 ^ 24) × (s.taken ≤ 2 ^ 24) × (s.answered ≤ 2 ^ 24 + 1) × (s.read ≤ 2 ^ 24) × (s.una ≤ 2 ^ 24 + 1) × (s.sent ≤ 2 ^ 25 + 1) };
+}
+
+impl South {
+    /// Of a connection that this incarnation opens, with the client's and the server's initial numbers.
+    pub fn new(cisn: Seq, sisn: Seq) -> South
+        ensures { result ≡ first_south cisn.0 sisn.0 }
+    {
+        South {
+            cisn,
+            sisn,
+            delta: 0,
+            fetched: 0,
+            taken: 0,
+            fin: false,
+            answered: 0,
+            read: 0,
+            una: 0,
+            sent: 0,
+        }
+    }
+
+    /// Of a connection at the end of a restart. The log has `length` bytes of the client, and its FIN where `fin`; the client had acknowledged
+    /// `acked` units of output, and the new TCP has the initial number `inner`, from which it counts the output behind these.
+    pub fn resumed(cisn: Seq, sisn: Seq, length: u32, fin: bool, acked: u32, inner: Seq) -> South
+        requires length { length ≤ 2 ^ 24 }
+        requires acked { acked ≤ 2 ^ 24 }
+        ensures { result ≡ resumed_south cisn.0 sisn.0 length fin acked inner.0 }
+    {
+        South {
+            cisn,
+            sisn,
+            delta: sisn.add(acked).minus(inner),
+            fetched: length,
+            taken: length,
+            fin,
+            answered: length + u32::from(fin),
+            read: 0,
+            una: acked,
+            sent: acked,
+        }
+    }
+
+    /// Notes how many bytes TCP has taken, and whether the client's FIN is.
+    pub fn taken(&mut self, bytes: u32, fin: bool)
+        requires edge { bytes ≤ receive_edge self.old }
+        requires rises { self.old.taken ≤ bytes }
+        ensures { self.new ≡ record self.old { taken = bytes; fin = fin } }
+    {
+        self.taken = bytes;
+        self.fin = fin;
+    }
+
+    /// Notes how many units of output the client has acknowledged.
+    pub fn acked(&mut self, units: u32)
+        requires { units ≤ 2 ^ 24 + 1 }
+        ensures { self.new ≡ record self.old { una = units } }
+    {
+        self.una = units;
+    }
+
+    /// Notes how many units of output this incarnation's TCP has sent.
+    pub fn sent(&mut self, units: u32)
+        requires most { units ≤ 2 ^ 25 + 1 }
+        requires rises { self.old.sent ≤ units }
+        ensures { self.new ≡ record self.old { sent = units } }
+    {
+        self.sent = units;
+    }
+
+    /// Notes how many bytes the service has read.
+    pub fn read_to(&mut self, bytes: u32)
+        requires most { bytes ≤ 2 ^ 24 }
+        requires rises { self.old.read ≤ bytes }
+        ensures { self.new ≡ record self.old { read = bytes } }
+    {
+        self.read = bytes;
+    }
+
+    /// The logger has so many bytes of the client, and its FIN where `fin`. What is to be told to the client now, where that is news.
+    pub fn on_stable(&mut self, length: u32, fin: bool) -> Option<AckOut>
+        requires { length ≤ 2 ^ 24 }
+        ensures state { self.new ≡ with_stable (length + one_if fin) self.old }
+        ensures none { IfNone result (length + one_if fin ≤ self.old.answered) }
+        ensures some { IfSome result (λ told. self.old.answered < length + one_if fin) }
+        ensures ack { IfSome result (λ told. told.ack.0 ≡ number_at self.new.cisn (acknowledged self.new)) }
+        ensures window { IfSome result (λ told. told.window ≡ window self.new) }
+    {
+        let units = length + u32::from(fin);
+        if units <= self.answered {
+            return None;
+        }
+        self.answered = units;
+        Some(self.ack_now())
+    }
+
+    /// What the client is told of its stream now: what is both taken and known to be logged, and the room behind it.
+    pub fn ack_now(&self) -> AckOut
+        ensures ack { result.ack.0 ≡ number_at self.now.cisn (acknowledged self.now) }
+        ensures window { result.window ≡ window self.now }
+    {
+        AckOut {
+            ack: offset_number(self.cisn, self.acknowledged()),
+            window: self.window(),
+        }
+    }
+
+    /// The units that may be acknowledged.
+    fn acknowledged(&self) -> u32
+        ensures value { result ≡ acknowledged self.now }
+        ensures most { result ≤ 2 ^ 24 + 1 }
+    {
+        (self.taken + u32::from(self.fin)).min(self.answered)
+    }
+
+    /// The window behind them.
+    fn window(&self) -> u16
+        ensures { result ≡ window self.now }
+    {
+        let edge = (self.fetched.max(self.read) + BUFFER).min(STREAM) + u32::from(self.fin);
+        edge.saturating_sub(self.acknowledged()).min(BUFFER) as u16
+    }
+
+    /// The outer number less the inner one.
+    pub fn delta(&self) -> u32
+        ensures { result ≡ self.now.delta }
+    {
+        self.delta
+    }
+
+    /// The stable number: the first of the client's stream that isn't known to be logged.
+    pub fn stable(&self) -> Seq
+        ensures { result.0 ≡ number_at self.now.cisn self.now.answered }
+    {
+        offset_number(self.cisn, self.answered)
+    }
+
+    /// The client's initial number.
+    pub fn cisn(&self) -> Seq
+        ensures { result.0 ≡ self.now.cisn }
+    {
+        self.cisn
+    }
+
+    /// The server's initial number, as the client knows it.
+    pub fn sisn(&self) -> Seq
+        ensures { result.0 ≡ self.now.sisn }
+    {
+        self.sisn
+    }
+
+    pub(crate) fn answered(&self) -> u32
+        ensures value { result ≡ self.now.answered }
+        ensures most { result ≤ 2 ^ 24 + 1 }
+    {
+        self.answered
+    }
+
+    pub(crate) fn bytes_taken(&self) -> u32
+        ensures { result ≡ self.now.taken }
+    {
+        self.taken
+    }
+
+    /// The offset in the client's stream that a number names.
+    #[tactic(auto, unfolding(seq_arith::specs::Number::offset_of))]
+    pub(crate) fn offset_of(&self, number: Seq) -> i64
+        ensures value { result ≡ offset_of self.now.cisn number.0 }
+        ensures within { nat_abs result ≤ 2 ^ 31 }
+    {
+        number.signed_gap(self.cisn.add(1))
+    }
+
+    /// Whether the client's FIN is taken at this offset, and isn't known to be logged.
+    pub(crate) fn is_end(&self, offset: i64) -> bool
+        ensures { result ≡ (self.now.fin && int_eq offset (pos self.now.taken) && nat_le self.now.answered self.now.taken) }
+    {
+        self.fin && is_at(offset, self.taken) && self.answered <= self.taken
+    }
+
+    /// Whether this is the client's own SYN again, while nothing of it is taken and nothing of the output acknowledged.
+    pub(crate) fn repeats_syn(&self, head: &Head) -> bool
+        ensures { (payload : List ℕ) → result ≡ repeats_syn self.now (record { head = said head.now; payload = payload }) }
+    {
+        has(head.flags, SYN)
+            && !has(head.flags, ACK)
+            && !has(head.flags, RST)
+            && head.seq == self.cisn
+            && self.taken + u32::from(self.fin) == 0
+            && self.una == 0
+    }
+
+    /// Up to where the client acknowledges the output, as it counts it.
+    #[tactic(auto, unfolding(seq_arith::specs::Number::offset_of))]
+    fn offset_acknowledged(&self, ack: Seq) -> i64
+        ensures value { result ≡ offset_of self.now.sisn ack.0 }
+        ensures within { nat_abs result ≤ 2 ^ 31 }
+    {
+        ack.signed_gap(self.sisn.add(1))
+    }
+
+    /// How far the client acknowledges more than this incarnation has sent, where it does.
+    fn excess(&self, ack: Seq) -> Option<u64>
+        ensures some { IfSome result (λ n. n ≡ nat_abs (offset_of self.now.sisn ack.0) - self.now.sent) }
+        ensures high { is_some result ≡ is_high self.now ack.0 }
+        ensures most { IfSome result (λ n. n < 2 ^ 32) }
+    {
+        let offset = self.offset_acknowledged(ack);
+        if offset < 0 {
+            return None;
+        }
+        let units = offset as u64;
+        if units <= u64::from(self.sent) {
+            return None;
+        }
+        Some(units - u64::from(self.sent))
+    }
+
+    /// The acknowledgement that TCP sees for one of the client's.
+    pub(crate) fn inner_ack(&self, ack: Seq) -> Seq
+        ensures { result.0 ≡ inner_ack self.now ack.0 }
+    {
+        let known = match self.excess(ack) {
+            Some(_) => offset_number(self.sisn, self.sent),
+            None => ack,
+        };
+        Seq(known.minus(Seq(self.delta)))
+    }
+
+    /// The window that TCP sees beside it.
+    pub(crate) fn inner_window(&self, ack: Seq, window: u16) -> u16
+        ensures { result ≡ inner_window self.now ack.0 window }
+    {
+        match self.excess(ack) {
+            Some(excess) => (u64::from(window) + excess).min(65_535) as u16,
+            None => window,
+        }
+    }
+}
+
+/// The number of an offset in the stream of this initial number.
+pub(crate) fn offset_number(isn: Seq, offset: u32) -> Seq
+    ensures { result.0 ≡ number_at isn.0 offset }
+{
+    isn.add(1).add(offset)
+}
+
+/// Whether an offset is this one.
+fn is_at(offset: i64, place: u32) -> bool
+    ensures { result ≡ int_eq offset (pos place) }
+{
+    0 <= offset && offset as u64 == u64::from(place)
+}
