@@ -12,6 +12,7 @@ use Rattle.ft_model.specs.Network.{Packet, destination_of}
 use Rattle.ft_model.specs.Network.Packet.{To_server, To_client, To_logger, From_logger}
 use Rattle.ft_model.specs.Node.{Node, Input, booted}
 use Rattle.ft_model.specs.Node.Input.{Packet_comes, Message_comes, Tick_comes}
+use Rattle.ft_model.specs.Schedule.{kind_of}
 use Rattle.ft_model.specs.World.{World, Moment, ServerTurn, ServerMoves, Delivered, Moves, Happens, Joint, world_after, events_of, with_client}
 use Rattle.ft_model.specs.Legal.{start_of, mover_of, IsScripted, IsAllowed, AllAllowed, IsLegalFor}
 use Rattle.ft_model.specs.declared.event.Event.{Event}
@@ -135,5 +136,7 @@ module _ {State : Type 0} (service : Machine State) where
       (subst (λ t. IsAllowed (world_after start t) m) before a.1) b.1 in
       ap (λ x. x ∷ earlier) last ∙ ap (λ t. n ∷ t) before
 
-  pub legal_once : (schedule : Schedule) (events : List Event) (trace other : List Moment) → IsLegalFor service schedule events trace → IsLegalFor service schedule events other → trace ≡ other
-  legal_once schedule events trace other a b = traces_once (start_of schedule) trace other a.joint b.joint a.allowed b.allowed (a.events_are ∙ sym b.events_are)
+pub legal_once : {State : Type 0} (service : ℕ → Machine State) (schedule : Schedule) (events : List Event) (trace other : List Moment)
+    → IsLegalFor service schedule events trace → IsLegalFor service schedule events other → trace ≡ other
+legal_once service schedule events trace other a b =
+    traces_once (service (kind_of schedule.service)) (start_of schedule) trace other a.joint b.joint a.allowed b.allowed (a.events_are ∙ sym b.events_are)

@@ -1,8 +1,9 @@
 -- A schedule has one outcome: of two legal traces the longer begins with the shorter.
-use Rattle.std.proofs.Common.{◌≡◌, ◌+◌, ◌<◌, ◌≤◌, refl, sym, ap, ◌∙◌, subst, arith, None, List, [], ◌∷◌, ◌++◌, length, length-append}
+use Rattle.std.proofs.Common.{◌≡◌, ℕ, ◌+◌, ◌<◌, ◌≤◌, refl, sym, ap, ◌∙◌, subst, arith, None, List, [], ◌∷◌, ◌++◌, length, length-append}
 use Rattle.std.proofs.lemmas.Option.{none-some}
 use Rattle.server_trait.specs.Service.{Machine}
 use Rattle.ft_model.specs.Network.{Packet}
+use Rattle.ft_model.specs.Schedule.{kind_of}
 use Rattle.ft_model.specs.World.{World, Moment, Happens, Joint, world_after, events_of}
 use Rattle.ft_model.specs.Legal.{start_of, refusal, IsScripted, AllAllowed, IsLegalFor}
 use Rattle.ft_model.specs.Outcome.{packets_sent, IsWhole, IsRefused, IsPastPackets}
@@ -68,25 +69,26 @@ module _ {State : Type 0} (service : Machine State) where
       runs_last (events_of earlier) moment.event start (world_after start earlier) moment.world (runs_of start earlier joint.0 allowed.0)
       (record { sent = moment.sent; happens = joint.1; allowed = allowed.1.allowed; scripted = allowed.1.scripted })
 
+module _ {State : Type 0} (service : ℕ → Machine State) where
   runs_legal : (schedule : Schedule) (events : List Event) (trace : List Moment) → IsLegalFor service schedule events trace
-      → Runs service (start_of schedule) events (world_after (start_of schedule) trace)
-  runs_legal schedule events trace l = subst (λ es. Runs service (start_of schedule) es (world_after (start_of schedule) trace)) l.events_are (runs_of (start_of schedule) trace l.joint l.allowed)
+      → Runs (service (kind_of schedule.service)) (start_of schedule) events (world_after (start_of schedule) trace)
+  runs_legal schedule events trace l = subst (λ es. Runs (service (kind_of schedule.service)) (start_of schedule) es (world_after (start_of schedule) trace)) l.events_are (runs_of (service (kind_of schedule.service)) (start_of schedule) trace l.joint l.allowed)
 
   pub whole_or_refused : (schedule : Schedule) → IsWhole service schedule → IsRefused service schedule → ⊥
   whole_or_refused schedule a b =
       let start : World = start_of schedule in
-      let all : Runs service start (b.played ++ b.event ∷ b.others) (world_after start a.trace) =
-      subst (λ es. Runs service start es (world_after start a.trace)) b.events (runs_legal schedule schedule.events a.trace a.legal) in
-      let rest = runs_split b.played (b.event ∷ b.others) start (world_after start b.trace) (world_after start a.trace) (runs_legal schedule b.played b.trace b.legal) all in
+      let all : Runs (service (kind_of schedule.service)) start (b.played ++ b.event ∷ b.others) (world_after start a.trace) =
+      subst (λ es. Runs (service (kind_of schedule.service)) start es (world_after start a.trace)) b.events (runs_legal schedule schedule.events a.trace a.legal) in
+      let rest = runs_split (service (kind_of schedule.service)) b.played (b.event ∷ b.others) start (world_after start b.trace) (world_after start a.trace) (runs_legal schedule b.played b.trace b.legal) all in
       none-some b.why (sym rest.1.allowed ∙ b.refused)
 
   pub whole_or_past : (schedule : Schedule) → IsWhole service schedule → IsPastPackets service schedule → ⊥
   whole_or_past schedule a b =
       let start : World = start_of schedule in
-      let all : Runs service start (b.played ++ b.others) (world_after start a.trace) =
-      subst (λ es. Runs service start es (world_after start a.trace)) b.events (runs_legal schedule schedule.events a.trace a.legal) in
-      let rest = runs_split b.played b.others start (world_after start b.trace) (world_after start a.trace) (runs_legal schedule b.played b.trace b.legal) all in
-      let few : packets_sent schedule b.trace ≤ packets_sent schedule a.trace = runs_on b.others (world_after start b.trace) (world_after start a.trace) rest in
+      let all : Runs (service (kind_of schedule.service)) start (b.played ++ b.others) (world_after start a.trace) =
+      subst (λ es. Runs (service (kind_of schedule.service)) start es (world_after start a.trace)) b.events (runs_legal schedule schedule.events a.trace a.legal) in
+      let rest = runs_split (service (kind_of schedule.service)) b.played b.others start (world_after start b.trace) (world_after start a.trace) (runs_legal schedule b.played b.trace b.legal) all in
+      let few : packets_sent schedule b.trace ≤ packets_sent schedule a.trace = runs_on (service (kind_of schedule.service)) b.others (world_after start b.trace) (world_after start a.trace) rest in
       let low : packets_sent schedule a.trace ≤ 200000 = a.within in
       let high : 200000 < packets_sent schedule b.trace = b.over in
       omega arith
@@ -103,10 +105,10 @@ module _ {State : Type 0} (service : Machine State) where
       passed : World
       passed = world_after start b.trace
 
-      one : Runs service start a.played refused
+      one : Runs (service (kind_of schedule.service)) start a.played refused
       one = runs_legal schedule a.played a.trace a.legal
 
-      other : Runs service start b.played passed
+      other : Runs (service (kind_of schedule.service)) start b.played passed
       other = runs_legal schedule b.played b.trace b.legal
 
       over : length passed.packets ≤ length refused.packets → ⊥
@@ -115,12 +117,12 @@ module _ {State : Type 0} (service : Machine State) where
           let high : 200000 < packets_sent schedule b.trace = b.over in
           omega arith
 
-      on_from : (middle : List Event) → a.event ∷ a.others ≡ middle ++ b.others → Runs service refused middle passed → ⊥
+      on_from : (middle : List Event) → a.event ∷ a.others ≡ middle ++ b.others → Runs (service (kind_of schedule.service)) refused middle passed → ⊥
       on_from [] e r = over (subst (λ v. length passed.packets ≤ length v.packets) r (omega arith))
       on_from (event ∷ middle) e r =
           let same : event ≡ a.event = cc in
           none-some a.why (sym (subst (λ x. refusal refused x ≡ None) same r.1.allowed) ∙ a.refused)
 
       by_fronts : Fronts a.played (a.event ∷ a.others) b.played b.others → ⊥
-      by_fronts (longer middle p q) = on_from middle q (runs_split a.played middle start refused passed one (subst (λ es. Runs service start es passed) p other))
-      by_fronts (shorter middle p q) = over (runs_on middle passed refused (runs_split b.played middle start passed refused other (subst (λ es. Runs service start es refused) p one)))
+      by_fronts (longer middle p q) = on_from middle q (runs_split (service (kind_of schedule.service)) a.played middle start refused passed one (subst (λ es. Runs (service (kind_of schedule.service)) start es passed) p other))
+      by_fronts (shorter middle p q) = over (runs_on (service (kind_of schedule.service)) middle passed refused (runs_split (service (kind_of schedule.service)) b.played middle start passed refused other (subst (λ es. Runs (service (kind_of schedule.service)) start es refused) p one)))

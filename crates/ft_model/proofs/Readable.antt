@@ -9,7 +9,7 @@ use Rattle.ft_model.specs.Client.{Client}
 use Rattle.ft_model.specs.Network.{Packet}
 use Rattle.ft_model.specs.Network.Packet.{To_server, To_client, To_logger, From_logger}
 use Rattle.ft_model.specs.Wire.{HasWire}
-use Rattle.ft_model.specs.Schedule.{client_of, clients_of}
+use Rattle.ft_model.specs.Schedule.{kind_of, client_of, clients_of}
 use Rattle.ft_model.specs.World.{World, Moment, events_of}
 use Rattle.ft_model.specs.Image.{HasWires}
 use Rattle.ft_model.specs.Legal.{start_of, Legal}
@@ -49,11 +49,13 @@ readable_turns start (m ∷ earlier) few h f w =
     both_ways [] f w = tt
     both_ways (p ∷ ps) f w = ((ends_known start p few f.0, w.0), both_ways ps f.1 w.1)
 
-pub legal_readable : {State : Type 0} (service : Machine State) → HasSmallOutputs service → WritesBytes service → (schedule : Schedule) (trace : List Moment) → FitsSchedule schedule
+pub legal_readable : {State : Type 0} (service : ℕ → Machine State) → ((kind : ℕ) → HasSmallOutputs (service kind)) → ((kind : ℕ) → WritesBytes (service kind))
+    → (schedule : Schedule) (trace : List Moment) → FitsSchedule schedule
     → Legal service schedule trace → AllByRecursion (IsReadableTurn schedule.server (clients_of schedule.server schedule.clients)) trace
 legal_readable service small writes schedule trace fits l =
     let start : World = start_of schedule in
+    let kind : ℕ = kind_of schedule.service in
     let size = length_map (client_of schedule.server) schedule.clients in
     let many = fits.count in
     readable_turns start trace (omega (arith, size, many)) (subst (AllByRecursion FitsEvent) (sym l.events_are) fits.events)
-    (sent_formed service small writes start trace l.joint) (wires_sent service small writes start trace l.joint)
+    (sent_formed (service kind) (small kind) (writes kind) start trace l.joint) (wires_sent (service kind) (small kind) (writes kind) start trace l.joint)

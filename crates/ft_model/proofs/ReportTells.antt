@@ -6,7 +6,7 @@ use Rattle.server_trait.specs.Service.{Machine}
 use Rattle.ft_io.specs.declared.Addr.{Addr}
 use Rattle.ft_model.specs.declared.schedule.Schedule.{Schedule}
 use Rattle.ft_model.specs.Client.{Client}
-use Rattle.ft_model.specs.Schedule.{clients_of}
+use Rattle.ft_model.specs.Schedule.{kind_of, clients_of}
 use Rattle.ft_model.specs.World.{World, Moment, Joint, world_after, events_of}
 use Rattle.ft_model.specs.Legal.{start_of, AllAllowed, Legal}
 use Rattle.ft_model.specs.Report.{packet_lines, event_lines, closing_lines, report, turns_of}
@@ -54,8 +54,8 @@ played_tells service start clients = λ m n earlier older k r s p q same event n
     let sent : m.sent ≡ n.sent = ap (λ x. x.sent) (moment_once service (world_after start earlier) m n event p.0.1 there.0.1 p.1.1 there.1.1) in
     (sent, append_cancel_left (packet_lines clients k m.sent) r s (e ∙ ap (λ l. packet_lines clients k l ++ s) (sym sent)))
 
-played : {State : Type 0} (service : Machine State) (schedule : Schedule) (trace : List Moment) → FitsSchedule schedule → Legal service schedule trace
-    → IsPlayed service (start_of schedule) trace
+played : {State : Type 0} (service : ℕ → Machine State) (schedule : Schedule) (trace : List Moment) → FitsSchedule schedule → Legal service schedule trace
+    → IsPlayed (service (kind_of schedule.service)) (start_of schedule) trace
 played service schedule trace fits l = (l.joint, l.allowed, subst (AllByRecursion FitsEvent) (sym l.events_are) fits.events)
 
 same_start : (schedule other : Schedule) → IsSameHeader schedule other → start_of schedule ≡ start_of other
@@ -64,16 +64,18 @@ same_start schedule other h = λ i. start_of (record { service = h.service i; se
 same_schedule : (schedule other : Schedule) → IsSameHeader schedule other → schedule.events ≡ other.events → schedule ≡ other
 same_schedule schedule other h e = λ i. record { service = h.service i; server = h.server i; clients = h.clients i; events = e i }
 
-pub legal_told : {State : Type 0} (service : Machine State) (schedule other : Schedule) (trace also : List Moment) → FitsSchedule schedule → FitsSchedule other
+pub legal_told : {State : Type 0} (service : ℕ → Machine State) (schedule other : Schedule) (trace also : List Moment) → FitsSchedule schedule → FitsSchedule other
     → Legal service schedule trace → Legal service other also → report schedule trace ≡ report other also → (schedule ≡ other) × (trace ≡ also)
-legal_told service schedule other trace also fits too l k e =
+legal_told {State} service schedule other trace also fits too l k e =
     let start : World = start_of schedule in
-    let one : IsPlayed service start trace = played service schedule trace fits l in
-    let all = told schedule other (IsPlayed service start) fits too (played_front service start) (played_tells service start (clients_of schedule.server schedule.clients)) trace also one
-    (λ h. subst (λ w. IsPlayed service w also) (sym (same_start schedule other h)) (played service other also too k)) e in
-    let two : IsPlayed service start also = subst (λ w. IsPlayed service w also) (sym (same_start schedule other all.0)) (played service other also too k) in
+    let runs : Machine State = service (kind_of schedule.service) in
+    let one : IsPlayed runs start trace = played service schedule trace fits l in
+    let same : IsSameHeader schedule other → IsPlayed runs start also =
+    λ h. subst₂ (λ name w. IsPlayed (service (kind_of name)) w also) (sym h.service) (sym (same_start schedule other h)) (played service other also too k) in
+    let all = told schedule other (IsPlayed runs start) fits too (played_front runs start) (played_tells runs start (clients_of schedule.server schedule.clients)) trace also one same e in
+    let two : IsPlayed runs start also = same all.0 in
     let events : events_of trace ≡ events_of also = events_same trace also all.1 in
-    (same_schedule schedule other all.0 (sym l.events_are ∙ (events ∙ k.events_are)), traces_once service start trace also one.0 two.0 one.1 two.1 events)
+    (same_schedule schedule other all.0 (sym l.events_are ∙ (events ∙ k.events_are)), traces_once runs start trace also one.0 two.0 one.1 two.1 events)
 
 -- readable turns
 readable_front : (server : Addr) (clients : List Client) → HasFront (AllByRecursion (IsReadableTurn server clients))

@@ -1,5 +1,5 @@
 -- Bytes tell what they spell: reading gives the packet back.
-use Rattle.std.proofs.Common.{◌≡◌, ℕ, ◌+◌, ◌*◌, arith, refl, sym, ap, ◌∙◌, subst, List, [], ◌∷◌, ◌++◌, map, Ok, Result}
+use Rattle.std.proofs.Common.{◌≡◌, ℕ, ◌+◌, ◌*◌, arith, refl, sym, ap, ◌∙◌, subst, subst₂, List, [], ◌∷◌, ◌++◌, map, Ok, Result}
 use Rattle.std.specs.List.{AllByRecursion}
 use Rattle.seq_arith.specs.Packet.{Segment}
 use Rattle.seq_arith.specs.Message.{Message}
@@ -14,6 +14,7 @@ use Rattle.ft_model.specs.Wire.{Party, Wire, wire_of, CanBeSent, CanBeTold, HasW
 use Rattle.ft_model.specs.Wire.Party.{A_client, The_server, The_logger}
 use Rattle.ft_model.specs.World.{Moment, events_of, Joint}
 use Rattle.ft_model.specs.Image.{wires_of, HasWires}
+use Rattle.ft_model.specs.Schedule.{kind_of}
 use Rattle.ft_model.specs.Legal.{Legal, start_of, AllAllowed}
 use Rattle.ft_model.specs.Report.{turns_of}
 use Rattle.ft_model.specs.declared.schedule.Schedule.{Schedule}
@@ -91,8 +92,8 @@ events_told (m ∷ earlier) (n ∷ older) e =
     let others : events_of earlier ≡ events_of older = events_told earlier older rest in
     ap (λ x. events_of earlier ++ x ∷ []) event ∙ ap (λ x. x ++ n.event ∷ []) others
 
-pub trace_told : {State : Type 0} (service : Machine State) (schedule other : Schedule) (trace also : List Moment) → start_of schedule ≡ start_of other
+pub trace_told : {State : Type 0} (service : ℕ → Machine State) (schedule other : Schedule) (trace also : List Moment) → schedule.service ≡ other.service → start_of schedule ≡ start_of other
     → Legal service schedule trace → Legal service other also → wires_of trace ≡ wires_of also → trace ≡ also
-trace_told service schedule other trace also same l k e =
-    traces_once service (start_of schedule) trace also l.joint (subst (λ w. Joint service w also) (sym same) k.joint) l.allowed
+trace_told service schedule other trace also named same l k e =
+    traces_once (service (kind_of schedule.service)) (start_of schedule) trace also l.joint (subst₂ (λ name w. Joint (service (kind_of name)) w also) (sym named) (sym same) k.joint) l.allowed
     (subst (λ w. AllAllowed w also) (sym same) k.allowed) (events_told trace also e)

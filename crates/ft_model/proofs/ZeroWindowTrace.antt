@@ -241,7 +241,7 @@ allowed_24 = record { allowed = refl; scripted = unmoved run.moment_23.world run
 allowed_25 : IsAllowed run.moment_24.world run.moment_25
 allowed_25 = record { allowed = refl; scripted = unmoved run.moment_24.world run.moment_25.event run.moment_25.sent run.moment_25.world refl }
 
-pub is_legal : Legal echo run.schedule run.trace
+pub is_legal : Legal (λ kind. echo) run.schedule run.trace
 is_legal = record {
   joint = is_joint;
   events_are = refl;

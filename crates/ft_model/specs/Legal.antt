@@ -1,12 +1,12 @@
--- A legal trace of a schedule: it starts from the schedule's clients and the empty log, its events are the schedule's, all and in
--- order, each of them allowed, and its clients follow the script.
+-- A legal trace of a schedule: it starts from the schedule's clients and the empty log, its server runs the schedule's service, its events are
+-- the schedule's, all and in order, each of them allowed, and its clients follow the script.
 use Rattle.std.specs.Prelude.{◌≡◌, ℕ, nat_le, Option, Some, None, is_some, List, [], ◌∷◌, if◌then◌else◌}
-use Rattle.server_trait.specs.Service.{Machine}
+use Rattle.server_trait.specs.Service.{Served, Machine, machine}
 use Rattle.ft_model.specs.Client.{Client, Move, move_of, window_of, refusal_of_move, segment_of, moved}
 use Rattle.ft_model.specs.Log.{empty_log}
 use Rattle.ft_model.specs.Network.{Packet, packet_at}
 use Rattle.ft_model.specs.Network.Packet.{To_server}
-use Rattle.ft_model.specs.Schedule.{clients_of}
+use Rattle.ft_model.specs.Schedule.{kind_of, clients_of}
 use Rattle.ft_model.specs.World.{World, Moment, client_at, with_client, world_after, events_of, Joint}
 use Rattle.ft_model.specs.declared.event.Event.{Event}
 use Rattle.ft_model.specs.declared.event.Event.TheVariants.{Boot, Crash, Tick, Deliver, Flip, Begin, Send, Fin, Ack, Reset}
@@ -63,12 +63,16 @@ abbrev pub AllAllowed : World → List Moment → Type 0
 AllAllowed start [] = Unit {0}
 AllAllowed start (moment ∷ earlier) = AllAllowed start earlier × IsAllowed (world_after start earlier) moment
 
--- a legal trace of these events, from the start of the schedule, with the schedule's service
-pub record IsLegalFor {State : Type 0} (service : Machine State) (schedule : Schedule) (events : List Event) (trace : List Moment) : Type 0 where
-  pub joint : Joint service (start_of schedule) trace
+-- a service's machine of each kind
+abbrev pub machines : {State : Type 0} → (ℕ → State) → (State → List ℕ → Served State) → ℕ → Machine State
+machines started after kind = machine (started kind) after
+
+-- a legal trace of these events, from the start of the schedule, by the machine of the kind that the schedule names
+pub record IsLegalFor {State : Type 0} (service : ℕ → Machine State) (schedule : Schedule) (events : List Event) (trace : List Moment) : Type 0 where
+  pub joint : Joint (service (kind_of schedule.service)) (start_of schedule) trace
   pub events_are : events_of trace ≡ events
   pub allowed : AllAllowed (start_of schedule) trace
 
 -- a legal trace of a schedule, from its first event to its last
-abbrev pub Legal : {State : Type 0} → Machine State → Schedule → List Moment → Type 0
+abbrev pub Legal : {State : Type 0} → (ℕ → Machine State) → Schedule → List Moment → Type 0
 Legal service schedule trace = IsLegalFor service schedule schedule.events trace

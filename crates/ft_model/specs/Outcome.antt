@@ -12,13 +12,13 @@ abbrev pub packets_sent : Schedule → List Moment → ℕ
 packets_sent schedule trace = length (world_after (start_of schedule) trace).packets
 
 -- every event is allowed in its turn, and no more packets are sent than may be
-pub record IsWhole {State : Type 0} (service : Machine State) (schedule : Schedule) : Type 0 where
+pub record IsWhole {State : Type 0} (service : ℕ → Machine State) (schedule : Schedule) : Type 0 where
   pub trace : List Moment
   pub legal : Legal service schedule trace
   pub within : packets_sent schedule trace ≤ 200000
 
 -- after these first events the next one is refused, for this cause
-pub record IsRefused {State : Type 0} (service : Machine State) (schedule : Schedule) : Type 0 where
+pub record IsRefused {State : Type 0} (service : ℕ → Machine State) (schedule : Schedule) : Type 0 where
   pub played : List Event
   pub event : Event
   pub others : List Event
@@ -30,7 +30,7 @@ pub record IsRefused {State : Type 0} (service : Machine State) (schedule : Sche
   pub refused : refusal (world_after (start_of schedule) trace) event ≡ Some why
 
 -- with these first events more packets are sent than may be
-pub record IsPastPackets {State : Type 0} (service : Machine State) (schedule : Schedule) : Type 0 where
+pub record IsPastPackets {State : Type 0} (service : ℕ → Machine State) (schedule : Schedule) : Type 0 where
   pub played : List Event
   pub others : List Event
   pub trace : List Moment

@@ -1,4 +1,4 @@
--- A schedule's clients as they start: all are scripted.
+-- What a schedule starts with: its clients, which are all scripted, and its service's number.
 use Rattle.std.specs.Prelude.{ℕ, zero, suc, ◌+◌, ◌%◌, List, [], ◌∷◌, ◌++◌, map}
 use Rattle.ft_io.specs.declared.Addr.{Addr}
 use Rattle.ft_model.specs.Client.{Client, new_client}
@@ -6,6 +6,15 @@ use Rattle.ft_model.specs.Client.ClientKind.{Scripted}
 use Rattle.ft_model.specs.declared.schedule.Script.{Script}
 use Rattle.ft_model.specs.declared.schedule.Script.TheVariants.{Bytes, Fill}
 use Rattle.ft_model.specs.declared.schedule.ClientLine.{ClientLine}
+use Rattle.ft_model.specs.declared.schedule.ServiceKind.{ServiceKind}
+use Rattle.ft_model.specs.declared.schedule.ServiceKind.TheVariants.{Echo, Line, Transfer, Meter}
+
+-- the number by which a service that offers kinds knows the one that a schedule names
+abbrev pub kind_of : ServiceKind → ℕ
+kind_of Echo = 1
+kind_of Line = 2
+kind_of Transfer = 3
+kind_of Meter = 4
 
 -- the first n letters of the alphabet, over and over
 unfoldable pub letters : ℕ → List ℕ

@@ -15,7 +15,7 @@ ghost use Rattle.ft_model.specs.Connection.{LiveTurn};
 ghost use Rattle.ft_model.specs.Node.{Node, Input, AllCount};
 ghost use Rattle.ft_model.specs.Lawful.{LawfulTurn, is_fenced};
 ghost use Rattle.ft_model.specs.World.{Moment};
-ghost use Rattle.ft_model.specs.Legal.{Legal};
+ghost use Rattle.ft_model.specs.Legal.{Legal, machines};
 ghost use Rattle.ft_model.specs.Outcome.{IsWhole, IsRefused, IsPastPackets};
 ghost use Rattle.ft_model.specs.declared.schedule.Schedule.{Schedule};
 
@@ -67,16 +67,16 @@ pub fn new_fins_are_closed<S: Service>()
 
 /// A schedule has at most one legal trace: its events, the scripted clients and the laws of the server leave nothing open.
 pub fn legal_traces_are_determined<S: Service>()
-    ensures { (kind : ℕ) (schedule : Schedule) (trace other : List Moment)
-        → Legal (machine (S.started kind) S.after) schedule trace → Legal (machine (S.started kind) S.after) schedule other → trace ≡ other }
+    ensures { (schedule : Schedule) (trace other : List Moment)
+        → Legal (machines S.started S.after) schedule trace → Legal (machines S.started S.after) schedule other → trace ≡ other }
 {}
 
 /// A schedule has one outcome: either all its events are done, or one is refused, or more packets are sent than may be, and never two of these.
 pub fn schedules_have_one_outcome<S: Service>()
-    ensures whole_or_refused { (kind : ℕ) (schedule : Schedule)
-        → IsWhole (machine (S.started kind) S.after) schedule → IsRefused (machine (S.started kind) S.after) schedule → ⊥ }
-    ensures whole_or_past { (kind : ℕ) (schedule : Schedule)
-        → IsWhole (machine (S.started kind) S.after) schedule → IsPastPackets (machine (S.started kind) S.after) schedule → ⊥ }
-    ensures refused_or_past { (kind : ℕ) (schedule : Schedule)
-        → IsRefused (machine (S.started kind) S.after) schedule → IsPastPackets (machine (S.started kind) S.after) schedule → ⊥ }
+    ensures whole_or_refused { (schedule : Schedule)
+        → IsWhole (machines S.started S.after) schedule → IsRefused (machines S.started S.after) schedule → ⊥ }
+    ensures whole_or_past { (schedule : Schedule)
+        → IsWhole (machines S.started S.after) schedule → IsPastPackets (machines S.started S.after) schedule → ⊥ }
+    ensures refused_or_past { (schedule : Schedule)
+        → IsRefused (machines S.started S.after) schedule → IsPastPackets (machines S.started S.after) schedule → ⊥ }
 {}

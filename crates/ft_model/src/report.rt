@@ -13,8 +13,7 @@ ghost use Rattle.ft_model.specs.FirstPath.{client_key, from_client, from_server,
 ghost use Rattle.ft_model.specs.Report.{event_line, packet_line, way_of, turns_of, report, phase_line, entry_line, end_line};
 ghost use Rattle.ft_model.specs.Schedule.{clients_of};
 ghost use Rattle.ft_model.specs.World.{Moment};
-ghost use Rattle.ft_model.specs.Legal.{Legal};
-ghost use Rattle.server_trait.specs.Service.{machine};
+ghost use Rattle.ft_model.specs.Legal.{Legal, machines};
 ghost use Rattle.ft_model.specs.declared.schedule.Schedule.{Schedule};
 ghost use Rattle.ft_model.specs.declared.way.Way.{Way};
 ghost use Rattle.ft_model.specs.declared.way.Way.TheVariants.{ClientToServer, ServerToClient, ServerToLogger, LoggerToServer};
@@ -101,14 +100,14 @@ pub fn turns_of_reports()
 
 /// A report tells its schedule and its trace: two legal traces have the same report only where their schedules are the same, and they are.
 pub fn reports_tell_their_traces<S: Service>()
-    ensures { (kind : ℕ) (schedule other : Schedule) (trace also : List Moment) → FitsSchedule schedule → FitsSchedule other
-        → Legal (machine (S.started kind) S.after) schedule trace → Legal (machine (S.started kind) S.after) other also
+    ensures { (schedule other : Schedule) (trace also : List Moment) → FitsSchedule schedule → FitsSchedule other
+        → Legal (machines S.started S.after) schedule trace → Legal (machines S.started S.after) other also
         → report schedule trace ≡ report other also → (schedule ≡ other) × (trace ≡ also) }
 {}
 
 /// All that is sent in a legal trace has a line that tells it: it has a wire, and a segment has the addresses of a client and of the server. It
 /// is so where the schedule's numbers have the sizes of their types.
 pub fn legal_turns_are_readable<S: Service>()
-    ensures { (kind : ℕ) (schedule : Schedule) (trace : List Moment) → FitsSchedule schedule → Legal (machine (S.started kind) S.after) schedule trace
+    ensures { (schedule : Schedule) (trace : List Moment) → FitsSchedule schedule → Legal (machines S.started S.after) schedule trace
         → AllByRecursion (IsReadableTurn schedule.server (clients_of schedule.server schedule.clients)) trace }
 {}

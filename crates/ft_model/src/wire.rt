@@ -7,7 +7,7 @@ ghost use Rattle.ft_model.specs.Network.{Packet};
 ghost use Rattle.ft_model.specs.Wire.{wire_of, HasWire};
 ghost use Rattle.ft_model.specs.World.{World, Moment, Joint, world_after};
 ghost use Rattle.ft_model.specs.Image.{wires_of, HasWires};
-ghost use Rattle.ft_model.specs.Legal.{Legal, start_of};
+ghost use Rattle.ft_model.specs.Legal.{Legal, machines, start_of};
 ghost use Rattle.ft_model.specs.Report.{turns_of};
 ghost use Rattle.ft_model.specs.declared.schedule.Schedule.{Schedule};
 
@@ -28,9 +28,10 @@ pub fn packets_have_wires<S: Service>()
         → AllByRecursion HasWire (world_after start trace).packets }
 {}
 
-/// The bytes of a legal trace tell it: two legal traces of a schedule, or of two with the same start, are the same where their bytes are.
+/// The bytes of a legal trace tell it: two legal traces of a schedule, or of two with the same service and start, are the same where their bytes
+/// are.
 pub fn wires_tell_traces<S: Service>()
-    ensures { (kind : ℕ) (schedule other : Schedule) (trace also : List Moment) → start_of schedule ≡ start_of other
-        → Legal (machine (S.started kind) S.after) schedule trace → Legal (machine (S.started kind) S.after) other also
+    ensures { (schedule other : Schedule) (trace also : List Moment) → schedule.service ≡ other.service → start_of schedule ≡ start_of other
+        → Legal (machines S.started S.after) schedule trace → Legal (machines S.started S.after) other also
         → wires_of trace ≡ wires_of also → trace ≡ also }
 {}

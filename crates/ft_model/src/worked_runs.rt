@@ -123,6 +123,6 @@ pub fn wrong_restarts_are_refused()
 
 /// The run with a client without room, whole, is a legal trace of its schedule, and its report has these lines.
 pub fn zero_window_is_legal()
-    ensures legal { Legal echo ZeroWindowTrace.schedule ZeroWindowTrace.trace }
+    ensures legal { Legal (λ kind. echo) ZeroWindowTrace.schedule ZeroWindowTrace.trace }
     ensures told { report ZeroWindowTrace.schedule ZeroWindowTrace.trace ≡ concat ZeroWindowTrace.report_lines }
 {}

@@ -131,7 +131,10 @@ runs_read service v n closes r some there =
     let len : length (take n (drop (sum v.lengths) v.taken)) ≡ min n (length (drop (sum v.lengths) v.taken)) = length-take n (drop (sum v.lengths) v.taken) in
     let left : length (drop (sum v.lengths) v.taken) ≡ length v.taken - sum v.lengths = length-drop (sum v.lengths) v.taken in
     let fed_some : 0 < length (take n (drop (sum v.lengths) v.taken)) = omega arith in
-    let whole = read_run service v n r (closes v.service (take n (drop (sum v.lengths) v.taken)) fed_some) in
+    let chunk : List ℕ = take n (drop (sum v.lengths) v.taken) in
+    let stays_open : (service.after v.service chunk).closed ≡ false =
+    subst (λ s. (service.after s chunk).closed ≡ false) (ap (λ run. run.state) r.whole) (closes v.taken v.lengths chunk (ap (λ run. run.closed) r.whole) fed_some) in
+    let whole = read_run service v n r stays_open in
     let long : length (v.lengths ++ n ∷ []) ≡ length v.lengths + 1 = length-append v.lengths (n ∷ []) in
     let o : List ℕ = (service.after v.service (take n (drop (sum v.lengths) v.taken))).output in
     let ends : length (v.ends ++ length (v.output ++ o) ∷ []) ≡ length v.ends + 1 = length-append v.ends (length (v.output ++ o) ∷ []) in

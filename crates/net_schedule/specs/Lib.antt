@@ -4,7 +4,6 @@ pub mod Mapped
 pub mod Keeping
 pub mod Server
 pub mod Standing
-pub mod Kind
 pub mod Sending
 pub mod Played
 pub mod AtNumber

@@ -26,9 +26,12 @@ pub record Server (State : Type 0) : Type 0 where
   pub local : Addr
   pub stage : Stage State
 
--- the service closes at the end of input alone. In this stage the input never ends, so no FIN of the server arises
+-- the service closes at the end of input alone: no chunk with bytes closes a run that is open. In this stage the input never ends, so no FIN
+-- of the server arises
 abbrev pub ClosesAtEnd : {State : Type 0} → Machine State → Type 0
-ClosesAtEnd service = (s : _) (chunk : List ℕ) → 0 < length chunk → (service.after s chunk).closed ≡ false
+ClosesAtEnd service =
+    (bytes lengths chunk : List ℕ) → (reference service bytes lengths).closed ≡ false → 0 < length chunk
+    → (service.after (reference service bytes lengths).state chunk).closed ≡ false
 
 -- the output of the first k reads is what the connection keeps of it
 pub record RunsTo {State : Type 0} (service : Machine State) (v : Live State) (k : ℕ) : Type 0 where

@@ -5,8 +5,7 @@ ghost use Rattle.std.specs.Prelude.{◌≡◌, ◌≤◌, ◌<◌, ◌+◌, ◌-
 ghost use Rattle.ft_io.specs.Key.{key_eq};
 ghost use Rattle.ft_model.specs.Client.{received};
 ghost use Rattle.ft_model.specs.Network.{packet_at, destination_of};
-ghost use Rattle.ft_model.specs.Schedule.{letters as letters_lem, bytes_of as bytes_lem, client_of as client_lem, clients_of};
-ghost use Rattle.net_schedule.specs.Kind.{kind_of as kind_lem};
+ghost use Rattle.ft_model.specs.Schedule.{kind_of as kind_lem, letters as letters_lem, bytes_of as bytes_lem, client_of as client_lem, clients_of};
 ghost use Rattle.net_schedule.specs.AtNumber.{at_number as at_lem};
 ghost use Rattle.ft_model.specs.World.{with_client, client_at};
 ghost use Rattle.ft_model.specs.Report.{number_of as number_lem, way_of};

@@ -1,3 +1,4 @@
+pub mod EchoRuns
 pub mod Following
 pub mod Playing
 pub mod Stopping

@@ -5,11 +5,11 @@ use Rattle.std.proofs.Math.ListN.{get_or}
 use Rattle.std.proofs.Math.Seq.{take-suc}
 use Rattle.std.specs.List.{flat_map}
 use Rattle.std.specs.Io.KnownBytes.{Appends}
-use Rattle.sample_servers.specs.Echo.{echo_machine}
-use Rattle.sample_servers.specs.declared.echo.Echo.{Echo}
+use Rattle.sample_servers.specs.AnyService.{any_machine}
+use Rattle.sample_servers.specs.declared.any_service.AnyService.{AnyService}
 use Rattle.ft_model.specs.Client.{Client}
 use Rattle.ft_model.specs.Network.{Packet}
-use Rattle.ft_model.specs.Schedule.{clients_of}
+use Rattle.ft_model.specs.Schedule.{kind_of, clients_of}
 use Rattle.ft_model.specs.World.{World as Seen, Moment, Joint, world_after, IsStart}
 use Rattle.ft_model.specs.Masked.{Masked}
 use Rattle.ft_model.specs.Legal.{start_of, IsLegalFor}
@@ -25,9 +25,9 @@ use Rattle.replay_tool.specs.Played.{PlaysEvent, Reaches, IsPlayed, IsReported}
 abbrev pub KeysTell : Type 0
 KeysTell = (cs ds : List Client) (n : ℕ) (ps : List Packet) → map (λ c. c.key) cs ≡ map (λ c. c.key) ds → packet_lines cs n ps ≡ packet_lines ds n ps
 
--- what the headline says of the service of this stage
+-- what the headline says of the services
 abbrev pub AlwaysMasked : Type 0
-AlwaysMasked = (start : Seen) (trace : List Moment) → Joint echo_machine start trace → Masked echo_machine start trace
+AlwaysMasked = (kind : ℕ) (start : Seen) (trace : List Moment) → Joint (any_machine kind) start trace → Masked (any_machine kind) start trace
 
 -- what is appended twice is appended at once
 pub appends_both : (a b c : Option (List ℕ)) (xs ys : List ℕ) → Appends a b xs → Appends b c ys → Appends a c (xs ++ ys)
@@ -37,12 +37,13 @@ appends_both (Some a) (Some b) None xs ys p q = absurd q
 appends_both (Some a) (Some b) (Some c) xs ys p q = q ∙ (ap (λ l. l ++ ys) p ∙ append_assoc a xs ys)
 
 -- the lines of an event and of the packets that it sent
-pub played : (n : ℕ) (v : Seen) (event : Event) (answer : StepOut) (w : Kept Echo) (old new : Option (List ℕ)) (first lines : List ℕ) → KeysTell → Steps echo_machine v event answer w
-    → first ≡ event_line n event
+pub played : (kind n : ℕ) (v : Seen) (event : Event) (answer : StepOut) (w : Kept AnyService) (old new : Option (List ℕ)) (first lines : List ℕ) → KeysTell → Steps (any_machine kind) v event answer w
+    → w.kind ≡ kind → first ≡ event_line n event
     → ((before sent : List Packet) → w.packets ≡ before ++ sent → answer.first ≡ length before + 1 → answer.count ≡ length sent → lines ≡ first ++ packet_lines w.clients answer.first sent)
-    → Appends old new lines → PlaysEvent n v event w old new
-played n v event answer w old new first lines law s at rest out = record {
+    → Appends old new lines → PlaysEvent kind n v event w old new
+played kind n v event answer w old new first lines law s same_kind at rest out = record {
   goes = s.goes;
+  same_kind = same_kind;
   within = s.within;
   written = subst (Appends old new)
       (rest v.packets s.goes.sent (s.goes.stands.packets ∙ s.goes.grew) s.first s.count
@@ -53,9 +54,9 @@ played n v event answer w old new first lines law s at rest out = record {
 }
 
 -- a legal trace with one event more
-pub legal_more : (schedule : Schedule) (events : List Event) (event : Event) (w : Kept Echo) (trace : List Moment) → IsLegalFor echo_machine schedule events trace
-    → (goes : Advances echo_machine (world_after (start_of schedule) trace) event w)
-    → IsLegalFor echo_machine schedule (events ++ event ∷ []) (record { event = event; sent = goes.sent; world = goes.world } ∷ trace)
+pub legal_more : (schedule : Schedule) (events : List Event) (event : Event) (w : Kept AnyService) (trace : List Moment) → IsLegalFor any_machine schedule events trace
+    → (goes : Advances (any_machine (kind_of schedule.service)) (world_after (start_of schedule) trace) event w)
+    → IsLegalFor any_machine schedule (events ++ event ∷ []) (record { event = event; sent = goes.sent; world = goes.world } ∷ trace)
 legal_more schedule events event w trace legal goes = record {
   joint = (legal.joint, goes.happens);
   events_are = ap (λ es. es ++ event ∷ []) legal.events_are;
@@ -63,8 +64,8 @@ legal_more schedule events event w trace legal goes = record {
 }
 
 -- a run that has played some events plays one more
-pub reaches_more : (schedule : Schedule) (events : List Event) (event : Event) (n : ℕ) (w w' : Kept Echo) (start old new : Option (List ℕ)) → KeysTell → (r : Reaches schedule events w start old) → n ≡ length events + 1
-    → PlaysEvent n (world_after (start_of schedule) r.trace) event w' old new → Reaches schedule (events ++ event ∷ []) w' start new
+pub reaches_more : (schedule : Schedule) (events : List Event) (event : Event) (n : ℕ) (w w' : Kept AnyService) (start old new : Option (List ℕ)) → KeysTell → (r : Reaches schedule events w start old) → n ≡ length events + 1
+    → PlaysEvent (kind_of schedule.service) n (world_after (start_of schedule) r.trace) event w' old new → Reaches schedule (events ++ event ∷ []) w' start new
 reaches_more schedule events event n w w' start old new law r at p =
     let clients : List Client = clients_of schedule.server schedule.clients in
     let v : Seen = world_after (start_of schedule) r.trace in
@@ -77,6 +78,7 @@ reaches_more schedule events event n w w' start old new law r at p =
       legal = legal_more schedule events event w' r.trace r.legal p.goes;
       within = p.within;
       stands = p.goes.stands;
+      kind = p.same_kind;
       count = count;
       packets = ap length p.goes.grew ∙ (length-append v.packets p.goes.sent ∙ ap (λ k. k + length p.goes.sent) r.packets);
       keys = p.goes.keys ∙ r.keys;
@@ -95,19 +97,22 @@ one_played events event i within same =
     ap (λ e. take i events ++ e ∷ []) same ∙ (sym (take-suc events i event within) ∙ ap (λ k. take k events) (sym one))
 
 -- a run that has played the first events of a schedule plays the next one
-pub reaches_next : (schedule : Schedule) (events : List Event) (event : Event) (i : ℕ) (w w' : Kept Echo) (start old new : Option (List ℕ)) → KeysTell → i < length events → event ≡ get_or events i event
-    → ((v : Seen) → WorldStands echo_machine w v → PlaysEvent (i + 1) v event w' old new) → Reaches schedule (take i events) w start old → Reaches schedule (take (i + 1) events) w' start new
+pub reaches_next : (schedule : Schedule) (events : List Event) (event : Event) (i : ℕ) (w w' : Kept AnyService) (start old new : Option (List ℕ)) → KeysTell → i < length events → event ≡ get_or events i event
+    → ((v : Seen) → WorldStands (any_machine w.kind) w v → PlaysEvent w.kind (i + 1) v event w' old new) → Reaches schedule (take i events) w start old → Reaches schedule (take (i + 1) events) w' start new
 reaches_next schedule events event i w w' start old new law within same goes r =
     let first : length (take i events) ≡ i = length-take-le i events (omega arith) in
+    let plays : (v : Seen) → WorldStands (any_machine (kind_of schedule.service)) w v → PlaysEvent (kind_of schedule.service) (i + 1) v event w' old new =
+    subst (λ k. (v : Seen) → WorldStands (any_machine k) w v → PlaysEvent k (i + 1) v event w' old new) r.kind goes in
     subst (λ es. Reaches schedule es w' start new) (one_played events event i within same)
-    (reaches_more schedule (take i events) event (i + 1) w w' start old new law r (ap (λ k. k + 1) (sym first)) (goes (world_after (start_of schedule) r.trace) r.stands))
+    (reaches_more schedule (take i events) event (i + 1) w w' start old new law r (ap (λ k. k + 1) (sym first)) (plays (world_after (start_of schedule) r.trace) r.stands))
 
 -- before the first event only the header is written
-pub reaches_none : (schedule : Schedule) (w : Kept Echo) (old new : Option (List ℕ)) → IsStart (start_of schedule) → WorldStands echo_machine w (start_of schedule) → Appends old new (header schedule) → Reaches schedule [] w old new
-reaches_none schedule w old new start stands written = record {
+pub reaches_none : (schedule : Schedule) (w : Kept AnyService) (old new : Option (List ℕ)) → IsStart (start_of schedule) → WorldStands (any_machine (kind_of schedule.service)) w (start_of schedule) → w.kind ≡ kind_of schedule.service → Appends old new (header schedule) → Reaches schedule [] w old new
+reaches_none schedule w old new start stands kind written = record {
   trace = [];
   legal = record { joint = start; events_are = refl; allowed = tt };
   stands = stands;
+  kind = kind;
   count = refl;
   packets = refl;
   within = omega arith;
@@ -116,7 +121,7 @@ reaches_none schedule w old new start stands written = record {
 }
 
 -- with the closing lines the report is whole
-pub closes : (schedule : Schedule) (w : Kept Echo) (n : ℕ) (old mid new : Option (List ℕ)) → AlwaysMasked → Reaches schedule schedule.events w old mid → n ≡ length schedule.events
+pub closes : (schedule : Schedule) (w : Kept AnyService) (n : ℕ) (old mid new : Option (List ℕ)) → AlwaysMasked → Reaches schedule schedule.events w old mid → n ≡ length schedule.events
     → Appends mid new (client_lines 1 w.clients ++ (flat_map log_line w.log.entries ++ end_line n)) → IsPlayed schedule old new
 closes schedule w n old mid new mask r at out =
     let lines : List ℕ = event_lines (clients_of schedule.server schedule.clients) r.trace in
@@ -124,7 +129,7 @@ closes schedule w n old mid new mask r at out =
     record {
       trace = r.trace;
       legal = r.legal;
-      masked = mask (start_of schedule) r.trace r.legal.joint;
+      masked = mask (kind_of schedule.service) (start_of schedule) r.trace r.legal.joint;
       within = r.within;
       written = subst (Appends old new)
           (append_assoc (header schedule) lines (client_lines 1 w.clients ++ (flat_map log_line w.log.entries ++ end_line n))

@@ -7,7 +7,7 @@ use Rattle.ft_model.specs.declared.schedule.Schedule.{Schedule}
 use Rattle.ft_model.specs.declared.schedule.LineWhy.{LineWhy}
 use Rattle.ft_model.specs.declared.schedule.Limit.{Limit}
 use Rattle.ft_model.specs.declared.schedule.Limit.TheVariants as limits
-use Rattle.sample_servers.specs.Echo.{echo_machine}
+use Rattle.sample_servers.specs.AnyService.{any_machine}
 use Rattle.replay_tool.specs.Ends.{code_of, is_code}
 use Rattle.replay_tool.specs.Causes.{IsInOrder, HasBadLine, HasBadEvent, IsPastLimit, IsSettled}
 use Rattle.replay_tool.specs.Causes.IsPastLimit.{by_text, by_packets}
@@ -144,9 +144,9 @@ pub when_told : (P : List ℕ → Type 0) (left : Option (List ℕ)) (text : Lis
 when_told P left text e p = subst (λ l. IfSome l P) e p
 
 module _
-    (whole_or_refused : (schedule : Schedule) → IsWhole echo_machine schedule → IsRefused echo_machine schedule → ⊥)
-    (whole_or_past : (schedule : Schedule) → IsWhole echo_machine schedule → IsPastPackets echo_machine schedule → ⊥)
-    (refused_or_past : (schedule : Schedule) → IsRefused echo_machine schedule → IsPastPackets echo_machine schedule → ⊥)
+    (whole_or_refused : (schedule : Schedule) → IsWhole any_machine schedule → IsRefused any_machine schedule → ⊥)
+    (whole_or_past : (schedule : Schedule) → IsWhole any_machine schedule → IsPastPackets any_machine schedule → ⊥)
+    (refused_or_past : (schedule : Schedule) → IsRefused any_machine schedule → IsPastPackets any_machine schedule → ⊥)
     (text : List ℕ) (code : ℕ) where
   -- a text is read in one way
   same : (s t : Schedule) → read_text text ≡ Ok s → read_text text ≡ Ok t → s ≡ t
@@ -158,11 +158,11 @@ module _
   order_or_line a b = ok_or_err a.schedule (reading.BadLine b.line b.why) (sym a.spelled ∙ b.refused)
 
   order_or_event : IsInOrder text → HasBadEvent text → ⊥
-  order_or_event a b = whole_or_refused b.schedule (subst (IsWhole echo_machine) (same a.schedule b.schedule a.spelled b.spelled) a.whole) b.refused
+  order_or_event a b = whole_or_refused b.schedule (subst (IsWhole any_machine) (same a.schedule b.schedule a.spelled b.spelled) a.whole) b.refused
 
   order_or_limit : IsInOrder text → IsPastLimit text → ⊥
   order_or_limit a (by_text what e) = ok_or_err a.schedule (reading.TooLong what) (sym a.spelled ∙ e)
-  order_or_limit a (by_packets schedule e p) = whole_or_past schedule (subst (IsWhole echo_machine) (same a.schedule schedule a.spelled e) a.whole) p
+  order_or_limit a (by_packets schedule e p) = whole_or_past schedule (subst (IsWhole any_machine) (same a.schedule schedule a.spelled e) a.whole) p
 
   line_or_event : HasBadLine text → HasBadEvent text → ⊥
   line_or_event a b = ok_or_err b.schedule (reading.BadLine a.line a.why) (sym b.spelled ∙ a.refused)
@@ -173,7 +173,7 @@ module _
 
   event_or_limit : HasBadEvent text → IsPastLimit text → ⊥
   event_or_limit a (by_text what e) = ok_or_err a.schedule (reading.TooLong what) (sym a.spelled ∙ e)
-  event_or_limit a (by_packets schedule e p) = refused_or_past schedule (subst (IsRefused echo_machine) (same a.schedule schedule a.spelled e) a.refused) p
+  event_or_limit a (by_packets schedule e p) = refused_or_past schedule (subst (IsRefused any_machine) (same a.schedule schedule a.spelled e) a.refused) p
 
   pub settles : is_code code ≡ true → (code ≡ 2 → ⊥) → (code ≡ 4 → ⊥) → (code ≡ 5 → ⊥)
       → (code ≡ 0 → IsInOrder text) → (code ≡ 6 → HasBadLine text) → (code ≡ 7 → HasBadEvent text) → (code ≡ 8 → IsPastLimit text) → IsSettled text code

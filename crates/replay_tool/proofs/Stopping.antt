@@ -4,7 +4,7 @@ use Rattle.std.proofs.lemmas.List.{append_assoc, length-take-le, take-append-dro
 use Rattle.std.proofs.Math.ListN.{get_or}
 use Rattle.std.specs.List.{flat_map}
 use Rattle.std.specs.Io.KnownBytes.{Appends}
-use Rattle.ft_model.specs.Schedule.{clients_of}
+use Rattle.ft_model.specs.Schedule.{kind_of, clients_of}
 use Rattle.ft_model.specs.World.{World as Seen, world_after}
 use Rattle.ft_model.specs.Legal.{start_of}
 use Rattle.ft_model.specs.Report.{header, event_lines, client_lines, log_line, end_line}
@@ -20,8 +20,8 @@ use Rattle.ft_io.specs.declared.reading.ReadEnd.TheVariants as reads
 use Rattle.net_schedule.specs.Standing.{Kept, WorldStands, EndsStep, KeepsAtRefusal}
 use Rattle.net_schedule.specs.declared.end.StepEnd.{StepEnd}
 use Rattle.net_schedule.specs.declared.end.StepEnd.TheVariants as steps
-use Rattle.sample_servers.specs.Echo.{echo_machine}
-use Rattle.sample_servers.specs.declared.echo.Echo.{Echo}
+use Rattle.sample_servers.specs.AnyService.{any_machine}
+use Rattle.sample_servers.specs.declared.any_service.AnyService.{AnyService}
 use Rattle.replay_tool.specs.Ends.{end_of_step, end_of_read}
 use Rattle.replay_tool.specs.Played.{Reaches}
 use Rattle.replay_tool.specs.Stops.{StopsEvent, StandsAt, StopsEvents, StopsPlaying, StopsRun}
@@ -31,14 +31,14 @@ use Rattle.replay_tool.specs.declared.status.RunEnd.TheVariants.{Usage, NoMemory
 use Rattle.replay_tool.proofs.Playing.{AlwaysMasked, appends_both, legal_more, one_played}
 
 -- a step that isn't done ends the event
-pub step_stops : (n : ℕ) (v : Seen) (event : Event) (before after : Kept Echo) (old : Option (List ℕ)) (end : StepEnd)
-    → EndsStep echo_machine v event after end → KeepsAtRefusal before after end → StopsEvent n v event before after old old (end_of_step end n)
-step_stops n v event before after old steps.NoMemory e k = tt
-step_stops n v event before after old (steps.BadEvent why) e k = (refl, e, k, refl)
-step_stops n v event before after old steps.PacketLimit e k = e
+pub step_stops : (kind n : ℕ) (v : Seen) (event : Event) (before after : Kept AnyService) (old : Option (List ℕ)) (end : StepEnd)
+    → EndsStep (any_machine kind) v event after end → KeepsAtRefusal before after end → StopsEvent kind n v event before after old old (end_of_step end n)
+step_stops kind n v event before after old steps.NoMemory e k = tt
+step_stops kind n v event before after old (steps.BadEvent why) e k = (refl, e, k, refl)
+step_stops kind n v event before after old steps.PacketLimit e k = e
 
 -- another end than a refused event stays as it is
-pub others_stop : (schedule : Schedule) (w : Kept Echo) (start mid new : Option (List ℕ)) (end : RunEnd) → ((number : ℕ) (why : EventWhy) → end ≡ BadEvent number why → ⊥)
+pub others_stop : (schedule : Schedule) (w : Kept AnyService) (start mid new : Option (List ℕ)) (end : RunEnd) → ((number : ℕ) (why : EventWhy) → end ≡ BadEvent number why → ⊥)
     → StopsEvents schedule w start mid end → StopsPlaying schedule start new end
 others_stop schedule w start mid new (BadEvent number why) other s = absurd (other number why refl)
 others_stop schedule w start mid new (TooLong Packets) other s = s
@@ -50,12 +50,20 @@ others_stop schedule w start mid new NoMemory other s = tt
 others_stop schedule w start mid new ReadFault other s = tt
 others_stop schedule w start mid new WriteFault other s = tt
 
+-- the kind of the world is the schedule's
+abbrev StopsAt : (kind n : ℕ) → Event → (w w' : Kept AnyService) → (old new : Option (List ℕ)) → RunEnd → Type 0
+StopsAt kind n event w w' old new end = (v : Seen) → WorldStands (any_machine kind) w v → StopsEvent kind n v event w w' old new end
+
+at_kind : (schedule : Schedule) (n : ℕ) (event : Event) (w w' : Kept AnyService) (old new : Option (List ℕ)) (end : RunEnd)
+    → w.kind ≡ kind_of schedule.service → StopsAt w.kind n event w w' old new end → StopsAt (kind_of schedule.service) n event w w' old new end
+at_kind schedule n event w w' old new end e stops = subst (λ k. StopsAt k n event w w' old new end) e stops
+
 -- the next event ends the playing
-pub event_stops : (schedule : Schedule) (events : List Event) (event : Event) (i : ℕ) (w w' : Kept Echo) (start old new : Option (List ℕ)) (end : RunEnd)
+pub event_stops : (schedule : Schedule) (events : List Event) (event : Event) (i : ℕ) (w w' : Kept AnyService) (start old new : Option (List ℕ)) (end : RunEnd)
     → events ≡ schedule.events → i < length events → event ≡ get_or events i event → Reaches schedule (take i events) w start old
-    → ((v : Seen) → WorldStands echo_machine w v → StopsEvent (i + 1) v event w w' old new end) → StopsEvents schedule w' start new end
+    → ((v : Seen) → WorldStands (any_machine w.kind) w v → StopsEvent w.kind (i + 1) v event w w' old new end) → StopsEvents schedule w' start new end
 event_stops schedule events event i w w' start old new (BadEvent number why) all within same r stops =
-    let s = stops (world_after (start_of schedule) r.trace) r.stands in
+    let s = at_kind schedule (i + 1) event w w' old new (BadEvent number why) r.kind stops (world_after (start_of schedule) r.trace) r.stands in
     let first : length (take i events) ≡ i = length-take-le i events (omega arith) in
     record {
       played = take i events;
@@ -66,7 +74,8 @@ event_stops schedule events event i w w' start old new (BadEvent number why) all
       reached = record {
         trace = r.trace;
         legal = r.legal;
-        stands = subst (λ x. WorldStands echo_machine x (world_after (start_of schedule) r.trace)) (sym s.2) r.stands;
+        stands = subst (λ x. WorldStands (any_machine (kind_of schedule.service)) x (world_after (start_of schedule) r.trace)) (sym s.2) r.stands;
+        kind = subst (λ x. x.kind ≡ kind_of schedule.service) (sym s.2) r.kind;
         count = r.count;
         packets = r.packets;
         within = r.within;
@@ -77,7 +86,7 @@ event_stops schedule events event i w w' start old new (BadEvent number why) all
       refused = s.1;
     }
 event_stops schedule events event i w w' start old new (TooLong Packets) all within same r stops =
-    let s = stops (world_after (start_of schedule) r.trace) r.stands in
+    let s = at_kind schedule (i + 1) event w w' old new (TooLong Packets) r.kind stops (world_after (start_of schedule) r.trace) r.stands in
     record {
       played = take i events ++ event ∷ [];
       others = drop (i + 1) events;
@@ -86,16 +95,16 @@ event_stops schedule events event i w w' start old new (TooLong Packets) all wit
       legal = legal_more schedule (take i events) event w' r.trace r.legal s.0;
       over = s.1;
     }
-event_stops schedule events event i w w' start old new (TooLong Text) all within same r stops = stops (world_after (start_of schedule) r.trace) r.stands
-event_stops schedule events event i w w' start old new (TooLong Events) all within same r stops = stops (world_after (start_of schedule) r.trace) r.stands
-event_stops schedule events event i w w' start old new (BadLine line why) all within same r stops = stops (world_after (start_of schedule) r.trace) r.stands
+event_stops schedule events event i w w' start old new (TooLong Text) all within same r stops = at_kind schedule (i + 1) event w w' old new (TooLong Text) r.kind stops (world_after (start_of schedule) r.trace) r.stands
+event_stops schedule events event i w w' start old new (TooLong Events) all within same r stops = at_kind schedule (i + 1) event w w' old new (TooLong Events) r.kind stops (world_after (start_of schedule) r.trace) r.stands
+event_stops schedule events event i w w' start old new (BadLine line why) all within same r stops = at_kind schedule (i + 1) event w w' old new (BadLine line why) r.kind stops (world_after (start_of schedule) r.trace) r.stands
 event_stops schedule events event i w w' start old new Usage all within same r stops = tt
 event_stops schedule events event i w w' start old new NoMemory all within same r stops = tt
 event_stops schedule events event i w w' start old new ReadFault all within same r stops = tt
 event_stops schedule events event i w w' start old new WriteFault all within same r stops = tt
 
 -- an event that is refused ends the playing, with the report of the events before it
-pub closes_till : (schedule : Schedule) (number : ℕ) (why : EventWhy) (w : Kept Echo) (old mid new : Option (List ℕ)) → AlwaysMasked → StandsAt schedule number why w old mid
+pub closes_till : (schedule : Schedule) (number : ℕ) (why : EventWhy) (w : Kept AnyService) (old mid new : Option (List ℕ)) → AlwaysMasked → StandsAt schedule number why w old mid
     → Appends mid new (client_lines 1 w.clients ++ (flat_map log_line w.log.entries ++ end_line (number - 1))) → StopsPlaying schedule old new (BadEvent number why)
 closes_till schedule number why w old mid new mask s out =
     let r = s.reached in
@@ -107,7 +116,7 @@ closes_till schedule number why w old mid new mask s out =
     record {
       till = record {
         refused = record { played = s.played; event = s.event; others = s.others; why = why; trace = r.trace; events = s.events; legal = r.legal; within = r.within; refused = s.refused };
-        masked = mask (start_of schedule) r.trace r.legal.joint;
+        masked = mask (kind_of schedule.service) (start_of schedule) r.trace r.legal.joint;
         written = subst (Appends old new)
             (append_assoc (header schedule) lines (client_lines 1 w.clients ++ (flat_map log_line w.log.entries ++ end_line (number - 1)))
             ∙ (ap (λ cs. header schedule ++ (lines ++ (client_lines 1 cs ++ (flat_map log_line w.log.entries ++ end_line (number - 1))))) r.stands.clients

@@ -7,13 +7,13 @@ use Rattle.ft_model.specs.Outcome.{IsWhole, IsRefused, IsPastPackets}
 use Rattle.ft_model.specs.declared.schedule.Schedule.{Schedule}
 use Rattle.ft_model.specs.declared.schedule.LineWhy.{LineWhy}
 use Rattle.ft_model.specs.declared.schedule.Limit.{Limit}
-use Rattle.sample_servers.specs.Echo.{echo_machine}
+use Rattle.sample_servers.specs.AnyService.{any_machine}
 
 -- it spells a schedule, and each of its events may happen in its turn, within the limit of packets
 pub record IsInOrder (text : List ℕ) : Type 0 where
   pub schedule : Schedule
   pub spelled : read_text text ≡ Ok schedule
-  pub whole : IsWhole echo_machine schedule
+  pub whole : IsWhole any_machine schedule
 
 -- one of its lines is refused
 pub record HasBadLine (text : List ℕ) : Type 0 where
@@ -25,12 +25,12 @@ pub record HasBadLine (text : List ℕ) : Type 0 where
 pub record HasBadEvent (text : List ℕ) : Type 0 where
   pub schedule : Schedule
   pub spelled : read_text text ≡ Ok schedule
-  pub refused : IsRefused echo_machine schedule
+  pub refused : IsRefused any_machine schedule
 
 -- it is too long, has too many events, or these send too many packets
 pub data IsPastLimit (text : List ℕ) : Type 0 where
   by_text : (what : Limit) → read_text text ≡ Err (TooLong what) → IsPastLimit text
-  by_packets : (schedule : Schedule) → read_text text ≡ Ok schedule → IsPastPackets echo_machine schedule → IsPastLimit text
+  by_packets : (schedule : Schedule) → read_text text ≡ Ok schedule → IsPastPackets any_machine schedule → IsPastLimit text
 
 -- a count of faults doesn't rise
 abbrev pub IsStill : ℕ → ℕ → Type 0

@@ -10,8 +10,8 @@ use Rattle.ft_model.specs.declared.event.EventWhy.{EventWhy}
 use Rattle.ft_model.specs.declared.schedule.Schedule.{Schedule}
 use Rattle.ft_model.specs.declared.schedule.Limit.TheVariants as limits
 use Rattle.net_schedule.specs.Standing.{Kept, Advances}
-use Rattle.sample_servers.specs.Echo.{echo_machine}
-use Rattle.sample_servers.specs.declared.echo.Echo.{Echo}
+use Rattle.sample_servers.specs.AnyService.{any_machine}
+use Rattle.sample_servers.specs.declared.any_service.AnyService.{AnyService}
 use Rattle.replay_tool.specs.Played.{Reaches, IsPlayedTill}
 use Rattle.replay_tool.specs.declared.status.TooMuch.TheVariants.{Text, Events, Packets}
 use Rattle.replay_tool.specs.declared.status.RunEnd.{RunEnd}
@@ -33,15 +33,15 @@ StopsWriting WriteFault = Unit {0}
 StopsWriting _ = ⊥
 
 -- the playing of event n: it is refused and nothing changes, or it sends too many packets
-abbrev pub StopsEvent : ℕ → Seen → Event → (before after : Kept Echo) → (old new : Option (List ℕ)) → RunEnd → Type 0
-StopsEvent n v event before after old new (BadEvent number why) = (number ≡ n) × (refusal v event ≡ Some why) × (after ≡ before) × (new ≡ old)
-StopsEvent n v event before after old new (TooLong Packets) = (goes : Advances echo_machine v event after) × (200000 < length goes.world.packets)
-StopsEvent n v event before after old new (TooLong _) = ⊥
-StopsEvent n v event before after old new (BadLine line why) = ⊥
-StopsEvent n v event before after old new _ = Unit {0}
+abbrev pub StopsEvent : (kind n : ℕ) → Seen → Event → (before after : Kept AnyService) → (old new : Option (List ℕ)) → RunEnd → Type 0
+StopsEvent kind n v event before after old new (BadEvent number why) = (number ≡ n) × (refusal v event ≡ Some why) × (after ≡ before) × (new ≡ old)
+StopsEvent kind n v event before after old new (TooLong Packets) = (goes : Advances (any_machine kind) v event after) × (200000 < length goes.world.packets)
+StopsEvent kind n v event before after old new (TooLong _) = ⊥
+StopsEvent kind n v event before after old new (BadLine line why) = ⊥
+StopsEvent kind n v event before after old new _ = Unit {0}
 
 -- the world stands where the events before a refused one lead, and they are written
-pub record StandsAt (schedule : Schedule) (number : ℕ) (why : EventWhy) (w : Kept Echo) (old new : Option (List ℕ)) : Type 0 where
+pub record StandsAt (schedule : Schedule) (number : ℕ) (why : EventWhy) (w : Kept AnyService) (old new : Option (List ℕ)) : Type 0 where
   pub played : List Event
   pub event : Event
   pub others : List Event
@@ -51,9 +51,9 @@ pub record StandsAt (schedule : Schedule) (number : ℕ) (why : EventWhy) (w : K
   pub refused : refusal (world_after (start_of schedule) reached.trace) event ≡ Some why
 
 -- the playing of all events
-abbrev pub StopsEvents : Schedule → Kept Echo → (old new : Option (List ℕ)) → RunEnd → Type 0
+abbrev pub StopsEvents : Schedule → Kept AnyService → (old new : Option (List ℕ)) → RunEnd → Type 0
 StopsEvents schedule w old new (BadEvent number why) = StandsAt schedule number why w old new
-StopsEvents schedule w old new (TooLong Packets) = IsPastPackets echo_machine schedule
+StopsEvents schedule w old new (TooLong Packets) = IsPastPackets any_machine schedule
 StopsEvents schedule w old new (TooLong _) = ⊥
 StopsEvents schedule w old new (BadLine line why) = ⊥
 StopsEvents schedule w old new _ = Unit {0}
@@ -67,7 +67,7 @@ pub record PlaysTill (schedule : Schedule) (number : ℕ) (why : EventWhy) (old 
 -- the playing of a schedule
 abbrev pub StopsPlaying : Schedule → (old new : Option (List ℕ)) → RunEnd → Type 0
 StopsPlaying schedule old new (BadEvent number why) = PlaysTill schedule number why old new
-StopsPlaying schedule old new (TooLong Packets) = IsPastPackets echo_machine schedule
+StopsPlaying schedule old new (TooLong Packets) = IsPastPackets any_machine schedule
 StopsPlaying schedule old new (TooLong _) = ⊥
 StopsPlaying schedule old new (BadLine line why) = ⊥
 StopsPlaying schedule old new _ = Unit {0}
@@ -82,7 +82,7 @@ pub record ReportsTill (text : List ℕ) (number : ℕ) (why : EventWhy) (old ne
 pub record PassesPackets (text : List ℕ) : Type 0 where
   pub schedule : Schedule
   pub spelled : read_text text ≡ Ok schedule
-  pub past : IsPastPackets echo_machine schedule
+  pub past : IsPastPackets any_machine schedule
 
 -- a run
 abbrev pub StopsRun : List ℕ → (old new : Option (List ℕ)) → RunEnd → Type 0

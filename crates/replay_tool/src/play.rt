@@ -7,10 +7,11 @@ ghost use Rattle.ft_io.specs.Faults.{Rose};
 ghost use Rattle.ft_model.specs.Network.{Packet as Seen, packet_at};
 ghost use Rattle.ft_model.specs.Log.{Entry};
 ghost use Rattle.ft_model.specs.Legal.{start_of};
+ghost use Rattle.ft_model.specs.Schedule.{kind_of};
 ghost use Rattle.ft_model.specs.Playable.{IsPlayable, is_played};
 ghost use Rattle.ft_model.specs.Report.{header, packet_line, packet_lines, way_of, client_lines, log_line, end_line};
 ghost use Rattle.net_schedule.specs.Standing.{WorldStands};
-ghost use Rattle.sample_servers.specs.Echo.{echo_machine};
+ghost use Rattle.sample_servers.specs.AnyService.{any_machine};
 ghost use Rattle.replay_tool.specs.Played.{PlaysEvent, Reaches, IsPlayed};
 ghost use Rattle.replay_tool.specs.Stops.{StopsEvent, StopsEvents, StopsPlaying, StopsWriting};
 
@@ -21,7 +22,7 @@ use ft_model::grammar::playable_schedules_start;
 use ft_model::headline::every_joint_trace_is_masked;
 use net_schedule::laws::lines_depend_on_keys;
 use net_schedule::{PlainEntry, ScriptedClient, World};
-use sample_servers::Echo;
+use sample_servers::AnyService;
 use schedule_text::{
     LogLine, Schedule, write_client_line, write_end, write_event, write_header, write_log_line,
     write_packet_line,
@@ -31,7 +32,7 @@ use std::alloc::Global;
 /// The line of a packet that was sent.
 fn write_packet(
     alloc: Global,
-    world: &World<Echo>,
+    world: &World<AnyService>,
     n: u32,
     lines: &mut Vec<u8>,
 ) -> Result<(), NoMemory>
@@ -46,7 +47,7 @@ fn write_packet(
 /// The lines of the last packets that were sent: `count` of them, from number `first` on.
 fn write_packets(
     alloc: Global,
-    world: &World<Echo>,
+    world: &World<AnyService>,
     first: u32,
     count: u32,
     lines: &mut Vec<u8>,
@@ -66,12 +67,12 @@ fn play_event<O: Sink>(
     alloc: Global,
     n: u32,
     event: &Event,
-    world: &mut World<Echo>,
+    world: &mut World<AnyService>,
     out: &mut O,
 ) -> Result<(), RunEnd>
     requires { is_played event.now ≡ true }
-    ensures done { OnOk result ((v : _) → WorldStands echo_machine world.old v → PlaysEvent n v event.now world.new (O.taken out.old) (O.taken out.new)) }
-    ensures stops { IfErr result (λ end. (v : _) → WorldStands echo_machine world.old v → StopsEvent n v event.now world.old world.new (O.taken out.old) (O.taken out.new) end) }
+    ensures done { OnOk result ((v : _) → WorldStands (any_machine world.old.kind) world.old v → PlaysEvent world.old.kind n v event.now world.new (O.taken out.old) (O.taken out.new)) }
+    ensures stops { IfErr result (λ end. (v : _) → WorldStands (any_machine world.old.kind) world.old v → StopsEvent world.old.kind n v event.now world.old world.new (O.taken out.old) (O.taken out.new) end) }
     ensures write_fault { IsErrOf result RunEnd.WriteFault → Rose (O.fault_count out.old) (O.fault_count out.new) }
     ensures no_read_fault { IsErrOf result RunEnd.ReadFault → ⊥ }
     ensures no_usage { IsErrOf result RunEnd.Usage → ⊥ }
@@ -138,7 +139,7 @@ fn write_entries(alloc: Global, entries: &[PlainEntry], lines: &mut Vec<u8>) -> 
 /// How the world stands after n events, as the end of the report.
 fn write_closing<O: Sink>(
     alloc: Global,
-    world: &World<Echo>,
+    world: &World<AnyService>,
     n: u32,
     out: &mut O,
 ) -> Result<(), RunEnd>
@@ -161,7 +162,7 @@ fn write_closing<O: Sink>(
 fn play_events<O: Sink>(
     alloc: Global,
     schedule: &Schedule,
-    world: &mut World<Echo>,
+    world: &mut World<AnyService>,
     out: &mut O,
 ) -> Result<(), RunEnd>
     requires playable { IsPlayable schedule.now }
@@ -197,9 +198,10 @@ fn write_start<O: Sink>(alloc: Global, schedule: &Schedule, out: &mut O) -> Resu
 }
 
 /// The world in which a schedule starts.
-fn start_world(alloc: Global, schedule: &Schedule) -> Result<World<Echo>, NoMemory>
+fn start_world(alloc: Global, schedule: &Schedule) -> Result<World<AnyService>, NoMemory>
     requires { IsPlayable schedule.now }
-    ensures { IfOk result (λ w. WorldStands echo_machine w (start_of schedule.now)) }
+    ensures kind { IfOk result (λ w. w.kind ≡ kind_of schedule.now.service) }
+    ensures stands { IfOk result (λ w. WorldStands (any_machine (kind_of schedule.now.service)) w (start_of schedule.now)) }
 {
     World::new(alloc, schedule)
 }
@@ -216,7 +218,7 @@ pub(crate) fn play<O: Sink>(alloc: Global, schedule: &Schedule, out: &mut O) -> 
     ensures never_falls { O.fault_count out.old ≤ O.fault_count out.new }
 {
     playable_schedules_start();
-    every_joint_trace_is_masked::<Echo>();
+    every_joint_trace_is_masked::<AnyService>();
     write_start(alloc, schedule, out)?;
     let mut world = start_world(alloc, schedule)?;
     match play_events(alloc, schedule, &mut world, out) {

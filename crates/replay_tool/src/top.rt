@@ -14,7 +14,7 @@ use crate::status::Status;
 use crate::telling::tell;
 use ft_io::{Sink, Source};
 use ft_model::laws::schedules_have_one_outcome;
-use sample_servers::Echo;
+use sample_servers::AnyService;
 use std::alloc::Global;
 
 /// `ftreplay` with these words: it reads a schedule from `input` to its end, writes the report of its run to `out` while it runs, and writes
@@ -55,7 +55,7 @@ pub fn replay<I: Source, O: Sink, E: Sink>(
     // At most one byte past the limit of the text is read.
     ensures taken { ConsumesAtMost 8388609 (I.left input.old) (I.left input.new) }
 {
-    schedules_have_one_outcome::<Echo>();
+    schedules_have_one_outcome::<AnyService>();
     match run(alloc, words, input, out) {
         Ok(()) => Status { code: 0 },
         Err(end) => tell(err, end),

@@ -1,6 +1,6 @@
 -- One of the four services, told by a number: 1 Echo, 2 Line, 3 Transfer, 4 Meter, and every other number Echo.
 use Rattle.std.specs.Prelude.{ℕ, List, ◌==◌, if◌then◌else◌}
-use Rattle.server_trait.specs.Service.{Served}
+use Rattle.server_trait.specs.Service.{Served, Machine, machine}
 use Rattle.sample_servers.specs.Echo.{echo_started, echo_after}
 use Rattle.sample_servers.specs.Line.{line_started, line_after}
 use Rattle.sample_servers.specs.Transfer.{transfer_started, transfer_after}
@@ -25,3 +25,7 @@ any_after (Echo echo) chunk = mapped Echo (echo_after echo chunk)
 any_after (Line line) chunk = mapped Line (line_after line chunk)
 any_after (Transfer transfer) chunk = mapped Transfer (transfer_after transfer chunk)
 any_after (Meter meter) chunk = mapped Meter (meter_after meter chunk)
+
+-- the service of each kind as runs see it
+abbrev pub any_machine : ℕ → Machine AnyService
+any_machine kind = machine (any_started kind) any_after

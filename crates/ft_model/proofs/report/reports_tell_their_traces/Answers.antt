@@ -1,7 +1,7 @@
-use Rattle.server_trait.specs.Service.{machine}
+use Rattle.ft_model.specs.Legal.{machines}
 use Rattle.ft_model.proofs.ReportTells.{legal_told}
 use Rattle.ft_model.proofs.report.reports_tell_their_traces.Goals as goal
 
 pub returns : goal.returns
-returns g c = λ kind schedule other trace also fits too p q e.
-    legal_told (machine (g.S.Service.started kind) g.S.Service.after) schedule other trace also fits too p q e
+returns g c = λ schedule other trace also fits too p q e.
+    legal_told (machines g.S.Service.started g.S.Service.after) schedule other trace also fits too p q e

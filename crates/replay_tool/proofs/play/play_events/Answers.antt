@@ -16,4 +16,4 @@ pub returns-in_err-play_event-clause-stops : goal.returns-in_err-play_event-clau
 returns-in_err-play_event-clause-stops g c =
     if_err c.from_residual.result c.from_residual.ensures.1
     (λ end is. λ before start. event_stops c.args.schedule.now c.as_slice-events.result.now _ c.loop-i.i c.loop-i.world c.play_event.new.world before (g.O.Sink.taken c.loop-i.out) (g.O.Sink.taken c.play_event.new.out) end c.as_slice-events.ensures (omega arith) (get_or_default c.as_slice-events.result.now c.loop-i.i _ _ (omega arith))
-    (c.loop-i.invariant.0 before start) (λ v stands. subst (StopsEvent (c.loop-i.i + 1) v _ c.loop-i.world c.play_event.new.world (g.O.Sink.taken c.loop-i.out) (g.O.Sink.taken c.play_event.new.out)) (sym is) (c.in_err-play_event.ensures.stops v stands)))
+    (c.loop-i.invariant.0 before start) (λ v stands. subst (StopsEvent c.loop-i.world.kind (c.loop-i.i + 1) v _ c.loop-i.world c.play_event.new.world (g.O.Sink.taken c.loop-i.out) (g.O.Sink.taken c.play_event.new.out)) (sym is) (c.in_err-play_event.ensures.stops v stands)))
