@@ -1,15 +1,15 @@
 //! The packets that a turn sends, in order, in room that is made once.
 
-ghost use Rattle.std.specs.Prelude.{◌≡◌, ℕ, ◌+◌, ◌-◌, ◌<◌, ◌≤◌, ◌==◌, ◌&&◌, ◌↔◌, List, [], ◌∷◌, ◌++◌, Some, length, nat_lt, nat_le, IfOk, IsTrue, slice_get, slice_index, slice_set, take, drop, vec_capacity};
+ghost use Rattle.std.specs.Prelude.{◌≡◌, ℕ, ◌+◌, ◌-◌, ◌<◌, ◌≤◌, ◌==◌, ◌&&◌, ◌↔◌, List, [], ◌∷◌, ◌++◌, Some, length, nat_lt, nat_le, IfOk, IsTrue, slice_get, slice_index, slice_set, take, drop, replicate, vec_capacity};
 ghost use Rattle.std.specs.Borrow.{sem};
 ghost use Rattle.std.specs.Bool.{OnTrue, OnFalse};
-ghost use Rattle.seq_arith.specs.PacketGrammar.{packet_length, spelling};
+ghost use Rattle.seq_arith.specs.PacketGrammar.{mss_option, packet_length, spelling};
 ghost use Rattle.segment_codec.specs.Written.{segment_with};
 ghost use Rattle.tcp_endpoint.specs.Packets.{byte_count, with_bytes_at, IsReadable};
 ghost use Rattle.tcp_endpoint.specs.Lending.{LendsPacket};
 
 use ft_io::NoMemory;
-use segment_codec::{Head, payload_start, write_header};
+use segment_codec::{Head, write_header};
 use std::alloc::Global;
 use std::marker::Model;
 
@@ -18,9 +18,6 @@ const PACKET_ROOM: usize = 1_100;
 
 /// How many bytes these packets have in all.
 const BYTE_ROOM: usize = 120_000;
-
-/// Room for the headers of a packet, until they are written.
-const BLANK: [u8; 44] = [0; 44];
 
 /// At most 1,100 packets of at most 120,000 bytes in all. Contracts see their list.
 #[derive(Debug, Drop)]
@@ -156,20 +153,42 @@ fn append_segment(head: &Head, front: &[u8], back: &[u8], bytes: &mut Vec<u8>)
     ensures readable { IsReadable (segment_with head.now (front.now ++ back.now)) }
 {
     let start = bytes.len();
-    append_text(payload_start(head.mss), front, back, bytes);
+    append_text(head.mss, front, back, bytes);
     write_header(head, &mut bytes[start..]);
 }
 
-/// Appends room for headers of so many bytes, and a text behind it.
-fn append_text(size: usize, front: &[u8], back: &[u8], bytes: &mut Vec<u8>)
-    requires size { size ≤ 44 }
-    requires room { length bytes.old.items + size + length (front.now ++ back.now) ≤ vec_capacity bytes.old }
+/// Appends room for headers, and a text behind it.
+fn append_text(mss: Option<u16>, front: &[u8], back: &[u8], bytes: &mut Vec<u8>)
+    requires room { length bytes.old.items + (40 + length (mss_option mss)) + length (front.now ++ back.now) ≤ vec_capacity bytes.old }
     ensures begins { take (length bytes.old.items) bytes.new.items ≡ bytes.old.items }
-    ensures text { drop (length bytes.old.items + size) bytes.new.items ≡ front.now ++ back.now }
-    ensures length { length bytes.new.items ≡ length bytes.old.items + size + length (front.now ++ back.now) }
+    ensures text { drop (length bytes.old.items + (40 + length (mss_option mss))) bytes.new.items ≡ front.now ++ back.now }
+    ensures length { length bytes.new.items ≡ length bytes.old.items + (40 + length (mss_option mss)) + length (front.now ++ back.now) }
     ensures capacity { vec_capacity bytes.old ≤ vec_capacity bytes.new }
 {
-    bytes.extend_from_slice(&BLANK[..size]).unwrap();
+    append_blank(mss, bytes);
     bytes.extend_from_slice(front).unwrap();
-    bytes.extend_from_slice(back).unwrap();
+    append_some(back, bytes);
+}
+
+/// Appends room for headers.
+fn append_blank(mss: Option<u16>, bytes: &mut Vec<u8>)
+    requires { length bytes.old.items + (40 + length (mss_option mss)) ≤ vec_capacity bytes.old }
+    ensures items { bytes.new.items ≡ bytes.old.items ++ replicate (40 + length (mss_option mss)) 0 }
+    ensures capacity { vec_capacity bytes.old ≤ vec_capacity bytes.new }
+{
+    match mss {
+        Some(_) => bytes.extend_from_slice(&[0; 44]).unwrap(),
+        None => bytes.extend_from_slice(&[0; 40]).unwrap(),
+    }
+}
+
+/// Appends a part, which is mostly empty.
+fn append_some(part: &[u8], bytes: &mut Vec<u8>)
+    requires { length bytes.old.items + length part.now ≤ vec_capacity bytes.old }
+    ensures items { bytes.new.items ≡ bytes.old.items ++ part.now }
+    ensures capacity { vec_capacity bytes.old ≤ vec_capacity bytes.new }
+{
+    if !part.is_empty() {
+        bytes.extend_from_slice(part).unwrap();
+    }
 }
