@@ -1,5 +1,5 @@
 -- No segment acknowledges what isn't logged, and what is logged of a client is the front of its script.
-use Rattle.std.proofs.Common.{◌≡◌, ℕ, ◌≤◌, ◌^◌, pos, ◌≤ℤ◌, le_of_eq, true, ◌&&◌, not, refl, sym, ap, ◌∙◌, subst, find, Option, Some, None, List, [], ◌∷◌, map, length, arith, ◌==◌}
+use Rattle.std.proofs.Common.{⊎_elim, ◌≡◌, ℕ, ◌≤◌, ◌^◌, pos, ◌≤ℤ◌, le_of_eq, true, ◌&&◌, not, refl, sym, ap, ◌∙◌, subst, find, Option, Some, None, List, [], ◌∷◌, map, length, arith, ◌==◌}
 use Rattle.std.specs.List.{AllByRecursion, list_any}
 use Rattle.ft_io.specs.declared.Addr.{Addr}
 use Rattle.ft_io.specs.declared.Key.{Key}
@@ -99,7 +99,8 @@ acknowledged_moment service start before sent after s o (server_down t e) = subs
 pub acknowledged_after : {State : Type 0} (service : Machine State) (start : World) (moment : Moment) (earlier : List Moment) → Joint service start (moment ∷ earlier)
     → AllByRecursion (AcknowledgesLogged moment.world.log moment.world.clients) moment.sent
 acknowledged_after service start moment earlier j =
-    acknowledged_moment service start (world_after start earlier) moment.sent moment.world (start_is service start earlier j.0) (true_after service start earlier j.0)
+    ⊎_elim (acknowledged_moment service start (world_after start earlier) moment.sent moment.world (start_is service start earlier j.0) (true_after service start earlier j.0))
+    (λ q. subst (AllByRecursion (AcknowledgesLogged moment.world.log moment.world.clients)) (sym q.0) tt)
     (happened service (world_after start earlier) moment.event moment.sent moment.world j.1)
 
 whole_front : (xs ys : List ℕ) → IsPrefix xs ys → length xs ≡ length ys → xs ≡ ys

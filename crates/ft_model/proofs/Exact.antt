@@ -1,5 +1,5 @@
 -- Restarts are exact in every joint trace.
-use Rattle.std.proofs.Common.{sym, subst, Option, Some, None, List, ◌∷◌}
+use Rattle.std.proofs.Common.{⊎_elim, sym, subst, Option, Some, None, List, ◌∷◌}
 use Rattle.server_trait.specs.Service.{Machine}
 use Rattle.ft_model.specs.Log.{Log, log_after}
 use Rattle.ft_model.specs.Network.{Packet}
@@ -47,5 +47,7 @@ exact_moment service before sent after o (server_down s e) =
 pub exact_after : {State : Type 0} (service : Machine State) (start : World) (moment : Moment) (earlier : List Moment) → Joint service start (moment ∷ earlier)
     → RestartIsExact service moment.world.log (world_after start earlier).node moment.world.node
 exact_after service start moment earlier j =
-    exact_moment service (world_after start earlier) moment.sent moment.world (orderly service start earlier j.0)
+    let before : World = world_after start earlier in
+    ⊎_elim (exact_moment service before moment.sent moment.world (orderly service start earlier j.0))
+    (λ q. subst (λ w. RestartIsExact service w.log before.node w.node) (sym q.1) (same_exact service before.log before.node))
     (happened service (world_after start earlier) moment.event moment.sent moment.world j.1)

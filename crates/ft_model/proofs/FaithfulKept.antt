@@ -216,7 +216,7 @@ InputFits script isn log _ = Unit {0}
 pub input_fits : (script : Key → List ℕ) (isn : Key → ℕ) (w : World) (input : Input) → AllByRecursion (PacketFits script isn w.log) w.packets → IsBrought w input → InputFits script isn w.log input
 input_fits script isn w (Packet_comes segment) a b = all_sent (PacketFits script isn w.log) w (To_server segment) a b
 input_fits script isn w (Message_comes message) a b = all_sent (PacketFits script isn w.log) w (From_logger message) a b
-input_fits script isn w Noise_comes a b = absurd b
+input_fits script isn w Noise_comes a b = tt
 input_fits script isn w Tick_comes a b = tt
 
 pub news_fit : (script : Key → List ℕ) (isn : Key → ℕ) (log : Log) (node : Node) (input : Input) (news : News) (p : Point) → InputFits script isn log input → IsNews node input news p

@@ -124,7 +124,7 @@ tells_of start w s k = entries_tell start s w.log.entries k.formed.entries k.tru
 input_formed : (start w : World) (input : Input) → AllByRecursion (PacketFormed start) w.packets → IsBrought w input → InputFormed start input
 input_formed start w (Packet_comes segment) a b = all_sent (PacketFormed start) w (To_server segment) a b
 input_formed start w (Message_comes message) a b = all_sent (PacketFormed start) w (From_logger message) a b
-input_formed start w Noise_comes a b = absurd b
+input_formed start w Noise_comes a b = tt
 input_formed start w Tick_comes a b = tt
 
 missing_formed : (start w : World) (node : Node) (o : Option Wanted) → StartFormed start → Knows start w → w.node ≡ Some node → IsMissing node o

@@ -239,8 +239,9 @@ formed_after service small writes start (m ∷ earlier) j =
     let before = sound_after service small start earlier j.0 in
     let after = sound_after service small start (m ∷ earlier) j in
     let knows : Knows start w = record { formed = formed_after service small writes start earlier j.0; acked = entries_acked service start w before; truth = true_after service start earlier j.0 } in
-    (moment_formed service start w m.sent m.world writes (start_formed start (start_is service start earlier j.0)) knows after.faithful.entries (entries_acked service start m.world after)
-    (happened service w m.event m.sent m.world j.1)).1
+    ⊎_elim
+    (λ h. (moment_formed service start w m.sent m.world writes (start_formed start (start_is service start earlier j.0)) knows after.faithful.entries (entries_acked service start m.world after) h).1)
+    (λ q. subst (WorldFormed start) (sym q.1) knows.formed) (happened service w m.event m.sent m.world j.1)
 
 -- all that was ever sent has a wire
 pub wires_after : {State : Type 0} (service : Machine State) → HasSmallOutputs service → WritesBytes service → (start : World) (trace : List Moment) → Joint service start trace

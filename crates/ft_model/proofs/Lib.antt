@@ -86,3 +86,4 @@ pub mod ResetWhileRestarting
 pub mod UnloggedRead
 pub mod Unfenced
 pub mod NeverStuck
+pub mod ChangedBit

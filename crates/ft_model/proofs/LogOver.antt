@@ -1,5 +1,5 @@
 -- The log over a whole trace.
-use Rattle.std.proofs.Common.{sym, ap, subst, List, ◌∷◌, [], ◌++◌}
+use Rattle.std.proofs.Common.{⊎_elim, sym, ap, subst, List, ◌∷◌, [], ◌++◌}
 use Rattle.server_trait.specs.Service.{Machine}
 use Rattle.ft_model.specs.Network.{Packet}
 use Rattle.ft_model.specs.Growth.{LogGrows}
@@ -22,5 +22,6 @@ pub log_over : {State : Type 0} (service : Machine State) (start : World) (later
 log_over service start [] earlier j = log_refl (world_after start earlier).log
 log_over service start (moment ∷ later) earlier j =
     log_trans (world_after start earlier).log (world_after start (later ++ earlier)).log moment.world.log (log_over service start later earlier j.0)
-    (log_goes_on service (world_after start (later ++ earlier)) moment.sent moment.world
+    (⊎_elim (log_goes_on service (world_after start (later ++ earlier)) moment.sent moment.world)
+    (λ q. subst (λ w. LogGrows (world_after start (later ++ earlier)).log w.log) (sym q.1) (log_refl (world_after start (later ++ earlier)).log))
     (happened service (world_after start (later ++ earlier)) moment.event moment.sent moment.world j.1))

@@ -1,8 +1,16 @@
 -- A schedule has at most one legal trace: what a moment does is determined by the event and by the world before it.
-use Rattle.std.proofs.Common.{◌≡◌, ℕ, refl, sym, ap, ◌∙◌, subst, Option, Some, None, List, [], ◌∷◌, ◌++◌, length, drop}
+use Rattle.std.proofs.Common.{◌≡◌, ℕ, refl, sym, ap, ◌∙◌, subst, Option, Some, None, Result, Ok, Err, List, [], ◌∷◌, ◌++◌, length, drop}
 use Rattle.std.proofs.Math.Seq.{drop-append_seam}
 use Rattle.std.proofs.lemmas.List.{same_from_push}
+use Rattle.ft_io.specs.declared.Key.{Key}
 use Rattle.seq_arith.specs.Packet.{Segment}
+use Rattle.seq_arith.specs.Message.{Message}
+use Rattle.seq_arith.specs.PacketGrammar as segments
+use Rattle.seq_arith.specs.MessageGrammar as messages
+use Rattle.seq_arith.specs.Damage.{flipped}
+use Rattle.seq_arith.specs.declared.BadPacket.{BadPacket}
+use Rattle.seq_arith.specs.declared.kinds.BadMsg.{BadMsg}
+use Rattle.ft_model.specs.Wire.{wire_of}
 use Rattle.server_trait.specs.Service.{Machine}
 use Rattle.ft_model.specs.Client.{Move, move_of, received}
 use Rattle.ft_model.specs.Log.{log_after}
@@ -13,7 +21,7 @@ use Rattle.ft_model.specs.Network.Packet.{To_server, To_client, To_logger, From_
 use Rattle.ft_model.specs.Node.{Node, Input, booted}
 use Rattle.ft_model.specs.Node.Input.{Packet_comes, Message_comes, Tick_comes}
 use Rattle.ft_model.specs.Schedule.{kind_of}
-use Rattle.ft_model.specs.World.{World, Moment, ServerTurn, ServerMoves, Delivered, Moves, Happens, Joint, world_after, events_of, with_client}
+use Rattle.ft_model.specs.World.{World, Moment, ServerTurn, ServerMoves, ClientReads, LogReads, segment_or_noise, message_or_noise, DeliveredAs, Flipped, Delivered, Moves, Happens, Joint, world_after, events_of, with_client}
 use Rattle.ft_model.specs.Legal.{start_of, mover_of, IsScripted, IsAllowed, AllAllowed, IsLegalFor}
 use Rattle.ft_model.specs.declared.event.Event.{Event}
 use Rattle.ft_model.specs.declared.event.Event.TheVariants.{Boot, Crash, Tick, Deliver, Flip, Begin, Send, Fin, Ack, Reset}
@@ -56,6 +64,23 @@ module _ {State : Type 0} (service : Machine State) where
   delivery_once (To_logger message) before w x s t p q =
       p.1 ∙ (ap (λ ps. record before { log = log_after before.log message; packets = before.packets ++ ps }) (p.0 ∙ sym q.0) ∙ sym q.1)
 
+  client_reads_once : (key : Key) (r : Result Segment BadPacket) (before w x : World) (s t : List Packet) → ClientReads key r before s w → ClientReads key r before t x → w ≡ x
+  client_reads_once key (Ok segment) before w x s t p q =
+      p.1 ∙ (ap (λ ps. record before { clients = with_client key (λ c. received c segment) before.clients; packets = before.packets ++ ps }) (p.0 ∙ sym q.0) ∙ sym q.1)
+  client_reads_once key (Err why) before w x s t p q = p.1 ∙ (ap (λ ps. record before { packets = before.packets ++ ps }) (p.0 ∙ sym q.0) ∙ sym q.1)
+
+  log_reads_once : (r : Result Message BadMsg) (before w x : World) (s t : List Packet) → LogReads r before s w → LogReads r before t x → w ≡ x
+  log_reads_once (Ok message) before w x s t p q =
+      p.1 ∙ (ap (λ ps. record before { log = log_after before.log message; packets = before.packets ++ ps }) (p.0 ∙ sym q.0) ∙ sym q.1)
+  log_reads_once (Err why) before w x s t p q = p.1 ∙ (ap (λ ps. record before { packets = before.packets ++ ps }) (p.0 ∙ sym q.0) ∙ sym q.1)
+
+  changed_once : (packet : Packet) (bytes : List ℕ) (before w x : World) (s t : List Packet)
+      → DeliveredAs service before packet bytes s w → DeliveredAs service before packet bytes t x → w ≡ x
+  changed_once (To_server segment) bytes before w x s t p q = server_once (segment_or_noise (segments.reading bytes)) before w x s t p q
+  changed_once (To_client segment) bytes before w x s t p q = client_reads_once (destination_of segment) (segments.reading bytes) before w x s t p q
+  changed_once (To_logger message) bytes before w x s t p q = log_reads_once (messages.reading bytes) before w x s t p q
+  changed_once (From_logger message) bytes before w x s t p q = server_once (message_or_noise (messages.reading bytes)) before w x s t p q
+
   -- clients that make one move stand alike, and so does their world
   move_once : (number : ℕ) (before w x : World) (s t : List Packet) → Moves before number s w → Moves before number t x → s ≡ t → w.clients ≡ x.clients → w ≡ x
   move_once number before w x s t p q sent clients =
@@ -81,7 +106,10 @@ module _ {State : Type 0} (service : Machine State) where
   happens_once (Deliver number) before w x s t p q a b =
       let same : p.0 ≡ q.0 = some_is p.0 q.0 (sym p.1 ∙ q.1) in
       delivery_once q.0 before w x s t (subst (λ packet. Delivered service before packet s w) same p.2) q.2
-  happens_once (Flip number bit) before w x s t p q a b = absurd p
+  happens_once (Flip number bit) before w x s t p q a b =
+      let same : p.0 ≡ q.0 = some_is p.0 q.0 (sym p.1 ∙ q.1) in
+      let f : Flipped service before q.0 bit s w = subst (λ packet. Flipped service before packet bit s w) same p.2 in
+      changed_once q.0 (flipped bit (wire_of q.0).bytes) before w x s t f.comes q.2.comes
   happens_once (Begin client window) before w x s t p q a b = by_script (Begin client window) (Syn None) before w x s t refl p q a b
   happens_once (Send client from len) before w x s t p q a b = by_script (Send client from len) (Text from len) before w x s t refl p q a b
   happens_once (Fin client) before w x s t p q a b = by_script (Fin client) Fin_move before w x s t refl p q a b
@@ -100,7 +128,21 @@ module _ {State : Type 0} (service : Machine State) where
       delivered_on (To_client segment) d = ap (λ v. v.packets) d.1
       delivered_on (To_logger message) d = ap (λ v. v.packets) d.1
       delivered_on (From_logger message) d = ap (λ v. v.packets) d.1
-  goes_on (Flip number bit) before w s p = absurd p
+  goes_on (Flip number bit) before w s p = changed_on p.0 (flipped bit (wire_of p.0).bytes) p.2.comes
+    where
+      client_on : (key : Key) (r : Result Segment BadPacket) → ClientReads key r before s w → w.packets ≡ before.packets ++ s
+      client_on key (Ok segment) d = ap (λ v. v.packets) d.1
+      client_on key (Err why) d = ap (λ v. v.packets) d.1
+
+      log_on : (r : Result Message BadMsg) → LogReads r before s w → w.packets ≡ before.packets ++ s
+      log_on (Ok message) d = ap (λ v. v.packets) d.1
+      log_on (Err why) d = ap (λ v. v.packets) d.1
+
+      changed_on : (packet : Packet) (bytes : List ℕ) → DeliveredAs service before packet bytes s w → w.packets ≡ before.packets ++ s
+      changed_on (To_server segment) bytes d = ap (λ v. v.packets) d.1
+      changed_on (To_client segment) bytes d = client_on (destination_of segment) (segments.reading bytes) d
+      changed_on (To_logger message) bytes d = log_on (messages.reading bytes) d
+      changed_on (From_logger message) bytes d = ap (λ v. v.packets) d.1
   goes_on (Begin client window) before w s p = ap (λ v. v.packets) p.after_is
   goes_on (Send client from len) before w s p = ap (λ v. v.packets) p.after_is
   goes_on (Fin client) before w s p = ap (λ v. v.packets) p.after_is

@@ -1,11 +1,12 @@
 -- A legal trace of a schedule: it starts from the schedule's clients and the empty log, its server runs the schedule's service, its events are
 -- the schedule's, all and in order, each of them allowed, and its clients follow the script.
-use Rattle.std.specs.Prelude.{◌≡◌, ℕ, nat_le, Option, Some, None, is_some, List, [], ◌∷◌, if◌then◌else◌}
+use Rattle.std.specs.Prelude.{◌≡◌, ℕ, ◌*◌, length, nat_le, Option, Some, None, is_some, List, [], ◌∷◌, if◌then◌else◌}
 use Rattle.server_trait.specs.Service.{Served, Machine, machine}
 use Rattle.ft_model.specs.Client.{Client, Move, move_of, window_of, refusal_of_move, segment_of, moved}
 use Rattle.ft_model.specs.Log.{empty_log}
 use Rattle.ft_model.specs.Network.{Packet, packet_at}
 use Rattle.ft_model.specs.Network.Packet.{To_server}
+use Rattle.ft_model.specs.Wire.{wire_of}
 use Rattle.ft_model.specs.Schedule.{kind_of, clients_of}
 use Rattle.ft_model.specs.World.{World, Moment, client_at, with_client, world_after, events_of, Joint}
 use Rattle.ft_model.specs.declared.event.Event.{Event}
@@ -24,14 +25,18 @@ refusal_of_client None move = Some why.Client
 refusal_of_client (Some client) None = None
 refusal_of_client (Some client) (Some move) = refusal_of_move client move
 
+-- why a bit of a packet, if there is one, can't be changed: it has no such bit
+abbrev pub refusal_of_flip : Option Packet → ℕ → Option EventWhy
+refusal_of_flip None bit = Some why.Packet
+refusal_of_flip (Some packet) bit = if nat_le (8 * length (wire_of packet).bytes) bit then Some why.Bit else None
+
 -- Why an event may not happen: the first test that holds.
 abbrev pub refusal : World → Event → Option EventWhy
 refusal w (Boot boot isn) = if is_some w.node then Some why.Up else (if nat_le boot w.boot then Some why.Boot else None)
 refusal w Crash = if is_some w.node then None else Some why.Down
 refusal w Tick = if is_some w.node then None else Some why.Down
 refusal w (Deliver number) = if is_some (packet_at w.packets number) then None else Some why.Packet
--- the test of the bit comes with the packets' bytes
-refusal w (Flip number bit) = if is_some (packet_at w.packets number) then None else Some why.Packet
+refusal w (Flip number bit) = refusal_of_flip (packet_at w.packets number) bit
 refusal w (Begin client window) = refusal_of_client (client_at w.clients client) (move_of (Begin client window))
 refusal w (Send client from len) = refusal_of_client (client_at w.clients client) (move_of (Send client from len))
 refusal w (Fin client) = refusal_of_client (client_at w.clients client) (move_of (Fin client))

@@ -2,6 +2,7 @@
 -- `weakened` what becomes of the client if one moment of them is wrong.
 pub mod Common
 pub mod FirstPath
+pub mod ChangedBit
 pub mod CrashAfterLogged
 pub mod Closing
 pub mod ZeroWindow

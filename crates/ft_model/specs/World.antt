@@ -1,17 +1,24 @@
 -- The world: clients, log, network and server, and what each event of a schedule does to them. A trace is a list of moments, newest
 -- first, each with the world after it. That world is a witness: clients, log and packets are those that the events determine.
-use Rattle.std.specs.Prelude.{◌≡◌, ℕ, Bool, true, zero, suc, ◌<◌, ◌≤◌, ◌^◌, ◌==◌, ◌&&◌, not, map, Option, Some, None, option_map, is_some, List, [], ◌∷◌, ◌++◌, length, slice_get, if◌then◌else◌}
+use Rattle.std.specs.Prelude.{◌≡◌, ℕ, Bool, true, zero, suc, ◌*◌, ◌<◌, ◌≤◌, ◌^◌, ◌==◌, ◌&&◌, not, map, Option, Some, None, Result, Ok, Err, option_map, is_some, List, [], ◌∷◌, ◌++◌, length, slice_get, if◌then◌else◌}
 use Rattle.std.specs.List.{AllByRecursion, list_any}
 use Rattle.std.specs.Option.{option_to_list}
 use Rattle.ft_io.specs.declared.Addr.{Addr}
 use Rattle.ft_io.specs.declared.Key.{Key}
 use Rattle.ft_io.specs.Key.{key_eq}
 use Rattle.seq_arith.specs.Packet.{Segment}
+use Rattle.seq_arith.specs.Message.{Message}
+use Rattle.seq_arith.specs.PacketGrammar as segments
+use Rattle.seq_arith.specs.MessageGrammar as messages
+use Rattle.seq_arith.specs.Damage.{flipped}
+use Rattle.seq_arith.specs.declared.BadPacket.{BadPacket}
+use Rattle.seq_arith.specs.declared.kinds.BadMsg.{BadMsg}
 use Rattle.server_trait.specs.Service.{Machine, AreBytes}
 use Rattle.ft_model.specs.Client.{Client, IsMove, received, new_client}
 use Rattle.ft_model.specs.Log.{Log, empty_log, log_after, answer_to}
 use Rattle.ft_model.specs.Network.{Packet, packet_at, destination_of}
 use Rattle.ft_model.specs.Network.Packet.{To_server, To_client, To_logger, From_logger}
+use Rattle.ft_model.specs.Wire.{wire_of, HasWire}
 use Rattle.ft_model.specs.Node.{Node, Input, booted}
 use Rattle.ft_model.specs.Node.Input.{Packet_comes, Message_comes, Noise_comes, Tick_comes}
 use Rattle.ft_model.specs.Lawful.{LawfulTurn, hello}
@@ -44,15 +51,56 @@ abbrev pub ServerMoves : {State : Type 0} → Machine State → Input → World 
 ServerMoves service input before sent after =
     ServerTurn service input before.node sent after.node × (after ≡ record before { node = after.node; packets = before.packets ++ sent })
 
--- one packet reaches its addressee. A client that receives sends nothing, and the log sends its answer and nothing else
-abbrev pub Delivered : {State : Type 0} → Machine State → World → Packet → List Packet → World → Type 0
-Delivered service before (To_server segment) sent after = ServerMoves service (Packet_comes segment) before sent after
-Delivered service before (To_client segment) sent after =
-    (sent ≡ []) × (after ≡ record before { clients = with_client (destination_of segment) (λ c. received c segment) before.clients; packets = before.packets ++ sent })
-Delivered service before (To_logger message) sent after =
+-- a segment comes to the client of a key. A client that receives sends nothing
+abbrev pub ClientHears : Key → Segment → World → List Packet → World → Type 0
+ClientHears key segment before sent after =
+    (sent ≡ []) × (after ≡ record before { clients = with_client key (λ c. received c segment) before.clients; packets = before.packets ++ sent })
+
+-- a message comes to the log, which sends its answer and nothing else
+abbrev pub LogHears : Message → World → List Packet → World → Type 0
+LogHears message before sent after =
     (sent ≡ option_to_list (option_map From_logger (answer_to before.log message)))
     × (after ≡ record before { log = log_after before.log message; packets = before.packets ++ sent })
+
+-- one packet reaches its addressee
+abbrev pub Delivered : {State : Type 0} → Machine State → World → Packet → List Packet → World → Type 0
+Delivered service before (To_server segment) sent after = ServerMoves service (Packet_comes segment) before sent after
+Delivered service before (To_client segment) sent after = ClientHears (destination_of segment) segment before sent after
+Delivered service before (To_logger message) sent after = LogHears message before sent after
 Delivered service before (From_logger message) sent after = ServerMoves service (Message_comes message) before sent after
+
+-- what can't be read is noise: a server has a turn of it, and to a client and the log it is nothing
+abbrev pub NothingHappens : World → List Packet → World → Type 0
+NothingHappens before sent after = (sent ≡ []) × (after ≡ record before { packets = before.packets ++ sent })
+
+abbrev pub segment_or_noise : Result Segment BadPacket → Input
+segment_or_noise (Ok segment) = Packet_comes segment
+segment_or_noise (Err why) = Noise_comes
+
+abbrev pub message_or_noise : Result Message BadMsg → Input
+message_or_noise (Ok message) = Message_comes message
+message_or_noise (Err why) = Noise_comes
+
+abbrev pub ClientReads : Key → Result Segment BadPacket → World → List Packet → World → Type 0
+ClientReads key (Ok segment) before sent after = ClientHears key segment before sent after
+ClientReads key (Err why) before sent after = NothingHappens before sent after
+
+abbrev pub LogReads : Result Message BadMsg → World → List Packet → World → Type 0
+LogReads (Ok message) before sent after = LogHears message before sent after
+LogReads (Err why) before sent after = NothingHappens before sent after
+
+-- these bytes reach the addressee of a packet in place of its own, and are read by the grammar of its way
+abbrev pub DeliveredAs : {State : Type 0} → Machine State → World → Packet → List ℕ → List Packet → World → Type 0
+DeliveredAs service before (To_server segment) bytes sent after = ServerMoves service (segment_or_noise (segments.reading bytes)) before sent after
+DeliveredAs service before (To_client segment) bytes sent after = ClientReads (destination_of segment) (segments.reading bytes) before sent after
+DeliveredAs service before (To_logger message) bytes sent after = LogReads (messages.reading bytes) before sent after
+DeliveredAs service before (From_logger message) bytes sent after = ServerMoves service (message_or_noise (messages.reading bytes)) before sent after
+
+-- one bit of a packet is changed on its way. It is one of the packet's bits
+pub record Flipped {State : Type 0} (service : Machine State) (before : World) (packet : Packet) (bit : ℕ) (sent : List Packet) (after : World) : Type 0 where
+  pub wire : HasWire packet
+  pub within : bit < 8 * length (wire_of packet).bytes
+  pub comes : DeliveredAs service before packet (flipped bit (wire_of packet).bytes) sent after
 
 -- a packet of this world: it may be delivered next
 abbrev pub WasSent : World → Packet → Type 0
@@ -90,8 +138,8 @@ Happens service before Crash sent after =
 Happens service before Tick sent after = (is_some before.node ≡ true) × ServerMoves service Tick_comes before sent after
 Happens service before (Deliver number) sent after =
     (packet : Packet) × (packet_at before.packets number ≡ Some packet) × Delivered service before packet sent after
--- no event of a trace changes a bit yet
-Happens service before (Flip number bit) sent after = ⊥
+Happens service before (Flip number bit) sent after =
+    (packet : Packet) × (packet_at before.packets number ≡ Some packet) × Flipped service before packet bit sent after
 Happens service before (Begin client window) sent after = Moves before client sent after
 Happens service before (Send client from len) sent after = Moves before client sent after
 Happens service before (Fin client) sent after = Moves before client sent after

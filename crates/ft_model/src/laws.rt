@@ -14,8 +14,9 @@ ghost use Rattle.ft_model.specs.Point.{Point};
 ghost use Rattle.ft_model.specs.Connection.{LiveTurn};
 ghost use Rattle.ft_model.specs.Node.{Node, Input, AllCount};
 ghost use Rattle.ft_model.specs.Lawful.{LawfulTurn, is_fenced};
-ghost use Rattle.ft_model.specs.World.{Moment};
+ghost use Rattle.ft_model.specs.World.{World, Moment, Happens};
 ghost use Rattle.ft_model.specs.Legal.{Legal, machines};
+ghost use Rattle.ft_model.specs.declared.event.Event.TheVariants.{Flip};
 ghost use Rattle.ft_model.specs.Outcome.{IsWhole, IsRefused, IsPastPackets};
 ghost use Rattle.ft_model.specs.declared.schedule.Schedule.{Schedule};
 
@@ -79,4 +80,10 @@ pub fn schedules_have_one_outcome<S: Service>()
         → IsWhole (machines S.started S.after) schedule → IsPastPackets (machines S.started S.after) schedule → ⊥ }
     ensures refused_or_past { (schedule : Schedule)
         → IsRefused (machines S.started S.after) schedule → IsPastPackets (machines S.started S.after) schedule → ⊥ }
+{}
+
+/// A changed bit changes nothing at a client or the log. It is noise, of which a server that is up has a turn.
+pub fn changed_bits_are_noise<S: Service>()
+    ensures { (kind number bit : ℕ) (before after : World) (sent : List Packet) → Happens (machine (S.started kind) S.after) before (Flip number bit) sent after
+        → (after.clients ≡ before.clients) × (after.log ≡ before.log) }
 {}

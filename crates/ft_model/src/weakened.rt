@@ -5,13 +5,14 @@ ghost use Rattle.std.specs.Prelude.{◌≡◌, ℕ, false, List, [], ◌∷◌, 
 ghost use Rattle.std.specs.List.{AllByRecursion};
 ghost use Rattle.ft_model.specs.Client.{may_move};
 ghost use Rattle.ft_model.specs.Client.Move.{Text};
-ghost use Rattle.ft_model.specs.Growth.{logged_units};
+ghost use Rattle.ft_model.specs.Growth.{IsPrefix, logged_units};
 ghost use Rattle.ft_model.specs.Log.{log_after};
 ghost use Rattle.ft_model.specs.Masked.{SeesFront, Masked};
 ghost use Rattle.ft_model.specs.Resets.{ResetsNoLogged};
 ghost use Rattle.ft_model.specs.Weakened.{IsWrongOnce};
 ghost use Rattle.ft_model.specs.declared.phase.Phase.TheVariants.{Reset};
-ghost use Rattle.ft_model.specs.WorkedRuns.Common.{echo, key};
+ghost use Rattle.ft_model.specs.WorkedRuns.Common.{echo, hello_text, key};
+ghost use Rattle.ft_model.specs.WorkedRuns.ChangedBit;
 ghost use Rattle.ft_model.specs.WorkedRuns.FirstPath;
 ghost use Rattle.ft_model.specs.WorkedRuns.EarlyAcknowledgement;
 ghost use Rattle.ft_model.specs.WorkedRuns.ResetWhileRestarting;
@@ -50,4 +51,11 @@ pub fn unfenced_reads_show_through()
     ensures wrong_once { IsWrongOnce meter FirstPath.start UnloggedRead.after_unfenced UnloggedRead.unfenced UnloggedRead.before_unfenced }
     ensures seen { AllByRecursion (SeesFront meter UnloggedRead.unfenced_25.world.log) UnloggedRead.unfenced_25.world.clients → ⊥ }
     ensures not_masked { Masked meter FirstPath.start (UnloggedRead.after_unfenced ++ UnloggedRead.unfenced ∷ UnloggedRead.before_unfenced) → ⊥ }
+{}
+
+/// Where the log takes a Data with a changed bit for its server's, it keeps a byte that no client sent. The law on damage refuses the moment: the
+/// changed bytes are no message, and to the log they are nothing.
+pub fn changed_bits_reach_no_log()
+    ensures wrong_once { IsWrongOnce echo FirstPath.start [] ChangedBit.wrong ChangedBit.earlier }
+    ensures not_the_clients { AllByRecursion (λ e. IsPrefix e.bytes hello_text) ChangedBit.wrong.world.log.entries → ⊥ }
 {}
