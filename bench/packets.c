@@ -1,5 +1,6 @@
 /* The checks of read_packet as a plain C loop: `packets BYTES ROUNDS` makes 64 packets of BYTES bytes, reads each of them ROUNDS times, and
-   prints what their sequence numbers and payloads add up to. */
+   prints what their sequence numbers and payloads add up to. With a third word `set` it sets three fields of each of them ROUNDS times by
+   the update of RFC 1624, reads each once, and prints what their checksums add up to besides. */
 #include <stdint.h>
 #include <stdio.h>
 #include <stdlib.h>
@@ -111,13 +112,39 @@ static void write_packet(uint8_t *p, size_t n, uint32_t seq)
     put(p + 36, (uint16_t)~tcp_sum(p, n));
 }
 
+static uint16_t patched(uint16_t check, uint16_t old, uint16_t new)
+{
+    return (uint16_t)~folded((uint32_t)(uint16_t)~check + (uint16_t)~old + new);
+}
+
+static void set_word(uint8_t *p, size_t at, uint16_t n)
+{
+    uint16_t check = patched(word(p + 36), word(p + at), n);
+    put(p + at, n);
+    put(p + 36, check);
+}
+
+static void set_number(uint8_t *p, size_t at, uint32_t n)
+{
+    set_word(p, at, (uint16_t)(n >> 16));
+    set_word(p, at + 2, (uint16_t)n);
+}
+
+/* as functions of their own, as a library has them */
+static __attribute__((noinline)) void set_seq(uint8_t *p, uint32_t n) { set_number(p, 24, n); }
+
+static __attribute__((noinline)) void set_ack(uint8_t *p, uint32_t n) { set_number(p, 28, n); }
+
+static __attribute__((noinline)) void set_window(uint8_t *p, uint16_t n) { set_word(p, 34, n); }
+
 int main(int argc, char **argv)
 {
     size_t n, i;
     unsigned long rounds, r;
     uint64_t total = 0;
     uint8_t *packets;
-    if (argc != 3 || (n = strtoul(argv[1], NULL, 10)) < 40 || n > 1500)
+    int sets = argc == 4 && strcmp(argv[3], "set") == 0;
+    if ((argc != 3 && !sets) || (n = strtoul(argv[1], NULL, 10)) < 40 || n > 1500)
         return 1;
     rounds = strtoul(argv[2], NULL, 10);
     packets = malloc(PACKETS * n);
@@ -125,7 +152,15 @@ int main(int argc, char **argv)
         return 1;
     for (i = 0; i < PACKETS; i++)
         write_packet(packets + i * n, n, (uint32_t)i);
-    for (r = 0; r < rounds; r++)
+    for (r = 0; sets && r < rounds; r++)
+        for (i = 0; i < PACKETS; i++) {
+            set_seq(packets + i * n, (uint32_t)r * 77777u);
+            set_ack(packets + i * n, (uint32_t)r * 55555u);
+            set_window(packets + i * n, (uint16_t)r);
+        }
+    for (i = 0; sets && i < PACKETS; i++)
+        total += word(packets + i * n + 36);
+    for (r = 0; r < (sets ? 1 : rounds); r++)
         for (i = 0; i < PACKETS; i++) {
             struct packet packet;
             if (read_packet(packets + i * n, n, &packet) == 0)

@@ -1,29 +1,43 @@
 #!/usr/bin/env bash
-# Packets a second, read and summed, of packet_bench beside a plain C loop of the same checks (gcc -O2), in one run: for 40 and for 1,500
-# bytes, the least processor time of 7 turns each, taken in turn.
+# Packets and messages by packet_bench and message_bench beside plain C loops of the same checks and updates (gcc -O2), in one run: packets
+# read and summed, for 40 and for 1,500 bytes; three fields of a packet set in place, of the same packets; and messages read and written, a
+# Data of 1,460 bytes and the length of a read. Of each the least processor time of 7 turns, taken in turn.
 set -eu
 cd "$(dirname "$0")/.."
 (cd crates/packet_bench && rt run -- 40 1 >/dev/null 2>&1)
-ours="$PWD/crates/packet_bench/out/packet_bench"
+(cd crates/message_bench && rt run -- read data 1 >/dev/null 2>&1)
 work=$(mktemp -d)
 trap 'rm -rf "$work"' EXIT
 gcc -O2 -Wall -o "$work/packets" bench/packets.c
+gcc -O2 -Wall -o "$work/messages" bench/messages.c
 
 # user time of one run, in milliseconds
 TIMEFORMAT=%U
 spent() { { time "$@" >"$work/out"; } 2>&1 | tr -d .; }
 
-for row in "40 200000" "1500 20000"; do
-    read -r bytes rounds <<<"$row"
-    least_ours=999999 least_c=999999
+# what is timed, our program, the C program, their words, and how many calls they make
+row() {
+    local what=$1 ours="$PWD/crates/$2/out/$2" c="$work/$3" words=$4 calls=$5 least_ours=999999 least_c=999999 a b
     for _ in 1 2 3 4 5 6 7; do
-        a=$((10#$(spent "$ours" "$bytes" "$rounds")))
+        # shellcheck disable=SC2086
+        a=$((10#$(spent "$ours" $words)))
         mv "$work/out" "$work/said"
-        b=$((10#$(spent "$work/packets" "$bytes" "$rounds")))
+        # shellcheck disable=SC2086
+        b=$((10#$(spent "$c" $words)))
         cmp -s "$work/said" "$work/out" || { echo "the two differ"; exit 1; }
         ((a < least_ours)) && least_ours=$a
         ((b < least_c)) && least_c=$b
     done
-    packets=$((64 * rounds))
-    echo "$bytes bytes: $((packets / least_ours * 1000)) packets a second, C $((packets / least_c * 1000)), time as $((100 * least_ours / least_c)) to 100"
-done
+    awk -v what="$what" -v calls="$calls" -v a="$least_ours" -v b="$least_c" 'BEGIN {
+        printf "%s: %d a second, %.1f ns each; C %d a second, %.1f ns; time as %d to 100\n", what, calls / a * 1000, a / calls * 1e6, calls / b * 1000, b / calls * 1e6, 100 * a / b
+    }'
+}
+
+row "packets of 40 bytes read" packet_bench packets "40 200000" $((64 * 200000))
+row "packets of 1500 bytes read" packet_bench packets "1500 20000" $((64 * 20000))
+row "fields of packets of 40 bytes set" packet_bench packets "40 300000 set" $((3 * 64 * 300000))
+row "fields of packets of 1500 bytes set" packet_bench packets "1500 300000 set" $((3 * 64 * 300000))
+row "Data of 1460 bytes read" message_bench messages "read data 20000" $((64 * 20000))
+row "Data of 1460 bytes written" message_bench messages "write data 20000" $((64 * 20000))
+row "lengths of reads read" message_bench messages "read cut 200000" $((64 * 200000))
+row "lengths of reads written" message_bench messages "write cut 200000" $((64 * 200000))

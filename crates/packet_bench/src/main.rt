@@ -1,12 +1,13 @@
 //! Reads packets many times, for `bench/packets.sh`: `packet_bench BYTES ROUNDS` writes 64 packets of BYTES bytes, reads each of them ROUNDS
-//! times, and prints what their sequence numbers and payloads add up to.
+//! times, and prints what their sequence numbers and payloads add up to. With a third word `set` it sets the sequence number, the
+//! acknowledgement and the window of each of them ROUNDS times, reads each once, and prints what their checksums add up to besides.
 #![tactic(auto)]
 
-ghost use Rattle.std.specs.Prelude.{◌<◌, ◌≤◌};
+ghost use Rattle.std.specs.Prelude.{◌<◌, ◌≤◌, ◌≡◌, length};
 
 use anyhow::{Context, Result, ensure};
-use segment_codec::{Head, read_packet, write_packet};
-use seq_arith::Seq;
+use segment_codec::{Head, read_packet, set_ack, set_seq, set_window, write_packet};
+use seq_arith::{ACK, Seq};
 use std::alloc::{AllocError, Global};
 use std::env;
 
@@ -14,15 +15,24 @@ const PACKETS: u32 = 64;
 
 fn main(rt: HostRuntime) -> Result<()> {
     let words: Vec<String> = env::args(&rt)?.skip(1).collect(rt.alloc())?;
-    let [bytes, rounds] = words.as_slice() else {
-        ensure!(false, "packet_bench BYTES ROUNDS");
-        return Ok(());
+    let (bytes, rounds, sets) = match words.as_slice() {
+        [bytes, rounds] => (bytes, rounds, false),
+        [bytes, rounds, what] if what.as_str() == "set" => (bytes, rounds, true),
+        _ => {
+            ensure!(false, "packet_bench BYTES ROUNDS [set]");
+            return Ok(());
+        }
     };
     let bytes: usize = bytes.as_str().parse().context("BYTES")?;
     let rounds: u32 = rounds.as_str().parse().context("ROUNDS")?;
     ensure!(40 <= bytes && bytes <= 1500, "BYTES is 40 to 1500");
-    let packets = make(rt.alloc(), bytes)?;
-    let total = read_all(packets.as_slice(), bytes, rounds);
+    let mut packets = make(rt.alloc(), bytes)?;
+    let total = if sets {
+        set_all(packets.as_mut_slice(), bytes, rounds);
+        read_all(packets.as_slice(), bytes, 1).wrapping_add(checks(packets.as_slice(), bytes))
+    } else {
+        read_all(packets.as_slice(), bytes, rounds)
+    };
     println!(rt; "{total}")?;
     Ok(())
 }
@@ -43,7 +53,7 @@ fn make(alloc: Global, bytes: usize) -> Result<Vec<u8>, AllocError>
             dport: 7,
             seq: Seq(i),
             ack: Seq(1),
-            flags: 0x10,
+            flags: ACK,
             window: 65_535,
             mss: None,
         };
@@ -64,6 +74,39 @@ fn read_all(packets: &[u8], bytes: usize, rounds: u32) -> u64
                     .wrapping_add(u64::from(packet.head.seq.0))
                     .wrapping_add(packet.payload.len() as u64);
             }
+        }
+    }
+    total
+}
+
+fn set_all(packets: &mut [u8], bytes: usize, rounds: u32)
+    requires { 0 < bytes }
+{
+    for round in 0..rounds {
+        for packet in packets.chunks_exact_mut(bytes) {
+            if packet.len() >= 40 {
+                set_three(&mut packet[..40], round);
+            }
+        }
+    }
+}
+
+fn set_three(head: &mut [u8], round: u32)
+    requires { length head.old ≡ 40 }
+{
+    set_seq(head, Seq(round.wrapping_mul(77_777)));
+    set_ack(head, Seq(round.wrapping_mul(55_555)));
+    set_window(head, (round % 65_536) as u16);
+}
+
+/// What the TCP checksums add up to.
+fn checks(packets: &[u8], bytes: usize) -> u64
+    requires { 0 < bytes }
+{
+    let mut total = 0u64;
+    for packet in packets.chunks_exact(bytes) {
+        if let [high, low] = packet.get(36..38).unwrap_or(&[]) {
+            total = total.wrapping_add(u64::from(*high) * 256 + u64::from(*low));
         }
     }
     total
