@@ -1,5 +1,7 @@
 //! Each rule on segments written out, their checksums summed by a few lines of Python.
 
+ghost use Rattle.std.specs.Prelude.{◌≡◌, IfSome};
+
 use super::*;
 use segment_codec::read_packet;
 use seq_arith::Seq;
@@ -16,7 +18,9 @@ struct Restart {
 }
 
 impl Restart {
-    fn south(&self) -> Option<South> {
+    fn south(&self) -> Option<South>
+        ensures { IfSome result (λ south. south.sent ≡ self.now.acked) }
+    {
         if self.length > 16_777_216 || self.acked > 16_777_216 {
             return None;
         }
@@ -257,7 +261,7 @@ fn segments_that_stop(rt: HostRuntime) {
         inner: 5000,
     };
     assert_eq!(rt; let_in(&fresh, 0, SYN, &mut out), Some(Inward::Repeat));
-    assert_eq!(rt; &out[..40], &SYN[..]);
+    assert_eq!(rt; out.get(..40), Some(&SYN[..]));
     let taken = Restart {
         cisn: 1000,
         sisn: 5000,
@@ -268,7 +272,7 @@ fn segments_that_stop(rt: HostRuntime) {
     };
     assert_eq!(rt; let_in(&taken, 0, SYN, &mut out), Some(Inward::Pass));
     assert_eq!(rt; sent_out(&fresh, RST, &mut out), Some(false));
-    assert_eq!(rt; &out[..40], &RST[..]);
+    assert_eq!(rt; out.get(..40), Some(&RST[..]));
 }
 
 /// `hello` and a FIN at the stream's beginning.
