@@ -13,7 +13,8 @@ use Rattle.ft_model.specs.declared.event.Event.TheVariants as events
 use Rattle.ft_model.specs.declared.event.EventWhy.{EventWhy}
 use Rattle.ft_model.specs.declared.event.EventWhy.TheVariants.{State, Range}
 
--- Which of the two a client is, from its start on. A scripted one follows the schedule; a live one is a TCP of its own
+-- Which of the two a client is, from its start on. A scripted one makes the moves of a schedule, which a legal trace
+-- holds to its events; a live one is a TCP of its own
 pub data ClientKind : Type 0 where
   Scripted : ClientKind
   Live : ClientKind

@@ -11,7 +11,7 @@ use Rattle.ft_model.specs.News.{News}
 use Rattle.ft_model.specs.News.News.{Comes}
 use Rattle.ft_model.specs.Taken.{end_of}
 
--- an offset of the stream; a segment that begins before its first byte, as a repeated SYN, counts from there
+-- an offset of the stream; a segment that begins before its first byte, as a retransmission may, counts from there
 abbrev pub from_start : ℤ → ℕ
 from_start (pos offset) = offset
 from_start (negsuc before) = 0

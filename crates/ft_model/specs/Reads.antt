@@ -18,8 +18,8 @@ next_length p =
     else (if nat_lt (bytes_read p) (length p.taken) then Some (min 2048 (length p.taken - bytes_read p))
     else (if p.fin && not (list_any (λ n. n == 0) p.lengths) then Some 0 else None))
 
--- the service may read on: all its output so far is released, since each of its reads that made some is logged; it has left or has room in the send
--- buffer; it stays within the stream with the output of one read more; and fewer than 32 reads are unanswered
+-- the service may read on: all its output so far is released, that is, each of its reads that made some is logged; it is acknowledged or has room in the
+-- send buffer; it stays within the stream with the output of one read more; and fewer than 32 reads are unanswered
 unfoldable pub may_read : {State : Type 0} → Machine State → Point → Bool
 may_read service p =
     nat_le (made service p) (min (released service p) (p.una + 65535)) && nat_le (made service p) (2 ^ 24 - 2 ^ 20)

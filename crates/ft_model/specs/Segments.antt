@@ -106,7 +106,8 @@ probe service server before after =
 abbrev pub is_unacknowledged : Point → Point → Bool
 is_unacknowledged before after = not after.counted || nat_lt after.una before.sent
 
--- at a tick at which the timer expires, one segment goes out besides: again what is unacknowledged, or else a probe
+-- at a tick at which the timer expires, one segment goes out besides: again what is unacknowledged, or else a probe. Where only a FIN could, and the
+-- service has not closed, there is none
 unfoldable pub resent : {State : Type 0} → Machine State → Addr → News → Point → Point → List Segment
 resent service server news before after =
     if expires news before
