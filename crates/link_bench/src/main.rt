@@ -58,3 +58,32 @@ fn exchange<L: Link>(link: &mut L, here: Addr, text: &[u8], rounds: u32) -> u64 
     }
     heard
 }
+
+#[cfg(test)]
+mod tests {
+    use super::*;
+    use ft_io::{Arrival, MemLink, Octets};
+    use std::test::Fail;
+
+    /// Silence and a failed receive give nothing, and use up no more than their turn.
+    #[test]
+    fn an_exchange_counts_what_comes_back(rt: HostRuntime) -> Result<(), Fail> {
+        let alloc = rt.alloc();
+        let here = Addr { ip: 1, port: 7 };
+        let hello = Arrival::Datagram {
+            from: here,
+            bytes: Octets::new(b"hello".to_vec(alloc)?),
+        };
+        let short = Arrival::Datagram {
+            from: here,
+            bytes: Octets::new(b"abc".to_vec(alloc)?),
+        };
+        let arrivals = vec![in alloc; hello, Arrival::Nothing, short]?;
+        let recv_fails = vec![in alloc; 3]?;
+        let mut link = MemLink::new(alloc, arrivals, Vec::new(alloc), recv_fails, false);
+        assert_eq!(rt; exchange(&mut link, here, b"hello", 5), 8);
+        assert_eq!(rt; (link.faults(), link.starved()), (1, 0));
+        assert_eq!(rt; link.told().map(|calls| calls.len()), Some(10));
+        Ok(())
+    }
+}
