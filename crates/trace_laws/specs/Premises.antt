@@ -1,0 +1,33 @@
+-- What a trace gives of the premises that a server's contract has: how much of the log a fetching server has, and which move is a refusal.
+use Rattle.std.specs.Prelude.{◌≡◌, Bool, true, false, IfSome}
+use Rattle.std.specs.List.{AllByRecursion}
+use Rattle.server_trait.specs.Service.{Machine}
+use Rattle.ft_model.specs.Client.{Move}
+use Rattle.ft_model.specs.Client.Move.{Refuse}
+use Rattle.ft_model.specs.Growth.{IsPrefix}
+use Rattle.ft_model.specs.Log.{Entry, head_of}
+use Rattle.ft_model.specs.Restart.{Fetched, IsSound}
+use Rattle.ft_model.specs.Node.{Node, Stage, Input}
+use Rattle.ft_model.specs.Node.Stage.{Fetching}
+use Rattle.ft_model.specs.Node.Input.{Message_comes}
+use Rattle.ft_model.specs.Lawful.{fetched_then}
+
+-- As far as it is fetched it is the front of an entry that is sound (FT-TCP, INFOCOM 2001: the restarted server is fed the reads that the log
+-- keeps). So a server that replays reads before it has them all has a bound, too
+pub record IsSoundFront {State : Type 0} (service : Machine State) (f : Fetched) : Type 0 where
+  pub entry : Entry
+  pub head : f.head ≡ head_of entry
+  pub bytes : IsPrefix f.bytes entry.bytes
+  pub lengths : IsPrefix f.lengths entry.lengths
+  pub sound : IsSound service entry
+
+-- so is all that a fetching server has after this input
+abbrev pub HasSoundFronts : {State : Type 0} → Machine State → Node → Input → Stage → Type 0
+HasSoundFronts service node (Message_comes message) (Fetching count fetched) =
+    IfSome (fetched_then node message count fetched) (AllByRecursion (IsSoundFront service))
+HasSoundFronts service node _ _ = Unit {0}
+
+-- a live client answers a SYN-ACK that acknowledges no SYN of its by a RST with that number (RFC 9293, 3.10.7.3)
+abbrev pub is_refusal : Move → Bool
+is_refusal (Refuse number) = true
+is_refusal _ = false

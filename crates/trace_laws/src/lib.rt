@@ -1,0 +1,106 @@
+//! Laws of every joint trace, on which a server's contract rests: what comes to it is near, what it has fetched is sound, and nothing fences
+//! it. Nothing here runs; each function is a theorem.
+#![tactic(auto)]
+
+ghost use Rattle.std.specs.Prelude.{◌≡◌, ℕ, ◌≤◌, ◌^◌, false, min, Some, None, List, [], ◌∷◌, ◌++◌, length, sum};
+ghost use Rattle.std.specs.List.{AllByRecursion};
+ghost use Rattle.ft_io.specs.declared.Addr.{Addr};
+ghost use Rattle.seq_arith.specs.Packet.{Segment, has_rst};
+ghost use Rattle.server_trait.specs.Service.{machine, reference};
+ghost use Rattle.ft_model.specs.Connection.{LiveTurn};
+ghost use Rattle.ft_model.specs.Growth.{IsPrefix};
+ghost use Rattle.ft_model.specs.Network.{Packet};
+ghost use Rattle.ft_model.specs.Network.Packet.{To_server};
+ghost use Rattle.ft_model.specs.News.{News};
+ghost use Rattle.ft_model.specs.Point.{Point, target, answered_run, whole_run};
+ghost use Rattle.ft_model.specs.Restart.{Fetched, IsSound};
+ghost use Rattle.ft_model.specs.Node.{Node, Input};
+ghost use Rattle.ft_model.specs.Lawful.{AreNear, IsNearInput, IsSoundInput, fence};
+ghost use Rattle.ft_model.specs.Legal.{Legal, machines, start_of};
+ghost use Rattle.ft_model.specs.Schedule.{kind_of};
+ghost use Rattle.ft_model.specs.World.{World, Moment, WasSent, MayCome, Moves, Joint, world_after};
+ghost use Rattle.ft_model.specs.declared.schedule.Schedule.{Schedule};
+ghost use Rattle.ft_model.specs.Weakened.{IsWrongOnce};
+ghost use Rattle.ft_model.specs.WorkedRuns.Common.{echo};
+ghost use Rattle.ft_model.specs.WorkedRuns.FirstPath;
+ghost use Rattle.trace_laws.specs.FarPacket;
+ghost use Rattle.trace_laws.specs.LateFin;
+ghost use Rattle.trace_laws.specs.Premises.{IsSoundFront, HasSoundFronts, is_refusal};
+
+use server_trait::Service;
+
+/// Every entry of the log is sound: the run over its reads has at most 2^24 bytes of output, and a FIN stands below 2^24.
+pub fn logged_entries_are_sound<S: Service>()
+    ensures { (kind : ℕ) (start : World) (trace : List Moment) → Joint (machine (S.started kind) S.after) start trace
+        → AllByRecursion (IsSound (machine (S.started kind) S.after)) (world_after start trace).log.entries }
+{}
+
+/// Whatever comes to a server that fetches: each entry that it then has whole, and is to be restored, is sound. And what it has of any other is
+/// the front of a sound one.
+pub fn fetched_entries_are_sound<S: Service>()
+    ensures whole { (kind : ℕ) (start : World) (trace : List Moment) (node : Node) (input : Input) → Joint (machine (S.started kind) S.after) start trace
+        → (world_after start trace).node ≡ Some node → MayCome (world_after start trace) input → IsSoundInput (machine (S.started kind) S.after) node input node.stage }
+    ensures front { (kind : ℕ) (start : World) (trace : List Moment) (node : Node) (input : Input) → Joint (machine (S.started kind) S.after) start trace
+        → (world_after start trace).node ≡ Some node → MayCome (world_after start trace) input → HasSoundFronts (machine (S.started kind) S.after) node input node.stage }
+{}
+
+/// A run over the front of a sound entry is short, in whichever order bytes and lengths come: its reads that have their bytes put out at most
+/// 2^24 bytes.
+pub fn fronts_run_short<S: Service>()
+    ensures { (kind : ℕ) (f : Fetched) (lengths : List ℕ) → IsSoundFront (machine (S.started kind) S.after) f → IsPrefix lengths f.lengths → sum lengths ≤ length f.bytes
+        → length (reference (machine (S.started kind) S.after) f.bytes lengths).output ≤ 2 ^ 24 }
+{}
+
+/// Every packet without RST that a client ever sent is near to its connection, wherever that is live when the packet comes.
+pub fn packets_are_near<S: Service>()
+    ensures { (kind : ℕ) (start : World) (trace : List Moment) (node : Node) (segment : Segment)
+        → Joint (machine (S.started kind) S.after) start trace → (world_after start trace).node ≡ Some node
+        → WasSent (world_after start trace) (To_server segment) → has_rst segment ≡ false → AreNear segment node.stage }
+{}
+
+/// So is the packet of every move, RST or not, at each moment from then on, but for a live client's refusal of a wrong acknowledgement, which
+/// has the number that it refuses.
+pub fn moves_are_near<S: Service>()
+    ensures { (kind number : ℕ) (start : World) (later earlier : List Moment) (moment : Moment) (node : Node)
+        → Joint (machine (S.started kind) S.after) start (later ++ moment ∷ earlier)
+        → (moves : Moves (world_after start earlier) number moment.sent moment.world) → is_refusal moves.move.move ≡ false
+        → (world_after start (later ++ moment ∷ earlier)).node ≡ Some node → AreNear moves.segment node.stage }
+{}
+
+/// The premises of a server's contract hold in every legal trace, of whatever may come next: a packet is near, what is fetched is sound, and
+/// nothing fences.
+pub fn premises_hold<S: Service>()
+    ensures near { (schedule : Schedule) (trace : List Moment) (node : Node) (input : Input) → Legal (machines S.started S.after) schedule trace
+        → (world_after (start_of schedule) trace).node ≡ Some node → MayCome (world_after (start_of schedule) trace) input → IsNearInput input node.stage }
+    ensures sound { (schedule : Schedule) (trace : List Moment) (node : Node) (input : Input) → Legal (machines S.started S.after) schedule trace
+        → (world_after (start_of schedule) trace).node ≡ Some node → MayCome (world_after (start_of schedule) trace) input
+        → IsSoundInput (machines S.started S.after (kind_of schedule.service)) node input node.stage }
+    ensures unfenced { (schedule : Schedule) (trace : List Moment) (node : Node) (input : Input) → Legal (machines S.started S.after) schedule trace
+        → (world_after (start_of schedule) trace).node ≡ Some node → MayCome (world_after (start_of schedule) trace) input → fence node input ≡ None }
+{}
+
+/// What may leave, the output of the reads that are answered, is a front of the output of all reads.
+pub fn answered_output_is_a_front<S: Service>()
+    ensures { (kind : ℕ) (p : Point) → IsPrefix (answered_run (machine (S.started kind) S.after) p).output (whole_run (machine (S.started kind) S.after) p).output }
+{}
+
+/// A live turn sends all that may leave, up to the client's right edge.
+pub fn turns_send_what_may_leave<S: Service>()
+    ensures { (kind boot : ℕ) (server : Addr) (news : News) (before after : Point) (sent : List Packet)
+        → LiveTurn (machine (S.started kind) S.after) server boot news before after sent → min (target (machine (S.started kind) S.after) after) after.edge ≤ after.sent }
+{}
+
+/// Nearness needs its premise: in a trace with one moment in which a client sends what is no move, a packet is under way that isn't near to a
+/// connection that is live.
+pub fn far_packets_are_refused()
+    ensures wrong_once { IsWrongOnce echo FirstPath.start [] FarPacket.wrong FirstPath.opening_trace }
+    ensures up { FarPacket.wrong.world.node ≡ Some (FirstPath.node_live FirstPath.open_point) }
+    ensures sent { WasSent FarPacket.wrong.world (To_server FarPacket.far) }
+    ensures not_near { AreNear FarPacket.far (FirstPath.node_live FirstPath.open_point).stage → ⊥ }
+{}
+
+/// So does soundness: in a trace with one moment in which the log keeps a FIN behind 2^24 bytes, an entry isn't sound.
+pub fn late_fins_are_refused()
+    ensures wrong_once { (bytes : List ℕ) → length bytes ≡ 2 ^ 24 → IsWrongOnce echo FirstPath.start [] (LateFin.wrong bytes) FirstPath.opening_trace }
+    ensures not_sound { (bytes : List ℕ) → length bytes ≡ 2 ^ 24 → AllByRecursion (IsSound echo) (LateFin.wrong bytes).world.log.entries → ⊥ }
+{}
