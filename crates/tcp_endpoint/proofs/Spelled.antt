@@ -1,6 +1,6 @@
 -- What goes out, as lists of packets.
 use Rattle.std.proofs.Common.{◌≡◌, ℕ, ◌<◌, ◌≤◌, ◌+◌, ◌-◌, zero, suc, Bool, true, false, min, List, [], ◌∷◌, ◌++◌, length, refl, sym, ap, subst, arith, ◌∙◌, append_assoc, append-nil}
-use Rattle.std.specs.Prelude.{Option, None, Some, if◌then◌else◌, nat_lt, ◌==◌}
+use Rattle.std.specs.Prelude.{Option, None, Some, if◌then◌else◌, nat_lt, ◌==◌, ◌&&◌}
 use Rattle.std.proofs.lemmas.Bool.{false≢true}
 use Rattle.std.proofs.lemmas.List.{map-append}
 use Rattle.seq_arith.specs.Packet.{Segment}
@@ -137,15 +137,11 @@ bare_readable bare false [] first all = tt
 bare_readable bare owed (segment ∷ segments) first all = all
 
 -- or not at all, where it isn't owed or another goes out
-pub unowed_readable : (bare : Segment) (owed : Bool) (full : List Segment) → owed ≡ false → AreReadable full → AreReadable (or_bare owed bare full)
-unowed_readable bare true [] none all = absurd (false≢true (sym none))
-unowed_readable bare false [] none all = tt
-unowed_readable bare owed (segment ∷ segments) none all = all
-
-pub full_is_readable : (bare : Segment) (owed : Bool) (full : List Segment) → (length (packets full) == 0) ≡ false → AreReadable full → AreReadable (or_bare owed bare full)
+pub unsent_readable : (bare : Segment) (owed : Bool) (full : List Segment) → ((length (packets full) == 0) && owed) ≡ false → AreReadable full → AreReadable (or_bare owed bare full)
 unfolding packets
-full_is_readable bare owed [] some all = absurd (false≢true (sym some))
-full_is_readable bare owed (segment ∷ segments) some all = all
+unsent_readable bare true [] none all = absurd (false≢true (sym none))
+unsent_readable bare false [] none all = tt
+unsent_readable bare owed (segment ∷ segments) none all = all
 
 pub full_readable : (e : Tcb) → AreReadable (answer_out e) → AreReadable (again_out e) → AreReadable (probe_out e) → AreReadable (text_out (with_probe e))
     → AreReadable (fin_out (with_text_sent (with_probe e))) → AreReadable (full_out e)

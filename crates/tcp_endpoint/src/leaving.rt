@@ -245,6 +245,13 @@ impl Endpoint {
                 || self.told_edge != self.receiver.announced_edge())
     }
 
+    /// Whether the segment without data goes out: where it is owed and no other does.
+    fn sends_bare(&self, out: &Outbox) -> bool
+        ensures { result ≡ ((length out.now == 0) && is_owed self.now) }
+    {
+        out.is_empty() && self.is_owed()
+    }
+
     /// The segment without data, where it is owed and no other goes out.
     #[tactic(auto, unfolding(crate::specs::Leaving::bare_segment))]
     fn send_owed(&self, out: &mut Outbox)
@@ -255,7 +262,7 @@ impl Endpoint {
         ensures bytes { byte_count out.new ≤ byte_count out.old + 40 }
         ensures readable { (full : List Segment) → out.old ≡ packets full → AreReadable full → AreReadable (or_bare (is_owed self.now) (bare_segment self.now) full) }
     {
-        if out.is_empty() && self.is_owed() {
+        if self.sends_bare(out) {
             let seq = self.sender.number_behind(self.sender.in_flight());
             out.push_segment(&self.head(seq, ACK), &[], &[]);
         }
