@@ -87,3 +87,4 @@ pub mod UnloggedRead
 pub mod Unfenced
 pub mod NeverStuck
 pub mod ChangedBit
+pub mod SomeOutcome

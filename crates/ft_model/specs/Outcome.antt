@@ -1,5 +1,5 @@
 -- What becomes of a schedule when its events are played in order: all are done, or one is refused, or more packets are sent than may be.
-use Rattle.std.specs.Prelude.{◌≡◌, ℕ, ◌<◌, ◌≤◌, Some, List, ◌∷◌, ◌++◌, length}
+use Rattle.std.specs.Prelude.{◌≡◌, ℕ, ◌<◌, ◌≤◌, ◌⊎◌, Some, List, [], ◌∷◌, ◌++◌, length}
 use Rattle.server_trait.specs.Service.{Machine}
 use Rattle.ft_model.specs.World.{Moment, world_after}
 use Rattle.ft_model.specs.Legal.{start_of, refusal, IsLegalFor, Legal}
@@ -29,11 +29,18 @@ pub record IsRefused {State : Type 0} (service : ℕ → Machine State) (schedul
   pub within : packets_sent schedule trace ≤ 200000
   pub refused : refusal (world_after (start_of schedule) trace) event ≡ Some why
 
--- with these first events more packets are sent than may be
+-- up to this event no more packets are sent than may be, and with it more are
 pub record IsPastPackets {State : Type 0} (service : ℕ → Machine State) (schedule : Schedule) : Type 0 where
   pub played : List Event
+  pub event : Event
   pub others : List Event
-  pub trace : List Moment
-  pub events : schedule.events ≡ played ++ others
-  pub legal : IsLegalFor service schedule played trace
-  pub over : 200000 < packets_sent schedule trace
+  pub moment : Moment
+  pub earlier : List Moment
+  pub events : schedule.events ≡ played ++ event ∷ others
+  pub legal : IsLegalFor service schedule (played ++ event ∷ []) (moment ∷ earlier)
+  pub within : packets_sent schedule earlier ≤ 200000
+  pub over : 200000 < packets_sent schedule (moment ∷ earlier)
+
+-- one of the three
+abbrev pub HasOutcome : {State : Type 0} → (ℕ → Machine State) → Schedule → Type 0
+HasOutcome service schedule = IsWhole service schedule ⊎ (IsRefused service schedule ⊎ IsPastPackets service schedule)

@@ -1,7 +1,7 @@
 //! Laws over the definitions. Nothing here runs; each function is a theorem.
 
 ghost use Rattle.std.specs.Prelude.{◌≡◌, ℕ, true, false, None, List, [], ◌∷◌, if◌then◌else◌};
-ghost use Rattle.std.specs.List.{list_any};
+ghost use Rattle.std.specs.List.{AllByRecursion, list_any};
 ghost use Rattle.ft_io.specs.declared.Addr.{Addr};
 ghost use Rattle.server_trait.specs.Service.{machine};
 ghost use Rattle.ft_model.specs.Network.{Packet};
@@ -14,10 +14,11 @@ ghost use Rattle.ft_model.specs.Point.{Point};
 ghost use Rattle.ft_model.specs.Connection.{LiveTurn};
 ghost use Rattle.ft_model.specs.Node.{Node, Input, AllCount};
 ghost use Rattle.ft_model.specs.Lawful.{LawfulTurn, is_fenced};
-ghost use Rattle.ft_model.specs.World.{World, Moment, Happens};
-ghost use Rattle.ft_model.specs.Legal.{Legal, machines};
+ghost use Rattle.ft_model.specs.World.{World, Moment, Happens, IsStart};
+ghost use Rattle.ft_model.specs.Legal.{Legal, start_of, machines};
 ghost use Rattle.ft_model.specs.declared.event.Event.TheVariants.{Flip};
-ghost use Rattle.ft_model.specs.Outcome.{IsWhole, IsRefused, IsPastPackets};
+ghost use Rattle.ft_model.specs.Outcome.{IsWhole, IsRefused, IsPastPackets, HasOutcome};
+ghost use Rattle.ft_model.specs.Readable.{FitsEvent};
 ghost use Rattle.ft_model.specs.declared.schedule.Schedule.{Schedule};
 
 use server_trait::Service;
@@ -72,7 +73,13 @@ pub fn legal_traces_are_determined<S: Service>()
         → Legal (machines S.started S.after) schedule trace → Legal (machines S.started S.after) schedule other → trace ≡ other }
 {}
 
-/// A schedule has one outcome: either all its events are done, or one is refused, or more packets are sent than may be, and never two of these.
+/// A schedule has an outcome: all its events are done, or one is refused, or more packets are sent than may be. It has it where it can start
+/// and its events' numbers have the sizes of their types, as every schedule that a text spells.
+pub fn schedules_have_an_outcome<S: Service>()
+    ensures { (schedule : Schedule) → IsStart (start_of schedule) → AllByRecursion FitsEvent schedule.events → HasOutcome (machines S.started S.after) schedule }
+{}
+
+/// And it is one: never two of the three, at one event, and for one cause.
 pub fn schedules_have_one_outcome<S: Service>()
     ensures whole_or_refused { (schedule : Schedule)
         → IsWhole (machines S.started S.after) schedule → IsRefused (machines S.started S.after) schedule → ⊥ }
@@ -80,6 +87,9 @@ pub fn schedules_have_one_outcome<S: Service>()
         → IsWhole (machines S.started S.after) schedule → IsPastPackets (machines S.started S.after) schedule → ⊥ }
     ensures refused_or_past { (schedule : Schedule)
         → IsRefused (machines S.started S.after) schedule → IsPastPackets (machines S.started S.after) schedule → ⊥ }
+    ensures refused_once { (schedule : Schedule) (a b : IsRefused (machines S.started S.after) schedule)
+        → (a.played ≡ b.played) × (a.event ≡ b.event) × (a.why ≡ b.why) }
+    ensures past_once { (schedule : Schedule) (a b : IsPastPackets (machines S.started S.after) schedule) → (a.played ≡ b.played) × (a.event ≡ b.event) }
 {}
 
 /// A changed bit changes nothing at a client or the log. It is noise, of which a server that is up has a turn.

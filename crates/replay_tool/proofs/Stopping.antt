@@ -88,11 +88,15 @@ event_stops schedule events event i w w' start old new (BadEvent number why) all
 event_stops schedule events event i w w' start old new (TooLong Packets) all within same r stops =
     let s = at_kind schedule (i + 1) event w w' old new (TooLong Packets) r.kind stops (world_after (start_of schedule) r.trace) r.stands in
     record {
-      played = take i events ++ event ∷ [];
+      played = take i events;
+      event = event;
       others = drop (i + 1) events;
-      trace = record { event = event; sent = s.0.sent; world = s.0.world } ∷ r.trace;
-      events = sym all ∙ sym (take-append-drop (i + 1) events) ∙ ap (λ es. es ++ drop (i + 1) events) (sym (one_played events event i within same));
+      moment = record { event = event; sent = s.0.sent; world = s.0.world };
+      earlier = r.trace;
+      events = sym all ∙ sym (take-append-drop (i + 1) events)
+          ∙ (ap (λ es. es ++ drop (i + 1) events) (sym (one_played events event i within same)) ∙ append_assoc (take i events) (event ∷ []) (drop (i + 1) events));
       legal = legal_more schedule (take i events) event w' r.trace r.legal s.0;
+      within = r.within;
       over = s.1;
     }
 event_stops schedule events event i w w' start old new (TooLong Text) all within same r stops = at_kind schedule (i + 1) event w w' old new (TooLong Text) r.kind stops (world_after (start_of schedule) r.trace) r.stands
