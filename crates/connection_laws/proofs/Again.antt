@@ -1,0 +1,126 @@
+-- After a turn output goes on as before it.
+use Rattle.std.proofs.Common.{◌≡◌, ℕ, ◌≤◌, ◌+◌, ◌%◌, ◌^◌, Bool, true, false, not, List, min, max, refl, sym, ap, arith, ◌∙◌}
+use Rattle.std.specs.Prelude.{pos, ◌&&◌, ◌||◌, nat_abs, nat_lt, int_le, if◌then◌else◌}
+use Rattle.std.proofs.lemmas.Bool.{false≢true}
+use Rattle.ft_io.specs.declared.Addr.{Addr}
+use Rattle.seq_arith.specs.Arrival.{una_after}
+use Rattle.seq_arith.specs.Packet.{Segment, has_ack}
+use Rattle.server_trait.specs.Service.{Machine}
+use Rattle.ft_model.specs.Offset.{first_of, ack_of}
+use Rattle.ft_model.specs.Point.{Point, target}
+use Rattle.ft_model.specs.News.{News}
+use Rattle.ft_model.specs.News.News.{Comes, Logged, Ticks, Begins}
+use Rattle.ft_model.specs.Network.{Packet}
+use Rattle.ft_model.specs.Taken.{counts, taken_after, fin_after}
+use Rattle.ft_model.specs.Sending.{counted_after, acknowledged_after, edge_after, wl2_after, sent_at_once, sent_after, acknowledged_by, window_by}
+use Rattle.ft_model.specs.Timer.{probes, expires}
+use Rattle.ft_model.specs.Connection.{LiveTurn}
+use Rattle.connection_laws.specs.Inside.{GoesOn}
+use Rattle.south_wrap.specs.Patching.{inward}
+use Rattle.south_wrap.specs.Standing.{south_at}
+use Rattle.connection_laws.specs.Turning.{Fits, NewsFit}
+use Rattle.connection_laws.proofs.Lowered.{Lowers, lowers, moves, used_by}
+use Rattle.connection_laws.proofs.Meets.{Moves, stays_inside, unacknowledged, minus_none}
+
+una_rises : (c : Bool) (una ack sent : ℕ) → una ≤ sent → (una ≤ (if c then una_after una (min ack sent) else una)) × ((if c then una_after una (min ack sent) else una) ≤ sent)
+una_rises true una ack sent h = (grind (arith, h), grind (arith, h))
+una_rises false una ack sent h = (omega arith, h)
+
+above_if : (u : ℕ) (b : Bool) (x y : ℕ) → (b ≡ true → u ≤ x) → u ≤ y → u ≤ (if b then x else y)
+above_if u true x y h t = h refl
+above_if u false x y h t = t
+
+-- the edge and SND.WL2 don't fall below where output goes on
+pub record Stays (u : ℕ) (news : News) (p : Point) : Type 0 where
+  pub una : u ≤ acknowledged_after news p
+  most : acknowledged_after news p ≤ p.sent
+  edge : u ≤ edge_after news p
+  wl2 : u ≤ wl2_after news p
+
+by_ack : (u i delta : ℕ) (segment : Segment) (b : Bool) → has_ack segment ≡ b → (p : Point) → GoesOn u i delta p → Fits p segment → Stays u (Comes segment) p
+unfolding acknowledged_after edge_after wl2_after
+by_ack u i delta segment true h p g f =
+    let l : Lowers u p.sent (ack_of p.sisn segment) (ack_of i (inward (south_at delta p) segment)) = lowers u i delta p segment g f.ack (f.near h) in
+    let c : Bool = counts p segment in
+    let m : Bool = moves c p.counted p.una p.wl1 p.wl2 (first_of p.cisn segment) (ack_of p.sisn segment) p.sent in
+    let rises = una_rises (c && int_le (pos 0) (ack_of p.sisn segment)) p.una (nat_abs (ack_of p.sisn segment)) p.sent g.order in
+    let from : m ≡ true → u ≤ acknowledged_by p segment =
+    (λ t. (used_by u p.una p.sent c p.counted p.wl1 p.wl2 segment.head.window (first_of p.cisn segment) (ack_of p.sisn segment) (ack_of i (inward (south_at delta p) segment)) g.una g.order (λ h. (g.unopened h).0) l t).from) in
+    record {
+      una = omega (arith, rises.0, g.una);
+      most = rises.1;
+      edge = above_if u m (acknowledged_by p segment + window_by p segment) p.edge (λ t. omega (arith, from t)) g.edge;
+      wl2 = above_if u m (acknowledged_by p segment) p.wl2 from g.wl2;
+    }
+by_ack u i delta segment false h p g f =
+    let m : Moves (Comes segment) p 0 i Begins = stays_inside 0 i p segment (unacknowledged p segment h) in
+    let una : p.una ≡ acknowledged_after (Comes segment) p = minus_none p.una (acknowledged_after (Comes segment) p) m.una in
+    let edge : p.edge ≡ edge_after (Comes segment) p = minus_none p.edge (edge_after (Comes segment) p) m.edge in
+    let wl2 : p.wl2 ≡ wl2_after (Comes segment) p = minus_none p.wl2 (wl2_after (Comes segment) p) m.wl2 in
+    record { una = omega (arith, g.una, una); most = omega (arith, g.order, una); edge = omega (arith, g.edge, edge); wl2 = omega (arith, g.wl2, wl2) }
+
+pub stays : (u i delta : ℕ) (news : News) (p : Point) → GoesOn u i delta p → NewsFit p news → Stays u news p
+unfolding acknowledged_after edge_after wl2_after
+stays u i delta (Comes segment) p g f = by_ack u i delta segment (has_ack segment) refl p g f
+stays u i delta (Logged kept) p g f = record { una = g.una; most = g.order; edge = g.edge; wl2 = g.wl2 }
+stays u i delta Ticks p g f = record { una = g.una; most = g.order; edge = g.edge; wl2 = g.wl2 }
+stays u i delta Begins p g f = record { una = g.una; most = g.order; edge = g.edge; wl2 = g.wl2 }
+
+off_left : (a b : Bool) → (a || b) ≡ false → (a ≡ false) × (b ≡ false)
+off_left true b h = absurd (false≢true (sym h))
+off_left false b h = (refl, h)
+
+-- until an acknowledgement counts nothing changes
+record Same (news : News) (p : Point) : Type 0 where
+  counted : p.counted ≡ false
+  taken : taken_after news p ≡ p.taken
+  fin : fin_after news p ≡ p.fin
+  edge : edge_after news p ≡ p.edge
+
+same : (i : ℕ) (news : News) (p : Point) → counted_after news p ≡ false → Same news p
+unfolding counted_after taken_after fin_after edge_after
+same i (Comes segment) p h =
+    let k = off_left p.counted (counts p segment) h in
+    let m : Moves (Comes segment) p 0 i Begins = stays_inside 0 i p segment k.1 in
+    record { counted = k.0; taken = sym m.taken; fin = sym m.fin; edge = sym (minus_none p.edge (edge_after (Comes segment) p) m.edge) }
+same i (Logged kept) p h = record { counted = h; taken = refl; fin = refl; edge = refl }
+same i Ticks p h = record { counted = h; taken = refl; fin = refl; edge = refl }
+same i Begins p h = record { counted = h; taken = refl; fin = refl; edge = refl }
+
+none_sent : (t : ℕ) → max 0 (min t 0) + 0 ≡ 0
+none_sent t = omega arith
+
+off_middle : (a b c : Bool) → b ≡ false → (a && b && c) ≡ false
+off_middle true true c h = absurd (false≢true (sym h))
+off_middle true false c h = refl
+off_middle false b c h = refl
+
+pub goes_on_again : {State : Type 0} (service : Machine State) (server : Addr) (boot u i delta : ℕ) (news : News) (p q : Point) (sent : List Packet)
+    → GoesOn u i delta p → NewsFit p news → LiveTurn service server boot news p q sent → q.sent ≤ 2 ^ 25 + 1 → GoesOn u i delta q
+unfolding sent_after sent_at_once
+goes_on_again service server boot u i delta news p q sent g f l few =
+    let s : Stays u news p = stays u i delta news p g f in
+    record {
+      shift = g.shift ∙ ap (λ n. (n + u) % 2 ^ 32) (sym l.same.sisn);
+      small = g.small;
+      sisn = omega (arith, g.sisn, l.same.sisn);
+      delta_fits = g.delta_fits;
+      i_fits = g.i_fits;
+      una = omega (arith, l.una, s.una);
+      order = omega (arith, l.una, s.most, l.sent_units);
+      sent = few;
+      edge = omega (arith, l.edge, s.edge);
+      wl2 = omega (arith, l.wl2, s.wl2);
+      unopened = λ h.
+          let k : Same news p = same i news p (sym l.counted ∙ h) in
+          let o = g.unopened k.counted in
+          let edge : q.edge ≡ 0 = l.edge ∙ k.edge ∙ o.2 in
+          let probe : probes news p ≡ false = off_middle (expires news p) p.counted (not (nat_lt p.una p.sent)) k.counted in (
+            o.0,
+            l.sent_units ∙ (λ j. max (o.1 j) (min (target service q) (edge j)) + (if probe j then 1 else 0)) ∙ none_sent (target service q),
+            edge,
+            l.taken ∙ k.taken ∙ o.3,
+            l.fin ∙ k.fin ∙ o.4,
+            l.same.fetched ∙ o.5,
+          );
+    }

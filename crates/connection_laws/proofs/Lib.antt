@@ -1,0 +1,9 @@
+pub mod Swallowed
+pub mod Lowered
+pub mod Meets
+pub mod Leaving
+pub mod Sent
+pub mod Again
+pub mod Usual
+pub mod Whole
+pub mod Numbers

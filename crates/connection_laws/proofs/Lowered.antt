@@ -1,0 +1,200 @@
+-- What the inner TCP makes of a segment whose acknowledgement is lowered is what the laws make of the segment itself, less where output goes on.
+use Rattle.std.proofs.Common.{◌≡◌, ℕ, ◌<◌, ◌≤◌, ◌+◌, ◌-◌, ◌%◌, ◌^◌, Bool, true, false, not, min, refl, sym, ap, arith, inl, inr, ◌∙◌}
+use Rattle.std.specs.Prelude.{ℤ, pos, negsuc, ◌⊎◌, ◌-ℤ◌, ◌≤ℤ◌, ◌&&◌, ◌||◌, nat_abs, nat_lt, nat_le, int_lt, int_le, if◌then◌else◌}
+use Rattle.std.proofs.lemmas.Int.{ints}
+use Rattle.seq_arith.specs.Number.{gap, distance, number_at, offset_of}
+use Rattle.std.proofs.lemmas.Bool.{false≢true}
+use Rattle.seq_arith.specs.Arrival.{int_eq, una_after, updates_window}
+use Rattle.seq_arith.specs.Packet.{Segment}
+use Rattle.seq_arith.proofs.Shifts.{gap_from, offset_shift, offset_of_number}
+use Rattle.ft_model.specs.Offset.{ack_of}
+use Rattle.ft_model.specs.Point.{Point}
+use Rattle.connection_laws.specs.Inside.{GoesOn}
+use Rattle.south_wrap.specs.Patching.{inward}
+use Rattle.south_wrap.specs.SouthState.{is_high}
+use Rattle.south_wrap.specs.Standing.{south_at}
+
+goes_on : (sisn u number : ℕ) → number < 2 ^ 32 → u ≤ 2 ^ 24 → (pos 0 -ℤ pos (2 ^ 30)) ≤ℤ offset_of sisn number
+    → offset_of ((sisn + u) % 2 ^ 32) number ≡ offset_of sisn number -ℤ pos u
+unfolding offset_of
+goes_on sisn u number fits small near =
+    let start : ((sisn + u) % 2 ^ 32 + 1) % 2 ^ 32 ≡ ((sisn + 1) % 2 ^ 32 + u) % 2 ^ 32 = omega arith in
+    ap (gap number) start ∙ gap_from number ((sisn + 1) % 2 ^ 32) u fits (omega arith) (omega (arith, small)) (omega (arith, ints, small, near))
+
+-- a number that is lowered names an offset that is as much less as output has gone on
+lowered_offset : (i delta sisn u number : ℕ) → (i + delta) % 2 ^ 32 ≡ (sisn + u) % 2 ^ 32 → number < 2 ^ 32 → delta < 2 ^ 32 → u ≤ 2 ^ 24
+    → (pos 0 -ℤ pos (2 ^ 30)) ≤ℤ offset_of sisn number → offset_of i (distance number delta) ≡ offset_of sisn number -ℤ pos u
+lowered_offset i delta sisn u number shift fits delta_fits small near =
+    let back : (distance number delta + delta) % 2 ^ 32 ≡ number = omega (arith, fits, delta_fits) in
+    let moved : offset_of ((i + delta) % 2 ^ 32) ((distance number delta + delta) % 2 ^ 32) ≡ offset_of i (distance number delta) =
+    offset_shift i (distance number delta) delta (omega arith) in
+    sym moved ∙ (λ j. offset_of (shift j) (back j)) ∙ goes_on sisn u number fits small near
+
+-- an acknowledgement of what this incarnation never sent; a usual one; one of what was acknowledged before it went on; one of nothing
+pub record High (u sent : ℕ) (ack inner : ℤ) : Type 0 where
+  pub k : ℕ
+  pub is : ack ≡ pos k
+  pub over : sent < k
+  pub to : inner ≡ pos (sent - u)
+
+pub record Usual (u sent : ℕ) (ack inner : ℤ) : Type 0 where
+  pub k : ℕ
+  pub is : ack ≡ pos k
+  pub from : u ≤ k
+  pub most : k ≤ sent
+  pub to : inner ≡ pos (k - u)
+
+pub record Known (u sent : ℕ) (ack inner : ℤ) : Type 0 where
+  pub k : ℕ
+  pub is : ack ≡ pos k
+  pub under : k < u
+  pub most : k ≤ sent
+  pub negative : int_le (pos 0) inner ≡ false
+  pub to : inner ≡ pos k -ℤ pos u
+
+pub record Early (u : ℕ) (ack inner : ℤ) : Type 0 where
+  pub negative : int_le (pos 0) ack ≡ false
+  pub inside : int_le (pos 0) inner ≡ false
+  pub to : inner ≡ ack -ℤ pos u
+
+abbrev pub Lowers : (u sent : ℕ) (ack inner : ℤ) → Type 0
+Lowers u sent ack inner = High u sent ack inner ⊎ (Usual u sent ack inner ⊎ (Known u sent ack inner ⊎ Early u ack inner))
+
+below_or : (u sent k : ℕ) (inner : ℤ) (low : Bool) → nat_lt k u ≡ low → k ≤ sent → inner ≡ pos k -ℤ pos u → Lowers u sent (pos k) inner
+below_or u sent k inner true t most to = inr (inr (inl (record { k = k; is = refl; under = grind (arith, t); most = most; negative = rw to (grind (arith, ints, t)); to = to })))
+below_or u sent k inner false t most to =
+    let from : u ≤ k = grind (arith, t)
+    in inr (inl (record { k = k; is = refl; from = from; most = most; to = to ∙ omega (arith, ints, from) }))
+
+lowers_by : (u sent : ℕ) (ack inner : ℤ) (high : Bool) → int_lt (pos sent) ack ≡ high → u ≤ sent → (high ≡ true → inner ≡ pos sent -ℤ pos u)
+    → (high ≡ false → inner ≡ ack -ℤ pos u) → Lowers u sent ack inner
+lowers_by u sent (pos k) inner true t h a b = inl (record { k = k; is = refl; over = grind (arith, ints, t); to = a refl ∙ omega (arith, ints, h) })
+lowers_by u sent (pos k) inner false t h a b = below_or u sent k inner (nat_lt k u) refl (grind (arith, ints, t)) (b refl)
+lowers_by u sent (negsuc k) inner true t h a b = absurd (grind (arith, ints, t))
+lowers_by u sent (negsuc k) inner false t h a b = inr (inr (inr (record { negative = grind (arith, ints); inside = rw (b refl) (grind (arith, ints)); to = b refl })))
+
+if_true : {A : Type 0} (b : Bool) (x y : A) → b ≡ true → (if b then x else y) ≡ x
+if_true true x y h = refl
+if_true false x y h = absurd (false≢true h)
+
+if_false : {A : Type 0} (b : Bool) (x y : A) → b ≡ false → (if b then x else y) ≡ y
+if_false true x y h = absurd (false≢true (sym h))
+if_false false x y h = refl
+
+-- the acknowledgement of a near segment
+pub lowers : (u i delta : ℕ) (p : Point) (segment : Segment) → GoesOn u i delta p → segment.head.ack < 2 ^ 32
+    → (pos 0 -ℤ pos (2 ^ 30)) ≤ℤ ack_of p.sisn segment → Lowers u p.sent (ack_of p.sisn segment) (ack_of i (inward (south_at delta p) segment))
+lowers u i delta p segment g fits near =
+    let high : Bool = is_high (south_at delta p) segment.head.ack in
+    let n : ℕ = number_at p.sisn p.sent in
+    let at : offset_of p.sisn n ≡ pos p.sent = offset_of_number p.sisn p.sent (omega (arith, g.sent)) in
+    lowers_by u p.sent (ack_of p.sisn segment) (ack_of i (inward (south_at delta p) segment)) high refl (omega (arith, g.una, g.order))
+    (λ t. ap (λ m. offset_of i (distance m delta)) (if_true high n segment.head.ack t)
+    ∙ lowered_offset i delta p.sisn u n g.shift (omega arith) g.delta_fits g.small (rw at (omega (arith, ints)))
+    ∙ ap (λ z. z -ℤ pos u) at)
+    (λ t. ap (λ m. offset_of i (distance m delta)) (if_false high n segment.head.ack t)
+    ∙ lowered_offset i delta p.sisn u segment.head.ack g.shift fits g.delta_fits g.small near)
+
+-- whether it names an offset that counts
+off : (c s x : Bool) → s ≡ false → ((c && s) && x) ≡ false
+off true s x h = ap (λ v. v && x) h
+off false s x h = refl
+
+ends : (x : Bool) → (x && false) ≡ false
+ends true = refl
+ends false = refl
+
+off_behind : (c s n a y : Bool) → n ≡ false → a ≡ false → ((c && s) && (n || (a && y))) ≡ false
+off_behind c s n a y p q = (λ j. (c && s) && (p j || (q j && y))) ∙ ends (c && s)
+
+-- SND.UNA
+pub una_inside : (u una sent : ℕ) (c : Bool) (ack inner : ℤ) → u ≤ una → una ≤ sent → Lowers u sent ack inner
+    → (if c && int_le (pos 0) inner then una_after (una - u) (min (nat_abs inner) (sent - u)) else una - u)
+    ≡ (if c && int_le (pos 0) ack then una_after una (min (nat_abs ack) sent) else una) - u
+una_inside u una sent false ack inner a b l = refl
+una_inside u una sent true ack inner a b (inl h) = rw (h.is, h.to) (grind (arith, ints, h.over, a, b))
+una_inside u una sent true ack inner a b (inr (inl h)) = rw (h.is, h.to) (grind (arith, ints, h.from, h.most, a, b))
+una_inside u una sent true ack inner a b (inr (inr (inl h))) = rw (h.negative, h.is) (grind (arith, ints, h.under, h.most, a, b))
+una_inside u una sent true ack inner a b (inr (inr (inr h))) = rw (h.negative, h.inside) refl
+
+-- whether the window is used
+abbrev pub moves : (c counted : Bool) (una : ℕ) (wl1 : ℤ) (wl2 : ℕ) (first ack : ℤ) (sent : ℕ) → Bool
+moves c counted una wl1 wl2 first ack sent = (c && int_le (pos 0) ack) && (not counted || updates_window una wl1 wl2 first (min (nat_abs ack) sent))
+
+moves_same : (c counted : Bool) (una una' : ℕ) (wl1 : ℤ) (wl2 wl2' : ℕ) (first ack ack' : ℤ) (sent sent' : ℕ) → int_le (pos 0) ack' ≡ int_le (pos 0) ack
+    → nat_le una' (min (nat_abs ack') sent') ≡ nat_le una (min (nat_abs ack) sent) → nat_le wl2' (min (nat_abs ack') sent') ≡ nat_le wl2 (min (nat_abs ack) sent)
+    → moves c counted una' wl1 wl2' first ack' sent' ≡ moves c counted una wl1 wl2 first ack sent
+moves_same c counted una una' wl1 wl2 wl2' first ack ack' sent sent' s a b =
+    λ j. (c && s j) && (not counted || (a j && (int_lt wl1 first || (int_eq wl1 first && b j))))
+
+some_left : (counted : Bool) (u k : ℕ) → (counted ≡ false → u ≡ 0) → k < u → not counted ≡ false
+some_left true u k h l = refl
+some_left false u k h l = absurd (omega (arith, h refl, l))
+
+pub moves_inside : (u una sent : ℕ) (c counted : Bool) (wl1 : ℤ) (wl2 : ℕ) (first ack inner : ℤ) → u ≤ una → una ≤ sent → u ≤ wl2 → (counted ≡ false → u ≡ 0)
+    → Lowers u sent ack inner → moves c counted (una - u) wl1 (wl2 - u) first inner (sent - u) ≡ moves c counted una wl1 wl2 first ack sent
+moves_inside u una sent c counted wl1 wl2 first ack inner a b w o (inl h) =
+    moves_same c counted una (una - u) wl1 wl2 (wl2 - u) first ack inner sent (sent - u) (rw (h.is, h.to) (grind (arith, ints)))
+    (rw (h.is, h.to) (grind (arith, ints, h.over, a, b))) (rw (h.is, h.to) (grind (arith, ints, h.over, a, b, w)))
+moves_inside u una sent c counted wl1 wl2 first ack inner a b w o (inr (inl h)) =
+    moves_same c counted una (una - u) wl1 wl2 (wl2 - u) first ack inner sent (sent - u) (rw (h.is, h.to) (grind (arith, ints)))
+    (rw (h.is, h.to) (grind (arith, ints, h.from, h.most, a, b))) (rw (h.is, h.to) (grind (arith, ints, h.from, h.most, a, b, w)))
+moves_inside u una sent c counted wl1 wl2 first ack inner a b w o (inr (inr (inl h))) =
+    off c (int_le (pos 0) inner) _ h.negative
+    ∙ sym (off_behind c (int_le (pos 0) ack) (not counted) (nat_le una (min (nat_abs ack) sent)) _ (some_left counted u h.k o h.under)
+    (rw h.is (grind (arith, ints, h.under, h.most, a))))
+moves_inside u una sent c counted wl1 wl2 first ack inner a b w o (inr (inr (inr h))) =
+    off c (int_le (pos 0) inner) _ h.inside ∙ sym (off c (int_le (pos 0) ack) _ h.negative)
+
+-- where it is used, the acknowledgement is one that counts, and the window reaches as far
+pub record Used (u sent window inner_window : ℕ) (ack inner : ℤ) : Type 0 where
+  pub ack_is : min (nat_abs inner) (sent - u) ≡ min (nat_abs ack) sent - u
+  pub from : u ≤ min (nat_abs ack) sent
+  pub window_is : min 65535 (inner_window + nat_abs inner - min (nat_abs inner) (sent - u)) ≡ min 65535 (window + nat_abs ack - min (nat_abs ack) sent)
+
+pub used_by : (u una sent : ℕ) (c counted : Bool) (wl1 : ℤ) (wl2 window : ℕ) (first ack inner : ℤ) → u ≤ una → una ≤ sent → (counted ≡ false → u ≡ 0)
+    → Lowers u sent ack inner → moves c counted una wl1 wl2 first ack sent ≡ true
+    → Used u sent window (if int_lt (pos sent) ack then min 65535 (window + (nat_abs ack - sent)) else window) ack inner
+used_by u una sent c counted wl1 wl2 window first ack inner a b o (inl h) m = record {
+  ack_is = rw (h.is, h.to) (grind (arith, ints, h.over, a, b));
+  from = rw h.is (grind (arith, ints, h.over, a, b));
+  window_is = rw (h.is, h.to) (grind (arith, ints, h.over, a, b));
+}
+used_by u una sent c counted wl1 wl2 window first ack inner a b o (inr (inl h)) m = record {
+  ack_is = rw (h.is, h.to) (grind (arith, ints, h.from, h.most, a, b));
+  from = rw h.is (grind (arith, ints, h.from, h.most, a, b));
+  window_is = rw (h.is, h.to) (grind (arith, ints, h.from, h.most, a, b));
+}
+used_by u una sent c counted wl1 wl2 window first ack inner a b o (inr (inr (inl h))) m =
+    absurd (false≢true (sym (off_behind c (int_le (pos 0) ack) (not counted) (nat_le una (min (nat_abs ack) sent)) _ (some_left counted u h.k o h.under)
+    (rw h.is (grind (arith, ints, h.under, h.most, a)))) ∙ m))
+used_by u una sent c counted wl1 wl2 window first ack inner a b o (inr (inr (inr h))) m = absurd (false≢true (sym (off c (int_le (pos 0) ack) _ h.negative) ∙ m))
+
+when : (m : Bool) (x y edge u : ℕ) → (m ≡ true → x ≡ y - u) → (if m then x else edge - u) ≡ (if m then y else edge) - u
+when true x y edge u h = h refl
+when false x y edge u h = refl
+
+-- the right edge and SND.WL2
+pub edge_inside : (u una sent : ℕ) (c counted : Bool) (wl1 : ℤ) (wl2 window edge : ℕ) (first ack inner : ℤ) → u ≤ una → una ≤ sent → (counted ≡ false → u ≡ 0)
+    → Lowers u sent ack inner
+    → (if moves c counted una wl1 wl2 first ack sent then min (nat_abs inner) (sent - u)
+    + min 65535 ((if int_lt (pos sent) ack then min 65535 (window + (nat_abs ack - sent)) else window) + nat_abs inner - min (nat_abs inner) (sent - u)) else edge - u)
+    ≡ (if moves c counted una wl1 wl2 first ack sent then min (nat_abs ack) sent + min 65535 (window + nat_abs ack - min (nat_abs ack) sent) else edge) - u
+edge_inside u una sent c counted wl1 wl2 window edge first ack inner a b o l =
+    when (moves c counted una wl1 wl2 first ack sent) _ _ edge u
+    (λ m. let h = used_by u una sent c counted wl1 wl2 window first ack inner a b o l m in (λ j. h.ack_is j + h.window_is j) ∙ omega (arith, h.from))
+
+pub wl2_inside : (u una sent : ℕ) (c counted : Bool) (wl1 : ℤ) (wl2 : ℕ) (first ack inner : ℤ) → u ≤ una → una ≤ sent → (counted ≡ false → u ≡ 0) → Lowers u sent ack inner
+    → (if moves c counted una wl1 wl2 first ack sent then min (nat_abs inner) (sent - u) else wl2 - u)
+    ≡ (if moves c counted una wl1 wl2 first ack sent then min (nat_abs ack) sent else wl2) - u
+wl2_inside u una sent c counted wl1 wl2 first ack inner a b o l =
+    when (moves c counted una wl1 wl2 first ack sent) _ _ wl2 u (λ m. (used_by u una sent c counted wl1 wl2 0 first ack inner a b o l m).ack_is)
+
+-- the first acknowledgement counts where it names an offset, on either side
+pub counts_inside : (u sent : ℕ) (counted : Bool) (ack inner : ℤ) → (counted ≡ false → u ≡ 0) → Lowers u sent ack inner
+    → (counted || int_le (pos 0) inner) ≡ (counted || int_le (pos 0) ack)
+counts_inside u sent true ack inner o l = refl
+counts_inside u sent false ack inner o (inl h) = rw (h.is, h.to) (grind (arith, ints))
+counts_inside u sent false ack inner o (inr (inl h)) = rw (h.is, h.to) (grind (arith, ints))
+counts_inside u sent false ack inner o (inr (inr (inl h))) = absurd (omega (arith, o refl, h.under))
+counts_inside u sent false ack inner o (inr (inr (inr h))) = h.inside ∙ sym h.negative

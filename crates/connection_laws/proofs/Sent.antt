@@ -1,0 +1,383 @@
+-- What a wrapped connection sends: TCP's segments mapped outward, the kept SYN-ACK, and the segments without data that are owed besides.
+use Rattle.std.proofs.Common.{◌≡◌, ℕ, ◌≤◌, ◌+◌, ◌-◌, ◌^◌, Bool, true, false, not, Option, Some, None, List, [], ◌∷◌, ◌++◌, length, sum, min, max, inl, inr, refl, sym, ap, arith, append-nil, ◌∙◌}
+use Rattle.std.specs.Prelude.{ℤ, pos, ◌==◌, ◌&&◌, ◌||◌, nat_lt, nat_le, int_lt, int_le, if◌then◌else◌}
+use Rattle.std.specs.List.{list_any}
+use Rattle.std.proofs.lemmas.Int.{ints}
+use Rattle.std.proofs.lemmas.Bool.{false≢true}
+use Rattle.ft_io.specs.declared.Addr.{Addr}
+use Rattle.seq_arith.specs.Arrival.{int_eq}
+use Rattle.seq_arith.specs.Packet.{Segment, has_syn, has_rst, has_ack}
+use Rattle.server_trait.specs.Service.{Machine}
+use Rattle.ft_model.specs.Offset.{first_of, ack_of, length_of}
+use Rattle.ft_model.specs.Point.{Point, taken_units, announced_edge, released, is_over}
+use Rattle.ft_model.specs.Point as point
+use Rattle.ft_model.specs.News.{News}
+use Rattle.ft_model.specs.News.News.{Comes, Logged, Ticks, Begins}
+use Rattle.ft_model.specs.Network.{Packet}
+use Rattle.ft_model.specs.Answered.{answered_after}
+use Rattle.ft_model.specs.Taken.{accepts, counts, taken_after, fin_after}
+use Rattle.ft_model.specs.Owed.{is_refused, owes, owes_acceptable, asks}
+use Rattle.ft_model.specs.Owed as outer
+use Rattle.ft_model.specs.Reads.{Makes, MakesReads, next_read, next_length, may_read}
+use Rattle.ft_model.specs.Sending.{edge_after, sent_at_once, counted_after}
+use Rattle.ft_model.specs.Segments.{texts, new_length, fin_if_closed}
+use Rattle.ft_model.specs.Refusal.{rst_at_ack}
+use Rattle.ft_model.specs.Opening.{is_syn}
+use Rattle.ft_model.specs.Segments.{syn_ack, repeats_syn, opens_with, full_segments, segments_of, or_bare, bare_segment, resent, new_texts, new_fin}
+use Rattle.ft_model.specs.Connection.{LiveTurn}
+use Rattle.connection_laws.specs.Inside.{swallowing, inside, GoesOn}
+use Rattle.connection_laws.specs.Passing.{news_inside, passed, asks_besides, owes_besides, leaves}
+use Rattle.south_wrap.specs.Patching.{inward}
+use Rattle.south_wrap.specs.Standing.{south_at}
+use Rattle.endpoint_laws.specs.Standing.{MeetsLaws, owes_to, is_owed, refuses, refusals, segments_by_laws}
+use Rattle.connection_laws.specs.Turning.{Turns, Fits}
+use Rattle.connection_laws.proofs.Lowered.{Lowers, lowers}
+use Rattle.connection_laws.proofs.Meets.{Moves, moves_inside_all, stays_inside, laws_inside}
+use Rattle.connection_laws.proofs.Leaving.{Sends, full, passed_is, or_besides}
+
+or_five : (o x y b r : Bool) → (((o || x) || y) || (b || r)) ≡ ((((o || b) || r) || x) || y)
+or_five true true true true true = refl
+or_five true true true true false = refl
+or_five true true true false true = refl
+or_five true true true false false = refl
+or_five true true false true true = refl
+or_five true true false true false = refl
+or_five true true false false true = refl
+or_five true true false false false = refl
+or_five true false true true true = refl
+or_five true false true true false = refl
+or_five true false true false true = refl
+or_five true false true false false = refl
+or_five true false false true true = refl
+or_five true false false true false = refl
+or_five true false false false true = refl
+or_five true false false false false = refl
+or_five false true true true true = refl
+or_five false true true true false = refl
+or_five false true true false true = refl
+or_five false true true false false = refl
+or_five false true false true true = refl
+or_five false true false true false = refl
+or_five false true false false true = refl
+or_five false true false false false = refl
+or_five false false true true true = refl
+or_five false false true true false = refl
+or_five false false true false true = refl
+or_five false false true false false = refl
+or_five false false false true true = refl
+or_five false false false true false = refl
+or_five false false false false true = refl
+or_five false false false false false = refl
+
+lt_le : (z : ℤ) → int_lt z (pos 0) ≡ not (int_le (pos 0) z)
+lt_le z = grind (arith, ints)
+
+-- while nothing has counted, output goes on from its beginning
+same_sign : (u sent : ℕ) (ack inner : ℤ) → u ≡ 0 → Lowers u sent ack inner → int_le (pos 0) inner ≡ int_le (pos 0) ack
+same_sign u sent ack inner o (inl h) = rw (h.is, h.to) (grind (arith, ints))
+same_sign u sent ack inner o (inr (inl h)) = rw (h.is, h.to) (grind (arith, ints))
+same_sign u sent ack inner o (inr (inr (inl h))) = absurd (omega (arith, o, h.under))
+same_sign u sent ack inner o (inr (inr (inr h))) = h.inside ∙ sym h.negative
+
+refused_by : (u sent : ℕ) (counted has : Bool) (ack inner : ℤ) → (counted ≡ false → u ≡ 0) → Lowers u sent ack inner
+    → (not counted && has && int_lt inner (pos 0)) ≡ (not counted && has && int_lt ack (pos 0))
+refused_by u sent true has ack inner o l = refl
+refused_by u sent false has ack inner o l =
+    ap (λ b. true && has && b) (lt_le inner ∙ ap not (same_sign u sent ack inner (o refl) l) ∙ sym (lt_le ack))
+
+none_middle : (a b c : Bool) → b ≡ false → (a && b && c) ≡ false
+none_middle true true c h = absurd (false≢true (sym h))
+none_middle true false c h = refl
+none_middle false b c h = refl
+
+refused_any : (u i delta : ℕ) (p : Point) (segment : Segment) (b : Bool) → has_ack segment ≡ b → GoesOn u i delta p → Fits p segment
+    → is_refused (inside u i p) (inward (south_at delta p) segment) ≡ is_refused p segment
+refused_any u i delta p segment true h g f =
+    refused_by u p.sent p.counted (has_ack segment) (ack_of p.sisn segment) (ack_of i (inward (south_at delta p) segment)) (λ o. (g.unopened o).0)
+    (lowers u i delta p segment g f.ack (f.near h))
+refused_any u i delta p segment false h g f =
+    none_middle (not p.counted) (has_ack segment) (int_lt (ack_of i (inward (south_at delta p) segment)) (pos 0)) h
+    ∙ sym (none_middle (not p.counted) (has_ack segment) (int_lt (ack_of p.sisn segment) (pos 0)) h)
+
+pub refused_is : (u i delta : ℕ) (p : Point) (segment : Segment) → GoesOn u i delta p → Fits p segment
+    → is_refused (inside u i p) (inward (south_at delta p) segment) ≡ is_refused p segment
+refused_is u i delta p segment g f = refused_any u i delta p segment (has_ack segment) refl g f
+
+pub owes_is : (u i delta : ℕ) (p : Point) (segment : Segment) → GoesOn u i delta p → Fits p segment
+    → owes (inside u i p) (inward (south_at delta p) segment) ≡ owes p segment
+unfolding owes accepts
+owes_is u i delta p segment g f =
+    ap (λ b. if accepts p segment
+    then (if has_rst segment then not (int_eq (first_of p.cisn segment) (pos (taken_units p)))
+    else (if has_syn segment then true
+    else (if b then false
+    else nat_lt 0 (length_of segment) || (has_ack segment && int_lt (pos (taken_units p)) (first_of p.cisn segment)))))
+    else not (has_rst segment)) (refused_is u i delta p segment g f)
+
+-- the usual case: no SYN is repeated, and none is refused
+or_nothing : (owed : Bool) (bare : Segment) (xs : List Segment) → or_bare owed bare ([] ++ xs) ≡ or_bare owed bare xs
+or_nothing owed bare xs = refl
+
+pub usually : {State : Type 0} (service : Machine State) (server : Addr) (news inner : News) (p q : Point) (u i delta : ℕ) → u ≤ q.sent
+    → Sends service news inner p q u i delta → refusals server inner (inside u i p) ≡ [] → opens_with news p ≡ false
+    → (owes_to inner (inside u i p) || asks_besides service news p) ≡ asks service news p
+    → leaves service server news p q (passed delta q (segments_by_laws (swallowing u service) server inner (inside u i p) (inside u i q)))
+    ≡ segments_of service server news p q
+unfolding segments_of full_segments outer.is_owed
+usually service server news inner p q u i delta above s none opens asked =
+    let bare : Segment = bare_segment server q in
+    let b : Bool = owes_besides service news p q in
+    let o : Bool = is_owed inner (inside u i p) (inside u i q) in
+    let owed : (o || b) ≡ outer.is_owed service news p q =
+    or_five (owes_to inner (inside u i p)) (not (taken_units p == taken_units q)) (not (announced_edge p == announced_edge q)) (asks_besides service news p) (nat_lt p.answered q.answered)
+    ∙ ap (λ a. a || nat_lt p.answered q.answered || not (taken_units p == taken_units q) || not (announced_edge p == announced_edge q)) asked in
+    (λ j. or_bare b bare ((if opens j then syn_ack server q ∷ [] else [])
+    ++ passed delta q (or_bare o (bare_segment server (inside u i q)) (none j ++ full (swallowing u service) server inner (inside u i p) (inside u i q)))))
+    ∙ ap (or_bare b bare) (passed_is service server news inner p q u i delta o above s)
+    ∙ or_besides o b bare (full service server news p q)
+    ∙ (λ j. or_bare (owed j) bare ((if sym opens j then syn_ack server q ∷ [] else []) ++ full service server news p q))
+
+-- where nothing is taken nothing is read
+never : (n : ℕ) → nat_lt n 0 ≡ false
+never n = grind arith
+
+nothing_to_read : (p : Point) → length p.taken ≡ 0 → p.fetched ≡ 0 → p.fin ≡ false → next_length p ≡ None
+unfolding next_length
+nothing_to_read p a b c =
+    (λ j. if nat_lt (sum p.lengths) (b j) then Some (min 2048 (b j - sum p.lengths))
+    else (if nat_lt (sum p.lengths) (a j) then Some (min 2048 (a j - sum p.lengths))
+    else (if c j && not (list_any (λ n. n == 0) p.lengths) then Some 0 else None)))
+    ∙ (λ j. if never (sum p.lengths) j then Some (min 2048 (0 - sum p.lengths))
+    else (if never (sum p.lengths) j then Some (min 2048 (0 - sum p.lengths)) else None))
+
+none_of_if : (b : Bool) (x : Option ℕ) → x ≡ None → (if b then x else None) ≡ None
+none_of_if true x h = h
+none_of_if false x h = refl
+
+abbrev listed : Option ℕ → List ℕ
+listed None = []
+listed (Some n) = n ∷ []
+
+none_some : (n : ℕ) (x : Option ℕ) → x ≡ None → x ≡ Some n → [] ≡ n ∷ []
+none_some n x a b = ap listed (sym a ∙ b)
+
+no_read : {State : Type 0} (service : Machine State) (r : Point) (ns : List ℕ) → next_read service r ≡ None → Makes service r ns → ns ≡ []
+no_read service r [] none m = refl
+no_read service r (n ∷ ns) none m = absurd (omega (arith, ap length (none_some n (next_read service r) none m.0)))
+
+pub same_lengths : {State : Type 0} (service : Machine State) (p q : Point) → MakesReads service p q → length q.taken ≡ 0 → q.fetched ≡ 0 → q.fin ≡ false → q.lengths ≡ p.lengths
+same_lengths service p q m a b c =
+    let r : Point = record q { lengths = p.lengths } in
+    m.lengths ∙ ap (λ ns. p.lengths ++ ns) (no_read service r m.news (none_of_if (may_read service r) (next_length r) (nothing_to_read r a b c)) m.makes) ∙ append-nil p.lengths
+
+same_self : (n : ℕ) → (n == n) ≡ true
+same_self n = grind arith
+
+-- nothing is announced anew
+pub nothing_new : (p q : Point) → q.taken ≡ p.taken → q.fin ≡ p.fin → q.fetched ≡ p.fetched → q.lengths ≡ p.lengths
+    → (not (taken_units p == taken_units q) || not (announced_edge p == announced_edge q)) ≡ false
+nothing_new p q a b c d =
+    (λ j. not (taken_units p == length (a j) + (if b j then 1 else 0)) || not (announced_edge p == min (max (c j) (sum (d j)) + 65535) (2 ^ 24) + (if b j then 1 else 0)))
+    ∙ (λ j. not (same_self (taken_units p) j) || not (same_self (announced_edge p) j))
+
+quiet_or : (bare : Segment) (xs : List Segment) → or_bare false bare xs ≡ xs
+quiet_or bare [] = refl
+quiet_or bare (x ∷ xs) = refl
+
+units_none : (n : ℕ) (b : Bool) → (n + (if b then 1 else 0) == 0) ≡ true → (n ≡ 0) × (b ≡ false)
+units_none n true h = absurd (grind (arith, h))
+units_none n false h = (grind (arith, h), refl)
+
+abbrev syn_at : Point → Segment → Bool
+syn_at p segment = is_syn segment && segment.head.seq == p.cisn
+
+repeats_taken : (s a b : Bool) → (s && a && b) ≡ true → a ≡ true
+repeats_taken true true b h = refl
+repeats_taken true false b h = absurd (false≢true h)
+repeats_taken false a b h = absurd (false≢true h)
+
+-- a SYN is repeated
+pub repeated : {State : Type 0} (service : Machine State) (server : Addr) (boot : ℕ) (segment : Segment) (p q : Point) (sent : List Packet) (u i delta : ℕ) → u ≤ q.sent
+    → Sends service (Comes segment) Begins p q u i delta → p.fetched ≤ length p.taken → repeats_syn p segment ≡ true → LiveTurn service server boot (Comes segment) p q sent
+    → MeetsLaws (swallowing u service) Begins (inside u i p) (inside u i q)
+    → leaves service server (Comes segment) p q (passed delta q (segments_by_laws (swallowing u service) server Begins (inside u i p) (inside u i q)))
+    ≡ segments_of service server (Comes segment) p q
+unfolding segments_of full_segments taken_after fin_after
+repeated service server boot segment p q sent u i delta above s few opens l laws =
+    let units = units_none (length p.taken) p.fin (repeats_taken (syn_at p segment) (taken_units p == 0) (p.una == 0) opens) in
+    let lens : q.lengths ≡ p.lengths =
+    same_lengths service p q l.reads (ap length laws.taken ∙ units.0) (l.same.fetched ∙ omega (arith, few, units.0)) (laws.fin ∙ units.1) in
+    let quiet : is_owed Begins (inside u i p) (inside u i q) ≡ false = nothing_new p q laws.taken laws.fin l.same.fetched lens in
+    (λ j. or_bare (owes_besides service (Comes segment) p q) (bare_segment server q) ((if opens j then syn_ack server q ∷ [] else [])
+    ++ passed delta q (or_bare (quiet j) (bare_segment server (inside u i q)) (full (swallowing u service) server Begins (inside u i p) (inside u i q)))))
+    ∙ ap (λ xs. syn_ack server q ∷ xs) (passed_is service server (Comes segment) Begins p q u i delta false above s ∙ quiet_or (bare_segment server q) (full service server (Comes segment) p q))
+    ∙ (λ j. or_bare (outer.is_owed service (Comes segment) p q) (bare_segment server q) ((if sym opens j then syn_ack server q ∷ [] else []) ++ full service server (Comes segment) p q))
+
+four_of : (a b c d : Bool) → (a && not b && not c && d) ≡ true → (a ≡ true) × (b ≡ false) × (c ≡ false) × (d ≡ true)
+four_of true false false true h = (refl, refl, refl, refl)
+four_of true false false false h = absurd (false≢true h)
+four_of true false true d h = absurd (false≢true h)
+four_of true true c d h = absurd (false≢true h)
+four_of false b c d h = absurd (false≢true h)
+
+three_of : (a b c : Bool) → (not a && b && c) ≡ true → (a ≡ false) × (c ≡ true)
+three_of false true true h = (refl, refl)
+three_of false true false h = absurd (false≢true h)
+three_of false false c h = absurd (false≢true h)
+three_of true b c h = absurd (false≢true h)
+
+off_last : (a b c d e : Bool) → e ≡ false → (a && b && c && d && e) ≡ false
+off_last true true true true e h = h
+off_last true true true false e h = refl
+off_last true true false d e h = refl
+off_last true false c d e h = refl
+off_last false b c d e h = refl
+
+not_both : (x : Bool) → not x ≡ true → x ≡ false
+not_both true h = absurd (false≢true h)
+not_both false h = refl
+
+less_itself : (n : ℕ) → nat_lt n n ≡ false
+less_itself n = grind arith
+
+minus_none : (a b : ℕ) → a - 0 ≡ b - 0 → a ≡ b
+minus_none a b h = omega (arith, h)
+
+nothing_at_once : (t : ℕ) → max 0 (min t 0) ≡ 0
+nothing_at_once t = omega arith
+
+nothing_long : (r : ℕ) → min 0 r - 0 ≡ 0
+nothing_long r = omega arith
+
+-- an acceptable segment acknowledges less than the SYN
+record IsRefused (p q : Point) (segment : Segment) : Type 0 where
+  opens : opens_with (Comes segment) p ≡ false
+  owed : owes p segment ≡ false
+  fin : p.fin ≡ false
+  answered : q.answered ≡ p.answered
+  new : (not (taken_units p == taken_units q) || not (announced_edge p == announced_edge q)) ≡ false
+  sent : p.sent ≡ 0
+  edge : q.edge ≡ 0
+
+refused_turn : {State : Type 0} (service : Machine State) (server : Addr) (boot : ℕ) (segment : Segment) (p q : Point) (sent : List Packet) (u i delta : ℕ)
+    → GoesOn u i delta p → refuses p segment ≡ true → LiveTurn service server boot (Comes segment) p q sent → IsRefused p q segment
+unfolding owes counts answered_after taken_after fin_after edge_after
+refused_turn service server boot segment p q sent u i delta g r l =
+    let f = four_of (accepts p segment) (has_rst segment) (has_syn segment) (is_refused p segment) r in
+    let k = three_of p.counted (has_ack segment) (int_lt (ack_of p.sisn segment) (pos 0)) f.3 in
+    let o = g.unopened k.0 in
+    let low : int_le (pos 0) (ack_of p.sisn segment) ≡ false = not_both (int_le (pos 0) (ack_of p.sisn segment)) (sym (lt_le (ack_of p.sisn segment)) ∙ k.1) in
+    let none : counts p segment ≡ false =
+    off_last (has_ack segment) (not (has_syn segment)) (not (has_rst segment)) (accepts p segment) (p.counted || int_le (pos 0) (ack_of p.sisn segment))
+    ((λ j. k.0 j || int_le (pos 0) (ack_of p.sisn segment)) ∙ low) in
+    let m : Moves (Comes segment) p 0 i Begins = stays_inside 0 i p segment none in
+    let taken : q.taken ≡ p.taken = l.taken ∙ sym m.taken in
+    let fin : q.fin ≡ p.fin = l.fin ∙ sym m.fin in
+    let lens : q.lengths ≡ p.lengths =
+    same_lengths service p q l.reads (ap length (taken ∙ o.3)) (l.same.fetched ∙ o.5) (fin ∙ o.4) in
+    record {
+      opens = λ j. f.2 j && not (has_ack segment) && not (has_rst segment) && segment.head.seq == p.cisn && taken_units p == 0 && p.una == 0;
+      owed = λ j. if f.0 j then (if f.1 j then not (int_eq (first_of p.cisn segment) (pos (taken_units p)))
+          else (if f.2 j then true else (if f.3 j then false else nat_lt 0 (length_of segment) || (has_ack segment && int_lt (pos (taken_units p)) (first_of p.cisn segment)))))
+          else not (has_rst segment);
+      fin = o.4;
+      answered = l.answered;
+      new = nothing_new p q taken fin l.same.fetched lens;
+      sent = o.1;
+      edge = l.edge ∙ minus_none (edge_after (Comes segment) p) p.edge (sym m.edge) ∙ o.2;
+    }
+
+pub refused : {State : Type 0} (service : Machine State) (server : Addr) (boot : ℕ) (segment inner : Segment) (p q : Point) (sent : List Packet) (u i delta : ℕ)
+    → GoesOn u i delta p → refuses p segment ≡ true → refuses (inside u i p) inner ≡ true → LiveTurn service server boot (Comes segment) p q sent
+    → leaves service server (Comes segment) p q (passed delta q (segments_by_laws (swallowing u service) server (Comes inner) (inside u i p) (inside u i q)))
+    ≡ segments_of service server (Comes segment) p q
+unfolding segments_of full_segments outer.is_owed resent new_texts new_fin sent_at_once
+refused service server boot segment inner p q sent u i delta g r s l =
+    let t : IsRefused p q segment = refused_turn service server boot segment p q sent u i delta g r l in
+    let once : sent_at_once service p q ≡ 0 = (λ j. max (t.sent j) (min (point.target service q) (t.edge j))) ∙ nothing_at_once (point.target service q) in
+    let long : new_length service p q ≡ 0 = (λ j. min (once j) (released service q) - t.sent j) ∙ nothing_long (released service q) in
+    let rose : nat_lt p.answered q.answered ≡ false = ap (nat_lt p.answered) t.answered ∙ less_itself p.answered in
+    let besides : owes_besides service (Comes segment) p q ≡ false = λ j. (t.fin j && nat_lt (released service p) p.una && not (has_rst segment)) || rose j in
+    let rest : full service server (Comes segment) p q ≡ [] =
+    (λ j. texts service server q (long j) p.sent (long j) ++ (if nat_lt (released service q) (once j) && nat_le p.sent (released service q) then fin_if_closed service server q else []))
+    ∙ (λ j. if never (released service q) j && nat_le p.sent (released service q) then fin_if_closed service server q else []) in
+    let owed : outer.is_owed service (Comes segment) p q ≡ false =
+    (λ j. ((t.owed j || (t.fin j && nat_lt (released service p) p.una && not (has_rst segment))) || rose j || not (taken_units p == taken_units q)) || not (announced_edge p == announced_edge q)) ∙ t.new in
+    (λ j. or_bare (besides j) (bare_segment server q) ((if t.opens j then syn_ack server q ∷ [] else [])
+    ++ passed delta q (or_bare (is_owed (Comes inner) (inside u i p) (inside u i q)) (bare_segment server (inside u i q))
+    ((if s j then rst_at_ack server inner ∷ [] else []) ++ full (swallowing u service) server (Comes inner) (inside u i p) (inside u i q)))))
+    ∙ (λ j. or_bare (sym owed j) (bare_segment server q) ((if sym t.opens j then syn_ack server q ∷ [] else []) ++ sym rest j))
+
+-- whichever comes
+left_none : (a b : Bool) → (a || b) ≡ false → a ≡ false
+left_none true b h = h
+left_none false b h = refl
+
+still_unopened : (news : News) (p : Point) → counted_after news p ≡ false → p.counted ≡ false
+unfolding counted_after
+still_unopened (Comes segment) p h = left_none p.counted (counts p segment) h
+still_unopened (Logged kept) p h = h
+still_unopened Ticks p h = h
+still_unopened Begins p h = h
+
+sends : {State : Type 0} (service : Machine State) (server : Addr) (boot : ℕ) (news : News) (p q : Point) (sent : List Packet) (u i delta : ℕ)
+    → Turns service server boot news p q sent u i delta → GoesOn u i delta p → GoesOn u i delta q → Sends service news (news_inside delta p news) p q u i delta
+sends service server boot news p q sent u i delta t before after = record {
+  shift = after.shift;
+  sisn = after.sisn;
+  expires = (moves_inside_all u i delta p news before t.fits).expires;
+  sent = omega (arith, before.una, before.order);
+  una = after.una;
+  edge = after.edge;
+  given = t.given;
+  unopened = λ h. (before.unopened (still_unopened news p (sym t.goes.counted ∙ h))).0;
+}
+
+none_if : (b : Bool) (x : Segment) → b ≡ false → (if b then x ∷ [] else []) ≡ []
+none_if true x h = absurd (false≢true (sym h))
+none_if false x h = refl
+
+comes : {State : Type 0} (service : Machine State) (server : Addr) (boot : ℕ) (segment : Segment) (p q : Point) (sent : List Packet) (u i delta : ℕ) (b : Bool)
+    → Turns service server boot (Comes segment) p q sent u i delta → GoesOn u i delta p → GoesOn u i delta q → refuses p segment ≡ b → repeats_syn p segment ≡ false
+    → Sends service (Comes segment) (Comes (inward (south_at delta p) segment)) p q u i delta
+    → leaves service server (Comes segment) p q (passed delta q (segments_by_laws (swallowing u service) server (Comes (inward (south_at delta p) segment)) (inside u i p) (inside u i q)))
+    ≡ segments_of service server (Comes segment) p q
+unfolding accepts
+comes service server boot segment p q sent u i delta true t before after r opens s =
+    let inner : Segment = inward (south_at delta p) segment in
+    let same : refuses (inside u i p) inner ≡ refuses p segment =
+    ap (λ v. accepts p segment && not (has_rst segment) && not (has_syn segment) && v) (refused_is u i delta p segment before t.fits) in
+    refused service server boot segment inner p q sent u i delta before r (same ∙ r) t.goes
+comes service server boot segment p q sent u i delta false t before after r opens s =
+    let inner : Segment = inward (south_at delta p) segment in
+    let same : refuses (inside u i p) inner ≡ refuses p segment =
+    ap (λ v. accepts p segment && not (has_rst segment) && not (has_syn segment) && v) (refused_is u i delta p segment before t.fits) in
+    let none : refusals server (Comes inner) (inside u i p) ≡ [] = none_if (refuses (inside u i p) inner) (rst_at_ack server inner) (same ∙ r) in
+    let asked : (owes_to (Comes inner) (inside u i p) || asks_besides service (Comes segment) p) ≡ asks service (Comes segment) p =
+    ap (λ v. v || asks_besides service (Comes segment) p) (owes_is u i delta p segment before t.fits) in
+    usually service server (Comes segment) (Comes inner) p q u i delta (omega (arith, after.una, after.order)) s none opens asked
+
+by_syn : {State : Type 0} (service : Machine State) (server : Addr) (boot : ℕ) (segment : Segment) (p q : Point) (sent : List Packet) (u i delta : ℕ) (b : Bool)
+    → repeats_syn p segment ≡ b → Turns service server boot (Comes segment) p q sent u i delta → GoesOn u i delta p → GoesOn u i delta q
+    → Sends service (Comes segment) (if b then Begins else Comes (inward (south_at delta p) segment)) p q u i delta
+    → MeetsLaws (swallowing u service) (if b then Begins else Comes (inward (south_at delta p) segment)) (inside u i p) (inside u i q)
+    → leaves service server (Comes segment) p q (passed delta q (segments_by_laws (swallowing u service) server (if b then Begins else Comes (inward (south_at delta p) segment)) (inside u i p) (inside u i q)))
+    ≡ segments_of service server (Comes segment) p q
+by_syn service server boot segment p q sent u i delta true opens t before after s laws =
+    repeated service server boot segment p q sent u i delta (omega (arith, after.una, after.order)) s t.few opens t.goes laws
+by_syn service server boot segment p q sent u i delta false opens t before after s laws =
+    comes service server boot segment p q sent u i delta (refuses p segment) t before after refl opens s
+
+pub sent_is : {State : Type 0} (service : Machine State) (server : Addr) (boot : ℕ) (news : News) (p q : Point) (sent : List Packet) (u i delta : ℕ)
+    → Turns service server boot news p q sent u i delta → GoesOn u i delta p → GoesOn u i delta q
+    → leaves service server news p q (passed delta q (segments_by_laws (swallowing u service) server (news_inside delta p news) (inside u i p) (inside u i q)))
+    ≡ segments_of service server news p q
+sent_is service server boot (Comes segment) p q sent u i delta t before after =
+    by_syn service server boot segment p q sent u i delta (repeats_syn p segment) refl t before after (sends service server boot (Comes segment) p q sent u i delta t before after)
+    (laws_inside service server boot u i delta (Comes segment) p q sent before t.fits after.una t.given t.goes)
+sent_is service server boot (Logged kept) p q sent u i delta t before after =
+    usually service server (Logged kept) (Logged kept) p q u i delta (omega (arith, after.una, after.order)) (sends service server boot (Logged kept) p q sent u i delta t before after) refl refl refl
+sent_is service server boot Ticks p q sent u i delta t before after =
+    usually service server Ticks Ticks p q u i delta (omega (arith, after.una, after.order)) (sends service server boot Ticks p q sent u i delta t before after) refl refl refl
+sent_is service server boot Begins p q sent u i delta t before after =
+    usually service server Begins Begins p q u i delta (omega (arith, after.una, after.order)) (sends service server boot Begins p q sent u i delta t before after) refl (ap not t.later) refl
