@@ -7,3 +7,5 @@ pub mod Again
 pub mod Usual
 pub mod Whole
 pub mod Numbers
+pub mod Forged
+pub mod Spliced

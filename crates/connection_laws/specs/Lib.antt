@@ -1,3 +1,4 @@
 pub mod Inside
 pub mod Passing
 pub mod Turning
+pub mod Splicing

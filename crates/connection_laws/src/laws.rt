@@ -1,7 +1,9 @@
 //! The laws of a wrapped connection and its inner TCP.
 
-ghost use Rattle.std.specs.Prelude.{◌≡◌, ◌<◌, ℕ, true, List};
+ghost use Rattle.std.specs.Prelude.{◌≡◌, ◌<◌, ℕ, true, List, length};
+ghost use Rattle.ft_io.specs.declared.Addr.{Addr};
 ghost use Rattle.server_trait.specs.Service.{machine};
+ghost use Rattle.ft_model.specs.Log.{Entry};
 ghost use Rattle.ft_model.specs.Network.{Packet};
 ghost use Rattle.ft_model.specs.News.{News};
 ghost use Rattle.ft_model.specs.Point.{Point};
@@ -10,6 +12,7 @@ ghost use Rattle.tcp_endpoint.specs.Turning.{sent_number, acked_number};
 ghost use Rattle.tcp_endpoint.specs.Tcb.{Tcb};
 ghost use Rattle.endpoint_laws.specs.Turn.{Call};
 ghost use Rattle.connection_laws.specs.Turning.{Turns, StandsInside, UsesInside, TurnsInside};
+ghost use Rattle.connection_laws.specs.Splicing.{GoesOnFrom, StandsAtEntry, spliced};
 
 use server_trait::Service;
 
@@ -26,4 +29,10 @@ pub fn connections_turn_by_their_tcp<S: Service>()
 pub fn tcp_counts_behind_delta()
     ensures sent { (u i delta : ℕ) (p : Point) (e : Tcb) → StandsInside u i delta p e → sent_number e ≡ distance (number_at p.sisn p.sent) delta }
     ensures acked { (u i delta : ℕ) (p : Point) (e : Tcb) → StandsInside u i delta p e → p.counted ≡ true → acked_number e ≡ distance (number_at p.sisn p.una) delta }
+{}
+
+/// A fresh endpoint to which an entry's segments are forged stands, inside, at the point of the entry.
+pub fn splices_stand_at_the_entry<S: Service>()
+    ensures { (fresh : S) (i : ℕ) (local : Addr) (e : Entry) → GoesOnFrom e i
+        → StandsAtEntry (machine fresh S.after) e i (spliced e.key local e.cisn (length e.bytes) e.mss i e.fin) }
 {}

@@ -1,0 +1,188 @@
+-- A forged segment at the next number, without text and with window 0, changes what it is to change, and nothing else.
+use Rattle.std.proofs.Common.{◌≡◌, ℕ, zero, suc, ◌<◌, ◌+◌, ◌-◌, ◌^◌, Bool, true, false, not, List, [], ◌++◌, length, take, drop, sum, min, max, refl, sym, ap, subst, arith, append-nil, ◌∙◌}
+use Rattle.std.specs.Prelude.{ℤ, pos, ◌+ℤ◌, ◌==◌, ◌&&◌, ◌||◌, nat_abs, nat_lt, int_le, if◌then◌else◌}
+use Rattle.std.proofs.lemmas.Int.{ints}
+use Rattle.std.proofs.lemmas.Bool.{false≢true}
+use Rattle.seq_arith.specs.Arrival.{int_eq, is_acceptable, below, una_after, updates_window}
+use Rattle.seq_arith.specs.Packet.{Segment, has_fin, has_syn, has_rst, has_ack}
+use Rattle.server_trait.specs.Service.{Machine, reference}
+use Rattle.ft_model.specs.Offset.{one_if, first_of, ack_of, text_of, length_of}
+use Rattle.ft_model.specs.Point.{Point, taken_units, receive_edge, room, target}
+use Rattle.ft_model.specs.News.News.{Comes}
+use Rattle.ft_model.specs.Taken.{accepts, counts, continues, taken_after, fin_after, end_of}
+use Rattle.ft_model.specs.Sending.{counted_after, acknowledged_after, edge_after, wl1_after, wl2_after, sent_at_once, sent_after, acknowledged_by}
+use Rattle.ft_model.specs.Timer.{must_run, interval_after, rest_after}
+use Rattle.endpoint_laws.specs.Standing.{MeetsLaws}
+use Rattle.connection_laws.proofs.Swallowed.{drop_none}
+
+-- a service that writes nothing
+abbrev pub silent : Machine ℕ
+silent = record { fresh = 0; after = λ state chunk. record { next = 0; output = []; closed = false } }
+
+pub record IsForged (p : Point) (segment : Segment) (fin : Bool) : Type 0 where
+  pub ack : has_ack segment ≡ true
+  pub syn : has_syn segment ≡ false
+  pub rst : has_rst segment ≡ false
+  pub fin_is : has_fin segment ≡ fin
+  pub text : segment.payload ≡ []
+  pub window : segment.head.window ≡ 0
+  pub first : first_of p.cisn segment ≡ pos (length p.taken)
+  pub back : ack_of p.sisn segment ≡ pos 0
+
+-- all that was fetched is taken, nothing is sent, and nothing read
+pub record IsFresh (p : Point) : Type 0 where
+  pub fin : p.fin ≡ false
+  pub una : p.una ≡ 0
+  pub sent : p.sent ≡ 0
+  pub edge : p.edge ≡ 0
+  pub wl2 : p.wl2 ≡ 0
+  pub lengths : p.lengths ≡ []
+  pub fetched : p.fetched ≡ length p.taken
+  pub wl1 : p.counted ≡ true → p.wl1 ≡ pos (length p.taken)
+  pub timer : (p.counted ≡ true → (p.rest ≡ 0) × (p.interval ≡ 1)) × (p.counted ≡ false → p.rest ≡ 1)
+
+take_none : (n : ℕ) → take {A = ℕ} n [] ≡ []
+take_none zero = refl
+take_none (suc n) = refl
+
+acceptable_none : (n w : ℕ) → is_acceptable n w (pos n) 0 ≡ true
+acceptable_none n w = grind (arith, ints)
+
+acceptable_one : (n w : ℕ) → 0 < w → is_acceptable n w (pos n) 1 ≡ true
+acceptable_one n w h = grind (arith, ints, h)
+
+acceptable_if : (b : Bool) (n w : ℕ) → (b ≡ true → 0 < w) → is_acceptable n w (pos n) (if b then 1 else 0) ≡ true
+acceptable_if true n w h = acceptable_one n w (h refl)
+acceptable_if false n w h = acceptable_none n w
+
+room_left : (n f : ℕ) → n < 2 ^ 24 → f ≡ n → 0 < min (max f 0 + 65535) (2 ^ 24) + 0 - (n + 0)
+room_left n f h e = omega (arith, h, e)
+
+none_plus : (n : ℕ) → 0 + n ≡ n
+none_plus n = omega arith
+
+plus_none : (n : ℕ) → n + 0 ≡ n
+plus_none n = omega arith
+
+at_start : (b : Bool) → (b || int_le (pos 0) (pos 0)) ≡ true
+at_start true = refl
+at_start false = grind (arith, ints)
+
+pub forged_counts : (p : Point) (segment : Segment) (fin : Bool) → IsFresh p → IsForged p segment fin → (fin ≡ true → length p.taken < 2 ^ 24) → counts p segment ≡ true
+unfolding counts accepts
+forged_counts p segment fin f s few =
+    let n : ℕ = length p.taken in
+    let some : fin ≡ true → 0 < room p =
+    λ h. subst (λ (r : ℕ). 0 < r) (sym (λ j. min (max p.fetched (sum (f.lengths j)) + 65535) (2 ^ 24) + (if f.fin j then 1 else 0) - (n + (if f.fin j then 1 else 0)))) (room_left n p.fetched (few h) f.fetched) in
+    let len : length_of segment ≡ (if fin then 1 else 0) =
+    (λ j. if s.rst j then 0 else (if s.syn j then 1 else length (s.text j) + (if s.fin_is j then 1 else 0))) ∙ none_plus (if fin then 1 else 0) in
+    let accepted : is_acceptable (taken_units p) (room p) (first_of p.cisn segment) (length_of segment) ≡ true =
+    (λ j. is_acceptable (n + (if f.fin j then 1 else 0)) (room p) (s.first j) (len j)) ∙ ap (λ m. is_acceptable m (room p) (pos n) (if fin then 1 else 0)) (plus_none n)
+    ∙ acceptable_if fin n (room p) some in
+    let low : (p.counted || int_le (pos 0) (ack_of p.sisn segment)) ≡ true = ap (λ z. p.counted || int_le (pos 0) z) s.back ∙ at_start p.counted in
+    λ j. s.ack j && not (s.syn j) && not (s.rst j) && accepted j && low j
+
+either : {A : Type 0} (b : Bool) (x y : A) → x ≡ y → (if b then x else y) ≡ y
+either true x y h = h
+either false x y h = refl
+
+nothing_added : (taken text : List ℕ) (k m : ℕ) → text ≡ [] → taken ++ take k (drop m text) ≡ taken
+nothing_added taken text k m none = (λ j. taken ++ take k (drop m (none j))) ∙ ap (λ xs. taken ++ take k xs) (drop_none m) ∙ ap (λ xs. taken ++ xs) (take_none k) ∙ append-nil taken
+
+pub forged_taken : (p : Point) (segment : Segment) (fin : Bool) → IsForged p segment fin → taken_after (Comes segment) p ≡ p.taken
+unfolding taken_after
+forged_taken p segment fin s =
+    let none : text_of segment ≡ [] = λ j. if s.syn j || s.rst j then [] else s.text j in
+    either (continues p segment) _ p.taken
+    (nothing_added p.taken (text_of segment) (receive_edge p - length p.taken) (below (length p.taken) (first_of p.cisn segment)) none)
+
+same_place : (n : ℕ) → int_eq (pos n +ℤ pos 0) (pos n) ≡ true
+same_place n = grind (arith, ints)
+
+here : (n : ℕ) → int_le (pos n) (pos n) ≡ true
+here n = grind (arith, ints)
+
+below_edge : (n f : ℕ) → n < 2 ^ 24 → f ≡ n → nat_lt n (min (max f 0 + 65535) (2 ^ 24)) ≡ true
+below_edge n f h e = grind (arith, h, e)
+
+fin_off : (a c d : Bool) → (a && false && c && d) ≡ false
+fin_off true c d = refl
+fin_off false c d = refl
+
+pub forged_fin_is : (p : Point) (segment : Segment) (fin : Bool) → IsFresh p → IsForged p segment fin → (fin ≡ true → length p.taken < 2 ^ 24) → fin_after (Comes segment) p ≡ fin
+unfolding fin_after
+forged_fin_is p segment true f s few =
+    let n : ℕ = length p.taken in
+    let c : counts p segment ≡ true = forged_counts p segment true f s few in
+    let t : taken_after (Comes segment) p ≡ p.taken = forged_taken p segment true s in
+    let edge : receive_edge p ≡ min (max p.fetched 0 + 65535) (2 ^ 24) = λ j. min (max p.fetched (sum (f.lengths j)) + 65535) (2 ^ 24) in
+    (λ j. f.fin j || (c j && not (f.fin j) && int_le (s.first j) (pos n) && (s.fin_is j && not (s.syn j || s.rst j))
+    && int_eq (s.first j +ℤ pos (length (if s.syn j || s.rst j then [] else s.text j))) (pos (length (t j))) && nat_lt (length (t j)) (edge j)))
+    ∙ (λ j. here n j && true && same_place n j && below_edge n p.fetched (few refl) f.fetched j)
+forged_fin_is p segment false f s few =
+    (λ j. f.fin j || (continues p segment && (s.fin_is j && not (has_syn segment || has_rst segment))
+    && int_eq (end_of p segment) (pos (length (taken_after (Comes segment) p))) && nat_lt (length (taken_after (Comes segment) p)) (receive_edge p)))
+    ∙ fin_off (continues p segment) _ _
+
+-- the point after it
+abbrev pub after_forged : Bool → Point → Point
+after_forged fin p = record p { counted = true; fin = fin; answered = length p.taken + one_if fin; wl1 = pos (length p.taken); interval = 1; rest = 0 }
+
+or_true : (b : Bool) → true ≡ (b || true)
+or_true true = refl
+or_true false = refl
+
+wl1_by : (c : Bool) (first wl1 w : ℤ) (m v : Bool) → first ≡ w → (c ≡ true → wl1 ≡ w) → m ≡ true → (if m && (not c || v) then first else wl1) ≡ w
+wl1_by true first wl1 w m v a b h = either (m && (false || v)) first wl1 (a ∙ sym (b refl)) ∙ b refl
+wl1_by false first wl1 w true v a b h = a
+wl1_by false first wl1 w false v a b h = absurd (false≢true h)
+
+starts_by : (c : Bool) (rest una : ℕ) → (c ≡ true → rest ≡ 0) → true ≡ (rest == 0 || (nat_lt una una || (true && not c)))
+starts_by true rest una h = sym (λ j. (h refl j == 0) || (nat_lt una una || false))
+starts_by false rest una h = or_true (rest == 0) ∙ ap (λ b. (rest == 0) || b) (or_true (nat_lt una una))
+
+at_once_none : (t : ℕ) → 0 ≡ max 0 (min t 0) + 0
+at_once_none t = omega arith
+
+pub run_is : (p : Point) → p.lengths ≡ [] → reference silent p.taken (take p.reads_answered p.lengths) ≡ record { state = 0; output = []; closed = false }
+unfolding reference
+run_is p h = (λ j. reference silent p.taken (take p.reads_answered (h j))) ∙ ap (λ ns. reference silent p.taken ns) (take_none p.reads_answered)
+
+acknowledged_none : (b : Bool) → (if b then una_after 0 (min 0 0) else 0) ≡ 0
+acknowledged_none true = refl
+acknowledged_none false = refl
+
+edge_none : (b : Bool) → (if b then min 0 0 + min 65535 (0 + 0 - min 0 0) else 0) ≡ 0
+edge_none true = refl
+edge_none false = refl
+
+wl2_none : (b : Bool) → (if b then min 0 0 else 0) ≡ 0
+wl2_none true = refl
+wl2_none false = refl
+
+pub forged_laws : (p : Point) (segment : Segment) (fin : Bool) → IsFresh p → IsForged p segment fin → (fin ≡ true → length p.taken < 2 ^ 24)
+    → MeetsLaws silent (Comes segment) p (after_forged fin p)
+unfolding counted_after acknowledged_after edge_after wl1_after wl2_after sent_after sent_at_once interval_after rest_after must_run
+forged_laws p segment fin f s few =
+    let c : counts p segment ≡ true = forged_counts p segment fin f s few in
+    let start : int_le (pos 0) (pos 0) ≡ true = at_start false in
+    let m : (counts p segment && int_le (pos 0) (ack_of p.sisn segment)) ≡ true = (λ j. c j && int_le (pos 0) (s.back j)) ∙ start in
+    let w : Bool = updates_window p.una p.wl1 p.wl2 (first_of p.cisn segment) (acknowledged_by p segment) in
+    let moves : Bool = (counts p segment && int_le (pos 0) (ack_of p.sisn segment)) && (not p.counted || w) in
+    let anew : true ≡ (p.rest == 0 || (nat_lt p.una p.una || (true && not p.counted))) = starts_by p.counted p.rest p.una (λ h. (f.timer.0 h).0) in
+    record {
+      same = record { key = refl; cisn = refl; sisn = refl; mss = refl; fetched = refl };
+      taken = sym (forged_taken p segment fin s);
+      fin = sym (forged_fin_is p segment fin f s few);
+      counted = or_true p.counted ∙ sym (ap (λ b. p.counted || b) c);
+      una = f.una ∙ sym ((λ j. if counts p segment && int_le (pos 0) (ack_of p.sisn segment) then una_after (f.una j) (min (nat_abs (s.back j)) (f.sent j)) else f.una j)
+          ∙ acknowledged_none (counts p segment && int_le (pos 0) (ack_of p.sisn segment)));
+      edge = f.edge ∙ sym ((λ j. if moves then min (nat_abs (s.back j)) (f.sent j) + min 65535 (s.window j + nat_abs (s.back j) - min (nat_abs (s.back j)) (f.sent j)) else f.edge j)
+          ∙ edge_none moves);
+      wl1 = sym (wl1_by p.counted (first_of p.cisn segment) p.wl1 (pos (length p.taken)) (counts p segment && int_le (pos 0) (ack_of p.sisn segment)) w s.first f.wl1 m);
+      wl2 = f.wl2 ∙ sym ((λ j. if moves then min (nat_abs (s.back j)) (f.sent j) else f.wl2 j) ∙ wl2_none moves);
+      sent = f.sent ∙ at_once_none (target silent (after_forged fin p)) ∙ sym (λ j. max (f.sent j) (min (target silent (after_forged fin p)) (f.edge j)) + 0);
+      interval = λ j. if anew j then 1 else p.interval;
+      rest = sym (λ j. if nat_lt (f.una j) (max (f.sent j) (length (run_is p f.lengths j).output + (if (run_is p f.lengths j).closed then 1 else 0)))
+          then (if (p.rest == 0 || (nat_lt p.una p.una || (true && not p.counted))) || false then interval_after (Comes segment) p (after_forged fin p) else p.rest) else 0);
+    }

@@ -1,0 +1,63 @@
+-- How a fresh endpoint is brought to where a restart goes on: the segments that are forged to it.
+use Rattle.std.specs.Prelude.{◌≡◌, ◌≤◌, ◌<◌, true, length, sum, ℕ, Bool, ◌+◌, ◌-◌, ◌%◌, ◌^◌, Option, Some, None, [], if◌then◌else◌}
+use Rattle.ft_io.specs.declared.Addr.{Addr}
+use Rattle.ft_io.specs.declared.Key.{Key}
+use Rattle.seq_arith.specs.declared.flags.TheConstants.{FIN, SYN, ACK}
+use Rattle.seq_arith.specs.Number.{number_at}
+use Rattle.seq_arith.specs.Packet.{Segment}
+use Rattle.ft_model.specs.News.News.{Comes}
+use Rattle.server_trait.specs.Service.{Machine}
+use Rattle.ft_model.specs.Log.{Entry}
+use Rattle.ft_model.specs.Restart.{point_of, resumed_at}
+use Rattle.tcp_endpoint.specs.States.{has_begun}
+use Rattle.endpoint_laws.specs.Ending.{IsNamedRightly}
+use Rattle.endpoint_laws.specs.Turn.{IsBetweenTurns}
+use Rattle.endpoint_laws.specs.Standing.{StandsAt}
+use Rattle.connection_laws.specs.Inside.{inside}
+use Rattle.tcp_endpoint.specs.Tcb.{Tcb, listening}
+use Rattle.endpoint_laws.specs.Turn.{turned}
+
+-- a segment of the client with these numbers, no text and window 0
+abbrev pub forged : Key → Addr → (seq ack flags : ℕ) → (mss : Option ℕ) → Segment
+forged key local seq ack flags mss = record {
+  head = record { src = key.ip; dst = local.ip; sport = key.port; dport = local.port; seq = seq; ack = ack; flags = flags; window = 0; mss = mss };
+  payload = [];
+}
+
+-- its SYN stands before the bytes that are still to come, ..
+abbrev pub forged_syn : Key → Addr → (cisn fetched mss : ℕ) → Segment
+forged_syn key local cisn fetched mss = forged key local ((cisn + fetched) % 2 ^ 32) 0 SYN (Some mss)
+
+-- .. then it acknowledges the SYN-ACK, ..
+abbrev pub forged_ack : Key → Addr → (cisn fetched i : ℕ) → Segment
+forged_ack key local cisn fetched i = forged key local (number_at cisn fetched) (number_at i 0) ACK None
+
+-- .. and where its FIN is logged it ends
+abbrev pub forged_fin : Key → Addr → (cisn fetched i : ℕ) → Segment
+forged_fin key local cisn fetched i = forged key local (number_at cisn fetched) (number_at i 0) (FIN + ACK) None
+
+-- what each turn sends is discarded
+unfoldable pub connected : Key → Addr → (cisn fetched mss i : ℕ) → Tcb
+connected key local cisn fetched mss i =
+    turned (Comes (forged_ack key local cisn fetched i)) []
+    (turned (Comes (forged_syn key local cisn fetched mss)) [] (listening local i (2 ^ 24 - fetched)))
+
+abbrev pub spliced : Key → Addr → (cisn fetched mss i : ℕ) → (fin : Bool) → Tcb
+spliced key local cisn fetched mss i fin =
+    if fin then turned (Comes (forged_fin key local cisn fetched i)) [] (connected key local cisn fetched mss i)
+    else connected key local cisn fetched mss i
+
+-- the entry and the numbers with which it goes on
+pub record GoesOnFrom (e : Entry) (i : ℕ) : Type 0 where
+  pub least : 64 ≤ e.mss
+  pub most : e.mss ≤ 1460
+  pub short : length e.bytes ≤ 2 ^ 24
+  pub fin : e.fin ≡ true → length e.bytes < 2 ^ 24
+  pub cut : sum e.lengths ≤ length e.bytes
+
+-- the result stands inside the point of the entry
+pub record StandsAtEntry {State : Type 0} (service : Machine State) (e : Entry) (i : ℕ) (t : Tcb) : Type 0 where
+  pub begun : has_begun t.name ≡ true
+  pub between : IsBetweenTurns t
+  pub named : IsNamedRightly t
+  pub stands : StandsAt (inside (resumed_at service e) i (point_of service e)) t
