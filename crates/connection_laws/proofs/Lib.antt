@@ -9,3 +9,4 @@ pub mod Whole
 pub mod Numbers
 pub mod Forged
 pub mod Spliced
+pub mod Beginning

@@ -2,3 +2,4 @@ pub mod Inside
 pub mod Passing
 pub mod Turning
 pub mod Splicing
+pub mod Beginning

@@ -1,16 +1,22 @@
 //! The laws of a wrapped connection and its inner TCP.
 
-ghost use Rattle.std.specs.Prelude.{◌≡◌, ◌<◌, ℕ, true, List, length};
+ghost use Rattle.std.specs.Prelude.{◌≡◌, ◌<◌, ◌-◌, ℕ, true, List, length};
 ghost use Rattle.ft_io.specs.declared.Addr.{Addr};
 ghost use Rattle.server_trait.specs.Service.{machine};
 ghost use Rattle.ft_model.specs.Log.{Entry};
 ghost use Rattle.ft_model.specs.Network.{Packet};
 ghost use Rattle.ft_model.specs.News.{News};
+ghost use Rattle.ft_model.specs.News.News.{Begins};
+ghost use Rattle.ft_model.specs.Opening.{point_opened};
+ghost use Rattle.ft_model.specs.Connection.{LiveTurn};
 ghost use Rattle.ft_model.specs.Point.{Point};
 ghost use Rattle.seq_arith.specs.Number.{distance, number_at};
+ghost use Rattle.seq_arith.specs.Message.{Numbers};
+ghost use Rattle.tcp_endpoint.specs.Arrival.{received};
 ghost use Rattle.tcp_endpoint.specs.Turning.{sent_number, acked_number};
 ghost use Rattle.tcp_endpoint.specs.Tcb.{Tcb};
-ghost use Rattle.endpoint_laws.specs.Turn.{Call};
+ghost use Rattle.endpoint_laws.specs.Turn.{Call, MayUse};
+ghost use Rattle.connection_laws.specs.Beginning.{MayOpen, BeginsInside, opened_syn, listens_with};
 ghost use Rattle.connection_laws.specs.Turning.{Turns, StandsInside, UsesInside, TurnsInside};
 ghost use Rattle.connection_laws.specs.Splicing.{GoesOnFrom, StandsAtEntry, spliced};
 
@@ -35,4 +41,12 @@ pub fn tcp_counts_behind_delta()
 pub fn splices_stand_at_the_entry<S: Service>()
     ensures { (fresh : S) (i : ℕ) (local : Addr) (e : Entry) → GoesOnFrom e i
         → StandsAtEntry (machine fresh S.after) e i (spliced e.key local e.cisn (length e.bytes) e.mss i e.fin) }
+{}
+
+/// A new connection begins with its SYN: its TCP stands at the point inside, with nothing between the numbers, and sends the law's SYN-ACK alone.
+pub fn new_connections_begin_by_their_syn<S: Service>()
+    ensures { (fresh : S) (boot : ℕ) (local : Addr) (numbers : Numbers) (after : Point) (calls : List Call) (sent : List Packet) → MayOpen numbers
+        → MayUse calls (received (listens_with local numbers) (opened_syn local numbers))
+        → LiveTurn (machine fresh S.after) local boot Begins (point_opened numbers) after sent
+        → BeginsInside (machine fresh S.after) local numbers after calls }
 {}
