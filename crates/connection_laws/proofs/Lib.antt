@@ -10,3 +10,9 @@ pub mod Numbers
 pub mod Forged
 pub mod Spliced
 pub mod Beginning
+pub mod Resetting
+pub mod Quiet
+pub mod Outliving
+pub mod Keeping
+pub mod Taking
+pub mod Ending

@@ -3,3 +3,4 @@ pub mod Passing
 pub mod Turning
 pub mod Splicing
 pub mod Beginning
+pub mod Closing

@@ -1,22 +1,27 @@
 //! The laws of a wrapped connection and its inner TCP.
 
-ghost use Rattle.std.specs.Prelude.{◌≡◌, ◌<◌, ◌-◌, ℕ, true, List, length};
+ghost use Rattle.std.specs.Prelude.{◌≡◌, ◌<◌, ◌-◌, ◌^◌, ℕ, true, false, List, length};
 ghost use Rattle.ft_io.specs.declared.Addr.{Addr};
 ghost use Rattle.server_trait.specs.Service.{machine};
 ghost use Rattle.ft_model.specs.Log.{Entry};
 ghost use Rattle.ft_model.specs.Network.{Packet};
 ghost use Rattle.ft_model.specs.News.{News};
-ghost use Rattle.ft_model.specs.News.News.{Begins};
+ghost use Rattle.ft_model.specs.News.News.{Comes, Begins};
 ghost use Rattle.ft_model.specs.Opening.{point_opened};
+ghost use Rattle.ft_model.specs.Ending.{reset_after};
 ghost use Rattle.ft_model.specs.Connection.{LiveTurn};
 ghost use Rattle.ft_model.specs.Point.{Point};
 ghost use Rattle.seq_arith.specs.Number.{distance, number_at};
+ghost use Rattle.seq_arith.specs.Packet.{Segment};
 ghost use Rattle.seq_arith.specs.Message.{Numbers};
 ghost use Rattle.tcp_endpoint.specs.Arrival.{received};
 ghost use Rattle.tcp_endpoint.specs.Turning.{sent_number, acked_number};
 ghost use Rattle.tcp_endpoint.specs.Tcb.{Tcb};
 ghost use Rattle.endpoint_laws.specs.Turn.{Call, MayUse};
+ghost use Rattle.endpoint_laws.specs.Ending.{IsNamedRightly, resets};
 ghost use Rattle.connection_laws.specs.Beginning.{MayOpen, BeginsInside, opened_syn, listens_with};
+ghost use Rattle.connection_laws.specs.Closing.{StandsClosed, LeavesInside, EndsInside, ReadsOn, GoesOnClosed};
+ghost use Rattle.connection_laws.specs.Passing.{news_inside};
 ghost use Rattle.connection_laws.specs.Turning.{Turns, StandsInside, UsesInside, TurnsInside};
 ghost use Rattle.connection_laws.specs.Splicing.{GoesOnFrom, StandsAtEntry, spliced};
 
@@ -49,4 +54,27 @@ pub fn new_connections_begin_by_their_syn<S: Service>()
         → MayUse calls (received (listens_with local numbers) (opened_syn local numbers))
         → LiveTurn (machine fresh S.after) local boot Begins (point_opened numbers) after sent
         → BeginsInside (machine fresh S.after) local numbers after calls }
+{}
+
+/// In the turn that leaves its TCP CLOSED, since both FINs are through, TCP sends nothing, the connection is over, and what leaves is a segment
+/// without data where one is owed.
+pub fn connections_end_with_their_tcp<S: Service>()
+    ensures { (fresh : S) (boot u i delta : ℕ) (news : News) (before after : Point) (calls : List Call) (e : Tcb) (sent : List Packet)
+        → StandsInside u i delta before e → IsNamedRightly e → before.reset ≡ false → reset_after news before ≡ false → e.reset ≡ false
+        → Turns (machine fresh S.after) e.local boot news before after sent u i delta
+        → LeavesInside (machine fresh S.after) u i delta news before after calls e
+        → EndsInside (machine fresh S.after) u i delta news before after calls e }
+{}
+
+/// From then on the connection goes on beside it: TCP answers at most with a RST, which stays inside, and only its user's reads change it.
+pub fn connections_outlive_their_tcp<S: Service>()
+    ensures { (fresh : S) (boot delta : ℕ) (server : Addr) (news : News) (before after : Point) (calls : List Call) (e : Tcb) (sent : List Packet)
+        → StandsClosed (machine fresh S.after) before e → LiveTurn (machine fresh S.after) server boot news before after sent → ReadsOn delta news before after calls e
+        → GoesOnClosed (machine fresh S.after) server delta news before after calls e }
+{}
+
+/// A RST at exactly the next number would reset TCP where it resets the connection, and nowhere else.
+pub fn connections_are_reset_at_the_next_number()
+    ensures { (u i delta : ℕ) (p : Point) (segment : Segment) (e : Tcb) → StandsInside u i delta p e → p.reset ≡ false → segment.head.seq < 2 ^ 32
+        → resets (news_inside delta p (Comes segment)) e ≡ reset_after (Comes segment) p }
 {}

@@ -1,0 +1,236 @@
+-- A connection goes on without its TCP, once that is CLOSED.
+use Rattle.std.proofs.Common.{◌≡◌, ℕ, zero, suc, ◌≤◌, ◌+◌, ◌-◌, ◌%◌, ◌^◌, ◌*◌, Bool, true, false, not, List, [], ◌∷◌, ◌++◌, length, take, drop, map, min, max, refl, sym, ap, arith, ◌∙◌}
+use Rattle.std.specs.Prelude.{pos, ◌==◌, ◌&&◌, ◌||◌, nat_abs, nat_lt, int_le, if◌then◌else◌}
+use Rattle.std.proofs.lemmas.Bool.{false≢true}
+use Rattle.ft_io.specs.declared.Addr.{Addr}
+use Rattle.seq_arith.specs.Arrival.{una_after, below}
+use Rattle.seq_arith.specs.Packet.{Segment, has_rst, has_ack}
+use Rattle.server_trait.specs.Service.{Machine, reference}
+use Rattle.ft_model.specs.Growth.{IsPrefix}
+use Rattle.ft_model.specs.Offset.{one_if, first_of, ack_of, text_of}
+use Rattle.ft_model.specs.Point.{Point, answered_run, released, target, receive_edge}
+use Rattle.ft_model.specs.Network.{Packet}
+use Rattle.ft_model.specs.News.{News}
+use Rattle.ft_model.specs.News.News.{Comes, Logged, Ticks, Begins}
+use Rattle.ft_model.specs.Answered.{reads_answered_after}
+use Rattle.ft_model.specs.Taken.{counts, takes_fin, taken_after, fin_after}
+use Rattle.ft_model.specs.Sending.{counted_after, acknowledges, acknowledged_after, sent_at_once, sent_after}
+use Rattle.ft_model.specs.Timer.{is_tick, must_run, expires, rest_after, interval_after, is_set_anew}
+use Rattle.ft_model.specs.Segments.{opens_with}
+use Rattle.ft_model.specs.Opening.{is_syn}
+use Rattle.ft_model.specs.Connection.{LiveTurn}
+use Rattle.ft_model.proofs.Services.{GoesOn, reads_go_on}
+use Rattle.tcp_endpoint.specs.declared.states.StateName.TheVariants.{Closed}
+use Rattle.tcp_endpoint.specs.Arrival.{received, received_in, in_closed, refusing, refusing_without_ack}
+use Rattle.tcp_endpoint.specs.Receiving.{Receiving}
+use Rattle.tcp_endpoint.specs.Receiving as receiver
+use Rattle.tcp_endpoint.specs.Sending.{Sending}
+use Rattle.tcp_endpoint.specs.Sending as sending
+use Rattle.tcp_endpoint.specs.Tcb.{Tcb}
+use Rattle.tcp_endpoint.specs.Turning.{after_tick, timer_ticked, waited}
+use Rattle.endpoint_laws.specs.Turn.{Call, arrived, used}
+use Rattle.endpoint_laws.specs.Unconnected.{sent_in_closed}
+use Rattle.endpoint_laws.proofs.NoConnection.{closed_stays_law, closed_answers_law}
+use Rattle.endpoint_laws.proofs.TurnEnd.{flush_keeps}
+use Rattle.endpoint_laws.proofs.Turns.{flushed_receives}
+use Rattle.ft_model.specs.Refusal.{rst_at_ack, rst_behind}
+use Rattle.south_wrap.specs.Patching.{outward}
+use Rattle.south_wrap.specs.Standing.{south_at}
+use Rattle.connection_laws.specs.Passing.{news_inside, passed}
+use Rattle.endpoint_laws.specs.Standing.{ReceivesAt}
+use Rattle.endpoint_laws.proofs.Calls.{IsUsed, used_is}
+use Rattle.connection_laws.specs.Closing.{StandsClosed, ReadsOn, GoesOnClosed}
+use Rattle.connection_laws.proofs.Quiet.{quiet_sends}
+
+-- a front goes on where the list does
+pub front_goes_on : (a b : ℕ) (xs ys : List ℕ) → a ≤ b → IsPrefix (take a xs) (take b (xs ++ ys))
+front_goes_on zero b xs ys h = (take b (xs ++ ys), refl)
+front_goes_on (suc a) zero xs ys h = absurd (omega (arith, h))
+front_goes_on (suc a) (suc b) [] ys h = (take (suc b) ys, refl)
+front_goes_on (suc a) (suc b) (x ∷ xs) ys h = let rest = front_goes_on a b xs ys (omega (arith, h)) in (rest.0, ap (λ l. x ∷ l) rest.1)
+
+pub reads_rise : (news : News) (p : Point) → p.reads_answered ≤ reads_answered_after news p
+unfolding reads_answered_after
+reads_rise (Comes segment) p = omega arith
+reads_rise (Logged kept) p = omega arith
+reads_rise Ticks p = omega arith
+reads_rise Begins p = omega arith
+
+-- where a FIN is taken nothing more is
+off_second : (a b c : Bool) → b ≡ true → (a && not b && c) ≡ false
+off_second true true c h = refl
+off_second true false c h = absurd (false≢true h)
+off_second false b c h = refl
+
+pub taken_stays : (news : News) (p : Point) → p.fin ≡ true → taken_after news p ≡ p.taken
+unfolding taken_after
+taken_stays (Comes segment) p h =
+    ap (λ b. if b then p.taken ++ take (receive_edge p - length p.taken) (drop (below (length p.taken) (first_of p.cisn segment)) (text_of segment)) else p.taken) (off_second (counts p segment) p.fin (int_le (first_of p.cisn segment) (pos (length p.taken))) h)
+taken_stays (Logged kept) p h = refl
+taken_stays Ticks p h = refl
+taken_stays Begins p h = refl
+
+pub fin_stays : (news : News) (p : Point) → p.fin ≡ true → fin_after news p ≡ true
+unfolding fin_after
+fin_stays (Comes segment) p h = ap (λ b. b || takes_fin p segment) h
+fin_stays (Logged kept) p h = h
+fin_stays Ticks p h = h
+fin_stays Begins p h = h
+
+pub counted_stays : (news : News) (p : Point) → p.counted ≡ true → counted_after news p ≡ true
+unfolding counted_after
+counted_stays (Comes segment) p h = ap (λ b. b || counts p segment) h
+counted_stays (Logged kept) p h = h
+counted_stays Ticks p h = h
+counted_stays Begins p h = h
+
+una_same : (b : Bool) (una ack sent : ℕ) → una ≡ sent → (if b then una_after una (min ack sent) else una) ≡ una
+una_same true una ack sent h = grind (arith, h)
+una_same false una ack sent h = refl
+
+una_stays : (news : News) (p : Point) → p.una ≡ p.sent → acknowledged_after news p ≡ p.una
+unfolding acknowledged_after
+una_stays (Comes segment) p h = una_same (acknowledges p segment) p.una (nat_abs (ack_of p.sisn segment)) p.sent h
+una_stays (Logged kept) p h = refl
+una_stays Ticks p h = refl
+una_stays Begins p h = refl
+
+-- no SYN is repeated, and the timer stands still
+some_unit : (n : ℕ) → (n + 1 == 0) ≡ false
+some_unit n = grind arith
+
+off_third : (a b : Bool) (n m : ℕ) (fin : Bool) → fin ≡ true → (a && b && (n + (if fin then 1 else 0) == 0) && m == 0) ≡ false
+off_third true true n m true h = ap (λ z. z && m == 0) (some_unit n)
+off_third true false n m true h = refl
+off_third false b n m true h = refl
+off_third a b n m false h = absurd (false≢true h)
+
+pub opens_not : (news : News) (p : Point) → p.fin ≡ true → p.counted ≡ true → opens_with news p ≡ false
+opens_not (Comes segment) p fin counted = off_third (is_syn segment) (segment.head.seq == p.cisn) (length p.taken) p.una p.fin fin
+opens_not (Logged kept) p fin counted = refl
+opens_not Ticks p fin counted = refl
+opens_not Begins p fin counted = ap not counted
+
+never_one : (b : Bool) (rest : ℕ) → rest ≡ 0 → (b && rest == 1) ≡ false
+never_one true rest h = grind (arith, h)
+never_one false rest h = refl
+
+pub stands_still : (news : News) (p : Point) → p.rest ≡ 0 → expires news p ≡ false
+stands_still news p h = never_one (is_tick news) p.rest h
+
+-- all that may leave was sent
+sent_same : (s t e : ℕ) → s ≡ t → max s (min t e) + 0 ≡ s
+sent_same s t e h = omega (arith, h)
+
+closed_of : (c : Bool) (r u s : ℕ) → nat_lt r u ≡ true → u ≡ s → s ≡ r + (if c then 1 else 0) → c ≡ true
+closed_of true r u s a b h = refl
+closed_of false r u s a b h = absurd (grind (arith, a, b, h))
+
+right_of : (a b : Bool) → (a && b) ≡ true → (a ≡ true) × (b ≡ true)
+right_of true b h = (refl, h)
+right_of false b h = absurd (false≢true h)
+
+-- it needn't run
+pub no_need : (una sent t : ℕ) → una ≡ sent → sent ≡ t → nat_lt una (max sent t) ≡ false
+no_need una sent t a b = grind (arith, a, b)
+
+pub rest_stops : {State : Type 0} (service : Machine State) (news : News) (p q : Point) → q.counted ≡ true → q.una ≡ q.sent → q.sent ≡ target service q → rest_after service news p q ≡ 0
+unfolding rest_after must_run
+rest_stops service news p q counted una sent =
+    λ j. if not (counted j) || no_need q.una q.sent (target service q) una sent j
+    then (if is_set_anew p q || expires news p then interval_after news p q else (if is_tick news then p.rest - 1 else p.rest))
+    else 0
+
+-- what news make of a CLOSED TCP
+record IsStill (e m : Tcb) : Type 0 where
+  receiving : m.receiving ≡ e.receiving
+  closed : m.sending.closed ≡ e.sending.closed
+
+by_flags : {X : Type 0} (f : Tcb → X) (r a : Bool) (e x y : Tcb) → f x ≡ f e → f y ≡ f e → f (if r then e else (if a then x else y)) ≡ f e
+by_flags f true a e x y h k = refl
+by_flags f false true e x y h k = h
+by_flags f false false e x y h k = k
+
+in_closed_keeps : {X : Type 0} (f : Tcb → X) (e : Tcb) (p : Segment) → e.name ≡ Closed → f (refusing e p) ≡ f e → f (refusing_without_ack e p) ≡ f e → f (received e p) ≡ f e
+unfolding received in_closed
+in_closed_keeps f e p closed h k = ap (λ n. f (received_in n e p)) closed ∙ by_flags f (has_rst p) (has_ack p) e (refusing e p) (refusing_without_ack e p) h k
+
+ticked_closed : (s : Sending) (b : Bool) → (if b then record s { interval = min 64 (2 * s.interval); rest = min 64 (2 * s.interval) } else record s { rest = s.rest - 1 }).closed ≡ s.closed
+ticked_closed s true = refl
+ticked_closed s false = refl
+
+still : (news : News) (e : Tcb) → e.name ≡ Closed → IsStill e (arrived news e)
+unfolding after_tick timer_ticked waited refusing refusing_without_ack
+still (Comes p) e closed = record { receiving = in_closed_keeps (λ (t : Tcb). t.receiving) e p closed refl refl; closed = in_closed_keeps (λ (t : Tcb). t.sending.closed) e p closed refl refl }
+still (Logged kept) e closed = record { receiving = refl; closed = refl }
+still Ticks e closed = record { receiving = refl; closed = ticked_closed e.sending (sending.expires e.sending) }
+still Begins e closed = record { receiving = refl; closed = refl }
+
+-- its RST stays inside
+one_stays : (delta : ℕ) (q : Point) (r a : Bool) (x y : Segment) → has_rst x ≡ true → has_rst y ≡ true → passed delta q (if r then [] else (if a then x ∷ [] else y ∷ [])) ≡ []
+one_stays delta q true a x y h k = refl
+one_stays delta q false true x y h k = ap (λ b. if b || false then [] else map (outward (south_at delta q)) (x ∷ [])) h
+one_stays delta q false false x y h k = ap (λ b. if b || false then [] else map (outward (south_at delta q)) (y ∷ [])) k
+
+refusals_stay : (delta : ℕ) (q : Point) (local : Addr) (news : News) → passed delta q (sent_in_closed local news) ≡ []
+refusals_stay delta q local (Comes segment) = one_stays delta q (has_rst segment) (has_ack segment) (rst_at_ack local segment) (rst_behind local segment) refl refl
+refusals_stay delta q local (Logged kept) = refl
+refusals_stay delta q local Ticks = refl
+refusals_stay delta q local Begins = refl
+
+pub outlives : {State : Type 0} (service : Machine State) (server : Addr) (boot delta : ℕ) (news : News) (p q : Point) (calls : List Call) (e : Tcb) (sent : List Packet)
+    → StandsClosed service p e → LiveTurn service server boot news p q sent → ReadsOn delta news p q calls e → GoesOnClosed service server delta news p q calls e
+unfolding sent_after sent_at_once
+outlives service server boot delta news p q calls e sent st l reads =
+    let over = right_of p.fin (nat_lt (released service p) p.una) st.over in
+    let closed : (answered_run service p).closed ≡ true = closed_of (answered_run service p).closed (released service p) p.una p.sent over.1 st.acknowledged st.all_sent in
+    let taken : q.taken ≡ p.taken = l.taken ∙ taken_stays news p over.0 in
+    let fin : q.fin ≡ true = l.fin ∙ fin_stays news p over.0 in
+    let counted : q.counted ≡ true = l.counted ∙ counted_stays news p st.counted in
+    let una : q.una ≡ p.una = l.una ∙ una_stays news p st.acknowledged in
+    let run_is : answered_run service q ≡ reference service p.taken (take q.reads_answered (p.lengths ++ l.reads.news)) =
+    λ j. reference service (taken j) (take q.reads_answered (l.reads.lengths j)) in
+    let more : p.reads_answered ≤ q.reads_answered = omega (arith, reads_rise news p, l.reads_answered) in
+    let goes : GoesOn (answered_run service p) (reference service p.taken (take q.reads_answered (p.lengths ++ l.reads.news))) =
+    reads_go_on service p.taken (take p.reads_answered p.lengths) (take q.reads_answered (p.lengths ++ l.reads.news)) (front_goes_on p.reads_answered q.reads_answered p.lengths l.reads.news more) in
+    let out : released service q ≡ released service p = ap (λ r. length r.output) run_is ∙ ap length (goes.closed closed).0 in
+    let closed_then : (answered_run service q).closed ≡ true = ap (λ r. r.closed) run_is ∙ (goes.closed closed).1 in
+    let all : target service q ≡ target service p = λ j. out j + one_if ((closed_then ∙ sym closed) j) in
+    let still_p : expires news p ≡ false = stands_still news p st.still in
+    let sent_is : q.sent ≡ p.sent =
+    l.sent_units ∙ (λ j. max p.sent (min (all j) q.edge) + one_if (still_p j && p.counted && not (nat_lt p.una p.sent))) ∙ sent_same p.sent (target service p) q.edge st.all_sent in
+    let una_sent : q.una ≡ q.sent = una ∙ st.acknowledged ∙ sym sent_is in
+    let sent_all : q.sent ≡ target service q = sent_is ∙ st.all_sent ∙ sym all in
+    let past : released service q + 1 ≤ p.sent = grind (arith, out, over.1, st.acknowledged) in
+    let inner : News = news_inside delta p news in
+    let m : Tcb = arrived inner e in
+    let w : Tcb = used calls m in
+    let s : IsStill e m = still inner e st.name in
+    let a : IsUsed m w = used_is calls m reads.may in
+    let r : ReceivesAt p e = st.receives in
+    let stays = closed_stays_law inner calls e st.name st.answer in
+    let at : ReceivesAt q w = record {
+      cisn = a.irs ∙ ap (λ (x : Receiving). x.irs) s.receiving ∙ r.cisn ∙ (λ j. (sym l.same.cisn j + sym l.same.fetched j) % 2 ^ 32);
+      limit = (λ j. (a.limit ∙ ap (λ (x : Receiving). x.limit) s.receiving) j + l.same.fetched j) ∙ r.limit;
+      read = reads.read;
+      long = ap length taken ∙ r.long ∙ (λ j. sym (a.taken ∙ ap receiver.taken s.receiving) j + sym l.same.fetched j);
+      unread = a.unread q.taken q.fetched ((λ j. drop ((s.receiving j).read + l.same.fetched j) (taken j)) ∙ r.unread ∙ ap (λ (x : Receiving). x.unread) (sym s.receiving));
+      fin = fin ∙ sym over.0 ∙ r.fin ∙ sym (a.fin ∙ ap (λ (x : Receiving). x.fin) s.receiving);
+    } in
+    record {
+      stands = record {
+        name = stays.0;
+        kept = stays.3 ∙ st.kept;
+        answer = stays.1;
+        ended = flush_keeps (λ (x : Sending). x.closed) w (record { sends = λ x n. refl; ends = λ x. refl; times = λ x y z. refl }) ∙ a.sends.closed (s.closed ∙ st.ended);
+        receives = flushed_receives q w at;
+        over = λ j. fin j && (ap (λ n. nat_lt n q.una) out ∙ ap (λ n. nat_lt (released service p) n) una ∙ over.1) j;
+        counted = counted;
+        acknowledged = una_sent;
+        all_sent = sent_all;
+        still = l.rest ∙ rest_stops service news p q counted una_sent sent_all;
+      };
+      silent = ap (passed delta q) (closed_answers_law inner calls e st.name st.answer) ∙ refusals_stay delta q e.local inner;
+      taken = λ j. length (taken j) + one_if ((fin ∙ sym over.0) j);
+      segments = quiet_sends service server news p q (record { opens = opens_not news p over.0 st.counted; expires = still_p; past = past });
+    }

@@ -1,0 +1,59 @@
+-- A wrapped connection whose TCP is CLOSED, since both FINs are through: TCP sends nothing to the client any more, and the connection itself answers.
+use Rattle.std.specs.Prelude.{◌≡◌, ℕ, true, false, ◌+◌, max, sum, List, [], None}
+use Rattle.ft_io.specs.declared.Addr.{Addr}
+use Rattle.server_trait.specs.Service.{Machine}
+use Rattle.ft_model.specs.News.{News}
+use Rattle.ft_model.specs.Owed.{is_owed}
+use Rattle.ft_model.specs.Point.{Point, taken_units, target, is_over}
+use Rattle.ft_model.specs.Segments.{segments_of, bare_segment, or_bare}
+use Rattle.tcp_endpoint.specs.declared.states.StateName.TheVariants.{Closed}
+use Rattle.tcp_endpoint.specs.States.{has_begun}
+use Rattle.tcp_endpoint.specs.Tcb.{Tcb}
+use Rattle.endpoint_laws.specs.Turn.{Call, MayUse, arrived, before_flush, turned, sent_in}
+use Rattle.endpoint_laws.specs.Standing.{ReceivesAt, IsUsedAt}
+use Rattle.connection_laws.specs.Inside.{swallowing, inside}
+use Rattle.connection_laws.specs.Passing.{news_inside, passed}
+
+-- The point is over, and TCP with it: all output and the FIN behind it are sent and acknowledged, so the timer stands still. What TCP took may still
+-- be read; nothing can be written
+pub record StandsClosed {State : Type 0} (service : Machine State) (p : Point) (e : Tcb) : Type 0 where
+  pub name : e.name ≡ Closed
+  pub kept : e.reset ≡ false
+  pub answer : e.answer ≡ None
+  pub ended : e.sending.closed ≡ true
+  pub receives : ReceivesAt p e
+  pub over : is_over service p ≡ true
+  pub counted : p.counted ≡ true
+  pub acknowledged : p.una ≡ p.sent
+  pub all_sent : p.sent ≡ target service p
+  pub still : p.rest ≡ 0
+
+-- what leaves is a segment without data, where the law owes one, and nothing else
+abbrev pub SendsAlone : {State : Type 0} → Machine State → Addr → News → (before after : Point) → Type 0
+SendsAlone service server news before after =
+    segments_of service server news before after ≡ or_bare (is_owed service news before after) (bare_segment server after) []
+
+-- a turn that leaves TCP CLOSED: its user reads and writes as before
+pub record LeavesInside {State : Type 0} (service : Machine State) (u i delta : ℕ) (news : News) (p q : Point) (calls : List Call) (e : Tcb) : Type 0 where
+  pub may : MayUse calls (arrived (news_inside delta p news) e)
+  pub ended : has_begun (before_flush (news_inside delta p news) calls e).name ≡ false
+  pub used : IsUsedAt (swallowing u service) (inside u i q) (before_flush (news_inside delta p news) calls e)
+
+-- TCP takes and sends nothing in it
+pub record EndsInside {State : Type 0} (service : Machine State) (u i delta : ℕ) (news : News) (p q : Point) (calls : List Call) (e : Tcb) : Type 0 where
+  pub stands : StandsClosed service q (turned (news_inside delta p news) calls e)
+  pub silent : sent_in (news_inside delta p news) calls e ≡ []
+  pub taken : taken_units q ≡ taken_units p
+  pub segments : SendsAlone service e.local news p q
+
+-- in later turns its user reads on
+pub record ReadsOn (delta : ℕ) (news : News) (p q : Point) (calls : List Call) (e : Tcb) : Type 0 where
+  pub may : MayUse calls (arrived (news_inside delta p news) e)
+  pub read : max q.fetched (sum q.lengths) ≡ (before_flush (news_inside delta p news) calls e).receiving.read + q.fetched
+
+-- TCP answers at most with a RST then, which stays inside
+pub record GoesOnClosed {State : Type 0} (service : Machine State) (server : Addr) (delta : ℕ) (news : News) (p q : Point) (calls : List Call) (e : Tcb) : Type 0 where
+  pub stands : StandsClosed service q (turned (news_inside delta p news) calls e)
+  pub silent : passed delta q (sent_in (news_inside delta p news) calls e) ≡ []
+  pub taken : taken_units q ≡ taken_units p
+  pub segments : SendsAlone service server news p q
