@@ -16,3 +16,6 @@ pub mod Outliving
 pub mod Keeping
 pub mod Taking
 pub mod Ending
+pub mod Flushed
+pub mod Fed
+pub mod Over

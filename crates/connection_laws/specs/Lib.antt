@@ -4,3 +4,4 @@ pub mod Turning
 pub mod Splicing
 pub mod Beginning
 pub mod Closing
+pub mod Feeding

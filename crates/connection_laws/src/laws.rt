@@ -10,17 +10,22 @@ ghost use Rattle.ft_model.specs.News.News.{Comes, Begins};
 ghost use Rattle.ft_model.specs.Opening.{point_opened};
 ghost use Rattle.ft_model.specs.Ending.{reset_after};
 ghost use Rattle.ft_model.specs.Connection.{LiveTurn};
-ghost use Rattle.ft_model.specs.Point.{Point};
+ghost use Rattle.ft_model.specs.Point.{Point, is_over, released};
 ghost use Rattle.seq_arith.specs.Number.{distance, number_at};
 ghost use Rattle.seq_arith.specs.Packet.{Segment};
 ghost use Rattle.seq_arith.specs.Message.{Numbers};
 ghost use Rattle.tcp_endpoint.specs.Arrival.{received};
-ghost use Rattle.tcp_endpoint.specs.Turning.{sent_number, acked_number};
+ghost use Rattle.tcp_endpoint.specs.States.{is_time_wait};
+ghost use Rattle.tcp_endpoint.specs.Turning.{sent_number, acked_number, write_room};
 ghost use Rattle.tcp_endpoint.specs.Tcb.{Tcb};
-ghost use Rattle.endpoint_laws.specs.Turn.{Call, MayUse};
+ghost use Rattle.endpoint_laws.specs.Turn.{Call, MayUse, arrived};
 ghost use Rattle.endpoint_laws.specs.Ending.{IsNamedRightly, resets};
+ghost use Rattle.north_wrap.specs.declared.read_record.ReadRecord.{ReadRecord};
+ghost use Rattle.north_wrap.specs.NorthState.{NorthState, lengths_of};
+ghost use Rattle.north_wrap.specs.Standing.{given_text, off_socket};
 ghost use Rattle.connection_laws.specs.Beginning.{MayOpen, BeginsInside, opened_syn, listens_with};
 ghost use Rattle.connection_laws.specs.Closing.{StandsClosed, LeavesInside, EndsInside, ReadsOn, GoesOnClosed};
+ghost use Rattle.connection_laws.specs.Feeding.{TurnsNorth, FedInside, Feeds, north_calls, before_reads, given_after};
 ghost use Rattle.connection_laws.specs.Passing.{news_inside};
 ghost use Rattle.connection_laws.specs.Turning.{Turns, StandsInside, UsesInside, TurnsInside};
 ghost use Rattle.connection_laws.specs.Splicing.{GoesOnFrom, StandsAtEntry, spliced};
@@ -77,4 +82,21 @@ pub fn connections_outlive_their_tcp<S: Service>()
 pub fn connections_are_reset_at_the_next_number()
     ensures { (u i delta : ℕ) (p : Point) (segment : Segment) (e : Tcb) → StandsInside u i delta p e → p.reset ≡ false → segment.head.seq < 2 ^ 32
         → resets (news_inside delta p (Comes segment)) e ≡ reset_after (Comes segment) p }
+{}
+
+/// Where the north wrapper makes its calls of TCP in a lawful turn, TCP is used as `connections_turn_by_their_tcp` asks, and fed as before.
+pub fn north_feeds_tcp<S: Service>()
+    ensures { (fresh : S) (boot u i delta given : ℕ) (news : News) (before after : Point) (sent : List Packet) (old new : NorthState S) (reads : List ReadRecord) (e t : Tcb)
+        → StandsInside u i delta before e
+        → (k : TurnsNorth (machine fresh S.after) boot u i delta news before after sent given old new reads e t)
+        → FedInside (machine fresh S.after) u i delta news before after (given_after (machine fresh S.after) before after given (arrived (news_inside delta before news) e)) new
+        (north_calls (given_text (machine fresh S.after) (before_reads before after) (write_room (arrived (news_inside delta before news) e)) given) k.turn.closes (off_socket (length old.rest) (lengths_of reads)))
+        e t }
+{}
+
+/// While its TCP isn't CLOSED a connection is over where that is in TIME-WAIT.
+pub fn connections_are_over_in_time_wait<S: Service>()
+    ensures { (fresh : S) (u i delta given : ℕ) (p : Point) (e : Tcb) → StandsInside u i delta p e → IsNamedRightly e
+        → Feeds (machine fresh S.after) u p given e → (e.sending.closed ≡ true → given ≡ released (machine fresh S.after) p)
+        → is_over (machine fresh S.after) p ≡ is_time_wait e.name }
 {}
