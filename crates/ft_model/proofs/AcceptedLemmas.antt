@@ -10,7 +10,7 @@ use Rattle.ft_io.specs.declared.Addr.{Addr}
 use Rattle.ft_model.specs.Words.{words_of, lines_of}
 use Rattle.ft_model.specs.Spelling.{numeral, number_of, within, addr_of, is_hex, hex_bytes, script_of}
 use Rattle.ft_model.specs.Grammar.Refusal.{TooLong}
-use Rattle.ft_model.specs.Grammar.{◌>>=◌, line_of, line_of_words, line_behind, line_from, built, may_stand, may_join, keyword_of, verb_of, names_no_service, asks_for_more, is_printable, client_line, free_address, is_taken, service_line, server_line, event_line, client_number, long_number, after_line, read_lines, read_text, with_line, is_passed_over, is_too_much, at_line}
+use Rattle.ft_model.specs.Grammar.{◌>>=◌, line_of, line_of_words, line_behind, line_from, may_stand, may_join, keyword_of, verb_of, names_no_service, is_printable, client_line, free_address, is_taken, service_line, server_line, event_line, client_number, long_number, Objection, no_objection, unless_objected, after_line, read_lines, read_with, read_text, with_line, is_passed_over, is_too_much, at_line}
 use Rattle.ft_model.specs.Accepted.{AreApart, IsAccepted}
 use Rattle.ft_model.specs.Schedule.{bytes_of, letters}
 use Rattle.ft_model.specs.declared.event.Event.{Event}
@@ -55,18 +55,14 @@ pub record Passes (draft : Draft) (text : List ℕ) (l : Line) : Type 0 where
   pub announces : keyword_of word ≡ Some k
   pub stands : may_stand draft k words ≡ true
   pub says : line_from draft k words ≡ Ok l
-  pub is_built : asks_for_more draft l ≡ false
 
 passes_words : (draft : Draft) (text : List ℕ) (ws : List (List ℕ)) (l : Line) → words_of text ≡ ws → line_of_words draft ws ≡ Ok l → Passes draft text l
-unfolding line_behind built
+unfolding line_behind
 passes_words draft text [] l e f = absurd (cc)
 passes_words draft text (word ∷ words) l e f =
     let at = bind_ok (ok_or (keyword_of word) why.Word) (λ k. line_behind draft k words) l f in
-    let named = unless (names_no_service at.0 words) why.Word (cond (may_stand draft at.0 words) (line_from draft at.0 words >>= built draft) (Err why.Place)) l at.2 in
-    let placed = provided (may_stand draft at.0 words) why.Place (line_from draft at.0 words >>= built draft) l named.1 in
-    let said = bind_ok (line_from draft at.0 words) (built draft) l placed.1 in
-    let asks = unless (asks_for_more draft said.0) why.Built (Ok said.0) l said.2 in
-    let is : said.0 ≡ l = cc asks.1 in
+    let named = unless (names_no_service at.0 words) why.Word (cond (may_stand draft at.0 words) (line_from draft at.0 words) (Err why.Place)) l at.2 in
+    let placed = provided (may_stand draft at.0 words) why.Place (line_from draft at.0 words) l named.1 in
     record {
       word = word;
       words = words;
@@ -74,8 +70,7 @@ passes_words draft text (word ∷ words) l e f =
       words_are = e;
       announces = ok_or_ok (keyword_of word) why.Word at.0 at.1;
       stands = placed.0;
-      says = said.1 ∙ asks.1;
-      is_built = rw (← is) asks.0;
+      says = placed.1;
     }
 
 passes : (draft : Draft) (text : List ℕ) (l : Line) → line_of draft text ≡ Ok l → Passes draft text l
@@ -248,32 +243,39 @@ at_line_ok : (n : ℕ) (r : Result Draft LineWhy) (later : Draft) → at_line n 
 at_line_ok n (Ok draft) later e = cc
 at_line_ok n (Err d) later e = absurd (cc)
 
--- What each line that passes keeps holds of the schedule that the lines spell.
-module _ (Keeps : Draft → Type 0) (step : (draft : Draft) (text : List ℕ) (l : Line) → Keeps draft → is_too_much draft text ≡ false → Passes draft text l → Keeps (with_line draft l)) where
-  after_by : (n : ℕ) (draft later : Draft) (text : List ℕ) (over : Bool) → Keeps draft → cond over (Ok draft) (cond (is_too_much draft text) (Err (TooLong limit.Events)) (at_line n (line_of draft text >>= λ l. Ok (with_line draft l)))) ≡ Ok later → Keeps later
+not_objected : (o : Option LineWhy) (next later : Draft) → unless_objected o next ≡ Ok later → (o ≡ None) × (next ≡ later)
+not_objected None next later e = (refl, (cc))
+not_objected (Some reason) next later e = absurd (cc)
+
+-- What each line that passes, and to which the reader has no objection, keeps holds of the schedule that the lines spell.
+module _ (objection : Objection) (Keeps : Draft → Type 0)
+    (step : (draft : Draft) (text : List ℕ) (l : Line) → Keeps draft → is_too_much draft text ≡ false → Passes draft text l → objection draft l ≡ None → Keeps (with_line draft l)) where
+  after_by : (n : ℕ) (draft later : Draft) (text : List ℕ) (over : Bool) → Keeps draft
+      → cond over (Ok draft) (cond (is_too_much draft text) (Err (TooLong limit.Events)) (at_line n (line_of draft text >>= λ l. unless_objected (objection draft l) (with_line draft l)))) ≡ Ok later → Keeps later
   after_by n draft later text true h e = let is : draft ≡ later = cc in rw (← is) h
   after_by n draft later text false h e =
-      let u = unless (is_too_much draft text) (TooLong limit.Events) (at_line n (line_of draft text >>= λ l. Ok (with_line draft l))) later e in
-      let b = bind_ok (line_of draft text) (λ l. Ok (with_line draft l)) later (at_line_ok n (line_of draft text >>= λ l. Ok (with_line draft l)) later u.1) in
-      let is : with_line draft b.0 ≡ later = cc b.2 in
-      rw (← is) (step draft text b.0 h u.0 (passes draft text b.0 b.1))
+      let goes : Result Draft LineWhy = line_of draft text >>= λ l. unless_objected (objection draft l) (with_line draft l) in
+      let u = unless (is_too_much draft text) (TooLong limit.Events) (at_line n goes) later e in
+      let b = bind_ok (line_of draft text) (λ l. unless_objected (objection draft l) (with_line draft l)) later (at_line_ok n goes later u.1) in
+      let f = not_objected (objection draft b.0) (with_line draft b.0) later b.2 in
+      rw (← f.1) (step draft text b.0 h u.0 (passes draft text b.0 b.1) f.0)
 
-  after_kept : (n : ℕ) (draft later : Draft) (text : List ℕ) → Keeps draft → after_line n draft text ≡ Ok later → Keeps later
+  after_kept : (n : ℕ) (draft later : Draft) (text : List ℕ) → Keeps draft → after_line objection n draft text ≡ Ok later → Keeps later
   unfolding after_line
   after_kept n draft later text h e = after_by n draft later text (is_passed_over text) h e
 
-  lines_keep : (n : ℕ) (draft : Draft) (texts : List (List ℕ)) (s : Schedule) → Keeps draft → read_lines n draft texts ≡ Ok s → Keeps (Begun s)
+  lines_keep : (n : ℕ) (draft : Draft) (texts : List (List ℕ)) (s : Schedule) → Keeps draft → read_lines objection n draft texts ≡ Ok s → Keeps (Begun s)
   unfolding read_lines
   lines_keep n Empty [] s h e = absurd (cc)
   lines_keep n (Named kind) [] s h e = absurd (cc)
   lines_keep n (Begun t) [] s h e = let is : t ≡ s = cc in rw (← is) h
   lines_keep n draft (text ∷ more) s h e =
-      let b = bind_ok (after_line n draft text) (λ later. read_lines (n + 1) later more) s e in
+      let b = bind_ok (after_line objection n draft text) (λ later. read_lines objection (n + 1) later more) s e in
       lines_keep (n + 1) b.0 more s (after_kept n draft b.0 text h b.1) b.2
 
-  pub text_keeps : (text : List ℕ) (s : Schedule) → Keeps Empty → read_text text ≡ Ok s → Keeps (Begun s)
-  unfolding read_text
-  text_keeps text s h e = lines_keep 1 Empty (lines_of text) s h (provided (nat_le (length text) 8388608) (TooLong limit.Text) (read_lines 1 Empty (lines_of text)) s e).1
+  pub text_keeps : (text : List ℕ) (s : Schedule) → Keeps Empty → read_with objection text ≡ Ok s → Keeps (Begun s)
+  unfolding read_with
+  text_keeps text s h e = lines_keep 1 Empty (lines_of text) s h (provided (nat_le (length text) 8388608) (TooLong limit.Text) (read_lines objection 1 Empty (lines_of text)) s e).1
 
 pub accepted : (text : List ℕ) (s : Schedule) → read_text text ≡ Ok s → IsAccepted s
-accepted text s e = text_keeps Kept line_kept text s tt e
+accepted text s e = text_keeps no_objection Kept (λ draft text l h few p free. line_kept draft text l h few p) text s tt e

@@ -8,7 +8,7 @@ use Rattle.hex.specs.Hex.{IsBytes}
 use Rattle.ft_io.specs.declared.Addr.{Addr}
 use Rattle.ft_model.specs.Words.{is}
 use Rattle.ft_model.specs.Spelling.{numeral, number_of, short_number_of, octet_of, joined_octets, host_in, host_of, addr_from, addr_in, addr_of, hex_bytes, is_hex, script_of}
-use Rattle.ft_model.specs.Grammar.{◌>>=◌, number, boot_number, packet_number, client_number, window, long_number, boot_line, bare_line, deliver_line, flip_line, client_and_window, send_line, client_alone, event_line, client_line, free_address, service_line, server_line, line_from, is_taken, is_too_much, with_line, read_text}
+use Rattle.ft_model.specs.Grammar.{◌>>=◌, number, boot_number, packet_number, client_number, window, long_number, boot_line, bare_line, deliver_line, flip_line, client_and_window, send_line, client_alone, event_line, client_line, free_address, service_line, server_line, line_from, is_taken, is_too_much, with_line, no_objection, read_text}
 use Rattle.ft_model.specs.declared.event.Event.{Event}
 use Rattle.ft_model.specs.declared.event.Event.TheVariants as event
 use Rattle.ft_model.specs.declared.line.Draft.{Draft}
@@ -296,4 +296,4 @@ line_fits (Begun s) text (line.Event e) h few p = record {
 }
 
 pub text_fits : (text : List ℕ) (s : Schedule) → read_text text ≡ Ok s → FitsSchedule s
-text_fits text s e = text_keeps FitsDraft line_fits text s tt e
+text_fits text s e = text_keeps no_objection FitsDraft (λ draft text l h few p free. line_fits draft text l h few p) text s tt e

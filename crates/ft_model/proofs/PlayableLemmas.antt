@@ -1,131 +1,120 @@
--- An accepted line asks for nothing that isn't built, so what the lines spell can be played.
-use Rattle.std.proofs.Common.{◌≡◌, ℕ, ◌<◌, ◌≤◌, ◌^◌, List, [], ◌∷◌, ◌++◌, length, refl, arith, Bool, true, false}
-use Rattle.std.specs.Prelude.{◌==◌, ◌&&◌, ◌||◌, nat_lt, Ok}
-use Rattle.std.specs.List.{AllByRecursion}
+-- Each accepted line keeps the addresses apart and the initial numbers modulo 2^32, so what the lines spell can be played.
+use Rattle.std.proofs.Common.{◌≡◌, ℕ, ◌<◌, ◌≤◌, ◌^◌, List, [], ◌∷◌, ◌++◌, length, refl, sym, ap, ap₂, ◌∙◌, arith, Bool, true, false}
+use Rattle.std.specs.Prelude.{◌==◌, ◌&&◌, ◌||◌, not, Ok}
+use Rattle.std.specs.List.{AllByRecursion, list_any}
+use Rattle.std.proofs.lemmas.Bool.{and_from, or_from}
 use Rattle.std.proofs.lemmas.Grind.{common_steps}
-use Rattle.std.proofs.lemmas.List.Elements.{All-nil, All-push, recursion_from_All}
+use Rattle.std.proofs.lemmas.List.Elements.{recursion_from_All, All-from_recursion}
 use Rattle.ft_io.specs.declared.Addr.{Addr}
-use Rattle.ft_model.specs.Grammar.{read_text, with_line, is_taken, is_too_much, has_client, asks_for_more, event_asks_for_more}
+use Rattle.ft_io.specs.declared.Key.{Key}
+use Rattle.ft_io.specs.Key.{key_eq}
+use Rattle.ft_model.specs.Client.{Client}
+use Rattle.ft_model.specs.Grammar.{read_text, with_line, no_objection, is_taken, is_too_much}
 use Rattle.ft_model.specs.Legal.{start_of}
-use Rattle.ft_model.specs.Playable.{is_played, IsPlayable}
-use Rattle.ft_model.specs.Schedule.{bytes_of, clients_of}
-use Rattle.ft_model.specs.World.{are_apart, IsNewClient, IsStart}
+use Rattle.ft_model.specs.Playable.{IsPlayable}
+use Rattle.ft_model.specs.Schedule.{bytes_of, client_of, clients_of}
+use Rattle.ft_model.specs.World.{is_apart, are_apart, IsNewClient, IsStart}
 use Rattle.ft_model.specs.declared.event.Event.{Event}
-use Rattle.ft_model.specs.declared.event.Event.TheVariants as event
 use Rattle.ft_model.specs.declared.line.Draft.{Draft}
 use Rattle.ft_model.specs.declared.line.Draft.TheVariants.{Empty, Named, Begun}
 use Rattle.ft_model.specs.declared.line.Line.{Line}
 use Rattle.ft_model.specs.declared.line.Line.TheVariants as line
 use Rattle.ft_model.specs.declared.schedule.ClientLine.{ClientLine}
 use Rattle.ft_model.specs.declared.schedule.Schedule.{Schedule}
-use Rattle.ft_model.specs.declared.schedule.ServiceKind.{ServiceKind}
-use Rattle.ft_model.specs.declared.schedule.ServiceKind.TheVariants as service
-use Rattle.ft_model.specs.Readable.{FitsClient}
-use Rattle.ft_model.proofs.FitsLemmas.{client_fits, says_server}
+use Rattle.ft_model.specs.Readable.{FitsClient, FitsSchedule}
+use Rattle.ft_model.proofs.FitsLemmas.{text_fits}
 use Rattle.ft_model.proofs.ScriptBytes.{script_bytes}
-use Rattle.ft_model.proofs.AcceptedLemmas.{Passes, says_client, client_kept, all_push, text_keeps}
-
--- What the test `built` lets through.
-echo_is_built : (draft : Draft) (kind : ServiceKind) → asks_for_more draft (line.Service kind) ≡ false → kind ≡ service.Echo
-unfolding asks_for_more
-echo_is_built draft service.Echo e = refl
-echo_is_built draft service.Line e = absurd (cc)
-echo_is_built draft service.Transfer e = absurd (cc)
-echo_is_built draft service.Meter e = absurd (cc)
-
-played_is_built : (draft : Draft) (e : Event) → asks_for_more draft (line.Event e) ≡ false → is_played e ≡ true
-unfolding asks_for_more event_asks_for_more
-played_is_built draft (event.Boot boot isn) h = refl
-played_is_built draft event.Crash h = absurd (cc)
-played_is_built draft event.Tick h = absurd (cc)
-played_is_built draft (event.Deliver packet) h = refl
-played_is_built draft (event.Flip packet bit) h = absurd (cc)
-played_is_built draft (event.Begin client window) h = refl
-played_is_built draft (event.Send client from len) h = refl
-played_is_built draft (event.Fin client) h = absurd (cc)
-played_is_built draft (event.Ack client window) h = refl
-played_is_built draft (event.Reset client) h = absurd (cc)
-
-neither : (a b : Bool) → (a || b) ≡ false → a ≡ false
-neither false b e = refl
-neither true b e = absurd (cc)
-
-no_client : (xs : List ClientLine) → nat_lt 0 (length xs) ≡ false → xs ≡ []
-no_client [] e = refl
-no_client (x ∷ xs) e = grind (arith, common_steps)
-
-first_is_built : (s : Schedule) (c : ClientLine) → asks_for_more (Begun s) (line.Client c) ≡ false → s.clients ≡ []
-unfolding asks_for_more has_client
-first_is_built s c e = no_client s.clients (neither _ _ e)
+use Rattle.ft_model.proofs.AcceptedLemmas.{Passes, says_client, client_kept, both_left, both_right, all_push, text_keeps, accepted}
 
 equal_either_way : (a b : ℕ) → (a == b) ≡ (b == a)
 equal_either_way a b = grind (arith, common_steps)
 
--- the address of one client, which nobody has yet, isn't the server's
-apart_alone : (s : Schedule) (c : ClientLine) → is_taken (Begun s) (record { ip = c.key.ip; port = c.key.port }) ≡ false → are_apart s.server (clients_of s.server (c ∷ [])) ≡ true
+neither_left : (a b : Bool) → (a || b) ≡ false → a ≡ false
+neither_left false b e = refl
+neither_left true b e = absurd (cc)
+
+neither_right : (a b : Bool) → (a || b) ≡ false → b ≡ false
+neither_right false b e = e
+neither_right true b e = absurd (cc)
+
+-- whether a client line has this key
+abbrev has : Key → ClientLine → Bool
+has key client = client.key.ip == key.ip && client.key.port == key.port
+
+-- a client more, whose key is another one, changes nothing for those before it
+still_none : (server : Addr) (key : Key) (clients : List ClientLine) (c : ClientLine) → list_any (λ x. key_eq x.key key) (clients_of server clients) ≡ false → key_eq c.key key ≡ false
+    → list_any (λ x. key_eq x.key key) (clients_of server (clients ++ c ∷ [])) ≡ false
+still_none server key [] c e f = or_from (key_eq c.key key) false f refl
+still_none server key (x ∷ xs) c e f =
+    or_from (key_eq x.key key) (list_any (λ x. key_eq x.key key) (clients_of server (xs ++ c ∷ []))) (neither_left _ _ e) (still_none server key xs c (neither_right (key_eq x.key key) _ e) f)
+
+still_apart : (server : Addr) (key : Key) (clients : List ClientLine) (c : ClientLine) → is_apart server key (clients_of server clients) ≡ true → key_eq c.key key ≡ false
+    → is_apart server key (clients_of server (clients ++ c ∷ [])) ≡ true
+still_apart server key clients c e f =
+    by_parts (not (key.ip == server.ip && key.port == server.port)) (list_any (λ x. key_eq x.key key) (clients_of server clients)) (list_any (λ x. key_eq x.key key) (clients_of server (clients ++ c ∷ [])))
+    e (λ none. still_none server key clients c none f)
+  where
+    by_parts : (a b b' : Bool) → (a && not b) ≡ true → (b ≡ false → b' ≡ false) → (a && not b') ≡ true
+    by_parts true false b' e f = rw (f refl) refl
+    by_parts true true b' e f = absurd (cc)
+    by_parts false b b' e f = absurd (cc)
+
+same_either_way : (a b : Key) → key_eq a b ≡ key_eq b a
+same_either_way a b = rw (equal_either_way a.ip b.ip, equal_either_way a.port b.port) refl
+
+apart_push : (server : Addr) (clients : List ClientLine) (c : ClientLine) → are_apart server (clients_of server clients) ≡ true → (server.ip == c.key.ip && server.port == c.key.port) ≡ false → list_any (has c.key) clients ≡ false
+    → are_apart server (clients_of server (clients ++ c ∷ [])) ≡ true
+apart_push server [] c e own none = rw (equal_either_way c.key.ip server.ip, equal_either_way c.key.port server.port, own) refl
+apart_push server (x ∷ xs) c e own none =
+    and_from (is_apart server x.key (clients_of server (xs ++ c ∷ []))) (are_apart server (clients_of server (xs ++ c ∷ [])))
+    (still_apart server x.key xs c (both_left _ _ e) (same_either_way c.key x.key ∙ neither_left _ _ none))
+    (apart_push server xs c (both_right (is_apart server x.key (clients_of server xs)) _ e) own (neither_right (has c.key x) _ none))
+
+-- an address that nobody has yet keeps all apart
+free_apart : (s : Schedule) (c : ClientLine) → are_apart s.server (clients_of s.server s.clients) ≡ true → is_taken (Begun s) (record { ip = c.key.ip; port = c.key.port }) ≡ false
+    → are_apart s.server (clients_of s.server (s.clients ++ c ∷ [])) ≡ true
 unfolding is_taken
-apart_alone s c e =
-    let free : (s.server.ip == c.key.ip && s.server.port == c.key.port) ≡ false = neither _ _ e in
-    rw (equal_either_way c.key.ip s.server.ip, equal_either_way c.key.port s.server.port, free) refl
+free_apart s c e free =
+    apart_push s.server s.clients c e (neither_left _ _ free) (neither_right (s.server.ip == c.key.ip && s.server.port == c.key.port) _ free)
 
-with_client : (s : Schedule) (c : ClientLine) → IsPlayable s → s.clients ≡ [] → is_taken (Begun s) (record { ip = c.key.ip; port = c.key.port }) ≡ false → length (bytes_of c.script) ≤ 2 ^ 24 → c.isn < 2 ^ 32 → FitsClient c
-    → IsPlayable (record s { clients = s.clients ++ c ∷ [] })
-with_client s c h first free short number fits = record {
-  server = h.server;
-  alone = rw first (omega arith);
-  short = All-push (λ line. length (bytes_of line.script) ≤ 2 ^ 24) s.clients c h.short short;
-  numbers = all_push (λ line. line.isn < 2 ^ 32) s.clients c h.numbers number;
-  sizes = all_push FitsClient s.clients c h.sizes fits;
-  apart = rw first (apart_alone s c free);
-  played = h.played;
-  echo = h.echo;
-}
-
-with_event : (s : Schedule) (e : Event) → IsPlayable s → is_played e ≡ true → IsPlayable (record s { events = s.events ++ e ∷ [] })
-with_event s e h p = record {
-  server = h.server;
-  alone = h.alone;
-  short = h.short;
-  numbers = h.numbers;
-  sizes = h.sizes;
-  apart = h.apart;
-  played = all_push (λ e. is_played e ≡ true) s.events e h.played p;
-  echo = h.echo;
-}
+-- the initial numbers are modulo 2^32, and the addresses differ
+record IsApart (s : Schedule) : Type 0 where
+  numbers : AllByRecursion (λ line. line.isn < 2 ^ 32) s.clients
+  apart : are_apart s.server (clients_of s.server s.clients) ≡ true
 
 abbrev Keeps : Draft → Type 0
 Keeps Empty = Unit {0}
-Keeps (Named kind) = kind ≡ service.Echo
-Keeps (Begun s) = IsPlayable s
+Keeps (Named kind) = Unit {0}
+Keeps (Begun s) = IsApart s
 
 line_keeps : (draft : Draft) (text : List ℕ) (l : Line) → Keeps draft → is_too_much draft text ≡ false → Passes draft text l → Keeps (with_line draft l)
-line_keeps Empty text (line.Service kind) h few p = echo_is_built Empty kind p.is_built
+line_keeps Empty text (line.Service kind) h few p = tt
 line_keeps Empty text (line.Server addr) h few p = tt
 line_keeps Empty text (line.Client c) h few p = tt
 line_keeps Empty text (line.Event e) h few p = tt
-line_keeps (Named kind) text (line.Service name) h few p = h
-line_keeps (Named kind) text (line.Server addr) h few p = record {
-  server = says_server (Named kind) p.k p.words addr p.says;
-  alone = omega arith;
-  short = All-nil (λ line. length (bytes_of line.script) ≤ 2 ^ 24);
-  numbers = tt;
-  sizes = tt;
-  apart = refl;
-  played = tt;
-  echo = h;
-}
-line_keeps (Named kind) text (line.Client c) h few p = h
-line_keeps (Named kind) text (line.Event e) h few p = h
+line_keeps (Named kind) text (line.Service name) h few p = tt
+line_keeps (Named kind) text (line.Server addr) h few p = record { numbers = tt; apart = refl }
+line_keeps (Named kind) text (line.Client c) h few p = tt
+line_keeps (Named kind) text (line.Event e) h few p = tt
 line_keeps (Begun s) text (line.Service kind) h few p = h
 line_keeps (Begun s) text (line.Server addr) h few p = h
 line_keeps (Begun s) text (line.Client c) h few p =
-    let says = (says_client (Begun s) p.k p.words c p.says).1 in
-    let kept = client_kept (Begun s) p.words c says in
-    with_client s c h (first_is_built s c p.is_built) kept.0 kept.1 kept.2 (client_fits (Begun s) p.words c says)
-line_keeps (Begun s) text (line.Event e) h few p = with_event s e h (played_is_built (Begun s) e p.is_built)
+    let kept = client_kept (Begun s) p.words c (says_client (Begun s) p.k p.words c p.says).1 in
+    record { numbers = all_push (λ line. line.isn < 2 ^ 32) s.clients c h.numbers kept.2; apart = free_apart s c h.apart kept.0 }
+line_keeps (Begun s) text (line.Event e) h few p = record { numbers = h.numbers; apart = h.apart }
 
 pub playable : (text : List ℕ) (s : Schedule) → read_text text ≡ Ok s → IsPlayable s
-playable text s e = text_keeps Keeps line_keeps text s tt e
+playable text s e =
+    let kept : IsApart s = text_keeps no_objection Keeps (λ draft text l h few p free. line_keeps draft text l h few p) text s tt e in
+    let fits : FitsSchedule s = text_fits text s e in
+    record {
+      server = (fits.ip, fits.port);
+      short = All-from_recursion (λ line. length (bytes_of line.script) ≤ 2 ^ 24) s.clients (accepted text s e).scripts;
+      numbers = kept.numbers;
+      sizes = fits.clients;
+      apart = kept.apart;
+      events = fits.events;
+    }
 
 -- the clients of a schedule before their first moves
 new_clients : (server : Addr) (lines : List ClientLine) → AllByRecursion (λ line. length (bytes_of line.script) ≤ 2 ^ 24) lines → AllByRecursion (λ line. line.isn < 2 ^ 32) lines → AllByRecursion FitsClient lines

@@ -27,9 +27,7 @@ use Rattle.ft_model.specs.declared.schedule.LineWhy.{LineWhy}
 use Rattle.ft_model.specs.declared.schedule.LineWhy.TheVariants as why
 use Rattle.ft_model.specs.declared.schedule.Schedule.{Schedule}
 use Rattle.ft_model.specs.declared.schedule.Script.{Script}
-use Rattle.ft_model.specs.declared.schedule.Script.TheVariants.{Bytes, Fill}
 use Rattle.ft_model.specs.declared.schedule.ServiceKind.{ServiceKind}
-use Rattle.ft_model.specs.declared.schedule.ServiceKind.TheVariants as service
 
 -- why a text spells no schedule: a line, counted from 1, or a limit
 pub data Refusal : Type 0 where
@@ -207,53 +205,14 @@ may_stand (Begun schedule) keyword.Client words = may_join schedule words
 may_stand (Begun schedule) (keyword.Event v) words = true
 may_stand _ _ words = false
 
--- The test `built`: well-formed lines that ask for what isn't built yet.
-abbrev pub is_echo : ServiceKind → Bool
-is_echo service.Echo = true
-is_echo _ = false
-
-abbrev pub is_fill : Script → Bool
-is_fill (Fill len) = true
-is_fill (Bytes bytes) = false
-
-abbrev pub is_boot : Event → Bool
-is_boot (event.Boot boot isn) = true
-is_boot _ = false
-
-unfoldable pub has_client : Draft → Bool
-has_client (Begun schedule) = nat_lt 0 (length schedule.clients)
-has_client _ = false
-
-unfoldable pub has_boot : Draft → Bool
-has_boot (Begun schedule) = list_any is_boot schedule.events
-has_boot _ = false
-
-unfoldable pub event_asks_for_more : Draft → Event → Bool
-event_asks_for_more draft (event.Boot boot isn) = has_boot draft  -- a second boot
-event_asks_for_more draft event.Crash = true
-event_asks_for_more draft event.Tick = true
-event_asks_for_more draft (event.Flip packet bit) = true
-event_asks_for_more draft (event.Fin client) = true
-event_asks_for_more draft (event.Reset client) = true
-event_asks_for_more draft _ = false
-
-unfoldable pub asks_for_more : Draft → Line → Bool
-asks_for_more draft (line.Service kind) = not (is_echo kind)
-asks_for_more draft (line.Server addr) = false
-asks_for_more draft (line.Client client) = has_client draft || is_fill client.script
-asks_for_more draft (line.Event e) = event_asks_for_more draft e
-
--- The tests of a line in their order: character, word, place, those of its kind (count, number, address, script), and built.
+-- The tests of a line in their order: character, word, place, and those of its kind (count, number, address, script).
 unfoldable pub is_printable : List ℕ → Bool
 is_printable text = list_all (λ byte. nat_le 32 byte && nat_le byte 126) text
-
-unfoldable pub built : Draft → Line → Result Line LineWhy
-built draft l = if asks_for_more draft l then Err why.Built else Ok l
 
 unfoldable pub line_behind : Draft → Keyword → List (List ℕ) → Result Line LineWhy
 line_behind draft k words =
     if names_no_service k words then Err why.Word
-    else (if may_stand draft k words then line_from draft k words >>= built draft
+    else (if may_stand draft k words then line_from draft k words
     else Err why.Place)
 
 abbrev pub line_of_words : Draft → List (List ℕ) → Result Line LineWhy
@@ -298,12 +257,23 @@ abbrev pub at_line : ℕ → Result Draft LineWhy → Result Draft Refusal
 at_line n (Ok draft) = Ok draft
 at_line n (Err reason) = Err (BadLine n reason)
 
+-- What a reader has against a well-formed line behind the lines before it: a test of its own, the last one. The grammar itself has none.
+abbrev pub Objection : Type 0
+Objection = Draft → Line → Option LineWhy
+
+abbrev pub no_objection : Objection
+no_objection draft l = None
+
+abbrev pub unless_objected : Option LineWhy → Draft → Result Draft LineWhy
+unless_objected (Some reason) later = Err reason
+unless_objected None later = Ok later
+
 -- what the lines spell with line n among them
-unfoldable pub after_line : ℕ → Draft → List ℕ → Result Draft Refusal
-after_line n draft text =
+unfoldable pub after_line : Objection → ℕ → Draft → List ℕ → Result Draft Refusal
+after_line objection n draft text =
     if is_passed_over text then Ok draft
     else (if is_too_much draft text then Err (TooLong limit.Events)
-    else at_line n (line_of draft text >>= λ l. Ok (with_line draft l)))
+    else at_line n (line_of draft text >>= λ l. unless_objected (objection draft l) (with_line draft l)))
 
 -- a text that ends before its server line lacks it in the line behind its last
 abbrev pub schedule_of : ℕ → Draft → Result Schedule Refusal
@@ -311,10 +281,14 @@ schedule_of n (Begun schedule) = Ok schedule
 schedule_of n _ = Err (BadLine n why.Place)
 
 -- what the lines from number n on spell, behind those before
-unfoldable pub read_lines : ℕ → Draft → List (List ℕ) → Result Schedule Refusal
-read_lines n draft [] = schedule_of n draft
-read_lines n draft (text ∷ more) = after_line n draft text >>= λ later. read_lines (n + 1) later more
+unfoldable pub read_lines : Objection → ℕ → Draft → List (List ℕ) → Result Schedule Refusal
+read_lines objection n draft [] = schedule_of n draft
+read_lines objection n draft (text ∷ more) = after_line objection n draft text >>= λ later. read_lines objection (n + 1) later more
 
--- The schedule that a text spells, or why it spells none. At most 2^23 bytes are looked at.
-unfoldable pub read_text : List ℕ → Result Schedule Refusal
-read_text text = if nat_le (length text) 8388608 then read_lines 1 Empty (lines_of text) else Err (TooLong limit.Text)
+-- the schedule that a text spells for a reader with this test, or why it spells none. At most 2^23 bytes are looked at.
+unfoldable pub read_with : Objection → List ℕ → Result Schedule Refusal
+read_with objection text = if nat_le (length text) 8388608 then read_lines objection 1 Empty (lines_of text) else Err (TooLong limit.Text)
+
+-- the schedule that a text spells, or why it spells none
+abbrev pub read_text : List ℕ → Result Schedule Refusal
+read_text text = read_with no_objection text

@@ -9,13 +9,14 @@ ghost use Rattle.ft_model.specs.Legal.{start_of};
 ghost use Rattle.ft_model.specs.Playable.{IsPlayable};
 ghost use Rattle.ft_model.specs.Readable.{FitsSchedule};
 ghost use Rattle.ft_model.specs.World.{IsStart};
-ghost use Rattle.ft_model.specs.declared.event.Event.TheVariants.{Boot, Deliver, Begin, Ack, Send};
+ghost use Rattle.ft_model.specs.declared.event.Event.TheVariants.{Boot, Crash, Tick, Deliver, Flip, Begin, Send, Fin, Ack, Reset};
 ghost use Rattle.ft_model.specs.declared.schedule.LineWhy.TheVariants as why;
 ghost use Rattle.ft_model.specs.declared.schedule.Schedule.{Schedule};
-ghost use Rattle.ft_model.specs.declared.schedule.Script.TheVariants.{Bytes};
-ghost use Rattle.ft_model.specs.declared.schedule.ServiceKind.TheVariants.{Echo};
+ghost use Rattle.ft_model.specs.declared.schedule.Script.TheVariants.{Bytes, Fill};
+ghost use Rattle.ft_model.specs.declared.schedule.ServiceKind.TheVariants.{Echo, Meter};
 
-/// Texts and what they spell: a schedule without clients and events, one in which a client says hello to an echo, and refused lines.
+/// Texts and what they spell: a schedule without clients and events, one in which a client says hello to an echo, one of two clients and
+/// the other kinds of events, and refused lines.
 pub fn worked_texts()
     ensures empty { read_text (codes "service echo\nserver 192.0.2.100:7\n")
         ≡ Ok (record { service = Echo; server = record { ip = 3221226084; port = 7 }; clients = []; events = [] }) }
@@ -30,7 +31,14 @@ pub fn worked_texts()
     ensures nothing { read_text [] ≡ Err (BadLine 1 why.Place) }
     ensures comment { read_text (codes "# a comment\n\nservice echo\n # none") ≡ Err (BadLine 4 why.Word) }
     ensures few_words { read_text (codes "service echo\nserver 192.0.2.100:7\nclient 1 192.0.2.1:40000 1000 hex:68656c6c6f\nsend x\n") ≡ Err (BadLine 4 why.Count) }
-    ensures not_built { read_text (codes "service echo\nserver 192.0.2.100:7\nboot 1 5000\ncrash\n") ≡ Err (BadLine 4 why.Built) }
+    ensures two_clients { read_text (codes "service meter\nserver 192.0.2.100:7\nclient 1 192.0.2.1:40000 1000 fill:9\nclient 2 192.0.2.1:40001 0 -\nboot 1 5000\ncrash\nboot 2 0\nflip 2 319\ntick\nfin 2\nreset 1\n")
+        ≡ Ok (record {
+          service = Meter;
+          server = record { ip = 3221226084; port = 7 };
+          clients = record { key = record { ip = 3221225985; port = 40000 }; isn = 1000; script = Fill 9 }
+              ∷ record { key = record { ip = 3221225985; port = 40001 }; isn = 0; script = Bytes [] } ∷ [];
+          events = Boot 1 5000 ∷ Crash ∷ Boot 2 0 ∷ Flip 2 319 ∷ Tick ∷ Fin 2 ∷ Reset 1 ∷ [];
+        }) }
 {}
 
 /// A schedule that a text spells has at most 16 clients and 100,000 events, its scripts have at most 2^24 bytes, and no two of its
@@ -39,14 +47,13 @@ pub fn accepted_schedules_keep_the_limits()
     ensures { (text : List ℕ) (schedule : Schedule) → read_text text ≡ Ok schedule → IsAccepted schedule }
 {}
 
-/// A schedule that a text spells can be played: it has the echo service, at most one client, whose address isn't the server's, and only
-/// boots, deliveries, and the client's SYNs, texts and acknowledgements. The client's initial number is modulo 2^32, and its script has
-/// at most 2^24 bytes.
+/// A schedule that a text spells can be played: its clients' addresses differ from one another and from the server's, their initial numbers
+/// are modulo 2^32, their scripts have at most 2^24 bytes, and the numbers of its events have the sizes of their types.
 pub fn accepted_schedules_can_be_played()
     ensures { (text : List ℕ) (schedule : Schedule) → read_text text ≡ Ok schedule → IsPlayable schedule }
 {}
 
-/// A trace can start where such a schedule does: no client has moved, nothing is logged, nothing was sent, and the server is down.
+/// A trace can start where a schedule does that can be played: no client has moved, nothing is logged, nothing was sent, and the server is down.
 pub fn playable_schedules_start()
     ensures { (schedule : Schedule) → IsPlayable schedule → IsStart (start_of schedule) }
 {}

@@ -210,17 +210,18 @@ fn keep_answer(packets: &mut Vec<Packet>, answer: Option<Message>) -> Result<(),
 impl<S: Service> World<S> {
     ghost use Rattle.server_trait.specs.Service.{machine};
     ghost use Rattle.ft_model.specs.Legal.{start_of, refusal};
-    ghost use Rattle.ft_model.specs.Grammar.{read_text};
     ghost use Rattle.net_schedule.specs.Standing.{WorldStands, Advances, Steps, EndsStep, KeepsAtRefusal};
     ghost use Rattle.net_schedule.specs.Played.{is_move};
     ghost use Rattle.ft_model.specs.Legal.{mover_of};
-    ghost use Rattle.ft_model.specs.Playable.{IsPlayable, is_played};
+    ghost use Rattle.ft_model.specs.Playable.{IsPlayable};
+    ghost use Rattle.schedule_text.specs.Stage.{IsBuilt, is_played};
     ghost use Rattle.net_schedule.specs.Server.{ClosesAtEnd};
     ghost use Rattle.ft_model.specs.declared.event.Event.TheVariants.{Boot, Deliver};
 
     /// The world in which a schedule starts: nothing was sent, nothing is logged, and the server is down.
     pub fn new(alloc: Global, schedule: &Schedule) -> Result<World<S>, NoMemory>
-        requires { IsPlayable schedule.now }
+        requires playable { IsPlayable schedule.now }
+        requires built { IsBuilt schedule.now }
         ensures kind { IfOk result (λ w. w.kind ≡ kind_lem schedule.now.service) }
         ensures stands { IfOk result (λ w. ClosesAtEnd (machine (S.started w.kind) S.after) → WorldStands (machine (S.started w.kind) S.after) w (start_of schedule.now)) }
     {

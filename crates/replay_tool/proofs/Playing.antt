@@ -15,7 +15,7 @@ use Rattle.ft_model.specs.Masked.{Masked}
 use Rattle.ft_model.specs.Legal.{start_of, IsLegalFor}
 use Rattle.ft_model.specs.Report.{header, event_line, packet_lines, packet_count, event_lines, client_lines, log_line, end_line}
 use Rattle.ft_model.specs.declared.event.Event.{Event}
-use Rattle.ft_model.specs.Grammar.{read_text}
+use Rattle.schedule_text.specs.Stage.{read_built}
 use Rattle.ft_model.specs.declared.schedule.Schedule.{Schedule}
 use Rattle.net_schedule.specs.Standing.{Kept, WorldStands, Advances, Steps}
 use Rattle.net_schedule.specs.declared.step_out.StepOut.{StepOut}
@@ -155,7 +155,7 @@ if_err (Ok x) a f = absurd a
 if_err (Err e) a f = f e a
 
 -- a whole text that spells a schedule which is played
-pub reports : (left : Option (List ℕ)) (text : List ℕ) (schedule : Schedule) (old new : Option (List ℕ)) → IfSome left (λ whole. text ≡ whole) → read_text text ≡ Ok schedule → IsPlayed schedule old new
+pub reports : (left : Option (List ℕ)) (text : List ℕ) (schedule : Schedule) (old new : Option (List ℕ)) → IfSome left (λ whole. text ≡ whole) → read_built text ≡ Ok schedule → IsPlayed schedule old new
     → IfSome left (λ whole. IsReported whole old new)
 reports None text schedule old new same spelled p = tt
-reports (Some whole) text schedule old new same spelled p = record { schedule = schedule; spelled = ap read_text (sym same) ∙ spelled; played = p }
+reports (Some whole) text schedule old new same spelled p = record { schedule = schedule; spelled = ap read_built (sym same) ∙ spelled; played = p }

@@ -1,6 +1,7 @@
 -- The status by the text: what each status says of it, and that the text settles the status.
 use Rattle.std.proofs.Common.{◌≡◌, ◌∙◌, ◌⊎◌, inl, inr, ℕ, Bool, true, false, ◌==◌, ◌||◌, eqb-true, Option, None, Some, List, Ok, Err, refl, sym, ap, subst, IfSome, Result, arith}
-use Rattle.ft_model.specs.Grammar.{read_text, Refusal as reading}
+use Rattle.ft_model.specs.Grammar.{Refusal as reading}
+use Rattle.schedule_text.specs.Stage.{read_built}
 use Rattle.ft_model.specs.Outcome.{IsWhole, IsRefused, IsPastPackets}
 use Rattle.ft_model.specs.declared.event.EventWhy.{EventWhy}
 use Rattle.ft_model.specs.declared.schedule.Schedule.{Schedule}
@@ -149,7 +150,7 @@ module _
     (refused_or_past : (schedule : Schedule) → IsRefused any_machine schedule → IsPastPackets any_machine schedule → ⊥)
     (text : List ℕ) (code : ℕ) where
   -- a text is read in one way
-  same : (s t : Schedule) → read_text text ≡ Ok s → read_text text ≡ Ok t → s ≡ t
+  same : (s t : Schedule) → read_built text ≡ Ok s → read_built text ≡ Ok t → s ≡ t
   same s t p q =
       let both : Ok s ≡ Ok t = sym p ∙ q in
       cc
@@ -168,7 +169,7 @@ module _
   line_or_event a b = ok_or_err b.schedule (reading.BadLine a.line a.why) (sym b.spelled ∙ a.refused)
 
   line_or_limit : HasBadLine text → IsPastLimit text → ⊥
-  line_or_limit a (by_text what e) = line_or_long a.line a.why what (err_same (reading.BadLine a.line a.why) (reading.TooLong what) (read_text text) a.refused e)
+  line_or_limit a (by_text what e) = line_or_long a.line a.why what (err_same (reading.BadLine a.line a.why) (reading.TooLong what) (read_built text) a.refused e)
   line_or_limit a (by_packets schedule e p) = ok_or_err schedule (reading.BadLine a.line a.why) (sym e ∙ a.refused)
 
   event_or_limit : HasBadEvent text → IsPastLimit text → ⊥

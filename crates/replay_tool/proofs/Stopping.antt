@@ -8,7 +8,8 @@ use Rattle.ft_model.specs.Schedule.{kind_of, clients_of}
 use Rattle.ft_model.specs.World.{World as Seen, world_after}
 use Rattle.ft_model.specs.Legal.{start_of}
 use Rattle.ft_model.specs.Report.{header, event_lines, client_lines, log_line, end_line}
-use Rattle.ft_model.specs.Grammar.{read_text, read_lines, Refusal as reading}
+use Rattle.ft_model.specs.Grammar.{read_with, read_lines, Refusal as reading}
+use Rattle.schedule_text.specs.Stage.{not_built, read_built}
 use Rattle.ft_model.specs.Words.{lines_of}
 use Rattle.ft_model.specs.declared.line.Draft.TheVariants.{Empty}
 use Rattle.ft_model.specs.declared.event.Event.{Event}
@@ -133,11 +134,11 @@ closes_till schedule number why w old mid new mask s out =
     }
 
 -- a text past the limit isn't read
-too_long : (text : List ℕ) → 8388608 < length text → read_text text ≡ Err (reading.TooLong limits.Text)
-unfolding read_text
+too_long : (text : List ℕ) → 8388608 < length text → read_built text ≡ Err (reading.TooLong limits.Text)
+unfolding read_with
 too_long text h =
     let past : nat_le (length text) 8388608 ≡ false = grind arith in
-    ap (λ b. if b then read_lines 1 Empty (lines_of text) else Err (reading.TooLong limits.Text)) past
+    ap (λ b. if b then read_lines not_built 1 Empty (lines_of text) else Err (reading.TooLong limits.Text)) past
 
 -- the reading of a source that is too long
 pub source_stops : (left : Option (List ℕ)) (old new : Option (List ℕ)) (end : ReadEnd) → (end ≡ reads.TooLong → IfSome left (λ text. 8388608 < length text))
@@ -149,11 +150,11 @@ source_stops (Some text) old new reads.TooLong h = too_long text (h refl)
 
 -- the playing ends the run
 pub playing_stops : (left : Option (List ℕ)) (text : List ℕ) (schedule : Schedule) (old new : Option (List ℕ)) (end : RunEnd) → IfSome left (λ whole. text ≡ whole)
-    → read_text text ≡ Ok schedule → StopsPlaying schedule old new end → IfSome left (λ whole. StopsRun whole old new end)
+    → read_built text ≡ Ok schedule → StopsPlaying schedule old new end → IfSome left (λ whole. StopsRun whole old new end)
 playing_stops None text schedule old new end same spelled s = tt
 playing_stops (Some whole) text schedule old new (BadEvent number why) same spelled s =
-    record { schedule = schedule; spelled = ap read_text (sym same) ∙ spelled; plays = s }
-playing_stops (Some whole) text schedule old new (TooLong Packets) same spelled s = record { schedule = schedule; spelled = ap read_text (sym same) ∙ spelled; past = s }
+    record { schedule = schedule; spelled = ap read_built (sym same) ∙ spelled; plays = s }
+playing_stops (Some whole) text schedule old new (TooLong Packets) same spelled s = record { schedule = schedule; spelled = ap read_built (sym same) ∙ spelled; past = s }
 playing_stops (Some whole) text schedule old new (TooLong Text) same spelled s = absurd s
 playing_stops (Some whole) text schedule old new (TooLong Events) same spelled s = absurd s
 playing_stops (Some whole) text schedule old new (BadLine line why) same spelled s = absurd s

@@ -1,7 +1,7 @@
 -- What a text must be for a run of it to end in a certain way, and the status that it then has.
 use Rattle.std.specs.Prelude.{◌≡◌, ◌⊎◌, ℕ, Ok, Err, List}
 use Rattle.ft_io.specs.Faults.{Rose}
-use Rattle.ft_model.specs.Grammar.{read_text}
+use Rattle.schedule_text.specs.Stage.{read_built}
 use Rattle.ft_model.specs.Grammar.Refusal.{BadLine, TooLong}
 use Rattle.ft_model.specs.Outcome.{IsWhole, IsRefused, IsPastPackets}
 use Rattle.ft_model.specs.declared.schedule.Schedule.{Schedule}
@@ -9,28 +9,28 @@ use Rattle.ft_model.specs.declared.schedule.LineWhy.{LineWhy}
 use Rattle.ft_model.specs.declared.schedule.Limit.{Limit}
 use Rattle.sample_servers.specs.AnyService.{any_machine}
 
--- it spells a schedule, and each of its events may happen in its turn, within the limit of packets
+-- it spells a schedule that is built, and each of its events may happen in its turn, within the limit of packets
 pub record IsInOrder (text : List ℕ) : Type 0 where
   pub schedule : Schedule
-  pub spelled : read_text text ≡ Ok schedule
+  pub spelled : read_built text ≡ Ok schedule
   pub whole : IsWhole any_machine schedule
 
 -- one of its lines is refused
 pub record HasBadLine (text : List ℕ) : Type 0 where
   pub line : ℕ
   pub why : LineWhy
-  pub refused : read_text text ≡ Err (BadLine line why)
+  pub refused : read_built text ≡ Err (BadLine line why)
 
--- it spells a schedule, and one of its events may not happen in its turn
+-- it spells a schedule that is built, and one of its events may not happen in its turn
 pub record HasBadEvent (text : List ℕ) : Type 0 where
   pub schedule : Schedule
-  pub spelled : read_text text ≡ Ok schedule
+  pub spelled : read_built text ≡ Ok schedule
   pub refused : IsRefused any_machine schedule
 
 -- it is too long, has too many events, or these send too many packets
 pub data IsPastLimit (text : List ℕ) : Type 0 where
-  by_text : (what : Limit) → read_text text ≡ Err (TooLong what) → IsPastLimit text
-  by_packets : (schedule : Schedule) → read_text text ≡ Ok schedule → IsPastPackets any_machine schedule → IsPastLimit text
+  by_text : (what : Limit) → read_built text ≡ Err (TooLong what) → IsPastLimit text
+  by_packets : (schedule : Schedule) → read_built text ≡ Ok schedule → IsPastPackets any_machine schedule → IsPastLimit text
 
 -- a count of faults doesn't rise
 abbrev pub IsStill : ℕ → ℕ → Type 0

@@ -9,7 +9,7 @@ use Rattle.ft_model.specs.Legal.{start_of, IsLegalFor, Legal}
 use Rattle.ft_model.specs.Masked.{Masked}
 use Rattle.ft_model.specs.Outcome.{packets_sent, IsRefused}
 use Rattle.ft_model.specs.Report.{header, event_line, packet_lines, packet_count, event_lines, report}
-use Rattle.ft_model.specs.Grammar.{read_text}
+use Rattle.schedule_text.specs.Stage.{read_built}
 use Rattle.ft_model.specs.declared.event.Event.{Event}
 use Rattle.ft_model.specs.declared.schedule.Schedule.{Schedule}
 use Rattle.net_schedule.specs.Standing.{Kept, WorldStands, Advances}
@@ -47,14 +47,14 @@ pub record IsPlayedTill (schedule : Schedule) (old new : Option (List ℕ)) : Ty
   pub masked : Masked (any_machine (kind_of schedule.service)) (start_of schedule) refused.trace
   pub written : Appends old new (report schedule refused.trace)
 
--- The text spells a schedule, and what was written is the report of a legal and masked trace of it.
+-- The text spells a schedule that is built, and what was written is the report of a legal and masked trace of it.
 pub record IsReported (text : List ℕ) (old new : Option (List ℕ)) : Type 0 where
   pub schedule : Schedule
-  pub spelled : read_text text ≡ Ok schedule
+  pub spelled : read_built text ≡ Ok schedule
   pub played : IsPlayed schedule old new
 
--- The text spells a schedule, and what was written is the report of a legal and masked trace of its events before the first that is refused.
+-- The text spells a schedule that is built, and what was written is the report of a legal and masked trace of its events before the first that is refused.
 pub record IsReportedTill (text : List ℕ) (old new : Option (List ℕ)) : Type 0 where
   pub schedule : Schedule
-  pub spelled : read_text text ≡ Ok schedule
+  pub spelled : read_built text ≡ Ok schedule
   pub played : IsPlayedTill schedule old new

@@ -2,7 +2,7 @@
 use Rattle.std.specs.Prelude.{◌≡◌, ℕ, ◌+◌, ◌<◌, Ok, Err, Some, List, ◌∷◌, ◌++◌, Option, length}
 use Rattle.ft_model.specs.World.{World as Seen, world_after}
 use Rattle.ft_model.specs.Legal.{start_of, refusal}
-use Rattle.ft_model.specs.Grammar.{read_text}
+use Rattle.schedule_text.specs.Stage.{read_built}
 use Rattle.ft_model.specs.Grammar.{Refusal as reading}
 use Rattle.ft_model.specs.Outcome.{IsPastPackets}
 use Rattle.ft_model.specs.declared.event.Event.{Event}
@@ -19,9 +19,9 @@ use Rattle.replay_tool.specs.declared.status.RunEnd.TheVariants.{NoMemory, Write
 
 -- the reading of a text
 abbrev pub StopsReading : List ℕ → RunEnd → Type 0
-StopsReading text (BadLine line why) = read_text text ≡ Err (reading.BadLine line why)
-StopsReading text (TooLong Text) = read_text text ≡ Err (reading.TooLong limits.Text)
-StopsReading text (TooLong Events) = read_text text ≡ Err (reading.TooLong limits.Events)
+StopsReading text (BadLine line why) = read_built text ≡ Err (reading.BadLine line why)
+StopsReading text (TooLong Text) = read_built text ≡ Err (reading.TooLong limits.Text)
+StopsReading text (TooLong Events) = read_built text ≡ Err (reading.TooLong limits.Events)
 StopsReading text (TooLong Packets) = ⊥
 StopsReading text (BadEvent event why) = ⊥
 StopsReading text _ = Unit {0}
@@ -75,21 +75,21 @@ StopsPlaying schedule old new _ = Unit {0}
 -- a text is played up to this event, which is refused for this cause
 pub record ReportsTill (text : List ℕ) (number : ℕ) (why : EventWhy) (old new : Option (List ℕ)) : Type 0 where
   pub schedule : Schedule
-  pub spelled : read_text text ≡ Ok schedule
+  pub spelled : read_built text ≡ Ok schedule
   pub plays : PlaysTill schedule number why old new
 
 -- a text is read, and its events send too many packets
 pub record PassesPackets (text : List ℕ) : Type 0 where
   pub schedule : Schedule
-  pub spelled : read_text text ≡ Ok schedule
+  pub spelled : read_built text ≡ Ok schedule
   pub past : IsPastPackets any_machine schedule
 
 -- a run
 abbrev pub StopsRun : List ℕ → (old new : Option (List ℕ)) → RunEnd → Type 0
-StopsRun text old new (BadLine line why) = read_text text ≡ Err (reading.BadLine line why)
+StopsRun text old new (BadLine line why) = read_built text ≡ Err (reading.BadLine line why)
 StopsRun text old new (BadEvent number why) = ReportsTill text number why old new
-StopsRun text old new (TooLong Text) = read_text text ≡ Err (reading.TooLong limits.Text)
-StopsRun text old new (TooLong Events) = read_text text ≡ Err (reading.TooLong limits.Events)
+StopsRun text old new (TooLong Text) = read_built text ≡ Err (reading.TooLong limits.Text)
+StopsRun text old new (TooLong Events) = read_built text ≡ Err (reading.TooLong limits.Events)
 StopsRun text old new (TooLong Packets) = PassesPackets text
 StopsRun text old new _ = Unit {0}
 

@@ -8,8 +8,9 @@ ghost use Rattle.ft_model.specs.Network.{Packet as Seen, packet_at};
 ghost use Rattle.ft_model.specs.Log.{Entry};
 ghost use Rattle.ft_model.specs.Legal.{start_of};
 ghost use Rattle.ft_model.specs.Schedule.{kind_of};
-ghost use Rattle.ft_model.specs.Playable.{IsPlayable, is_played};
+ghost use Rattle.ft_model.specs.Playable.{IsPlayable};
 ghost use Rattle.ft_model.specs.Report.{header, packet_line, packet_lines, way_of, client_lines, log_line, end_line};
+ghost use Rattle.schedule_text.specs.Stage.{IsBuilt, is_played};
 ghost use Rattle.net_schedule.specs.Standing.{WorldStands};
 ghost use Rattle.sample_servers.specs.AnyService.{any_machine};
 ghost use Rattle.replay_tool.specs.Played.{PlaysEvent, Reaches, IsPlayed};
@@ -165,7 +166,7 @@ fn play_events<O: Sink>(
     world: &mut World<AnyService>,
     out: &mut O,
 ) -> Result<(), RunEnd>
-    requires playable { IsPlayable schedule.now }
+    requires built { IsBuilt schedule.now }
     requires few { length schedule.now.events ≤ 100000 }
     ensures done { OnOk result ((before : _) → Reaches schedule.now [] world.old before (O.taken out.old) → Reaches schedule.now schedule.now.events world.new before (O.taken out.new)) }
     ensures stops { IfErr result (λ end. (before : _) → Reaches schedule.now [] world.old before (O.taken out.old) → StopsEvents schedule.now world.new before (O.taken out.new) end) }
@@ -199,7 +200,8 @@ fn write_start<O: Sink>(alloc: Global, schedule: &Schedule, out: &mut O) -> Resu
 
 /// The world in which a schedule starts.
 fn start_world(alloc: Global, schedule: &Schedule) -> Result<World<AnyService>, NoMemory>
-    requires { IsPlayable schedule.now }
+    requires playable { IsPlayable schedule.now }
+    requires built { IsBuilt schedule.now }
     ensures kind { IfOk result (λ w. w.kind ≡ kind_of schedule.now.service) }
     ensures stands { IfOk result (λ w. WorldStands (any_machine (kind_of schedule.now.service)) w (start_of schedule.now)) }
 {
@@ -209,6 +211,7 @@ fn start_world(alloc: Global, schedule: &Schedule) -> Result<World<AnyService>, 
 /// Plays a schedule, and writes its report while it runs. Where an event is refused, the report ends with the events before it.
 pub(crate) fn play<O: Sink>(alloc: Global, schedule: &Schedule, out: &mut O) -> Result<(), RunEnd>
     requires playable { IsPlayable schedule.now }
+    requires built { IsBuilt schedule.now }
     requires few { length schedule.now.events ≤ 100000 }
     ensures done { OnOk result (IsPlayed schedule.now (O.taken out.old) (O.taken out.new)) }
     ensures stops { IfErr result (StopsPlaying schedule.now (O.taken out.old) (O.taken out.new)) }

@@ -4,8 +4,8 @@ ghost use Rattle.std.specs.Prelude.{◌≡◌, ℕ, ◌+◌, ◌≤◌, false, m
 ghost use Rattle.std.specs.Io.KnownBytes.{IsAtEnd};
 ghost use Rattle.ft_io.specs.Faults.{Rose};
 ghost use Rattle.ft_io.specs.Source.{ConsumesAtMost};
-ghost use Rattle.ft_model.specs.Grammar.{read_text};
 ghost use Rattle.ft_model.specs.Playable.{IsPlayable};
+ghost use Rattle.schedule_text.specs.Stage.{read_built, IsBuilt};
 ghost use Rattle.replay_tool.specs.Words.{is_run as is_run_lem};
 ghost use Rattle.replay_tool.specs.Played.{IsReported, IsPlayed};
 ghost use Rattle.replay_tool.specs.Stops.{StopsReading, StopsRun, KeepsOut};
@@ -14,6 +14,7 @@ use crate::play::play;
 use crate::status::RunEnd;
 use ft_io::{Sink, Source, read_to_limit};
 use ft_model::grammar::{accepted_schedules_can_be_played, accepted_schedules_keep_the_limits};
+use schedule_text::stage::{built_texts_are_spelled, read_schedules_are_built};
 use schedule_text::{Schedule, read_schedule};
 use std::alloc::Global;
 
@@ -30,16 +31,19 @@ fn is_run(words: &[String]) -> bool
     }
 }
 
-/// The schedule that a text spells, which can be played.
+/// The schedule that a text spells, where all that it asks for is built: it can be played.
 fn read(alloc: Global, text: &[u8]) -> Result<Schedule, RunEnd>
-    ensures spelled { IfOk result (λ s. read_text text.now ≡ Ok s) }
+    ensures spelled { IfOk result (λ s. read_built text.now ≡ Ok s) }
     ensures stops { IfErr result (StopsReading text.now) }
     ensures playable { IfOk result IsPlayable }
+    ensures built { IfOk result IsBuilt }
     ensures few { IfOk result (λ s. length s.events ≤ 100000) }
     ensures no_read_fault { IsErrOf result RunEnd.ReadFault → ⊥ }
     ensures no_write_fault { IsErrOf result RunEnd.WriteFault → ⊥ }
     ensures no_usage { IsErrOf result RunEnd.Usage → ⊥ }
 {
+    built_texts_are_spelled();
+    read_schedules_are_built();
     accepted_schedules_can_be_played();
     accepted_schedules_keep_the_limits();
     Ok(read_schedule(alloc, text)?)

@@ -24,6 +24,7 @@ mod read;
 #[cfg(test)]
 mod reading_tests;
 mod spelling;
+pub mod stage;
 mod words;
 #[cfg(test)]
 mod writing_tests;

@@ -3,7 +3,7 @@
 ghost use Rattle.std.specs.Prelude.{◌≡◌, ◌==◌, ◌&&◌, ◌||◌, ◌<◌, nat_le};
 ghost use Rattle.std.specs.List.{list_any};
 ghost use Rattle.ft_model.specs.Words.{words_of};
-ghost use Rattle.ft_model.specs.Grammar.{service_line, server_line, is_taken, free_address, client_line, line_from, verb_of, keyword_of, names_no_service, is_next, has_next_number, may_join, may_stand, is_echo, is_fill, is_boot, has_client, has_boot, event_asks_for_more, asks_for_more, is_printable, built, line_behind, line_of, begins_event};
+ghost use Rattle.ft_model.specs.Grammar.{service_line, server_line, is_taken, free_address, client_line, line_from, verb_of, keyword_of, names_no_service, is_next, has_next_number, may_join, may_stand, is_printable, line_behind, line_of, begins_event};
 ghost use Rattle.schedule_text.specs.Reading.{GivesLine};
 
 use crate::end::LineEnd;
@@ -11,9 +11,7 @@ use crate::event_line::{end_of, read_client_number, read_event, read_long_number
 use crate::spelling::{NUMBER_DIGITS, read_addr, read_numeral, read_script, read_service};
 use crate::words::next_word;
 use ft_io::{Addr, Key};
-use ft_model::{
-    ClientLine, Draft, Event, Keyword, Line, LineWhy, Schedule, Script, ServiceKind, Verb,
-};
+use ft_model::{ClientLine, Draft, Keyword, Line, LineWhy, Schedule, ServiceKind, Verb};
 use std::alloc::Global;
 
 /// The most clients of a schedule.
@@ -205,86 +203,8 @@ fn takes_line(draft: &Draft, keyword: Keyword, words: &[u8]) -> bool
     }
 }
 
-fn is_boot_event(event: &Event) -> bool
-    ensures { result ≡ is_boot event.now }
-{
-    match event {
-        Event::Boot { .. } => true,
-        _ => false,
-    }
-}
-
-fn any_boot(events: &[Event]) -> bool
-    ensures { result ≡ list_any is_boot events.now }
-{
-    events.iter().any(|event| is_boot_event(event))
-}
-
-#[tactic(auto, unfolding(ft_model::specs::Grammar::has_boot))]
-fn holds_boot(draft: &Draft) -> bool
-    ensures { result ≡ has_boot draft.now }
-{
-    match draft {
-        Draft::Begun(schedule) => any_boot(schedule.events.as_slice()),
-        _ => false,
-    }
-}
-
-#[tactic(auto, unfolding(ft_model::specs::Grammar::has_client))]
-fn holds_client(draft: &Draft) -> bool
-    ensures { result ≡ has_client draft.now }
-{
-    match draft {
-        Draft::Begun(schedule) => 0 < schedule.clients.as_slice().len(),
-        _ => false,
-    }
-}
-
-/// Whether an event needs what isn't built yet.
-#[tactic(auto, unfolding(ft_model::specs::Grammar::event_asks_for_more))]
-fn event_needs_more(draft: &Draft, event: &Event) -> bool
-    ensures { result ≡ event_asks_for_more draft.now event.now }
-{
-    match event {
-        Event::Boot { .. } => holds_boot(draft),
-        Event::Crash => true,
-        Event::Tick => true,
-        Event::Flip { .. } => true,
-        Event::Fin { .. } => true,
-        Event::Reset { .. } => true,
-        _ => false,
-    }
-}
-
-/// Whether a client needs what isn't built yet.
-fn client_needs_more(draft: &Draft, script: &Script) -> bool
-    ensures { result ≡ (has_client draft.now || is_fill script.now) }
-{
-    if holds_client(draft) {
-        return true;
-    }
-    match script {
-        Script::Fill { .. } => true,
-        Script::Bytes(_) => false,
-    }
-}
-
-/// Whether a line needs what isn't built yet.
-#[tactic(auto, unfolding(ft_model::specs::Grammar::asks_for_more))]
-fn needs_more(draft: &Draft, line: &Line) -> bool
-    ensures { result ≡ asks_for_more draft.now line.now }
-{
-    match line {
-        Line::Service(ServiceKind::Echo) => false,
-        Line::Service(_) => true,
-        Line::Server(_) => false,
-        Line::Client(client) => client_needs_more(draft, &client.script),
-        Line::Event(event) => event_needs_more(draft, event),
-    }
-}
-
-/// Reads a line from the words behind its keyword: the name of a service, the place, what the line says, and whether it is built.
-#[tactic(auto, unfolding(ft_model::specs::Grammar::line_behind, ft_model::specs::Grammar::built))]
+/// Reads a line from the words behind its keyword: the name of a service, the place, and what the line says.
+#[tactic(auto, unfolding(ft_model::specs::Grammar::line_behind))]
 fn read_behind(
     alloc: Global,
     draft: &Draft,
@@ -299,11 +219,7 @@ fn read_behind(
     if !takes_line(draft, keyword, words) {
         return Err(LineEnd::Refused(LineWhy::Place));
     }
-    let line = read_words(alloc, draft, keyword, words)?;
-    if needs_more(draft, &line) {
-        return Err(LineEnd::Refused(LineWhy::Built));
-    }
-    Ok(line)
+    read_words(alloc, draft, keyword, words)
 }
 
 fn is_plain(byte: u8) -> bool

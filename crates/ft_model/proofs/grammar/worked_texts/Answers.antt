@@ -11,5 +11,5 @@ returns c = record {
   nothing = refl;
   comment = refl;
   few_words = refl;
-  not_built = refl;
+  two_clients = refl;
 }

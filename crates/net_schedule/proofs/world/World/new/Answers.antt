@@ -7,5 +7,5 @@ use Rattle.net_schedule.proofs.world.World.new.Goals as goal
 
 pub returns-clause-stands : goal.returns-clause-stands
 returns-clause-stands g c =
-    λ closes. stands_at_start (machine (g.S.Service.started c.kind_of.result) g.S.Service.after) _ c.args.schedule.now c.requires.alone refl
+    λ closes. stands_at_start (machine (g.S.Service.started c.kind_of.result) g.S.Service.after) _ c.args.schedule.now c.requires.built.alone refl
     (c.in_ok-clients.ensures ∙ ap (clients_of c.args.schedule.now.server) c.as_slice.ensures) c.new.ensures (ap (map packet_of) c.new-2.ensures.items) refl refl closes
