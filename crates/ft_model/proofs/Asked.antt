@@ -7,7 +7,7 @@ use Rattle.seq_arith.specs.Message.{Numbers, Body, Message}
 use Rattle.seq_arith.specs.Message.Body.{OpenMsg, DataMsg, ReadMsg, DoneMsg, StaleMsg}
 use Rattle.server_trait.specs.Service.{Machine}
 use Rattle.ft_model.specs.Client.{Client}
-use Rattle.ft_model.specs.Log.{Log, Entry, log_after, kept, opened, new_entry, with_part, with_read}
+use Rattle.ft_model.specs.Log.{Log, Entry, log_after, with_body, opened, new_entry, with_part, with_read}
 use Rattle.ft_model.specs.Network.{Packet}
 use Rattle.ft_model.specs.Network.Packet.{To_server, To_client, To_logger, From_logger}
 use Rattle.ft_model.specs.Restart.{Fetched}
@@ -67,7 +67,7 @@ opened_distinct n log d =
     subst AreDistinct (sym (map_more (λ e. e.key) log.entries (new_entry n)))
     (distinct_more (entry_keys log) n.key d (sym (has_key_map (λ e. e.key) n.key log.entries) ∙ none)))
 
-kept_distinct : (body : Body) (log : Log) → AreDistinct (entry_keys log) → AreDistinct (entry_keys (kept body log))
+kept_distinct : (body : Body) (log : Log) → AreDistinct (entry_keys log) → AreDistinct (entry_keys (with_body body log))
 kept_distinct (OpenMsg n) log d = opened_distinct n log d
 kept_distinct (DataMsg part) log d = subst AreDistinct (sym (keys_stay part.key (with_part part) log.entries (part_grows part))) d
 kept_distinct (ReadMsg key index n) log d = subst AreDistinct (sym (keys_stay key (with_read index n) log.entries (read_grows index n))) d
@@ -80,7 +80,7 @@ distinct_after log message after (raised h b e) d = subst (λ l. AreDistinct (en
 distinct_after log message after (changed b e) d = subst (λ l. AreDistinct (entry_keys l)) (sym e) (kept_distinct message.body log d)
 
 -- a kind that changes nothing
-kept_nothing : (body : Body) (log : Log) → is_change body ≡ false → kept body log ≡ log
+kept_nothing : (body : Body) (log : Log) → is_change body ≡ false → with_body body log ≡ log
 kept_nothing (OpenMsg n) log q = absurd (true≢false q)
 kept_nothing (DataMsg part) log q = absurd (true≢false q)
 kept_nothing (ReadMsg key index n) log q = absurd (true≢false q)

@@ -8,7 +8,7 @@ use Rattle.seq_arith.specs.Message.{Part, Body, Message}
 use Rattle.seq_arith.specs.Message.Body.{OpenMsg, DataMsg, ReadMsg, DoneMsg}
 use Rattle.server_trait.specs.Service.{Machine}
 use Rattle.ft_model.specs.Client.{Client}
-use Rattle.ft_model.specs.Log.{Log, Entry, entry_of, new_entry, with_part, with_read, is_next_read, kept, log_after}
+use Rattle.ft_model.specs.Log.{Log, Entry, entry_of, new_entry, with_part, with_read, is_next_read, with_body, log_after}
 use Rattle.ft_model.specs.Network.{Packet, source_of, destination_of}
 use Rattle.ft_model.specs.Network.Packet.{To_server, To_client, To_logger, From_logger}
 use Rattle.ft_model.specs.Restart.{Fetched, Wanted, holding_segment, live_entry}
@@ -120,7 +120,7 @@ read_of_author author key index n e k r f =
     subst (λ l. slice_get l (length e.lengths) ≡ Some n) (sym f.0.1) (subst (λ m. slice_get (author e.key) m ≡ Some n) at (subst (λ x. slice_get (author x) index ≡ Some n) (sym k) r)) in
     (subst (IsPrefix (e.lengths ++ n ∷ [])) f.0.1 (front_more e.lengths f.0.0 n here), omega (arith, enough, total))) (λ t. f)
 
-kept_of_author : (author : Key → List ℕ) (body : Body) (log : Log) → ReadFits author body → AllByRecursion (EntryOf author) log.entries → AllByRecursion (EntryOf author) (kept body log).entries
+kept_of_author : (author : Key → List ℕ) (body : Body) (log : Log) → ReadFits author body → AllByRecursion (EntryOf author) log.entries → AllByRecursion (EntryOf author) (with_body body log).entries
 kept_of_author author (OpenMsg n) log r a =
     of_choice (λ l. AllByRecursion (EntryOf author) l.entries) (list_any (λ e. key_eq e.key n.key) log.entries || nat_le 64 (length log.entries)) log
     (record log { entries = log.entries ++ new_entry n ∷ [] }) (λ t. a)

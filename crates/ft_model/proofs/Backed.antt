@@ -12,7 +12,7 @@ use Rattle.seq_arith.specs.Message.{Body, Message}
 use Rattle.seq_arith.specs.Message.Body.{OpenMsg, DataMsg, ReadMsg, DoneMsg}
 use Rattle.server_trait.specs.Service.{Machine, Run}
 use Rattle.ft_model.specs.Offset.{ack_of, one_if}
-use Rattle.ft_model.specs.Log.{Log, Entry, entry_of, new_entry, with_part, with_read, is_next_read, kept}
+use Rattle.ft_model.specs.Log.{Log, Entry, entry_of, new_entry, with_part, with_read, is_next_read, with_body}
 use Rattle.ft_model.specs.Network.{Packet, source_of}
 use Rattle.ft_model.specs.Network.Packet.{To_server, To_client, To_logger, From_logger}
 use Rattle.ft_model.specs.Point.{Point}
@@ -107,7 +107,7 @@ place_later service script before after g (Ended key) f = tt
 -- the log
 
 kept_backed : {State : Type 0} (service : Machine State) (script : Key → List ℕ) (body : Body) (log : Log) → BodyBacked service script log body → AllByRecursion (EntryBacked service script log) log.entries
-    → AllByRecursion (EntryBacked service script log) (kept body log).entries
+    → AllByRecursion (EntryBacked service script log) (with_body body log).entries
 kept_backed service script (OpenMsg n) log r a =
     of_choice (λ l. AllByRecursion (EntryBacked service script log) l.entries) (list_any (λ e. key_eq e.key n.key) log.entries || nat_le 64 (length log.entries)) log
     (record log { entries = log.entries ++ new_entry n ∷ [] }) (λ t. a) (λ t. all_append (EntryBacked service script log) log.entries (new_entry n ∷ []) a (omega arith, tt))

@@ -7,7 +7,7 @@ use Rattle.ft_io.specs.Key.{key_eq}
 use Rattle.seq_arith.specs.Message.{Numbers, Part, Body, Message}
 use Rattle.seq_arith.specs.Message.Body.{OpenMsg, DataMsg, ReadMsg, DoneMsg}
 use Rattle.server_trait.specs.Service.{Machine, EndsAtZero, CanCut}
-use Rattle.ft_model.specs.Log.{Log, Entry, new_entry, with_bytes, with_its_fin, with_part, may_follow, is_next_read, with_read, kept, is_hello, is_answer, log_after}
+use Rattle.ft_model.specs.Log.{Log, Entry, new_entry, with_bytes, with_its_fin, with_part, may_follow, is_next_read, with_read, with_body, is_hello, is_answer, log_after}
 use Rattle.ft_model.specs.Network.{Packet}
 use Rattle.ft_model.specs.World.{World, Moment, Joint, world_after}
 use Rattle.ft_model.proofs.Lists.{of_choice, both, neither, not_true}
@@ -69,7 +69,7 @@ more_cut : (es : List Entry) (n : Numbers) → AllByRecursion IsCut es → AllBy
 more_cut [] n a = (record { enough = omega arith; ends = tt }, tt)
 more_cut (e ∷ es) n a = (a.0, more_cut es n a.1)
 
-kept_cut : (body : Body) (log : Log) → AreCut log → AreCut (kept body log)
+kept_cut : (body : Body) (log : Log) → AreCut log → AreCut (with_body body log)
 kept_cut (OpenMsg n) log a = of_choice AreCut (list_any (λ e. key_eq e.key n.key) log.entries || nat_le 64 (length log.entries)) log _ (λ t. a) (λ t. more_cut log.entries n a)
 kept_cut (DataMsg part) log a = changed_cut part.key (with_part part) log.entries (part_cut part) a
 kept_cut (ReadMsg key index n) log a = changed_cut key (with_read index n) log.entries (read_cut index n) a

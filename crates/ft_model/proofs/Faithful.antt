@@ -12,7 +12,7 @@ use Rattle.seq_arith.specs.Message.Body.{HelloMsg, ListMsg, EntryMsg, BytesMsg, 
 use Rattle.seq_arith.proofs.Shifts.{offset_of_number}
 use Rattle.server_trait.specs.Service.{Machine}
 use Rattle.ft_model.specs.Offset.{ack_of, one_if}
-use Rattle.ft_model.specs.Log.{Log, Entry, entry_of, kept_of, head_of, part_of, lens_of, opened, told, kept, opened_answer}
+use Rattle.ft_model.specs.Log.{Log, Entry, entry_of, kept_of, head_of, part_of, lens_of, opened, told, with_body, opened_answer}
 use Rattle.ft_model.specs.Network.{Packet, source_of, destination_of}
 use Rattle.ft_model.specs.Network.Packet.{To_server, To_client, To_logger, From_logger}
 use Rattle.ft_model.specs.Point.{Point, acknowledgement}

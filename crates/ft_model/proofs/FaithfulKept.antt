@@ -13,7 +13,7 @@ use Rattle.server_trait.specs.Service.{Machine}
 use Rattle.ft_model.specs.Offset.{first_of, ack_of, text_of, fin_of, length_of}
 use Rattle.ft_model.specs.Client.{Client, received, opened_by, arrived, used, with_text, with_fin, with_ack, is_opening, is_open, is_ended, next_of, room_of}
 use Rattle.ft_model.specs.declared.phase.Phase.TheVariants as phases
-use Rattle.ft_model.specs.Log.{Log, Entry, new_entry, opened, with_part, with_read, is_next_read, kept, log_after}
+use Rattle.ft_model.specs.Log.{Log, Entry, new_entry, opened, with_part, with_read, is_next_read, with_body, log_after}
 use Rattle.ft_model.specs.Network.{Packet, source_of}
 use Rattle.ft_model.specs.Network.Packet.{To_server, To_client, To_logger, From_logger}
 use Rattle.ft_model.specs.Point.{Point}
@@ -141,7 +141,7 @@ read_fits script isn index n e f =
     of_choice (EntryFits script isn) (is_next_read e index n) _ e (λ t. record { front = f.front; fin = f.fin; cisn = f.cisn }) (λ t. f)
 
 kept_entries : (script : Key → List ℕ) (isn : Key → ℕ) (body : Body) (log : Log) → BodyFits script isn body → EntriesFit script isn log.entries
-    → EntriesFit script isn (kept body log).entries
+    → EntriesFit script isn (with_body body log).entries
 kept_entries script isn (OpenMsg n) log f a = opened_entries script isn n log f a
 kept_entries script isn (DataMsg part) log f a =
     entry_changes script isn part.key (with_part part) log.entries

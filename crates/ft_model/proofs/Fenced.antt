@@ -8,7 +8,7 @@ use Rattle.seq_arith.specs.Message.{Body, Message}
 use Rattle.seq_arith.specs.Message.Body.{SummaryMsg, OpenMsg, DataMsg, ReadMsg, DoneMsg, StaleMsg}
 use Rattle.server_trait.specs.Service.{Machine}
 use Rattle.ft_model.specs.Client.{Client}
-use Rattle.ft_model.specs.Log.{Log, log_after, kept}
+use Rattle.ft_model.specs.Log.{Log, log_after, with_body}
 use Rattle.ft_model.specs.Network.{Packet, source_of}
 use Rattle.ft_model.specs.Network.Packet.{To_server, To_client, To_logger, From_logger}
 use Rattle.ft_model.specs.Point.{Point}

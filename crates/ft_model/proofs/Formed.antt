@@ -18,7 +18,7 @@ use Rattle.ft_model.specs.Node.Place.{Opens, Lives, Ended}
 use Rattle.ft_model.specs.Node.Stage.{Serving}
 use Rattle.ft_model.specs.World.{World}
 use Rattle.ft_model.specs.Growth.{IsPrefix}
-use Rattle.ft_model.specs.Report.{number_of}
+use Rattle.ft_model.specs.Report.{number_of_client}
 use Rattle.ft_model.specs.Readable.{FitsAddr, FitsKey, IsOf}
 use Rattle.ft_model.proofs.FaithfulOver.{script_of, isn_of}
 
@@ -60,7 +60,7 @@ bytes_output service writes bytes lengths a = writes (cut bytes lengths) (bytes_
 
 -- the key is that of a client of the start
 abbrev pub HasClient : World → Key → Type 0
-HasClient start key = FitsKey key × (0 < number_of start.clients key)
+HasClient start key = FitsKey key × (0 < number_of_client start.clients key)
 
 abbrev pub IsSize : ℕ → Type 0
 IsSize mss = (64 ≤ mss) × (mss ≤ 1460)

@@ -7,7 +7,7 @@ use Rattle.ft_io.specs.Key.{key_eq}
 use Rattle.seq_arith.specs.Message.{Numbers, Part, Body, Message}
 use Rattle.seq_arith.specs.Message.Body.{HelloMsg, ListMsg, EntryMsg, BytesMsg, PartMsg, CutsMsg, LensMsg, OpenMsg, DataMsg, StableMsg, ReadMsg, ReadsMsg, DoneMsg, EndedMsg}
 use Rattle.server_trait.specs.Service.{AreBytes}
-use Rattle.ft_model.specs.Log.{Log, Entry, entry_of, new_entry, opened, with_bytes, with_its_fin, with_part, may_follow, is_next_read, with_read, kept, kept_of, head_of, part_of, lens_of, opened_answer, told}
+use Rattle.ft_model.specs.Log.{Log, Entry, entry_of, new_entry, opened, with_bytes, with_its_fin, with_part, may_follow, is_next_read, with_read, with_body, kept_of, head_of, part_of, lens_of, opened_answer, told}
 use Rattle.ft_model.specs.World.{World}
 use Rattle.ft_model.proofs.Lists.{of_choice, both, neither, not_true, all_weaker, all_map, all_append, all_find, all_slice_get, none_is_some, some_is}
 use Rattle.ft_model.proofs.Services.{sum_append, sum_more, prefix_length}
@@ -99,7 +99,7 @@ by_key start key change log f a =
     let size = length_map (λ (e : Entry). if key_eq e.key key then change e else e) log.entries in
     (changed_formed start key change log.entries f a.0, omega (arith, size, a.1))
 
-kept_formed : (start : World) (boot : ℕ) (body : Body) (log : Log) → BodyFormed start boot body → LogFormed start log.entries → LogFormed start (kept body log).entries
+kept_formed : (start : World) (boot : ℕ) (body : Body) (log : Log) → BodyFormed start boot body → LogFormed start log.entries → LogFormed start (with_body body log).entries
 kept_formed start boot (OpenMsg n) log h a = opened_formed start n log h a
 kept_formed start boot (DataMsg part) log h a = by_key start part.key (with_part part) log (λ e f. part_formed start part e f) a
 kept_formed start boot (ReadMsg key index n) log h a = by_key start key (with_read index n) log (λ e f. read_formed start index n e h.2 f) a

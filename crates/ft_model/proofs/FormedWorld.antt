@@ -17,7 +17,7 @@ use Rattle.ft_model.specs.Network.Packet.{To_server, To_logger}
 use Rattle.ft_model.specs.Wire.{HasWire}
 use Rattle.ft_model.specs.Node.{Node, booted}
 use Rattle.ft_model.specs.World.{World, Moment, client_at, with_client, Moves, IsNewClient, IsStart, Joint, world_after}
-use Rattle.ft_model.specs.Report.{number_of}
+use Rattle.ft_model.specs.Report.{number_of_client}
 use Rattle.ft_model.proofs.Lists.{of_choice, all_weaker, all_both, all_append, all_find, all_slice_get, none_is_some, some_is, key_is}
 use Rattle.ft_model.proofs.Keys.{all_from_get}
 use Rattle.ft_model.proofs.Happened.{Happened, IsUnderWay, all_sent, answers, happened}
@@ -174,7 +174,7 @@ place_known at len less =
     of_choice (λ o. 0 < option_map_or (λ i. i + 1) o 0) (nat_lt at len) (Some at) None (λ t. omega arith)
     (λ t. absurd (let far = ltb-false at len t in omega (arith, less, far)))
 
-client_known : (clients : List Client) (i : ℕ) (c : Client) → slice_get clients i ≡ Some c → 0 < number_of clients c.key
+client_known : (clients : List Client) (i : ℕ) (c : Client) → slice_get clients i ≡ Some c → 0 < number_of_client clients c.key
 client_known clients i c e =
     place_known (position_or_len (λ x. key_eq x.key c.key) clients) (length clients) (passes_within (λ x. key_eq x.key c.key) clients i c e (key_is c.key))
 

@@ -6,7 +6,7 @@ use Rattle.ft_io.specs.Key.{key_eq}
 use Rattle.seq_arith.specs.Message.{Numbers, Part, Body, Message}
 use Rattle.seq_arith.specs.Message.Body.{HelloMsg, OpenMsg, DataMsg, ReadMsg, DoneMsg}
 use Rattle.ft_model.specs.Offset.{one_if}
-use Rattle.ft_model.specs.Log.{Entry, Log, entry_of, new_entry, opened, with_bytes, with_its_fin, with_part, is_next_read, with_read, kept, is_hello, is_answer, heard, log_after}
+use Rattle.ft_model.specs.Log.{Entry, Log, entry_of, new_entry, opened, with_bytes, with_its_fin, with_part, is_next_read, with_read, with_body, is_hello, is_answer, heard, log_after}
 use Rattle.ft_model.specs.Growth.{IsPrefix, EntryGrows, EntriesGrow, LogGrows, lengths_in, units_in, logged_lengths, logged_units}
 use Rattle.ft_model.proofs.Lists.{of_choice, neither, or_right, prefix_refl, prefix_more, prefix_trans, none_is_some, some_is, or_cases}
 
@@ -153,7 +153,7 @@ opened_grows n log =
     of_choice (LogGrows log) (list_any (λ e. key_eq e.key n.key) log.entries || nat_le 64 (length log.entries)) log _ (λ t. log_refl log)
     (λ t. record { boot = le_refl log.boot; entries = more_grow log.entries (new_entry n ∷ []) })
 
-pub kept_grows : (body : Body) (log : Log) → LogGrows log (kept body log)
+pub kept_grows : (body : Body) (log : Log) → LogGrows log (with_body body log)
 kept_grows (OpenMsg n) log = opened_grows n log
 kept_grows (DataMsg part) log = record { boot = le_refl log.boot; entries = changed_grow part.key (with_part part) log.entries (part_grows part) }
 kept_grows (ReadMsg key index n) log = record { boot = le_refl log.boot; entries = changed_grow key (with_read index n) log.entries (read_grows index n) }
@@ -242,7 +242,7 @@ hello_raises log hello h =
     of_choice (λ l. hello.boot ≤ l.boot) (is_answer hello.body || nat_lt hello.boot log.boot) log (heard hello log)
     (λ t. ⊎_elim (λ a. absurd (true≢false (sym a ∙ no_answer hello.body h)))
     (λ b. let less : hello.boot < log.boot = ltb-true _ _ b in omega (arith, less)) (or_cases (is_answer hello.body) (nat_lt hello.boot log.boot) t))
-    (λ t. of_choice (λ l. hello.boot ≤ l.boot) (is_hello hello.body) (record log { boot = hello.boot }) (if hello.boot == log.boot then kept hello.body log else log)
+    (λ t. of_choice (λ l. hello.boot ≤ l.boot) (is_hello hello.body) (record log { boot = hello.boot }) (if hello.boot == log.boot then with_body hello.body log else log)
     (λ x. le_refl hello.boot) (λ x. absurd (true≢false (sym h ∙ x))))
 
 -- so from then on no message of an older boot changes it

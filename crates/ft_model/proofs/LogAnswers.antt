@@ -3,7 +3,7 @@ use Rattle.std.proofs.Common.{◌≡◌, ℕ, ◌<◌, ◌≤◌, Bool, true, fa
 use Rattle.std.specs.List.{AllByRecursion, list_any}
 use Rattle.seq_arith.specs.Message.{Numbers, Body, Message}
 use Rattle.seq_arith.specs.Message.Body.{OpenMsg, DataMsg, ReadMsg, DoneMsg, StaleMsg}
-use Rattle.ft_model.specs.Log.{Log, log_after, answer_to, answer_body, told, heard, kept, opened, new_entry, is_hello, is_answer}
+use Rattle.ft_model.specs.Log.{Log, log_after, answer_to, answer_body, told, heard, with_body, opened, new_entry, is_hello, is_answer}
 use Rattle.ft_model.specs.Network.{Packet}
 use Rattle.ft_model.specs.Network.Packet.{From_logger}
 use Rattle.ft_model.proofs.Lists.{of_choice, neither, none_is_some, some_is, or_neither}
@@ -13,7 +13,7 @@ opened_boot : (n : Numbers) (log : Log) → (opened n log).boot ≡ log.boot
 opened_boot n log =
     of_choice (λ l. l.boot ≡ log.boot) (list_any _ log.entries || nat_le 64 (length log.entries)) log (record log { entries = log.entries ++ new_entry n ∷ [] }) (λ t. refl) (λ t. refl)
 
-pub kept_boot : (body : Body) (log : Log) → (kept body log).boot ≡ log.boot
+pub kept_boot : (body : Body) (log : Log) → (with_body body log).boot ≡ log.boot
 kept_boot (OpenMsg n) log = opened_boot n log
 kept_boot (DataMsg part) log = refl
 kept_boot (ReadMsg key index n) log = refl
@@ -24,7 +24,7 @@ kept_boot _ log = refl
 pub data LogWent (log : Log) (message : Message) (after : Log) : Type 0 where
   ignored : after ≡ log → LogWent log message after
   raised : is_hello message.body ≡ true → log.boot ≤ message.boot → after ≡ record log { boot = message.boot } → LogWent log message after
-  changed : message.boot ≡ log.boot → after ≡ kept message.body log → LogWent log message after
+  changed : message.boot ≡ log.boot → after ≡ with_body message.body log → LogWent log message after
 
 pub log_went : (log : Log) (message : Message) → LogWent log message (log_after log message)
 unfolding log_after
@@ -33,7 +33,7 @@ log_went log message =
     (λ t. let parts = neither (is_answer message.body) (nat_lt message.boot log.boot) t in
     let larger : log.boot ≤ message.boot = grind (arith, parts) in
     of_choice (LogWent log message) (is_hello message.body) _ _ (λ h. raised h larger refl)
-    (λ h. of_choice (LogWent log message) (message.boot == log.boot) (kept message.body log) log (λ b. changed (eqb-true _ _ b) refl) (λ b. ignored refl)))
+    (λ h. of_choice (LogWent log message) (message.boot == log.boot) (with_body message.body log) log (λ b. changed (eqb-true _ _ b) refl) (λ b. ignored refl)))
 
 pub boot_after : (log : Log) (message : Message) (after : Log) (top : ℕ) → LogWent log message after → log.boot ≤ top → message.boot ≤ top → after.boot ≤ top
 boot_after log message after top (ignored e) l m = subst (λ x. x.boot ≤ top) (sym e) l
@@ -51,11 +51,11 @@ IsAnsweredSo log message body =
     ((body ≡ StaleMsg log.boot) × (message.boot < log.boot)) ⊎ ((message.boot ≡ (log_after log message).boot) × (told message.body (log_after log message) ≡ Some body))
 
 by_hello : (log : Log) (message : Message) (b : Bool) → (b || message.boot == log.boot) ≡ true
-    → message.boot ≡ (if b then record log { boot = message.boot } else (if message.boot == log.boot then kept message.body log else log)).boot
+    → message.boot ≡ (if b then record log { boot = message.boot } else (if message.boot == log.boot then with_body message.body log else log)).boot
 by_hello log message true own = refl
 by_hello log message false own =
     let same : message.boot ≡ log.boot = eqb-true _ _ own in
-    of_choice (λ l. message.boot ≡ l.boot) (message.boot == log.boot) (kept message.body log) log (λ t. same ∙ sym (kept_boot message.body log)) (λ t. same)
+    of_choice (λ l. message.boot ≡ l.boot) (message.boot == log.boot) (with_body message.body log) log (λ t. same ∙ sym (kept_boot message.body log)) (λ t. same)
 
 own_boot : (log : Log) (message : Message) → (is_hello message.body || message.boot == log.boot) ≡ true → is_answer message.body ≡ false
     → nat_lt message.boot log.boot ≡ false → message.boot ≡ (log_after log message).boot

@@ -12,7 +12,7 @@ use Rattle.seq_arith.specs.declared.BadPacket.{BadPacket}
 use Rattle.seq_arith.specs.declared.kinds.BadMsg.{BadMsg}
 use Rattle.ft_model.specs.Wire.{wire_of}
 use Rattle.server_trait.specs.Service.{Machine}
-use Rattle.ft_model.specs.Client.{Move, move_of, received}
+use Rattle.ft_model.specs.Client.{Move, move_asked, received}
 use Rattle.ft_model.specs.Log.{log_after}
 use Rattle.ft_model.specs.Client.Move.{Syn, Text, Acknowledge, Rst}
 use Rattle.ft_model.specs.Client.Move.{Fin as Fin_move}
@@ -22,7 +22,7 @@ use Rattle.ft_model.specs.Node.{Node, Input, booted}
 use Rattle.ft_model.specs.Node.Input.{Packet_comes, Message_comes, Tick_comes}
 use Rattle.ft_model.specs.Schedule.{kind_of}
 use Rattle.ft_model.specs.World.{World, Moment, ServerTurn, ServerMoves, ClientReads, LogReads, segment_or_noise, message_or_noise, DeliveredAs, Flipped, Delivered, Moves, Happens, Joint, world_after, events_of, with_client}
-use Rattle.ft_model.specs.Legal.{start_of, mover_of, IsScripted, IsAllowed, AllAllowed, IsLegalFor}
+use Rattle.ft_model.specs.Legal.{start_of, IsScripted, IsAllowed, AllAllowed, IsLegalFor}
 use Rattle.ft_model.specs.declared.event.Event.{Event}
 use Rattle.ft_model.specs.declared.event.Event.TheVariants.{Boot, Crash, Tick, Deliver, Flip, Begin, Send, Fin, Ack, Reset}
 use Rattle.ft_model.specs.declared.schedule.Schedule.{Schedule}
@@ -90,12 +90,12 @@ module _ {State : Type 0} (service : Machine State) where
       ∙ (ap (λ cs. record before { clients = cs; packets = before.packets ++ s }) alike
       ∙ (ap (λ ps. record before { clients = with_client q.client.key (λ _. q.later) before.clients; packets = before.packets ++ ps }) sent ∙ sym q.after_is))
 
-  by_script : (event : Event) (move : Move) (before w x : World) (s t : List Packet) → move_of event ≡ Some move
-      → Moves before (mover_of event) s w → Moves before (mover_of event) t x → IsScripted before event s w → IsScripted before event t x → w ≡ x
-  by_script event move before w x s t asked p q a b =
-      let one = a p.client move p.is_there asked in
-      let other = b p.client move p.is_there asked in
-      move_once (mover_of event) before w x s t p q (one.0 ∙ sym other.0) (one.1 ∙ sym other.1)
+  by_script : (event : Event) (number : ℕ) (move : Move) (before w x : World) (s t : List Packet) → move_asked event ≡ Some (number, move)
+      → Moves before number s w → Moves before number t x → IsScripted before event s w → IsScripted before event t x → w ≡ x
+  by_script event number move before w x s t asks p q a b =
+      let one = a number move p.client asks p.is_there in
+      let other = b number move p.client asks p.is_there in
+      move_once number before w x s t p q (one.0 ∙ sym other.0) (one.1 ∙ sym other.1)
 
   pub happens_once : (event : Event) (before w x : World) (s t : List Packet) → Happens service before event s w → Happens service before event t x
       → IsScripted before event s w → IsScripted before event t x → w ≡ x
@@ -110,11 +110,11 @@ module _ {State : Type 0} (service : Machine State) where
       let same : p.0 ≡ q.0 = some_is p.0 q.0 (sym p.1 ∙ q.1) in
       let f : Flipped service before q.0 bit s w = subst (λ packet. Flipped service before packet bit s w) same p.2 in
       changed_once q.0 (flipped bit (wire_of q.0).bytes) before w x s t f.comes q.2.comes
-  happens_once (Begin client window) before w x s t p q a b = by_script (Begin client window) (Syn None) before w x s t refl p q a b
-  happens_once (Send client from len) before w x s t p q a b = by_script (Send client from len) (Text from len) before w x s t refl p q a b
-  happens_once (Fin client) before w x s t p q a b = by_script (Fin client) Fin_move before w x s t refl p q a b
-  happens_once (Ack client window) before w x s t p q a b = by_script (Ack client window) Acknowledge before w x s t refl p q a b
-  happens_once (Reset client) before w x s t p q a b = by_script (Reset client) Rst before w x s t refl p q a b
+  happens_once (Begin client window) before w x s t p q a b = by_script (Begin client window) client (Syn None) before w x s t refl p q a b
+  happens_once (Send client from len) before w x s t p q a b = by_script (Send client from len) client (Text from len) before w x s t refl p q a b
+  happens_once (Fin client) before w x s t p q a b = by_script (Fin client) client Fin_move before w x s t refl p q a b
+  happens_once (Ack client window) before w x s t p q a b = by_script (Ack client window) client Acknowledge before w x s t refl p q a b
+  happens_once (Reset client) before w x s t p q a b = by_script (Reset client) client Rst before w x s t refl p q a b
 
   -- what was sent stays
   pub goes_on : (event : Event) (before w : World) (s : List Packet) → Happens service before event s w → w.packets ≡ before.packets ++ s

@@ -13,7 +13,7 @@ use Rattle.ft_model.specs.Schedule.{kind_of, client_of, clients_of}
 use Rattle.ft_model.specs.World.{World, Moment, events_of}
 use Rattle.ft_model.specs.Image.{HasWires}
 use Rattle.ft_model.specs.Legal.{start_of, Legal}
-use Rattle.ft_model.specs.Report.{number_of}
+use Rattle.ft_model.specs.Report.{number_of_client}
 use Rattle.ft_model.specs.Readable.{Fits, FitsEvent, FitsSchedule, HasEnds, IsReadable, IsReadableTurn}
 use Rattle.ft_model.specs.declared.schedule.Schedule.{Schedule}
 use Rattle.ft_model.proofs.Lists.{of_choice, all_front}
@@ -27,7 +27,7 @@ place_within : (at len : ℕ) → option_map_or (λ i. i + 1) (if nat_lt at len 
 place_within at len =
     of_choice (λ o. option_map_or (λ i. i + 1) o 0 ≤ len) (nat_lt at len) (Some at) None (λ t. grind (arith, t)) (λ t. omega arith)
 
-number_within : (clients : List Client) (key : Key) → number_of clients key ≤ length clients
+number_within : (clients : List Client) (key : Key) → number_of_client clients key ≤ length clients
 number_within clients key = place_within (position_or_len (λ c. key_eq c.key key) clients) (length clients)
 
 ends_known : (start : World) (packet : Packet) → Fits (length start.clients) → PacketFormed start packet → HasEnds start.server start.clients packet

@@ -7,7 +7,7 @@ use Rattle.ft_io.specs.Key.{key_eq}
 use Rattle.seq_arith.specs.Packet.{has_rst, has_ack}
 use Rattle.seq_arith.specs.Message.{Numbers, Body, Message}
 use Rattle.seq_arith.specs.Message.Body.{HelloMsg, ListMsg, EntryMsg, BytesMsg, PartMsg, CutsMsg, LensMsg, OpenMsg, DataMsg, StableMsg, ReadMsg, ReadsMsg, DoneMsg, EndedMsg, FullMsg}
-use Rattle.ft_model.specs.Log.{Log, Entry, entry_of, new_entry, opened, with_part, with_read, kept, is_hello, is_answer, log_after, opened_answer, told, kept_of, head_of, part_of, lens_of}
+use Rattle.ft_model.specs.Log.{Log, Entry, entry_of, new_entry, opened, with_part, with_read, with_body, is_hello, is_answer, log_after, opened_answer, told, kept_of, head_of, part_of, lens_of}
 use Rattle.ft_model.specs.Network.{Packet, source_of, destination_of}
 use Rattle.ft_model.specs.Network.Packet.{To_server, To_client, To_logger, From_logger}
 use Rattle.ft_model.specs.Growth.{LogGrows}
@@ -62,7 +62,7 @@ opened_keys n log =
     inr (omega (arith, room, size), map_more (λ e. e.key) log.entries (new_entry n)))
 
 kept_keys : (body : Body) (log : Log)
-    → (entry_keys (kept body log) ≡ entry_keys log) ⊎ ((n : Numbers) × (body ≡ OpenMsg n) × (length (entry_keys log) < 64) × (entry_keys (kept body log) ≡ entry_keys log ++ n.key ∷ []))
+    → (entry_keys (with_body body log) ≡ entry_keys log) ⊎ ((n : Numbers) × (body ≡ OpenMsg n) × (length (entry_keys log) < 64) × (entry_keys (with_body body log) ≡ entry_keys log ++ n.key ∷ []))
 kept_keys (OpenMsg n) log = ⊎_elim (λ e. inl e) (λ r. inr (n, refl, r.0, r.1)) (opened_keys n log)
 kept_keys (DataMsg part) log = inl (keys_stay part.key (with_part part) log.entries (part_grows part))
 kept_keys (ReadMsg key index n) log = inl (keys_stay key (with_read index n) log.entries (read_grows index n))
@@ -98,8 +98,8 @@ no_answer (DoneMsg key) c = (refl, refl)
 no_answer _ c = absurd (true≢false (sym c))
 
 by_tests : (log : Log) (message : Message) (a h l b : Bool) → a ≡ false → h ≡ false → nat_lt message.boot log.boot ≡ l → (message.boot == log.boot) ≡ b
-    → message.boot ≡ (if a || l then log else (if h then record log { boot = message.boot } else (if b then kept message.body log else log))).boot
-    → (if a || l then log else (if h then record log { boot = message.boot } else (if b then kept message.body log else log))) ≡ kept message.body log
+    → message.boot ≡ (if a || l then log else (if h then record log { boot = message.boot } else (if b then with_body message.body log else log))).boot
+    → (if a || l then log else (if h then record log { boot = message.boot } else (if b then with_body message.body log else log))) ≡ with_body message.body log
 by_tests log message true h l b p q r s own = absurd (true≢false p)
 by_tests log message false true l b p q r s own = absurd (true≢false q)
 by_tests log message false false true b p q r s own = let less : message.boot < log.boot = ltb-true _ _ r in absurd (omega (arith, less, own))
@@ -107,7 +107,7 @@ by_tests log message false false false true p q r s own = refl
 by_tests log message false false false false p q r s own = absurd (true≢false (sym (eq-eqb message.boot log.boot own) ∙ s))
 
 -- a change that is answered in the log's boot was made
-changes : (log : Log) (message : Message) → is_change message.body ≡ true → message.boot ≡ (log_after log message).boot → log_after log message ≡ kept message.body log
+changes : (log : Log) (message : Message) → is_change message.body ≡ true → message.boot ≡ (log_after log message).boot → log_after log message ≡ with_body message.body log
 unfolding log_after
 changes log message c own =
     by_tests log message (is_answer message.body) (is_hello message.body) (nat_lt message.boot log.boot) (message.boot == log.boot) (no_answer message.body c).0 (no_answer message.body c).1 refl refl own
@@ -125,7 +125,7 @@ all_done key es =
     (all_of (λ e. EndsSo key (if key_eq e.key key then as_done e else e)) es
     (λ e. of_choice (EndsSo key) (key_eq e.key key) (as_done e) e (λ t k. refl) (λ t k. absurd (true≢false (sym k ∙ t)))))
 
-ended_says : (log after : Log) (key : Key) (answer : Body) → after ≡ kept (DoneMsg key) log → told (DoneMsg key) after ≡ Some answer → BodySays after answer
+ended_says : (log after : Log) (key : Key) (answer : Body) → after ≡ with_body (DoneMsg key) log → told (DoneMsg key) after ≡ Some answer → BodySays after answer
 ended_says log after key answer c t =
     let o = on_some (entry_of key after) (λ e. Some (EndedMsg key)) answer t in
     let ends : AllByRecursion (EndsSo key) after.entries = subst (λ l. AllByRecursion (EndsSo key) l.entries) (sym c) (all_done key log.entries) in
@@ -156,7 +156,7 @@ full_says log after n None answer c f t =
     subst (BodySays after) (some_is _ _ t) (none, shut)
 
 -- what the log tells
-told_says : (body : Body) (log after : Log) (answer : Body) → (is_change body ≡ true → after ≡ kept body log) → told body after ≡ Some answer → BodySays after answer
+told_says : (body : Body) (log after : Log) (answer : Body) → (is_change body ≡ true → after ≡ with_body body log) → told body after ≡ Some answer → BodySays after answer
 told_says (OpenMsg n) log after answer c t = full_says log after n (entry_of n.key after) answer (c refl) refl t
 told_says (DoneMsg key) log after answer c t = ended_says log after key answer (c refl) t
 told_says HelloMsg log after answer c t = subst (BodySays after) (some_is _ _ t) tt

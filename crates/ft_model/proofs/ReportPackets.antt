@@ -18,7 +18,7 @@ use Rattle.ft_model.specs.Network.Packet.{To_server, To_client, To_logger, From_
 use Rattle.ft_model.specs.declared.way.Way.{Way}
 use Rattle.ft_model.specs.declared.way.Way.TheVariants.{ClientToServer, ServerToClient}
 use Rattle.ft_model.specs.Texts.{key_text, way_text}
-use Rattle.ft_model.specs.Report.{segment_words, name_of, numbers_words, kept_words, entry_words, part_words, field_words, message_words, content_words, packet_line, number_of, way_of}
+use Rattle.ft_model.specs.Report.{segment_words, name_of, numbers_words, kept_words, entry_words, part_words, field_words, message_words, content_words, packet_line, number_of_client, way_of}
 use Rattle.ft_model.specs.Readable.{Fits, FitsWay, FitsKey, IsOf, IsReadable}
 use Rattle.ft_model.proofs.ReportRanges.{FitsSegment, FitsNumbers, FitsKept, FitsEntry, FitsPart, FitsBody, segment_fits, message_fits}
 use Rattle.ft_model.proofs.ReportWords.{rest_same, word_decimal}
@@ -146,10 +146,10 @@ known_at (Some i) clients key d e h =
     subst (λ j. (get_or clients j d).key ≡ key) place (key_is _ key at.1)
 
 -- a client's number tells its key
-number_same : (clients : List Client) (k l : Key) → 0 < number_of clients k → number_of clients k ≡ number_of clients l → k ≡ l
+number_same : (clients : List Client) (k l : Key) → 0 < number_of_client clients k → number_of_client clients k ≡ number_of_client clients l → k ≡ l
 number_same clients k l h e =
     let d : Client = new_client Scripted (record { ip = 0; port = 0 }) k 0 [] in
-    let also : 0 < number_of clients l = omega (arith, e) in
+    let also : 0 < number_of_client clients l = omega (arith, e) in
     sym (known_at (position (λ c. key_eq c.key k) clients) clients k d refl h)
     ∙ ap (λ n. (get_or clients (n - 1) d).key) e
     ∙ known_at (position (λ c. key_eq c.key l) clients) clients l d refl also

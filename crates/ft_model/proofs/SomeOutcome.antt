@@ -11,7 +11,7 @@ use Rattle.seq_arith.specs.Damage.{flipped}
 use Rattle.seq_arith.specs.declared.BadPacket.{BadPacket}
 use Rattle.seq_arith.specs.declared.kinds.BadMsg.{BadMsg}
 use Rattle.server_trait.specs.Service.{Machine, WritesBytes}
-use Rattle.ft_model.specs.Client.{Client, Move, may_move, move_of, window_of, refusal_of_move, segment_of, moved, may_announce, suits_kind, suits_phase, suits_range, received}
+use Rattle.ft_model.specs.Client.{Client, Move, may_move, move_asked, move_of, window_of, refusal_of_move, segment_of, moved, may_announce, suits_kind, suits_phase, suits_range, received}
 use Rattle.ft_model.specs.Client.Move.{Syn, Text, Acknowledge, Rst}
 use Rattle.ft_model.specs.Client.Move.{Fin as Fin_move}
 use Rattle.ft_model.specs.Log.{log_after, answer_to}
@@ -23,7 +23,7 @@ use Rattle.ft_model.specs.Node.Input.{Packet_comes, Message_comes, Tick_comes}
 use Rattle.ft_model.specs.Lawful.{hello}
 use Rattle.ft_model.specs.Schedule.{kind_of}
 use Rattle.ft_model.specs.World.{World, Moment, ServerTurn, ServerMoves, ClientReads, LogReads, segment_or_noise, message_or_noise, DeliveredAs, Delivered, Moves, Happens, Joint, IsStart, world_after, client_at, with_client}
-use Rattle.ft_model.specs.Legal.{start_of, refusal, refusal_of_client, refusal_of_flip, mover_of, IsScripted, IsLegalFor}
+use Rattle.ft_model.specs.Legal.{start_of, refusal, refusal_of_client, refusal_of_flip, IsScripted, IsLegalFor}
 use Rattle.ft_model.specs.Outcome.{HasOutcome}
 use Rattle.ft_model.specs.Readable.{FitsEvent}
 use Rattle.ft_model.specs.declared.event.Event.{Event}
@@ -43,8 +43,8 @@ abbrev CanHappen : {State : Type 0} → Machine State → World → Event → Ty
 CanHappen service w event = (sent : List Packet) × (after : World) × Happens service w event sent after × IsScripted w event sent after
 
 -- no client is asked to move
-quiet_event : (w : World) (event : Event) (sent : List Packet) (after : World) → move_of event ≡ None → IsScripted w event sent after
-quiet_event w event sent after none client move at asked = none_is_some move (sym none ∙ asked)
+quiet_event : (w : World) (event : Event) (sent : List Packet) (after : World) → move_asked event ≡ None → IsScripted w event sent after
+quiet_event w event sent after none number move client is at = none_is_some (number, move) (sym none ∙ is)
 
 is_none : {A : Type 0} (o : Option A) → is_some o ≡ false → o ≡ None
 is_none (Some x) e = absurd (cc)
@@ -147,19 +147,22 @@ window_fits client Tick move h e = none_is_some move e
 window_fits client (Deliver n) move h e = none_is_some move e
 window_fits client (Flip n bit) move h e = none_is_some move e
 
+asks_for : (event : Event) (number : ℕ) (move : Move) → move_asked event ≡ Some (number, move) → move_of event ≡ Some move
+asks_for event number move e = subst (λ o. option_map (λ a. a.1) o ≡ Some move) (sym e) refl
+
 -- the client of a move
-mover_there : (o : Option Client) (event : Event) (move : Move) → move_of event ≡ Some move → refusal_of_client o (move_of event) ≡ None
-    → (client : Client) × (o ≡ Some client) × (refusal_of_move client move ≡ None)
-mover_there (Some client) event move asked free = (client, refl, subst (λ m. refusal_of_client (Some client) m ≡ None) asked free)
-mover_there None event move asked free = none_is_some why.Client (sym free)
+mover_there : (o : Option Client) (move : Move) → refusal_of_client o move ≡ None → (client : Client) × (o ≡ Some client) × (refusal_of_move client move ≡ None)
+mover_there (Some client) move free = (client, refl, free)
+mover_there None move free = none_is_some why.Client (sym free)
 
-abbrev CanBeMoved : World → Event → Type 0
-CanBeMoved w event = (sent : List Packet) × (after : World) × Moves w (mover_of event) sent after × IsScripted w event sent after
+abbrev CanBeMoved : World → Event → ℕ → Type 0
+CanBeMoved w event number = (sent : List Packet) × (after : World) × Moves w number sent after × IsScripted w event sent after
 
-move_can : (w : World) (event : Event) (move : Move) → FitsEvent event → move_of event ≡ Some move → refusal_of_client (client_at w.clients (mover_of event)) (move_of event) ≡ None
-    → CanBeMoved w event
-move_can w event move h asked free =
-    let c = mover_there (client_at w.clients (mover_of event)) event move asked free in
+move_can : (w : World) (event : Event) (number : ℕ) (move : Move) → FitsEvent event → move_asked event ≡ Some (number, move) → refusal_of_client (client_at w.clients number) move ≡ None
+    → CanBeMoved w event number
+move_can w event number move h asks free =
+    let c = mover_there (client_at w.clients number) move free in
+    let alone : move_of event ≡ Some move = asks_for event number move asks in
     let client : Client = c.0 in
     let window : ℕ = window_of client event in
     let sent : List Packet = To_server (segment_of client move window) ∷ [] in
@@ -171,13 +174,14 @@ move_can w event move h asked free =
         segment = segment_of client move window;
         later = moved client move window;
         is_there = c.1;
-        move = record { move = move; window = window; may = move_may client event move asked c.2; fits = window_fits client event move h asked; segment_is = refl; after_is = refl };
+        move = record { move = move; window = window; may = move_may client event move alone c.2; fits = window_fits client event move h alone; segment_is = refl; after_is = refl };
         sent_is = refl;
         after_is = refl;
       },
-      λ other step at is.
-          let same : client ≡ other = some_is client other (sym c.1 ∙ at) in
-          let alike : move ≡ step = some_is move step (sym asked ∙ is) in (
+      λ n step other is at.
+          let asked_alike : (number, move) ≡ (n, step) = some_is (number, move) (n, step) (sym asks ∙ is) in
+          let same : client ≡ other = some_is client other (sym c.1 ∙ (ap (λ a. client_at w.clients a.0) asked_alike ∙ at)) in
+          let alike : move ≡ step = ap (λ a. a.1) asked_alike in (
             ap₂ (λ x m. To_server (segment_of x m (window_of x event)) ∷ []) same alike,
             ap₂ (λ x m. with_client x.key (λ _. moved x m (window_of x event)) w.clients) same alike,
           ),
@@ -215,11 +219,11 @@ event_can service small writes start trace j (Flip number bit) h e =
       (p.0, p.1, record { wire = all_sent HasWire w p.0 (wires_after service small writes start trace j) (number, p.1); within = p.2; comes = d.2 }),
       quiet_event w (Flip number bit) d.0 d.1 refl,
     )
-event_can service small writes start trace j (Begin client window) h e = move_can (world_after start trace) (Begin client window) (Syn None) h refl e
-event_can service small writes start trace j (Send client from len) h e = move_can (world_after start trace) (Send client from len) (Text from len) h refl e
-event_can service small writes start trace j (Fin client) h e = move_can (world_after start trace) (Fin client) Fin_move h refl e
-event_can service small writes start trace j (Ack client window) h e = move_can (world_after start trace) (Ack client window) Acknowledge h refl e
-event_can service small writes start trace j (Reset client) h e = move_can (world_after start trace) (Reset client) Rst h refl e
+event_can service small writes start trace j (Begin client window) h e = move_can (world_after start trace) (Begin client window) client (Syn None) h refl e
+event_can service small writes start trace j (Send client from len) h e = move_can (world_after start trace) (Send client from len) client (Text from len) h refl e
+event_can service small writes start trace j (Fin client) h e = move_can (world_after start trace) (Fin client) client Fin_move h refl e
+event_can service small writes start trace j (Ack client window) h e = move_can (world_after start trace) (Ack client window) client Acknowledge h refl e
+event_can service small writes start trace j (Reset client) h e = move_can (world_after start trace) (Reset client) client Rst h refl e
 
 -- the events that are left, from where some are played
 module _ {State : Type 0} (service : ℕ → Machine State) (small : (kind : ℕ) → HasSmallOutputs (service kind)) (writes : (kind : ℕ) → WritesBytes (service kind)) where

@@ -18,13 +18,13 @@ use Rattle.ft_model.specs.Ending.{dones, reset_after}
 use Rattle.ft_model.specs.Copy.{copies}
 use Rattle.ft_model.specs.Reads.{reads_told}
 use Rattle.ft_model.specs.Segments.{segments_of}
-use Rattle.ft_model.specs.Connection.{ResetTurn, LiveTurn, ConnectionTurn, told_by as message_by}
+use Rattle.ft_model.specs.Connection.{ResetTurn, LiveTurn, ConnectionTurn, told_by}
 use Rattle.ft_model.specs.Opening.{point_opened}
 use Rattle.ft_model.specs.Refusal.{as_closed, rst_at_ack, rst_behind, full_rst}
 use Rattle.ft_model.specs.Node.{Node, Place, Input, key_of}
 use Rattle.ft_model.specs.Node.Place.{Opens, Lives, Ended}
 use Rattle.ft_model.specs.Serving.{AllGo}
-use Rattle.ft_model.specs.Masked.{told_by, or_before, last_told, IsToldLast}
+use Rattle.ft_model.specs.Masked.{told_to, or_before, last_told, IsToldLast}
 use Rattle.ft_model.proofs.Lists.{of_choice, neither, three_true, all_both, all_weaker, all_append, key_is, or_neither}
 use Rattle.ft_model.proofs.Keys.{AreDistinct, has_key, key_eq_turns}
 use Rattle.ft_model.proofs.PlaceTurns.{PlaceWent}
@@ -43,7 +43,7 @@ or_assoc None b c = refl
 
 pub last_append : (key : Key) (xs ys : List Packet) → last_told key (xs ++ ys) ≡ or_before (last_told key ys) (last_told key xs)
 last_append key [] ys = or_none (last_told key ys)
-last_append key (x ∷ xs) ys = ap (λ o. or_before o (told_by key x)) (last_append key xs ys) ∙ or_assoc (last_told key ys) (last_told key xs) (told_by key x)
+last_append key (x ∷ xs) ys = ap (λ o. or_before o (told_to key x)) (last_append key xs ys) ∙ or_assoc (last_told key ys) (last_told key xs) (told_to key x)
 
 -- nothing is told to this key
 abbrev pub IsSilentTo : Key → List Packet → Type 0
@@ -66,7 +66,7 @@ WasTold packets _ = Unit {0}
 pub silent_append : (key : Key) (xs ys : List Packet) → IsSilentTo key xs → IsSilentTo key ys → IsSilentTo key (xs ++ ys)
 silent_append key xs ys a b = last_append key xs ys ∙ ap₂ or_before b a
 
-pub messages_silent : (key : Key) (boot : ℕ) (bodies : List Body) → IsSilentTo key (map (message_by boot) bodies)
+pub messages_silent : (key : Key) (boot : ℕ) (bodies : List Body) → IsSilentTo key (map (told_by boot) bodies)
 messages_silent key boot [] = refl
 messages_silent key boot (body ∷ bodies) = ap (λ o. or_before o None) (messages_silent key boot bodies)
 
@@ -74,7 +74,7 @@ false_and : (a b c : Bool) → a ≡ false → (a && b && c) ≡ false
 false_and false b c e = refl
 false_and true b c e = absurd (true≢false e)
 
-other_silent : (key other : Key) (segment : Segment) → destination_of segment ≡ key → key_eq key other ≡ false → told_by other (To_client segment) ≡ None
+other_silent : (key other : Key) (segment : Segment) → destination_of segment ≡ key → key_eq key other ≡ false → told_to other (To_client segment) ≡ None
 other_silent key other segment d e =
     ap (λ b. if b then Some segment.head.ack else None) (false_and (key_eq (destination_of segment) other) (has_ack segment) (not (has_rst segment)) (ap (λ k. key_eq k other) d ∙ e))
 
@@ -82,7 +82,7 @@ last_false : (a b : Bool) → b ≡ false → (a && b) ≡ false
 last_false true b e = e
 last_false false b e = refl
 
-pub rst_silent : (other : Key) (segment : Segment) → has_rst segment ≡ true → told_by other (To_client segment) ≡ None
+pub rst_silent : (other : Key) (segment : Segment) → has_rst segment ≡ true → told_to other (To_client segment) ≡ None
 rst_silent other segment r =
     ap (λ b. if b then Some segment.head.ack else None) (last_false (key_eq (destination_of segment) other && has_ack segment) (not (has_rst segment)) (ap not r))
 
@@ -91,7 +91,7 @@ segments_only q [] a other e = refl
 segments_only q (segment ∷ segments) a other e =
     ap₂ or_before (segments_only q segments a.1 other e) (other_silent q.key other segment a.0.destination e)
 
-headed_told : (q : Point) (segment : Segment) → IsHeaded q segment → told_by q.key (To_client segment) ≡ Some (number_at q.cisn (acknowledgement q))
+headed_told : (q : Point) (segment : Segment) → IsHeaded q segment → told_to q.key (To_client segment) ≡ Some (number_at q.cisn (acknowledgement q))
 headed_told q segment h =
     ap (λ b. if b then Some segment.head.ack else None)
     (three_true (key_eq (destination_of segment) q.key) (has_ack segment) (has_rst segment) (ap (λ k. key_eq k q.key) h.destination ∙ key_is q.key) h.has_ack_flag h.no_rst)
@@ -102,10 +102,10 @@ segments_tell : (q : Point) (segments : List Segment) → AllByRecursion (IsHead
     → (segments ≡ []) ⊎ (last_told q.key (map To_client segments) ≡ Some (number_at q.cisn (acknowledgement q)))
 segments_tell q [] a = inl refl
 segments_tell q (segment ∷ segments) a =
-    inr (⊎_elim (λ n. ap (λ l. or_before (last_told q.key (map To_client l)) (told_by q.key (To_client segment))) n ∙ headed_told q segment a.0)
-    (λ n. ap (λ o. or_before o (told_by q.key (To_client segment))) n) (segments_tell q segments a.1))
+    inr (⊎_elim (λ n. ap (λ l. or_before (last_told q.key (map To_client l)) (told_to q.key (To_client segment))) n ∙ headed_told q segment a.0)
+    (λ n. ap (λ o. or_before o (told_to q.key (To_client segment))) n) (segments_tell q segments a.1))
 
-no_messages : (boot : ℕ) (bodies : List Body) → list_any is_segment (map (message_by boot) bodies) ≡ false
+no_messages : (boot : ℕ) (bodies : List Body) → list_any is_segment (map (told_by boot) bodies) ≡ false
 no_messages boot [] = refl
 no_messages boot (body ∷ bodies) = no_messages boot bodies
 
@@ -116,7 +116,7 @@ live_only service server boot news p q sent t other e =
     let heads : AllByRecursion (IsHeaded q) (segments_of service server news p q) =
     all_weaker (Spoken service server news p q) (IsHeaded q) (segments_of service server news p q) (headed service server news p q) (segments_spoken service server news p q) in
     ap (last_told other) t.packets
-    ∙ silent_append other (map To_client (segments_of service server news p q)) (map (message_by boot) bodies) (segments_only q (segments_of service server news p q) heads other e)
+    ∙ silent_append other (map To_client (segments_of service server news p q)) (map (told_by boot) bodies) (segments_only q (segments_of service server news p q) heads other e)
     (messages_silent other boot bodies)
 
 -- a live turn tells, or has nothing new to tell
@@ -130,9 +130,9 @@ live_tells service server boot news p q sent t =
     all_weaker (Spoken service server news p q) (IsHeaded q) segments (headed service server news p q) (segments_spoken service server news p q) in
     ⊎_elim
     (λ n. let quiet : list_any is_segment sent ≡ false =
-    ap (list_any is_segment) (t.packets ∙ ap (λ l. map To_client l ++ map (message_by boot) bodies) n) ∙ no_messages boot bodies in
+    ap (list_any is_segment) (t.packets ∙ ap (λ l. map To_client l ++ map (told_by boot) bodies) n) ∙ no_messages boot bodies in
     inl (quiet, ((told service server boot news p q sent t).silent quiet).0))
-    (λ n. inr (ap (last_told q.key) t.packets ∙ (last_append q.key (map To_client segments) (map (message_by boot) bodies)
+    (λ n. inr (ap (last_told q.key) t.packets ∙ (last_append q.key (map To_client segments) (map (told_by boot) bodies)
     ∙ (ap (λ o. or_before o (last_told q.key (map To_client segments))) (messages_silent q.key boot bodies) ∙ n)))) (segments_tell q segments heads)
 
 silent_or_told : (o packets : Option ℕ) (a : ℕ) → o ≡ None → packets ≡ Some a → or_before o packets ≡ Some a

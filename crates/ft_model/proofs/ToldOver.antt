@@ -8,7 +8,7 @@ use Rattle.seq_arith.specs.Message.Body.{OpenMsg}
 use Rattle.server_trait.specs.Service.{Machine}
 use Rattle.ft_model.specs.Network.{Packet}
 use Rattle.ft_model.specs.Network.Packet.{To_client, From_logger}
-use Rattle.ft_model.specs.Connection.{told_by as message_by}
+use Rattle.ft_model.specs.Connection.{told_by}
 use Rattle.ft_model.specs.Opening.{is_syn, numbers_for}
 use Rattle.ft_model.specs.Refusal.{as_listen, rst_at_ack}
 use Rattle.ft_model.specs.Node.{Node, Place, Stage, Input, key_of, points_in, points_at, booted, pending_count}
@@ -52,7 +52,7 @@ opens_silent : (key : Key) (node : Node) (input : Input) (places : List Place) �
 opens_silent key node input [] = refl
 opens_silent key node input (Opens n ∷ places) =
     silent_append key (opens_at node input (Opens n)) (flat_map (opens_at node input) places)
-    (of_choice (IsSilentTo key) (is_asked node input n) (message_by node.boot (OpenMsg n) ∷ []) [] (λ t. refl) (λ t. refl)) (opens_silent key node input places)
+    (of_choice (IsSilentTo key) (is_asked node input n) (told_by node.boot (OpenMsg n) ∷ []) [] (λ t. refl) (λ t. refl)) (opens_silent key node input places)
 opens_silent key node input (Lives p ∷ places) = opens_silent key node input places
 opens_silent key node input (Ended k ∷ places) = opens_silent key node input places
 

@@ -16,7 +16,7 @@ use Rattle.ft_model.specs.Node.Input.{Tick_comes}
 use Rattle.ft_model.specs.Node.Stage.{Serving}
 use Rattle.ft_model.specs.Node.Place.{Opens}
 use Rattle.ft_model.specs.Lawful.{LawfulTurn}
-use Rattle.ft_model.specs.WorkedRuns.Common.{echo, server, numbers, IsRefused}
+use Rattle.ft_model.specs.WorkedRuns.Common.{echo, server, numbers, IsUnlawful}
 use Rattle.ft_model.specs.WorkedRuns.FirstPath as run
 use Rattle.ft_model.specs.WorkedRuns.Closing as closing
 use Rattle.ft_model.specs.WorkedRuns.ZeroWindow as probe
@@ -67,40 +67,40 @@ never_happens service before after number segment node sent at up none h =
     none turn.0 turn.2
 
 -- the wrong turns of the text's arrival
-by_text : (wrong : List Packet) → are_same (marks run.moment_12.sent) (marks wrong) ≡ false → IsRefused (run.node_live run.open_point) run.text_comes wrong
+by_text : (wrong : List Packet) → are_same (marks run.moment_12.sent) (marks wrong) ≡ false → IsUnlawful (run.node_live run.open_point) run.text_comes wrong
 by_text wrong other = refused echo (run.node_live run.open_point) (run.node_live run.taken_point) run.text_comes run.moment_12.sent wrong turn_12 refl other
 
-pub without_copy : IsRefused (run.node_live run.open_point) run.text_comes run.without_copy
+pub without_copy : IsUnlawful (run.node_live run.open_point) run.text_comes run.without_copy
 without_copy = by_text run.without_copy refl
 
-pub one_too_high : IsRefused (run.node_live run.open_point) run.text_comes run.one_too_high
+pub one_too_high : IsUnlawful (run.node_live run.open_point) run.text_comes run.one_too_high
 one_too_high = by_text run.one_too_high refl
 
-pub passed_on : IsRefused (run.node_live run.open_point) run.text_comes run.passed_on
+pub passed_on : IsUnlawful (run.node_live run.open_point) run.text_comes run.passed_on
 passed_on = by_text run.passed_on refl
 
-pub read_first : IsRefused (run.node_live run.open_point) run.text_comes run.read_first
+pub read_first : IsUnlawful (run.node_live run.open_point) run.text_comes run.read_first
 read_first = by_text run.read_first refl
 
-pub one_index_off : IsRefused (run.node_live run.open_point) run.text_comes run.one_index_off
+pub one_index_off : IsUnlawful (run.node_live run.open_point) run.text_comes run.one_index_off
 one_index_off = by_text run.one_index_off refl
 
-pub released_early : IsRefused (run.node_live run.open_point) run.text_comes run.released_early
+pub released_early : IsUnlawful (run.node_live run.open_point) run.text_comes run.released_early
 released_early = by_text run.released_early refl
 
 -- silence in the turn of Stable
-pub silent : IsRefused (run.node_live run.taken_point) run.stable_comes []
+pub silent : IsUnlawful (run.node_live run.taken_point) run.stable_comes []
 silent = refused echo (run.node_live run.taken_point) (run.node_live run.logged_point) run.stable_comes run.moment_14.sent [] turn_14 refl refl
 
 -- a SYN-ACK before Opened
-pub answered_early : IsRefused (run.node_at (Serving 0 [])) run.syn_comes (run.packet_6 ∷ [])
+pub answered_early : IsUnlawful (run.node_at (Serving 0 [])) run.syn_comes (run.packet_6 ∷ [])
 answered_early = refused echo (run.node_at (Serving 0 [])) (run.node_at (Serving 1 (Opens numbers ∷ []))) run.syn_comes run.moment_5.sent (run.packet_6 ∷ []) (turn_5 echo) refl refl
 
 -- the FIN before its read is logged
-pub fin_with_read : IsRefused closing.first_4.node closing.first_5.input closing.fin_with_read
+pub fin_with_read : IsUnlawful closing.first_4.node closing.first_5.input closing.fin_with_read
 fin_with_read = refused echo closing.first_4.node closing.first_5.node closing.first_5.input closing.first_5.sent closing.fin_with_read first_5 refl refl
 
-pub fin_before_reads : IsRefused closing.first_5.node closing.first_6.input closing.fin_before_reads
+pub fin_before_reads : IsUnlawful closing.first_5.node closing.first_6.input closing.fin_before_reads
 fin_before_reads = refused echo closing.first_5.node closing.first_6.node closing.first_6.input closing.first_6.sent closing.fin_before_reads first_6 refl refl
 
 -- Reads out of order: a tick sends the unanswered ones again by index
@@ -108,35 +108,35 @@ reads_again : LawfulTurn echo (run.node_live run.twice_read_point) Tick_comes ru
 unfolding laws
 reads_again = serves echo 1 5000 Tick_comes run.twice_read_point run.twice_read_point run.reads_again refl refl refl (run.twice_read_point, refl, goes echo server 1 Ticks run.twice_read_point run.twice_read_point run.reads_again refl refl refl refl)
 
-pub reads_turned : IsRefused (run.node_live run.twice_read_point) Tick_comes run.reads_turned
+pub reads_turned : IsUnlawful (run.node_live run.twice_read_point) Tick_comes run.reads_turned
 reads_turned = refused echo (run.node_live run.twice_read_point) (run.node_live run.twice_read_point) Tick_comes run.reads_again run.reads_turned reads_again refl refl
 
 -- no probe, a probe of two bytes, a probe before the timer expires, and output past the edge
-pub no_probe : IsRefused probe.probe_7.node Tick_comes []
+pub no_probe : IsUnlawful probe.probe_7.node Tick_comes []
 no_probe = refused echo probe.probe_7.node probe.probe_8.node Tick_comes probe.probe_8.sent [] probe_8 refl refl
 
-pub wide_probe : IsRefused probe.probe_7.node Tick_comes probe.wide_probe
+pub wide_probe : IsUnlawful probe.probe_7.node Tick_comes probe.wide_probe
 wide_probe = refused echo probe.probe_7.node probe.probe_8.node Tick_comes probe.probe_8.sent probe.wide_probe probe_8 refl refl
 
-pub early_probe : IsRefused probe.probe_8.node Tick_comes probe.probe_8.sent
+pub early_probe : IsUnlawful probe.probe_8.node Tick_comes probe.probe_8.sent
 early_probe = refused echo probe.probe_8.node probe.probe_9.node Tick_comes [] probe.probe_8.sent probe_9 refl refl
 
-pub past_the_edge : IsRefused probe.probe_6.node probe.probe_7.input probe.past_the_edge
+pub past_the_edge : IsUnlawful probe.probe_6.node probe.probe_7.input probe.past_the_edge
 past_the_edge = refused echo probe.probe_6.node probe.probe_7.node probe.probe_7.input [] probe.past_the_edge probe_7 refl refl
 
 -- questions out of their order
-pub bytes_first : IsRefused questions.turn_1.node questions.turn_2.input questions.bytes_first
+pub bytes_first : IsUnlawful questions.turn_1.node questions.turn_2.input questions.bytes_first
 bytes_first = refused echo questions.turn_1.node questions.turn_2.node questions.turn_2.input questions.turn_2.sent questions.bytes_first turn_2 refl refl
 
-pub lengths_ahead : IsRefused questions.turn_2.node questions.turn_3.input questions.lengths_ahead
+pub lengths_ahead : IsUnlawful questions.turn_2.node questions.turn_3.input questions.lengths_ahead
 lengths_ahead = refused echo questions.turn_2.node questions.turn_3.node questions.turn_3.input questions.turn_3.sent questions.lengths_ahead turn_3 refl refl
 
 -- while a server fetches, and when it has fetched all
-pub reset_meanwhile : IsRefused restart.restart_2.node restart.restart_3.input restart.reset_meanwhile
+pub reset_meanwhile : IsUnlawful restart.restart_2.node restart.restart_3.input restart.reset_meanwhile
 reset_meanwhile = refused echo restart.restart_2.node restart.restart_3.node restart.restart_3.input restart.restart_3.sent restart.reset_meanwhile restart_3 refl refl
 
-pub silent_meanwhile : IsRefused restart.restart_2.node restart.restart_3.input []
+pub silent_meanwhile : IsUnlawful restart.restart_2.node restart.restart_3.input []
 silent_meanwhile = refused echo restart.restart_2.node restart.restart_3.node restart.restart_3.input restart.restart_3.sent [] restart_3 refl refl
 
-pub stays_restarting : IsRefused restart.restart_4.node restart.restart_5.input []
+pub stays_restarting : IsUnlawful restart.restart_4.node restart.restart_5.input []
 stays_restarting = refused echo restart.restart_4.node restart.restart_5.node restart.restart_5.input restart.restart_5.sent [] restart_5 refl refl

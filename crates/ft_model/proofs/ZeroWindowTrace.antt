@@ -1,12 +1,12 @@
 -- The run with a client without room, whole: each moment happens and is allowed, and its report computes.
 use Rattle.std.proofs.Common.{◌≡◌, ℕ, zero, suc, ◌^◌, sym, ap, ◌∙◌, refl, subst₂, Some, None, List, [], ◌∷◌}
 use native.Mathlib.Bridge.{le_by_compare, IsLe}
-use Rattle.ft_model.specs.Client.{Client, Move, move_of, segment_of, moved, window_of}
+use Rattle.ft_model.specs.Client.{Client, Move, move_asked, segment_of, moved, window_of}
 use Rattle.ft_model.specs.Client.Move.{Syn, Text, Acknowledge}
 use Rattle.ft_model.specs.Network.{Packet}
 use Rattle.ft_model.specs.Network.Packet.{To_server}
 use Rattle.ft_model.specs.World.{World, client_at, with_client, Joint, Happens, IsStart}
-use Rattle.ft_model.specs.Legal.{mover_of, IsScripted, IsAllowed, Legal}
+use Rattle.ft_model.specs.Legal.{IsScripted, IsAllowed, Legal}
 use Rattle.ft_model.specs.declared.event.Event.{Event}
 use Rattle.ft_model.specs.WorkedRuns.Common.{echo, hello_text, client_with, idle, opening_at, serving_at}
 use Rattle.ft_model.specs.WorkedRuns.ZeroWindow as turn
@@ -150,20 +150,20 @@ is_joint : Joint echo run.start run.trace
 is_joint = (((((((((((((((((((((((((starts, happens_1), happens_2), happens_3), happens_4), happens_5), happens_6), happens_7), happens_8), happens_9), happens_10), happens_11), happens_12), happens_13), happens_14), happens_15), happens_16), happens_17), happens_18), happens_19), happens_20), happens_21), happens_22), happens_23), happens_24), happens_25)
 
 -- what is no client's move is scripted as it is
-unmoved : (w : World) (event : Event) (sent : List Packet) (after : World) → move_of event ≡ None → IsScripted w event sent after
-unmoved w event sent after none = λ c m there asks. none_is_some m (sym none ∙ asks)
+unmoved : (w : World) (event : Event) (sent : List Packet) (after : World) → move_asked event ≡ None → IsScripted w event sent after
+unmoved w event sent after none = λ number m c asks there. none_is_some (number, m) (sym none ∙ asks)
 
 -- a client's move is the one that is asked for
 abbrev IsMovedBy : World → Event → List Packet → List Client → Client → Move → Type 0
 IsMovedBy w event sent clients c m =
     (sent ≡ To_server (segment_of c m (window_of c event)) ∷ []) × (clients ≡ with_client c.key (λ _. moved c m (window_of c event)) w.clients)
 
-scripted : (w : World) (event : Event) (c : Client) (m : Move) (number : ℕ) (after : World) → mover_of event ≡ number → client_at w.clients number ≡ Some c → move_of event ≡ Some m
+scripted : (w : World) (event : Event) (c : Client) (m : Move) (number : ℕ) (after : World) → move_asked event ≡ Some (number, m) → client_at w.clients number ≡ Some c
     → after.clients ≡ with_client c.key (λ _. moved c m (window_of c event)) w.clients → IsScripted w event (To_server (segment_of c m (window_of c event)) ∷ []) after
-scripted w event c m number after at there asks stands = λ d n found asked.
-    let client : c ≡ d = some_is c d (sym (ap (client_at w.clients) at ∙ there) ∙ found) in
-    let move : m ≡ n = some_is m n (sym asks ∙ asked) in
-    subst₂ (IsMovedBy w event (To_server (segment_of c m (window_of c event)) ∷ []) after.clients) client move (refl, stands)
+scripted w event c m number after asks there stands = λ i n d is found.
+    let alike : (number, m) ≡ (i, n) = some_is (number, m) (i, n) (sym asks ∙ is) in
+    let client : c ≡ d = some_is c d (sym there ∙ (ap (λ a. client_at w.clients a.0) alike ∙ found)) in
+    subst₂ (IsMovedBy w event (To_server (segment_of c m (window_of c event)) ∷ []) after.clients) client (ap (λ a. a.1) alike) (refl, stands)
 
 -- and is allowed
 allowed_1 : IsAllowed run.start run.moment_1
@@ -176,7 +176,7 @@ allowed_3 : IsAllowed run.moment_2.world run.moment_3
 allowed_3 = record { allowed = refl; scripted = unmoved run.moment_2.world run.moment_3.event run.moment_3.sent run.moment_3.world refl }
 
 allowed_4 : IsAllowed run.moment_3.world run.moment_4
-allowed_4 = record { allowed = refl; scripted = scripted run.moment_3.world run.moment_4.event (client_with hello_text) (Syn None) 1 run.moment_4.world refl refl refl refl }
+allowed_4 = record { allowed = refl; scripted = scripted run.moment_3.world run.moment_4.event (client_with hello_text) (Syn None) 1 run.moment_4.world refl refl refl }
 
 allowed_5 : IsAllowed run.moment_4.world run.moment_5
 allowed_5 = record { allowed = refl; scripted = unmoved run.moment_4.world run.moment_5.event run.moment_5.sent run.moment_5.world refl }
@@ -191,13 +191,13 @@ allowed_8 : IsAllowed run.moment_7.world run.moment_8
 allowed_8 = record { allowed = refl; scripted = unmoved run.moment_7.world run.moment_8.event run.moment_8.sent run.moment_8.world refl }
 
 allowed_9 : IsAllowed run.moment_8.world run.moment_9
-allowed_9 = record { allowed = refl; scripted = scripted run.moment_8.world run.moment_9.event run.open_client Acknowledge 1 run.moment_9.world refl refl refl refl }
+allowed_9 = record { allowed = refl; scripted = scripted run.moment_8.world run.moment_9.event run.open_client Acknowledge 1 run.moment_9.world refl refl refl }
 
 allowed_10 : IsAllowed run.moment_9.world run.moment_10
 allowed_10 = record { allowed = refl; scripted = unmoved run.moment_9.world run.moment_10.event run.moment_10.sent run.moment_10.world refl }
 
 allowed_11 : IsAllowed run.moment_10.world run.moment_11
-allowed_11 = record { allowed = refl; scripted = scripted run.moment_10.world run.moment_11.event run.open_client (Text 0 5) 1 run.moment_11.world refl refl refl refl }
+allowed_11 = record { allowed = refl; scripted = scripted run.moment_10.world run.moment_11.event run.open_client (Text 0 5) 1 run.moment_11.world refl refl refl }
 
 allowed_12 : IsAllowed run.moment_11.world run.moment_12
 allowed_12 = record { allowed = refl; scripted = unmoved run.moment_11.world run.moment_12.event run.moment_12.sent run.moment_12.world refl }
@@ -224,7 +224,7 @@ allowed_19 : IsAllowed run.moment_18.world run.moment_19
 allowed_19 = record { allowed = refl; scripted = unmoved run.moment_18.world run.moment_19.event run.moment_19.sent run.moment_19.world refl }
 
 allowed_20 : IsAllowed run.moment_19.world run.moment_20
-allowed_20 = record { allowed = refl; scripted = scripted run.moment_19.world run.moment_20.event run.told_client Acknowledge 1 run.moment_20.world refl refl refl refl }
+allowed_20 = record { allowed = refl; scripted = scripted run.moment_19.world run.moment_20.event run.told_client Acknowledge 1 run.moment_20.world refl refl refl }
 
 allowed_21 : IsAllowed run.moment_20.world run.moment_21
 allowed_21 = record { allowed = refl; scripted = unmoved run.moment_20.world run.moment_21.event run.moment_21.sent run.moment_21.world refl }

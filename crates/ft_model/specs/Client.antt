@@ -1,5 +1,5 @@
 -- The client: what it may send, and what it does with what comes (RFC 9293, 3.10). Its offsets are units: bytes, and one more for a FIN.
-use Rattle.std.specs.Prelude.{◌≡◌, ℕ, ℤ, Bool, true, false, pos, ◌+◌, ◌-◌, ◌+ℤ◌, ◌^◌, ◌==◌, ◌&&◌, ◌||◌, not, nat_lt, nat_le, int_lt, max, min, Option, Some, None, List, [], ◌++◌, length, take, drop, nat_abs, if◌then◌else◌}
+use Rattle.std.specs.Prelude.{◌≡◌, ℕ, ℤ, Bool, true, false, pos, ◌+◌, ◌-◌, ◌+ℤ◌, ◌^◌, ◌==◌, ◌&&◌, ◌||◌, not, nat_lt, nat_le, int_lt, max, min, Option, Some, None, option_map, List, [], ◌++◌, length, take, drop, nat_abs, if◌then◌else◌}
 use Rattle.ft_io.specs.declared.Addr.{Addr}
 use Rattle.ft_io.specs.declared.Key.{Key}
 use Rattle.seq_arith.specs.Number.{number_at}
@@ -184,14 +184,21 @@ pub record IsMove (client : Client) (segment : Segment) (after : Client) : Type 
   pub segment_is : segment ≡ segment_of client move window
   pub after_is : after ≡ moved client move window
 
--- The scripted client: an event of the schedule asks for a move ..
+-- The scripted client: of which client an event of the schedule asks a move, and which ..
+abbrev pub move_asked : Event → Option (ℕ × Move)
+move_asked (events.Begin client window) = Some (client, Syn None)
+move_asked (events.Send client from len) = Some (client, Text from len)
+move_asked (events.Fin client) = Some (client, Fin)
+move_asked (events.Ack client window) = Some (client, Acknowledge)
+move_asked (events.Reset client) = Some (client, Rst)
+move_asked _ = None
+
+-- the client alone, and the move alone
+abbrev pub mover_of : Event → Option ℕ
+mover_of event = option_map (λ a. a.0) (move_asked event)
+
 abbrev pub move_of : Event → Option Move
-move_of (events.Begin client window) = Some (Syn None)
-move_of (events.Send client from len) = Some (Text from len)
-move_of (events.Fin client) = Some Fin
-move_of (events.Ack client window) = Some Acknowledge
-move_of (events.Reset client) = Some Rst
-move_of _ = None
+move_of event = option_map (λ a. a.1) (move_asked event)
 
 -- .. with a window: that of the event, or for text and FIN the room that was announced before, and none with a RST
 abbrev pub window_of : Client → Event → ℕ

@@ -157,20 +157,29 @@ line_from draft keyword.Server words = server_line words >>= λ addr. Ok (line.S
 line_from draft keyword.Client words = client_line draft words >>= λ client. Ok (line.Client client)
 line_from draft (keyword.Event v) words = event_line v words >>= λ e. Ok (line.Event e)
 
+-- the first words of events
+abbrev pub verbs : List (List ℕ × Verb)
+verbs =
+    (codes "boot", verb.Boot)
+    ∷ (codes "crash", verb.Crash)
+    ∷ (codes "tick", verb.Tick)
+    ∷ (codes "deliver", verb.Deliver)
+    ∷ (codes "flip", verb.Flip)
+    ∷ (codes "open", verb.Open)
+    ∷ (codes "send", verb.Send)
+    ∷ (codes "fin", verb.Fin)
+    ∷ (codes "ack", verb.Ack)
+    ∷ (codes "reset", verb.Reset)
+    ∷ []
+
+-- what a word of such a table announces
+abbrev pub announced : List (List ℕ × Verb) → List ℕ → Option Verb
+announced [] word = None
+announced (row ∷ rows) word = if bytes_eq word row.0 then Some row.1 else announced rows word
+
 -- The test `word`: the first word is one of these, and a service has one of the four names.
 unfoldable pub verb_of : List ℕ → Option Verb
-verb_of word =
-    if bytes_eq word (codes "boot") then Some verb.Boot
-    else (if bytes_eq word (codes "crash") then Some verb.Crash
-    else (if bytes_eq word (codes "tick") then Some verb.Tick
-    else (if bytes_eq word (codes "deliver") then Some verb.Deliver
-    else (if bytes_eq word (codes "flip") then Some verb.Flip
-    else (if bytes_eq word (codes "open") then Some verb.Open
-    else (if bytes_eq word (codes "send") then Some verb.Send
-    else (if bytes_eq word (codes "fin") then Some verb.Fin
-    else (if bytes_eq word (codes "ack") then Some verb.Ack
-    else (if bytes_eq word (codes "reset") then Some verb.Reset
-    else None)))))))))
+verb_of word = announced verbs word
 
 unfoldable pub keyword_of : List ℕ → Option Keyword
 keyword_of word =

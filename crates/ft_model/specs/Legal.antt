@@ -2,7 +2,7 @@
 -- the schedule's, all and in order, each of them allowed, and its clients follow the script.
 use Rattle.std.specs.Prelude.{◌≡◌, ℕ, ◌*◌, length, nat_le, Option, Some, None, is_some, List, [], ◌∷◌, if◌then◌else◌}
 use Rattle.server_trait.specs.Service.{Served, Machine, machine}
-use Rattle.ft_model.specs.Client.{Client, Move, move_of, window_of, refusal_of_move, segment_of, moved}
+use Rattle.ft_model.specs.Client.{Client, Move, move_asked, window_of, refusal_of_move, segment_of, moved}
 use Rattle.ft_model.specs.Log.{empty_log}
 use Rattle.ft_model.specs.Network.{Packet, packet_at}
 use Rattle.ft_model.specs.Network.Packet.{To_server}
@@ -10,7 +10,7 @@ use Rattle.ft_model.specs.Wire.{wire_of}
 use Rattle.ft_model.specs.Schedule.{kind_of, clients_of}
 use Rattle.ft_model.specs.World.{World, Moment, client_at, with_client, world_after, events_of, Joint}
 use Rattle.ft_model.specs.declared.event.Event.{Event}
-use Rattle.ft_model.specs.declared.event.Event.TheVariants.{Boot, Crash, Tick, Deliver, Flip, Begin, Send, Fin, Ack, Reset}
+use Rattle.ft_model.specs.declared.event.Event.TheVariants.{Boot, Crash, Tick, Deliver, Flip}
 use Rattle.ft_model.specs.declared.event.EventWhy.{EventWhy}
 use Rattle.ft_model.specs.declared.event.EventWhy.TheVariants as why
 use Rattle.ft_model.specs.declared.schedule.Schedule.{Schedule}
@@ -20,10 +20,14 @@ abbrev pub start_of : Schedule → World
 start_of schedule = record { server = schedule.server; clients = clients_of schedule.server schedule.clients; log = empty_log; packets = []; boot = 0; node = None }
 
 -- why a client of the schedule, if there is one, doesn't make the move
-abbrev pub refusal_of_client : Option Client → Option Move → Option EventWhy
+abbrev pub refusal_of_client : Option Client → Move → Option EventWhy
 refusal_of_client None move = Some why.Client
-refusal_of_client (Some client) None = None
-refusal_of_client (Some client) (Some move) = refusal_of_move client move
+refusal_of_client (Some client) move = refusal_of_move client move
+
+-- why the move that is asked of a client, if one is, isn't made
+abbrev pub refusal_of_asked : List Client → Option (ℕ × Move) → Option EventWhy
+refusal_of_asked clients None = None
+refusal_of_asked clients (Some asks) = refusal_of_client (client_at clients asks.0) asks.1
 
 -- why a bit of a packet, if there is one, can't be changed: it has no such bit
 abbrev pub refusal_of_flip : Option Packet → ℕ → Option EventWhy
@@ -37,25 +41,12 @@ refusal w Crash = if is_some w.node then None else Some why.Down
 refusal w Tick = if is_some w.node then None else Some why.Down
 refusal w (Deliver number) = if is_some (packet_at w.packets number) then None else Some why.Packet
 refusal w (Flip number bit) = refusal_of_flip (packet_at w.packets number) bit
-refusal w (Begin client window) = refusal_of_client (client_at w.clients client) (move_of (Begin client window))
-refusal w (Send client from len) = refusal_of_client (client_at w.clients client) (move_of (Send client from len))
-refusal w (Fin client) = refusal_of_client (client_at w.clients client) (move_of (Fin client))
-refusal w (Ack client window) = refusal_of_client (client_at w.clients client) (move_of (Ack client window))
-refusal w (Reset client) = refusal_of_client (client_at w.clients client) (move_of (Reset client))
+refusal w event = refusal_of_asked w.clients (move_asked event)
 
--- the client at which a move is aimed
-abbrev pub mover_of : Event → ℕ
-mover_of (Begin client window) = client
-mover_of (Send client from len) = client
-mover_of (Fin client) = client
-mover_of (Ack client window) = client
-mover_of (Reset client) = client
-mover_of _ = 0
-
--- a client makes the move that the event asks for, with the scripted client's window: it sends that move's packet, and stands as after it
+-- a client makes the move that the event asks of it, with the scripted client's window: it sends that move's packet, and stands as after it
 abbrev pub IsScripted : World → Event → List Packet → World → Type 0
 IsScripted before event sent after =
-    (client : Client) (move : Move) → client_at before.clients (mover_of event) ≡ Some client → move_of event ≡ Some move
+    (number : ℕ) (move : Move) (client : Client) → move_asked event ≡ Some (number, move) → client_at before.clients number ≡ Some client
     → (sent ≡ To_server (segment_of client move (window_of client event)) ∷ [])
     × (after.clients ≡ with_client client.key (λ _. moved client move (window_of client event)) before.clients)
 

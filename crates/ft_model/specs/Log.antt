@@ -64,12 +64,12 @@ abbrev pub with_read : ℕ → ℕ → Entry → Entry
 with_read index n e = if is_next_read e index n then record e { lengths = e.lengths ++ n ∷ [] } else e
 
 -- what a message of the log's own boot changes
-abbrev pub kept : Body → Log → Log
-kept (OpenMsg n) log = opened n log
-kept (DataMsg part) log = with_entry part.key (with_part part) log
-kept (ReadMsg key index n) log = with_entry key (with_read index n) log
-kept (DoneMsg key) log = with_entry key (λ e. record e { done = true }) log
-kept _ log = log
+abbrev pub with_body : Body → Log → Log
+with_body (OpenMsg n) log = opened n log
+with_body (DataMsg part) log = with_entry part.key (with_part part) log
+with_body (ReadMsg key index n) log = with_entry key (with_read index n) log
+with_body (DoneMsg key) log = with_entry key (λ e. record e { done = true }) log
+with_body _ log = log
 
 abbrev pub is_hello : Body → Bool
 is_hello HelloMsg = true
@@ -91,14 +91,14 @@ is_answer _ = false
 
 -- a Hello makes its boot the log's; any other kind counts only in the log's own boot
 abbrev pub heard : Message → Log → Log
-heard message log = if is_hello message.body then record log { boot = message.boot } else (if message.boot == log.boot then kept message.body log else log)
+heard message log = if is_hello message.body then record log { boot = message.boot } else (if message.boot == log.boot then with_body message.body log else log)
 
 -- The log after a message: nothing is changed by a kind that only the logger sends, nor by a smaller boot.
 unfoldable pub log_after : Log → Message → Log
 log_after log message = if is_answer message.body || nat_lt message.boot log.boot then log else heard message log
 
-abbrev pub numbers_of : Entry → Numbers
-numbers_of e = record { key = e.key; cisn = e.cisn; sisn = e.sisn; mss = e.mss }
+abbrev pub numbers_of_entry : Entry → Numbers
+numbers_of_entry e = record { key = e.key; cisn = e.cisn; sisn = e.sisn; mss = e.mss }
 
 abbrev pub kept_of : Entry → Kept
 kept_of e = record { key = e.key; length = length e.bytes; fin = e.fin; reads = length e.lengths }
@@ -115,7 +115,7 @@ abbrev pub lens_of : Entry → ℕ → Option Body
 lens_of e first = if nat_lt first (length e.lengths) then Some (LensMsg e.key first (take 512 (drop first e.lengths))) else None
 
 abbrev pub opened_answer : Key → Option Entry → Option Body
-opened_answer key (Some e) = Some (OpenedMsg (numbers_of e))
+opened_answer key (Some e) = Some (OpenedMsg (numbers_of_entry e))
 opened_answer key None = Some (FullMsg key)
 
 abbrev pub on_entry : (Entry → Option Body) → Option Entry → Option Body

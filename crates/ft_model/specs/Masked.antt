@@ -59,9 +59,9 @@ RestartIsExact service log (Some before) (Some after) = is_restarting before.sta
 RestartIsExact service log _ _ = Unit {0}
 
 -- what a packet tells a client: its acknowledgement, if it is a segment with ACK and without RST to that client
-abbrev pub told_by : Key → Packet → Option ℕ
-told_by key (To_client segment) = if key_eq (destination_of segment) key && has_ack segment && not (has_rst segment) then Some segment.head.ack else None
-told_by key _ = None
+abbrev pub told_to : Key → Packet → Option ℕ
+told_to key (To_client segment) = if key_eq (destination_of segment) key && has_ack segment && not (has_rst segment) then Some segment.head.ack else None
+told_to key _ = None
 
 abbrev pub or_before : Option ℕ → Option ℕ → Option ℕ
 or_before (Some later) before = Some later
@@ -70,7 +70,7 @@ or_before None before = before
 -- the last acknowledgement that was sent to a client
 abbrev pub last_told : Key → List Packet → Option ℕ
 last_told key [] = None
-last_told key (packet ∷ packets) = or_before (last_told key packets) (told_by key packet)
+last_told key (packet ∷ packets) = or_before (last_told key packets) (told_to key packet)
 
 -- the client was told last what is both taken and known to be logged, unless it reset the connection
 abbrev pub IsToldLast : List Packet → Point → Type 0

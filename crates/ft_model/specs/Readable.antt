@@ -9,7 +9,7 @@ use Rattle.ft_model.specs.Network.{Packet, source_of, destination_of}
 use Rattle.ft_model.specs.Network.Packet.{To_server, To_client}
 use Rattle.ft_model.specs.Wire.{HasWire}
 use Rattle.ft_model.specs.World.{Moment}
-use Rattle.ft_model.specs.Report.{number_of}
+use Rattle.ft_model.specs.Report.{number_of_client}
 use Rattle.ft_model.specs.declared.event.Event.{Event}
 use Rattle.ft_model.specs.declared.event.Event.TheVariants.{Boot, Crash, Tick, Deliver, Flip, Begin, Send, Fin, Ack, Reset}
 use Rattle.ft_model.specs.declared.schedule.Script.{Script}
@@ -45,7 +45,7 @@ FitsKey key = (key.ip < 2 ^ 32) × (key.port < 2 ^ 16)
 
 -- the key is a client's
 abbrev pub IsKnown : List Client → Key → Type 0
-IsKnown clients key = (0 < number_of clients key) × Fits (number_of clients key)
+IsKnown clients key = (0 < number_of_client clients key) × Fits (number_of_client clients key)
 
 abbrev pub IsOf : Addr → Key → Type 0
 IsOf server key = (key.ip ≡ server.ip) × (key.port ≡ server.port)

@@ -137,13 +137,13 @@ unfoldable pub packet_line : ℕ → Way → Packet → List ℕ
 packet_line n way packet = line (codes "packet") (decimal n ∷ way_text way ∷ content_words packet)
 
 -- the number of a client, by its place from 1; 0 for none
-abbrev pub number_of : List Client → Key → ℕ
-number_of clients key = option_map_or (λ i. i + 1) (position (λ c. key_eq c.key key) clients) 0
+abbrev pub number_of_client : List Client → Key → ℕ
+number_of_client clients key = option_map_or (λ i. i + 1) (position (λ c. key_eq c.key key) clients) 0
 
 -- a packet's way: a segment names its client by the address that isn't the server's
 abbrev pub way_of : List Client → Packet → Way
-way_of clients (To_server segment) = ClientToServer (number_of clients (source_of segment))
-way_of clients (To_client segment) = ServerToClient (number_of clients (destination_of segment))
+way_of clients (To_server segment) = ClientToServer (number_of_client clients (source_of segment))
+way_of clients (To_client segment) = ServerToClient (number_of_client clients (destination_of segment))
 way_of clients (To_logger message) = ServerToLogger
 way_of clients (From_logger message) = LoggerToServer
 

@@ -5,7 +5,7 @@ use Rattle.std.specs.List.{join_with_byte, flat_map}
 use Rattle.std.specs.Fmt.{decimal}
 use Rattle.hex.specs.Hex.{encode_lower}
 use Rattle.ft_io.specs.declared.Key.{Key}
-use Rattle.seq_arith.specs.Packet.{is_flagged}
+use Rattle.seq_arith.specs.Packet.{has}
 use Rattle.ft_model.specs.declared.way.Way.{Way}
 use Rattle.ft_model.specs.declared.way.Way.TheVariants.{ClientToServer, ServerToClient, ServerToLogger, LoggerToServer}
 use Rattle.ft_model.specs.declared.phase.Phase.{Phase}
@@ -52,7 +52,7 @@ key_text key = address_text key.ip key.port
 
 -- a flag's letter, where the flag is set
 abbrev pub letter_if : ℕ → List ℕ → ℕ → List ℕ
-letter_if flag letter flags = if is_flagged flag flags then letter else []
+letter_if flag letter flags = if has flags flag then letter else []
 
 -- the letters of the flags that are set, in the order of their bits (RFC 9293, 3.1; CWR and ECE are C and E)
 abbrev pub flag_letters : ℕ → List ℕ

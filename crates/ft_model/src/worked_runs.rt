@@ -10,7 +10,7 @@ ghost use Rattle.ft_model.specs.Lawful.{Lawful, hello};
 ghost use Rattle.ft_model.specs.World.{Joint};
 ghost use Rattle.ft_model.specs.Legal.{Legal};
 ghost use Rattle.ft_model.specs.Report.{report};
-ghost use Rattle.ft_model.specs.WorkedRuns.Common.{echo, server, IsRefused};
+ghost use Rattle.ft_model.specs.WorkedRuns.Common.{echo, server, IsUnlawful};
 ghost use Rattle.ft_model.specs.WorkedRuns.FirstPath;
 ghost use Rattle.ft_model.specs.WorkedRuns.CrashAfterLogged;
 ghost use Rattle.ft_model.specs.WorkedRuns.Closing;
@@ -64,29 +64,29 @@ pub fn crash_before_syn_ack_is_lawful()
 
 /// In the turn in which the text comes, the Data may not be left out, nor may its Read go first or have another index.
 pub fn wrong_copies_are_refused()
-    ensures left_out { IsRefused (FirstPath.node_live FirstPath.open_point) FirstPath.text_comes FirstPath.without_copy }
-    ensures read_first { IsRefused (FirstPath.node_live FirstPath.open_point) FirstPath.text_comes FirstPath.read_first }
-    ensures index_off { IsRefused (FirstPath.node_live FirstPath.open_point) FirstPath.text_comes FirstPath.one_index_off }
+    ensures left_out { IsUnlawful (FirstPath.node_live FirstPath.open_point) FirstPath.text_comes FirstPath.without_copy }
+    ensures read_first { IsUnlawful (FirstPath.node_live FirstPath.open_point) FirstPath.text_comes FirstPath.read_first }
+    ensures index_off { IsUnlawful (FirstPath.node_live FirstPath.open_point) FirstPath.text_comes FirstPath.one_index_off }
 {}
 
 /// Nothing may be acknowledged that isn't logged, not one unit, and what is logged may not be passed over in silence.
 pub fn wrong_acknowledgements_are_refused()
-    ensures one_too_high { IsRefused (FirstPath.node_live FirstPath.open_point) FirstPath.text_comes FirstPath.one_too_high }
-    ensures passed_on { IsRefused (FirstPath.node_live FirstPath.open_point) FirstPath.text_comes FirstPath.passed_on }
-    ensures silent { IsRefused (FirstPath.node_live FirstPath.taken_point) FirstPath.stable_comes [] }
+    ensures one_too_high { IsUnlawful (FirstPath.node_live FirstPath.open_point) FirstPath.text_comes FirstPath.one_too_high }
+    ensures passed_on { IsUnlawful (FirstPath.node_live FirstPath.open_point) FirstPath.text_comes FirstPath.passed_on }
+    ensures silent { IsUnlawful (FirstPath.node_live FirstPath.taken_point) FirstPath.stable_comes [] }
 {}
 
 /// Nothing leaves before the log has what it rests on: no output before its read, and no SYN-ACK before Opened.
 pub fn early_packets_are_refused()
-    ensures output { IsRefused (FirstPath.node_live FirstPath.open_point) FirstPath.text_comes FirstPath.released_early }
-    ensures syn_ack { IsRefused (FirstPath.node_at (Serving 0 [])) FirstPath.syn_comes (FirstPath.packet_6 ∷ []) }
+    ensures output { IsUnlawful (FirstPath.node_live FirstPath.open_point) FirstPath.text_comes FirstPath.released_early }
+    ensures syn_ack { IsUnlawful (FirstPath.node_at (Serving 0 [])) FirstPath.syn_comes (FirstPath.packet_6 ∷ []) }
 {}
 
 /// The server's FIN doesn't leave before the closing read is logged: not in the turn of that read, nor when the client's FIN is logged and
 /// the read isn't.
 pub fn early_fins_are_refused()
-    ensures with_the_read { IsRefused Closing.first_4.node Closing.first_5.input Closing.fin_with_read }
-    ensures before_its_answer { IsRefused Closing.first_5.node Closing.first_6.input Closing.fin_before_reads }
+    ensures with_the_read { IsUnlawful Closing.first_4.node Closing.first_5.input Closing.fin_with_read }
+    ensures before_its_answer { IsUnlawful Closing.first_5.node Closing.first_6.input Closing.fin_before_reads }
 {}
 
 /// A client without room is probed with the FIN where no byte waits in front of it.
@@ -96,29 +96,29 @@ pub fn fin_probe_is_lawful()
 
 /// A tick sends the unanswered Reads again by index, and not out of order.
 pub fn turned_reads_are_refused()
-    ensures { IsRefused (FirstPath.node_live FirstPath.twice_read_point) Tick_comes FirstPath.reads_turned }
+    ensures { IsUnlawful (FirstPath.node_live FirstPath.twice_read_point) Tick_comes FirstPath.reads_turned }
 {}
 
 /// A client without room gets no output past its edge but the probe, of one byte, when the timer expires, and not earlier; and it gets that.
 pub fn wrong_probes_are_refused()
-    ensures past_the_edge { IsRefused ZeroWindow.probe_6.node ZeroWindow.probe_7.input ZeroWindow.past_the_edge }
-    ensures none { IsRefused ZeroWindow.probe_7.node Tick_comes [] }
-    ensures wide { IsRefused ZeroWindow.probe_7.node Tick_comes ZeroWindow.wide_probe }
-    ensures early { IsRefused ZeroWindow.probe_8.node Tick_comes ZeroWindow.probe_8.sent }
+    ensures past_the_edge { IsUnlawful ZeroWindow.probe_6.node ZeroWindow.probe_7.input ZeroWindow.past_the_edge }
+    ensures none { IsUnlawful ZeroWindow.probe_7.node Tick_comes [] }
+    ensures wide { IsUnlawful ZeroWindow.probe_7.node Tick_comes ZeroWindow.wide_probe }
+    ensures early { IsUnlawful ZeroWindow.probe_8.node Tick_comes ZeroWindow.probe_8.sent }
 {}
 
 /// A restart asks for no bytes before their read's length has come, and for no further lengths while the bytes of a fetched read are missing.
 pub fn wrong_questions_are_refused()
-    ensures bytes_first { IsRefused RestartInTurns.turn_1.node RestartInTurns.turn_2.input RestartInTurns.bytes_first }
-    ensures lengths_ahead { IsRefused RestartInTurns.turn_2.node RestartInTurns.turn_3.input RestartInTurns.lengths_ahead }
+    ensures bytes_first { IsUnlawful RestartInTurns.turn_1.node RestartInTurns.turn_2.input RestartInTurns.bytes_first }
+    ensures lengths_ahead { IsUnlawful RestartInTurns.turn_2.node RestartInTurns.turn_3.input RestartInTurns.lengths_ahead }
 {}
 
 /// While a server fetches, a client whose entry has come is neither reset nor left without an answer; and the turn of the last answer tells it
 /// that the server serves again.
 pub fn wrong_restarts_are_refused()
-    ensures reset { IsRefused SegmentWhileRestarting.restart_2.node SegmentWhileRestarting.restart_3.input SegmentWhileRestarting.reset_meanwhile }
-    ensures silent { IsRefused SegmentWhileRestarting.restart_2.node SegmentWhileRestarting.restart_3.input [] }
-    ensures restarting { IsRefused SegmentWhileRestarting.restart_4.node SegmentWhileRestarting.restart_5.input [] }
+    ensures reset { IsUnlawful SegmentWhileRestarting.restart_2.node SegmentWhileRestarting.restart_3.input SegmentWhileRestarting.reset_meanwhile }
+    ensures silent { IsUnlawful SegmentWhileRestarting.restart_2.node SegmentWhileRestarting.restart_3.input [] }
+    ensures restarting { IsUnlawful SegmentWhileRestarting.restart_4.node SegmentWhileRestarting.restart_5.input [] }
 {}
 
 /// The run with a client without room, whole, is a legal trace of its schedule, and its report has these lines.

@@ -7,7 +7,7 @@ use Rattle.ft_io.specs.Key.{key_eq}
 use Rattle.ft_model.specs.Client.{Client}
 use Rattle.ft_model.specs.Network.{Packet, source_of, destination_of}
 use Rattle.ft_model.specs.Network.Packet.{To_server, To_client, To_logger, From_logger}
-use Rattle.ft_model.specs.Report.{number_of, way_of, packet_line, packet_lines}
+use Rattle.ft_model.specs.Report.{number_of_client, way_of, packet_line, packet_lines}
 use Rattle.ft_model.specs.declared.way.Way.TheVariants.{ClientToServer, ServerToClient}
 
 same_prefix : (k : Key) (cs ds : List Client) → map (λ c. c.key) cs ≡ map (λ c. c.key) ds → prefix_len (λ c. not (key_eq c.key k)) cs ≡ prefix_len (λ c. not (key_eq c.key k)) ds
@@ -25,7 +25,7 @@ same_length [] (d ∷ ds) e = cc
 same_length (c ∷ cs) [] e = cc
 same_length (c ∷ cs) (d ∷ ds) e = let tail : map (λ x. x.key) cs ≡ map (λ x. x.key) ds = cc in ap suc (same_length cs ds tail)
 
-same_number : (k : Key) (cs ds : List Client) → map (λ c. c.key) cs ≡ map (λ c. c.key) ds → number_of cs k ≡ number_of ds k
+same_number : (k : Key) (cs ds : List Client) → map (λ c. c.key) cs ≡ map (λ c. c.key) ds → number_of_client cs k ≡ number_of_client ds k
 same_number k cs ds e =
     ap (λ n. option_map_or (λ i. i + 1) (cond (nat_lt n (length cs)) (Some n) None) 0) (same_prefix k cs ds e)
     ∙ ap (λ l. option_map_or (λ i. i + 1) (cond (nat_lt (prefix_len (λ c. not (key_eq c.key k)) ds) l) (Some (prefix_len (λ c. not (key_eq c.key k)) ds)) None) 0) (same_length cs ds e)

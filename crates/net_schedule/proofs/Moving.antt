@@ -1,5 +1,5 @@
 -- A client's move is what may happen in the world of the definitions.
-use Rattle.std.proofs.Common.{◌≡◌, ◌∙◌, sym, ap, subst, ℕ, ◌-◌, ◌<◌, ◌≤◌, ◌^◌, Bool, true, false, ◌&&◌, cond, None, Some, List, [], ◌∷◌, ◌++◌, map, length, refl, arith, zero, suc, slice_get, get_or, Result, Ok, Err, sub-one}
+use Rattle.std.proofs.Common.{◌≡◌, ◌∙◌, sym, ap, subst, ℕ, ◌-◌, ◌<◌, ◌≤◌, ◌^◌, Bool, true, false, ◌&&◌, cond, Option, None, Some, option_map, List, [], ◌∷◌, ◌++◌, map, length, refl, arith, zero, suc, slice_get, get_or, Result, Ok, Err, sub-one}
 use Rattle.std.proofs.lemmas.Bool.{lt-ltb}
 use Rattle.std.proofs.Math.ListN.{set, length-set}
 use Rattle.std.specs.List.{AllByRecursion}
@@ -8,12 +8,12 @@ use Rattle.ft_io.specs.declared.Key.{Key}
 use Rattle.ft_io.specs.Key.{key_eq}
 use Rattle.server_trait.specs.Service.{Machine}
 use Rattle.seq_arith.specs.Packet.{Segment}
-use Rattle.ft_model.specs.Client.{Client, Move, move_of, window_of, refusal_of_move, may_move, suits_kind, suits_phase, suits_range, may_announce, segment_of, moved}
+use Rattle.ft_model.specs.Client.{Client, Move, move_asked, mover_of, move_of, window_of, refusal_of_move, may_move, suits_kind, suits_phase, suits_range, may_announce, segment_of, moved}
 use Rattle.ft_model.specs.Client.Move.{Syn, Text, Acknowledge}
 use Rattle.ft_model.specs.Network.{Packet}
 use Rattle.ft_model.specs.Network.Packet.{To_server}
 use Rattle.ft_model.specs.World.{World as Seen, with_client, client_at, Moves, Happens}
-use Rattle.ft_model.specs.Legal.{refusal, refusal_of_client, mover_of}
+use Rattle.ft_model.specs.Legal.{refusal, refusal_of_client}
 use Rattle.net_schedule.specs.Played.{is_move}
 use Rattle.ft_model.specs.declared.event.Event.{Event}
 use Rattle.ft_model.specs.declared.event.Event.TheVariants.{Boot, Crash, Tick, Deliver, Flip, Begin, Send, Fin, Ack, Reset}
@@ -26,6 +26,7 @@ use Rattle.std.specs.Prelude.{IsErrAnd, IfErr}
 use Rattle.net_schedule.specs.Server.{IsOfStage}
 use Rattle.net_schedule.specs.Standing.{Kept, NodeStands, IsSentInStage, IsClientOfStage, WorldStands, Advances, EndsStep}
 use Rattle.ft_model.proofs.ClientKinds.{suits_either}
+use Rattle.ft_model.proofs.Lists.{none_is_some, some_is}
 use Rattle.net_schedule.proofs.Stepping.{all_append}
 
 key_eq_same : (k : Key) → key_eq k k ≡ true
@@ -110,29 +111,41 @@ module _ {State : Type 0} (service : Machine State) where
   announces client (Fin n) move i e h = cc
   announces client (Reset n) move i e h = cc
 
-  happen : (v after : Seen) (event : Event) (sent : List Packet) → is_move event ≡ true → Moves v (mover_of event) sent after → Happens service v event sent after
-  happen v after (Begin n window) sent i m = m
-  happen v after (Send n from len) sent i m = m
-  happen v after (Ack n window) sent i m = m
-  happen v after (Boot boot isn) sent i m = cc
-  happen v after Crash sent i m = cc
-  happen v after Tick sent i m = cc
-  happen v after (Deliver n) sent i m = cc
-  happen v after (Flip n bit) sent i m = cc
-  happen v after (Fin n) sent i m = cc
-  happen v after (Reset n) sent i m = cc
+  happen : (v after : Seen) (event : Event) (number : ℕ) (sent : List Packet) → is_move event ≡ true → mover_of event ≡ Some number → Moves v number sent after → Happens service v event sent after
+  happen v after (Begin n window) number sent i e m = let same : number ≡ n = cc in subst (λ k. Moves v k sent after) same m
+  happen v after (Send n from len) number sent i e m = let same : number ≡ n = cc in subst (λ k. Moves v k sent after) same m
+  happen v after (Ack n window) number sent i e m = let same : number ≡ n = cc in subst (λ k. Moves v k sent after) same m
+  happen v after (Boot boot isn) number sent i e m = cc
+  happen v after Crash number sent i e m = cc
+  happen v after Tick number sent i e m = cc
+  happen v after (Deliver n) number sent i e m = cc
+  happen v after (Flip n bit) number sent i e m = cc
+  happen v after (Fin n) number sent i e m = cc
+  happen v after (Reset n) number sent i e m = cc
 
-  pub refusal_is : (v : Seen) (event : Event) → is_move event ≡ true → refusal v event ≡ refusal_of_client (client_at v.clients (mover_of event)) (move_of event)
-  refusal_is v (Begin n window) i = refl
-  refusal_is v (Send n from len) i = refl
-  refusal_is v (Ack n window) i = refl
-  refusal_is v (Boot boot isn) i = cc
-  refusal_is v Crash i = cc
-  refusal_is v Tick i = cc
-  refusal_is v (Deliver n) i = cc
-  refusal_is v (Flip n bit) i = cc
-  refusal_is v (Fin n) i = cc
-  refusal_is v (Reset n) i = cc
+  -- the move that is asked of a client
+  asks : (o : Option (ℕ × Move)) (number : ℕ) → option_map (λ a. a.0) o ≡ Some number → (move : Move) × (o ≡ Some (number, move))
+  asks (Some a) number e = (a.1, (ap (λ n. Some (n, a.1)) (some_is a.0 number e)))
+  asks None number e = none_is_some number e
+
+  both_asked : (event : Event) (number : ℕ) (move : Move) → mover_of event ≡ Some number → move_of event ≡ Some move → move_asked event ≡ Some (number, move)
+  both_asked event number move e f =
+      let a = asks (move_asked event) number e in
+      let same : a.0 ≡ move = some_is a.0 move (sym (subst (λ o. option_map (λ x. x.1) o ≡ Some a.0) (sym a.1) refl) ∙ f) in
+      a.1 ∙ ap (λ m. Some (number, m)) same
+
+  pub refusal_is : (v : Seen) (event : Event) (number : ℕ) (move : Move) → is_move event ≡ true → move_asked event ≡ Some (number, move)
+      → refusal v event ≡ refusal_of_client (client_at v.clients number) move
+  refusal_is v (Begin n window) number move i e = ap (λ a. refusal_of_client (client_at v.clients a.0) a.1) (some_is (n, Syn None) (number, move) e)
+  refusal_is v (Send n from len) number move i e = ap (λ a. refusal_of_client (client_at v.clients a.0) a.1) (some_is (n, Text from len) (number, move) e)
+  refusal_is v (Ack n window) number move i e = ap (λ a. refusal_of_client (client_at v.clients a.0) a.1) (some_is (n, Acknowledge) (number, move) e)
+  refusal_is v (Boot boot isn) number move i e = cc
+  refusal_is v Crash number move i e = cc
+  refusal_is v Tick number move i e = cc
+  refusal_is v (Deliver n) number move i e = cc
+  refusal_is v (Flip n bit) number move i e = cc
+  refusal_is v (Fin n) number move i e = cc
+  refusal_is v (Reset n) number move i e = cc
 
   all_replaced : (P : Client → Type 0) (key : Key) (later : Client) (clients : List Client) → P later → AllByRecursion P clients → AllByRecursion P (with_client key (λ _. later) clients)
   all_replaced P key later [] p a = tt
@@ -157,28 +170,30 @@ module _ {State : Type 0} (service : Machine State) where
       (sent ≡ To_server (segment_of x move (window_of x event)) ∷ [])
       × (clients ≡ with_client x.key (λ _. moved x move (window_of x event)) v.clients)
 
-  pub client_moves : (w w' : Kept State) (v : Seen) (event : Event) (client later : Client) (segment : Segment) → WorldStands service w v → is_move event ≡ true
-      → client_at w.clients (mover_of event) ≡ Some client → Makes client event segment later
-      → w' ≡ record w { clients = set w.clients (mover_of event - 1) later; packets = w.packets ++ To_server segment ∷ [] } → Advances service v event w'
-  client_moves w w' v event client later segment st i e m e' =
-      let ce : client_at v.clients (mover_of event) ≡ Some client = subst (λ cs. client_at cs (mover_of event) ≡ Some client) st.clients e in
-      let p : IsClientOfStage v.server st.key client = at_of (IsClientOfStage v.server st.key) v.clients (mover_of event) client st.of_stage ce in
-      let replaced : set v.clients (mover_of event - 1) later ≡ with_client client.key (λ _. later) v.clients = alone_moves v.clients (mover_of event) client later st.alone ce in
-      let asked : refusal_of_client (client_at v.clients (mover_of event)) (move_of event) ≡ None = rw (ce, m.asked) m.allowed in
+  pub client_moves : (w w' : Kept State) (v : Seen) (event : Event) (number : ℕ) (client later : Client) (segment : Segment) → WorldStands service w v → is_move event ≡ true
+      → mover_of event ≡ Some number → client_at w.clients number ≡ Some client → Makes client event segment later
+      → w' ≡ record w { clients = set w.clients (number - 1) later; packets = w.packets ++ To_server segment ∷ [] } → Advances service v event w'
+  client_moves w w' v event number client later segment st i by e m e' =
+      let ce : client_at v.clients number ≡ Some client = subst (λ cs. client_at cs number ≡ Some client) st.clients e in
+      let p : IsClientOfStage v.server st.key client = at_of (IsClientOfStage v.server st.key) v.clients number client st.of_stage ce in
+      let replaced : set v.clients (number - 1) later ≡ with_client client.key (λ _. later) v.clients = alone_moves v.clients number client later st.alone ce in
+      let whole : move_asked event ≡ Some (number, m.move) = both_asked event number m.move by m.asked in
+      let free : refusal_of_client (client_at v.clients number) m.move ≡ None = rw ce m.allowed in
       let q : IsClientOfStage v.server st.key later = subst (IsClientOfStage v.server st.key) (sym m.after_is) (record { key_is = p.key_is; server_is = p.server_is }) in
       let fit : IsOfStage v.server st.key segment = subst (IsOfStage v.server st.key) (sym m.segment_is) (of_stage v.server st.key client event m.move i m.asked p) in
       let world : Seen = record v { clients = with_client client.key (λ _. later) v.clients; packets = v.packets ++ To_server segment ∷ [] } in
       record {
         sent = To_server segment ∷ [];
         world = world;
-        allowed = refusal_is v event i ∙ asked;
-        scripted = λ c move h k.
-            let same : client ≡ c = cc in
-            let made : m.move ≡ move = cc in
+        allowed = refusal_is v event number m.move i whole ∙ free;
+        scripted = λ n move c k h.
+            let alike : (number, m.move) ≡ (n, move) = some_is (number, m.move) (n, move) (sym whole ∙ k) in
+            let same : client ≡ c = some_is client c (sym ce ∙ (ap (λ a. client_at v.clients a.0) alike ∙ h)) in
+            let made : m.move ≡ move = ap (λ a. a.1) alike in
             subst (λ x. IsPlayedBy v event (To_server segment ∷ []) world.clients x move) same
             (subst (λ x. IsPlayedBy v event (To_server segment ∷ []) world.clients client x) made
             (ap (λ x. To_server x ∷ []) m.segment_is, ap (λ x. with_client client.key (λ _. x) v.clients) m.after_is));
-        happens = happen v world event (To_server segment ∷ []) i
+        happens = happen v world event number (To_server segment ∷ []) i by
             (record {
               client = client;
               segment = segment;
@@ -191,7 +206,7 @@ module _ {State : Type 0} (service : Machine State) where
         stands = record {
           key = st.key;
           server = ap (λ x. x.server) e' ∙ st.server;
-          clients = ap (λ x. x.clients) e' ∙ ap (λ cs. set cs (mover_of event - 1) later) st.clients ∙ replaced;
+          clients = ap (λ x. x.clients) e' ∙ ap (λ cs. set cs (number - 1) later) st.clients ∙ replaced;
           log = ap (λ x. x.log) e' ∙ st.log;
           packets = ap (λ x. x.packets) e' ∙ ap (λ ps. ps ++ To_server segment ∷ []) st.packets;
           boot = ap (λ x. x.boot) e' ∙ st.boot;
@@ -208,19 +223,20 @@ module _ {State : Type 0} (service : Machine State) where
       }
 
   -- what the client machine refuses, the events' tests refuse
-  pub refuses : (w w' : Kept State) (v : Seen) (event : Event) (client : Client) (end : MoveEnd) → WorldStands service w v → is_move event ≡ true
-      → client_at w.clients (mover_of event) ≡ Some client → IsRefusal client event end → EndsStep service v event w' (step_end end)
-  refuses w w' v event client NoMemory st i e r = tt
-  refuses w w' v event client (Refused why) st i e r =
-      let ce : client_at v.clients (mover_of event) ≡ Some client = subst (λ cs. client_at cs (mover_of event) ≡ Some client) st.clients e in
-      refusal_is v event i ∙ rw (ce, r.1) r.2
+  pub refuses : (w w' : Kept State) (v : Seen) (event : Event) (number : ℕ) (client : Client) (end : MoveEnd) → WorldStands service w v → is_move event ≡ true → mover_of event ≡ Some number
+      → client_at w.clients number ≡ Some client → IsRefusal client event end → EndsStep service v event w' (step_end end)
+  refuses w w' v event number client NoMemory st i by e r = tt
+  refuses w w' v event number client (Refused why) st i by e r =
+      let ce : client_at v.clients number ≡ Some client = subst (λ cs. client_at cs number ≡ Some client) st.clients e in
+      refusal_is v event number r.0 i (both_asked event number r.0 by r.1) ∙ rw ce r.2
 
   -- there is no such client
-  pub no_client : (w w' : Kept State) (v : Seen) (event : Event) → WorldStands service w v → is_move event ≡ true → client_at w.clients (mover_of event) ≡ None
+  pub no_client : (w w' : Kept State) (v : Seen) (event : Event) (number : ℕ) → WorldStands service w v → is_move event ≡ true → mover_of event ≡ Some number → client_at w.clients number ≡ None
       → refusal v event ≡ Some why.Client
-  no_client w w' v event st i e =
-      let ce : client_at v.clients (mover_of event) ≡ None = subst (λ cs. client_at cs (mover_of event) ≡ None) st.clients e in
-      refusal_is v event i ∙ rw ce refl
+  no_client w w' v event number st i by e =
+      let ce : client_at v.clients number ≡ None = subst (λ cs. client_at cs number ≡ None) st.clients e in
+      let a = asks (move_asked event) number by in
+      refusal_is v event number a.0 i a.1 ∙ rw ce refl
 
 there : {X : Type 0} (xs : List X) (m : ℕ) (d : X) → m < length xs → slice_get xs m ≡ Some (get_or xs m d)
 there [] m d h = absurd (omega arith)

@@ -164,7 +164,7 @@ all_fine server key (p ∷ ps) h = (fine server key p h.0, all_fine server key p
 module _ {State : Type 0} (service : Machine State) where
   -- no move is asked for where the event isn't a client's
   no_move : (v : Seen) (n : ℕ) (sent : List Packet) (after : Seen) → IsScripted v (Deliver n) sent after
-  no_move v n sent after client move h k = absurd (none-some move k)
+  no_move v n sent after number move client k h = absurd (none-some (number, move) k)
 
   -- a boot that the events' tests allow
   pub boots : (w w' : Kept State) (v : Seen) (boot isn : ℕ) (s : Server State) (more : List Packet) → WorldStands service w v → w.node ≡ None → w.boot < boot → boot < 2 ^ 64
@@ -180,7 +180,7 @@ module _ {State : Type 0} (service : Machine State) where
         sent = hello node;
         world = record v { boot = boot; node = Some node; packets = v.packets ++ hello node };
         allowed = rw vn (rw q refl);
-        scripted = λ client move h k. absurd (none-some move k);
+        scripted = λ number move client k h. absurd (none-some (number, move) k);
         happens = (vn, (low, fits), refl, refl);
         stands = record {
           key = st.key;

@@ -1,7 +1,7 @@
 //! One connection in the plain log.
 
 ghost use Rattle.std.specs.Prelude.{◌≡◌, ◌+◌, OnOk, OnErr, IfOk, IfSome, length};
-ghost use Rattle.ft_model.specs.Log.{new_entry, with_bytes, with_its_fin, with_part, with_read, is_next_read, kept_of, numbers_of};
+ghost use Rattle.ft_model.specs.Log.{new_entry, with_bytes, with_its_fin, with_part, with_read, is_next_read, kept_of, numbers_of_entry};
 ghost use Rattle.schedule_text.specs.Packet.{part_of, kept_of as kept_value, numbers_of as numbers_value};
 
 use crate::arrival::rest;
@@ -65,7 +65,7 @@ impl PlainEntry {
     }
 
     pub fn numbers(&self) -> Numbers
-        ensures { numbers_value result ≡ numbers_of self.now }
+        ensures { numbers_value result ≡ numbers_of_entry self.now }
     {
         Numbers {
             key: self.key,

@@ -3,7 +3,7 @@
 ghost use Rattle.std.specs.Prelude.{◌≡◌, ◌+◌, ℕ, if◌then◌else◌, find, map, option_map, option_copied, OnOk, IfOk, length, slice_get};
 ghost use Rattle.std.specs.List.{list_any};
 ghost use Rattle.ft_io.specs.Key.{key_eq};
-ghost use Rattle.ft_model.specs.Log.{with_part, with_read, kept, log_after, answer_body, answer_to, empty_log, opened, opened_answer, entry_of, with_entry};
+ghost use Rattle.ft_model.specs.Log.{with_part, with_read, with_body, log_after, answer_body, answer_to, empty_log, opened, opened_answer, entry_of, with_entry};
 ghost use Rattle.schedule_text.specs.Packet.{part_of, numbers_of as numbers_value, body_of, message_of};
 ghost use Rattle.net_schedule.specs.Keeping.{kept_in};
 
@@ -123,7 +123,7 @@ impl PlainLog {
 
     /// Keeps what a message of the log's own boot says.
     fn take(&mut self, alloc: Global, body: &Body) -> Result<(), NoMemory>
-        ensures { OnOk result (self.new ≡ kept (body_of body.now) self.old) }
+        ensures { OnOk result (self.new ≡ with_body (body_of body.now) self.old) }
     {
         match body {
             Body::OpenMsg(numbers) => self.open(alloc, numbers),

@@ -8,7 +8,7 @@ ghost use Rattle.ft_model.specs.Network.{packet_at, destination_of};
 ghost use Rattle.ft_model.specs.Schedule.{kind_of as kind_lem, letters as letters_lem, bytes_of as bytes_lem, client_of as client_lem, clients_of};
 ghost use Rattle.net_schedule.specs.AtNumber.{at_number as at_lem};
 ghost use Rattle.ft_model.specs.World.{with_client, client_at};
-ghost use Rattle.ft_model.specs.Report.{number_of as number_lem, way_of};
+ghost use Rattle.ft_model.specs.Report.{number_of_client as number_lem, way_of};
 ghost use Rattle.schedule_text.specs.Packet.{packet_of, segment_of, message_of};
 ghost use Rattle.std.specs.Option.{option_to_list};
 ghost use Rattle.ft_model.specs.Network.Packet.{From_logger};
@@ -212,7 +212,7 @@ impl<S: Service> World<S> {
     ghost use Rattle.ft_model.specs.Legal.{start_of, refusal};
     ghost use Rattle.net_schedule.specs.Standing.{WorldStands, Advances, Steps, EndsStep, KeepsAtRefusal};
     ghost use Rattle.net_schedule.specs.Played.{is_move};
-    ghost use Rattle.ft_model.specs.Legal.{mover_of};
+    ghost use Rattle.ft_model.specs.Client.{mover_of};
     ghost use Rattle.ft_model.specs.Playable.{IsPlayable};
     ghost use Rattle.schedule_text.specs.Stage.{IsBuilt, is_played};
     ghost use Rattle.net_schedule.specs.Server.{ClosesAtEnd};
@@ -342,7 +342,7 @@ impl<S: Service> World<S> {
 
     /// A client makes the move that an event asks for.
     fn make(&mut self, alloc: Global, number: u8, event: &Event) -> Result<(), StepEnd>
-        requires number { number ≡ mover_of event.now }
+        requires number { mover_of event.now ≡ Some number }
         requires moves { is_move event.now ≡ true }
         ensures kind { self.new.kind ≡ self.old.kind }
         ensures grows { OnOk result (length self.old.packets ≤ length self.new.packets) }

@@ -106,7 +106,7 @@ by_tests false b e = none_is_some why.State (sym e)
 
 -- an allowed move of a scripted client
 scripted_own : {State : Type 0} (service : Machine State) (start before : World) (number : ℕ) (event : Event) (move : Move) (sent : List Packet) (after : World) → KeptNear service start before
-    → Moves before number sent after → is_refusal move ≡ false → move_of event ≡ Some move → refusal_of_client (client_at before.clients number) (Some move) ≡ None
+    → Moves before number sent after → is_refusal move ≡ false → move_of event ≡ Some move → refusal_of_client (client_at before.clients number) move ≡ None
     → ((client : Client) → client_at before.clients number ≡ Some client → sent ≡ To_server (segment_of client move (window_of client event)) ∷ [])
     → AllByRecursion (OwnNear (isn_of start)) sent
 scripted_own service start before number event move sent after k m plain asks allowed says =
@@ -116,7 +116,7 @@ scripted_own service start before number event move sent after k m plain asks al
     let fits : ClientFits (script_of start) isn c = client_there (ClientFits (script_of start) isn) before.clients number c k.0.faithful.clients m.is_there in
     let may : may_move c move ≡ true =
     subst (λ b. (b && suits_phase c move && suits_range c move) ≡ true) (sym (suits_either c.kind event move asks))
-    (by_tests (suits_phase c move) (suits_range c move) (subst (λ o. refusal_of_client o (Some move) ≡ None) m.is_there allowed)) in
+    (by_tests (suits_phase c move) (suits_range c move) (subst (λ o. refusal_of_client o move ≡ None) m.is_there allowed)) in
     subst (AllByRecursion (OwnNear isn)) (sym (says c m.is_there)) (begins_near (script_of start) isn c move (window_of c event) fits within may plain, tt)
 
 moment_own : {State : Type 0} (service : Machine State) (start before : World) (event : Event) (sent : List Packet) (after : World) → KeptNear service start before
@@ -127,15 +127,15 @@ moment_own service start before events.Tick sent after k h a s = server_own serv
 moment_own service start before (events.Deliver number) sent after k h a s = delivered_own service (isn_of start) before h.0 sent after h.2
 moment_own service start before (events.Flip number bit) sent after k h a s = flipped_own service (isn_of start) before h.0 bit sent after h.2
 moment_own service start before (events.Begin client window) sent after k h a s =
-    scripted_own service start before client (events.Begin client window) (Syn None) sent after k h refl refl a (λ c e. (s c (Syn None) e refl).0)
+    scripted_own service start before client (events.Begin client window) (Syn None) sent after k h refl refl a (λ c e. (s client (Syn None) c refl e).0)
 moment_own service start before (events.Send client from len) sent after k h a s =
-    scripted_own service start before client (events.Send client from len) (Text from len) sent after k h refl refl a (λ c e. (s c (Text from len) e refl).0)
+    scripted_own service start before client (events.Send client from len) (Text from len) sent after k h refl refl a (λ c e. (s client (Text from len) c refl e).0)
 moment_own service start before (events.Fin client) sent after k h a s =
-    scripted_own service start before client (events.Fin client) Fin sent after k h refl refl a (λ c e. (s c Fin e refl).0)
+    scripted_own service start before client (events.Fin client) Fin sent after k h refl refl a (λ c e. (s client Fin c refl e).0)
 moment_own service start before (events.Ack client window) sent after k h a s =
-    scripted_own service start before client (events.Ack client window) Acknowledge sent after k h refl refl a (λ c e. (s c Acknowledge e refl).0)
+    scripted_own service start before client (events.Ack client window) Acknowledge sent after k h refl refl a (λ c e. (s client Acknowledge c refl e).0)
 moment_own service start before (events.Reset client) sent after k h a s =
-    scripted_own service start before client (events.Reset client) Rst sent after k h refl refl a (λ c e. (s c Rst e refl).0)
+    scripted_own service start before client (events.Reset client) Rst sent after k h refl refl a (λ c e. (s client Rst c refl e).0)
 
 legal_own : {State : Type 0} (service : Machine State) → HasSmallOutputs service → (start : World) (trace : List Moment) → Joint service start trace → AllAllowed start trace
     → AllByRecursion (OwnNear (isn_of start)) (world_after start trace).packets

@@ -112,5 +112,5 @@ abbrev pub fetched_with : EntryHead → List ℕ → List ℕ → Fetched
 fetched_with head bytes lengths = record { head = head; bytes = bytes; lengths = lengths }
 
 -- no lawful turn from there, by this input, sends this
-abbrev pub IsRefused : Node → Input → List Packet → Type 0
-IsRefused before input sent = (after : Node) → LawfulTurn echo before input sent after → ⊥
+abbrev pub IsUnlawful : Node → Input → List Packet → Type 0
+IsUnlawful before input sent = (after : Node) → LawfulTurn echo before input sent after → ⊥
