@@ -25,7 +25,8 @@ use Rattle.endpoint_laws.proofs.Calls.{FinIsLast, IsUsed, used_is, bounded_used,
 use Rattle.endpoint_laws.proofs.Arrivals.{Arrived, arrives}
 use Rattle.endpoint_laws.proofs.Ends.{ends_law}
 use Rattle.endpoint_laws.proofs.EndingLaw.{flushed_name, reset_law}
-use Rattle.endpoint_laws.proofs.TurnEnd.{flush_keeps}
+use Rattle.endpoint_laws.proofs.Bounding.{bounded_by_flush}
+use Rattle.endpoint_laws.proofs.TurnEnd.{flush_keeps, last_flushed}
 use Rattle.endpoint_laws.proofs.Turns.{flushed_receives}
 use Rattle.south_wrap.specs.Patching.{inward}
 use Rattle.south_wrap.specs.Standing.{south_at}
@@ -118,7 +119,7 @@ opens_by : (u i delta : ℕ) (p : Point) (e : Tcb) (segment : Segment) (calls : 
 opens_by u i delta p e segment calls true is begun may ended = absurd (false≢true (sym ended ∙ (used_is calls e may).begun begun))
 opens_by u i delta p e segment calls false is begun may ended = is
 
-opens_not : (u i delta : ℕ) (p : Point) (e : Tcb) (news : News) (calls : List Call) → IsLater news p → has_begun e.name ≡ true → MayUse calls (arrived (news_inside delta p news) e)
+pub opens_not : (u i delta : ℕ) (p : Point) (e : Tcb) (news : News) (calls : List Call) → IsLater news p → has_begun e.name ≡ true → MayUse calls (arrived (news_inside delta p news) e)
     → has_begun (before_flush (news_inside delta p news) calls e).name ≡ false → opens_with news p ≡ false
 opens_not u i delta p e (Comes segment) calls later begun may ended = opens_by u i delta p e segment calls (repeats_syn p segment) refl begun may ended
 opens_not u i delta p e (Logged kept) calls later begun may ended = refl
@@ -218,6 +219,8 @@ ends_inside service boot u i delta news p q calls e sent st named unreset_p off 
         kept = flushed_reset w ∙ reset_law inner calls e st.begun ∙ (λ j. kept j || none j);
         ended = flush_keeps (λ (s : Sending). s.closed) w (record { sends = λ s n. refl; ends = λ s. refl; times = λ s x y. refl })
             ∙ (last (both_of w.sending.fin_sent (w.sending.una == w.sending.sent) over.1).0).0;
+        bounds = bounded_by_flush w bounds;
+        fin_last = last_flushed w bounds last;
         receives = record { cisn = r.cisn; limit = r.limit; read = r.read; long = r.long; unread = r.unread; fin = r.fin };
         over = λ j. fin j && lt_by (released service q) q.una past j;
         counted = counted;

@@ -78,7 +78,7 @@ front_if : (b : Bool) (xs more : List ℕ) → IsPrefix xs (if b then xs ++ more
 front_if true xs more = (more, refl)
 front_if false xs more = ([], none_more xs)
 
-taken_goes : (news : News) (p : Point) → IsPrefix p.taken (taken_after news p)
+pub taken_goes : (news : News) (p : Point) → IsPrefix p.taken (taken_after news p)
 unfolding taken_after
 taken_goes (Comes segment) p = front_if (continues p segment) p.taken _
 taken_goes (Logged kept) p = ([], none_more p.taken)
@@ -96,7 +96,7 @@ answered_goes service news p q more enough taken rises lengths =
     (reads_go_on service q.taken (take p.reads_answered p.lengths) (take q.reads_answered (p.lengths ++ more)) (front_goes_on p.reads_answered q.reads_answered p.lengths more rises)))
 
 -- what TCP holds, step by step: more may leave, some is acknowledged, some is written, and a flush
-fed_later : {State : Type 0} (service : Machine State) (u : ℕ) (p q : Point) (given : ℕ) (e : Tcb) → GoesOn (answered_run service p) (answered_run service q)
+pub fed_later : {State : Type 0} (service : Machine State) (u : ℕ) (p q : Point) (given : ℕ) (e : Tcb) → GoesOn (answered_run service p) (answered_run service q)
     → Feeds service u p given e → Feeds service u q given e
 fed_later service u p q given e goes f =
     let laws : HoldingLaws (answered_run service p).output (e.sending.una + u) given e.sending.held =
@@ -112,7 +112,7 @@ fed_later service u p q given e goes f =
 further : (u una una' : ℕ) → una ≤ una' → una + u + (una' - una) ≡ una' + u
 further u una una' h = omega (arith, h)
 
-fed_arrived : {State : Type 0} (service : Machine State) (u : ℕ) (q : Point) (given : ℕ) (e m : Tcb) → Keeps e.sending m.sending → e.sending.una ≤ m.sending.una
+pub fed_arrived : {State : Type 0} (service : Machine State) (u : ℕ) (q : Point) (given : ℕ) (e m : Tcb) → Keeps e.sending m.sending → e.sending.una ≤ m.sending.una
     → m.sending.una ≤ m.sending.sent → e.sending.sent ≤ e.sending.una + length e.sending.held + one_if e.sending.fin_sent → Feeds service u q given e → Feeds service u q given m
 fed_arrived service u q given e m keeps rises order flight f =
     let output : List ℕ = (answered_run service q).output in
@@ -172,7 +172,7 @@ fed_written service u q given more m t f last w held una sent fin_sent =
     swapped : (end more u given : ℕ) → end + u ≡ given → end + more + u ≡ given + more
     swapped end more u given h = omega (arith, h)
 
-fed_flushed : {State : Type 0} (service : Machine State) (u : ℕ) (q : Point) (given : ℕ) (t : Tcb) → IsBounded t → Feeds service u q given t → Feeds service u q given (flushed t)
+pub fed_flushed : {State : Type 0} (service : Machine State) (u : ℕ) (q : Point) (given : ℕ) (t : Tcb) → IsBounded t → Feeds service u q given t → Feeds service u q given (flushed t)
 fed_flushed service u q given t bounds f =
     let output : List ℕ = (answered_run service q).output in
     let held = flush_keeps (λ (s : Sending). s.held) t (record { sends = λ s n. refl; ends = λ s. refl; times = λ s x y. refl }) in
@@ -270,6 +270,12 @@ pub record IsReady {S : Type 0} (service : Machine S) (u : ℕ) (q : Point) (giv
 abbrev pub reading : List ℕ → Point → Point
 reading lengths q = record q { lengths = lengths }
 
+pub full_flushed : {State : Type 0} (service : Machine State) (q : Point) (given : ℕ) (w : Tcb) → (given ≡ released service q) ⊎ (length w.sending.held ≡ 65535)
+    → (given ≡ released service q) ⊎ (length (flushed w).sending.held ≡ 65535)
+full_flushed service q given w h =
+    let held = flush_keeps (λ (s : Sending). s.held) w (record { sends = λ s n. refl; ends = λ s. refl; times = λ s x y. refl }) in
+    ⊎_elim (λ g. inl g) (λ full. inr (ap length held ∙ full)) h
+
 pub north_calls_feed : {S : Type 0} (service : Machine S) (u i given : ℕ) (lengths : List ℕ) (q : Point) (old new : NorthState S) (reads : List ReadRecord) (m t : Tcb)
     → IsReady service u q given old m → q.lengths ≡ lengths ++ lengths_of reads → NorthStands service (reading lengths q) given old
     → (turn : NorthTurn service tcp_reader tcp_writer (reading lengths q) given old m reads new t)
@@ -329,10 +335,12 @@ north_calls_feed service u i given lengths q old new reads m t ready lengths_are
         feeds = fed_flushed service u q (given + more) w bounds fed;
         kept = flushed_reset w ∙ reset_w;
         shut = flush_keeps (λ (s : Sending). s.closed) w (record { sends = λ s n. refl; ends = λ s. refl; times = λ s x y. refl }) ∙ closed_w;
+        exact = shut_as;
+        all_or_full = full_flushed service q (given + more) w full;
       },
     )
 
-from_start : (u given end r : ℕ) → end + u ≡ given → given ≤ r → u ≤ r
+pub from_start : (u given end r : ℕ) → end + u ≡ given → given ≤ r → u ≤ r
 from_start u given end r a b = omega (arith, a, b)
 
 pub north_feeds : {S : Type 0} (service : Machine S) (boot u i delta given : ℕ) (news : News) (p q : Point) (sent : List Packet) (old new : NorthState S) (reads : List ReadRecord) (e t : Tcb)

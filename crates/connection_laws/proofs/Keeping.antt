@@ -27,7 +27,7 @@ let_go : (b : Bool) (n una : ℕ) (held : List ℕ) → (if b then drop (n - una
 let_go true n una held = refl
 let_go false n una held = none_dropped una held
 
-kept_same : (s : Sending) → Keeps s s
+pub kept_same : (s : Sending) → Keeps s s
 kept_same s = record { held = none_dropped s.una s.held; fin_sent = refl; closed = refl; sent = refl }
 
 kept_acked : (s : Sending) (seq : ℕ) (ack : ℤ) (window : ℕ) → Keeps s (acknowledged s seq ack window)
@@ -42,7 +42,7 @@ kept_if : (s : Sending) (b : Bool) (x y : Sending) → (b ≡ true → Keeps s x
 kept_if s true x y p q = p refl
 kept_if s false x y p q = q refl
 
-kept_ticked : (s : Sending) → Keeps s (ticked s)
+pub kept_ticked : (s : Sending) → Keeps s (ticked s)
 kept_ticked s = kept_if s (expires s) _ _
     (λ h. record { held = none_dropped s.una s.held; fin_sent = refl; closed = refl; sent = refl })
     (λ h. record { held = none_dropped s.una s.held; fin_sent = refl; closed = refl; sent = refl })

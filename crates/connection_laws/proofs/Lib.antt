@@ -19,3 +19,5 @@ pub mod Ending
 pub mod Flushed
 pub mod Fed
 pub mod Over
+pub mod Joining
+pub mod Together

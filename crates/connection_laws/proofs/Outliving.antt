@@ -1,5 +1,5 @@
 -- A connection goes on without its TCP, once that is CLOSED.
-use Rattle.std.proofs.Common.{◌≡◌, ℕ, zero, suc, ◌≤◌, ◌+◌, ◌-◌, ◌%◌, ◌^◌, ◌*◌, Bool, true, false, not, List, [], ◌∷◌, ◌++◌, length, take, drop, map, min, max, refl, sym, ap, arith, ◌∙◌}
+use Rattle.std.proofs.Common.{◌≡◌, ℕ, zero, suc, ◌≤◌, ◌+◌, ◌-◌, ◌%◌, ◌^◌, ◌*◌, Bool, true, false, not, List, [], ◌∷◌, ◌++◌, length, take, drop, map, min, max, refl, sym, ap, subst, arith, ◌∙◌}
 use Rattle.std.specs.Prelude.{pos, ◌==◌, ◌&&◌, ◌||◌, nat_abs, nat_lt, int_le, if◌then◌else◌}
 use Rattle.std.proofs.lemmas.Bool.{false≢true}
 use Rattle.ft_io.specs.declared.Addr.{Addr}
@@ -28,18 +28,21 @@ use Rattle.tcp_endpoint.specs.Sending.{Sending}
 use Rattle.tcp_endpoint.specs.Sending as sending
 use Rattle.tcp_endpoint.specs.Tcb.{Tcb}
 use Rattle.tcp_endpoint.specs.Turning.{after_tick, timer_ticked, waited}
+use Rattle.endpoint_laws.specs.Laws.{IsBounded, Bounds}
 use Rattle.endpoint_laws.specs.Turn.{Call, arrived, used}
 use Rattle.endpoint_laws.specs.Unconnected.{sent_in_closed}
 use Rattle.endpoint_laws.proofs.NoConnection.{closed_stays_law, closed_answers_law}
-use Rattle.endpoint_laws.proofs.TurnEnd.{flush_keeps}
+use Rattle.endpoint_laws.proofs.Bounding.{bounded_by_flush, bounded_by_tick}
+use Rattle.endpoint_laws.proofs.TurnEnd.{flush_keeps, last_flushed}
 use Rattle.endpoint_laws.proofs.Turns.{flushed_receives}
 use Rattle.ft_model.specs.Refusal.{rst_at_ack, rst_behind}
 use Rattle.south_wrap.specs.Patching.{outward}
 use Rattle.south_wrap.specs.Standing.{south_at}
 use Rattle.connection_laws.specs.Passing.{news_inside, passed}
 use Rattle.endpoint_laws.specs.Standing.{ReceivesAt}
-use Rattle.endpoint_laws.proofs.Calls.{IsUsed, used_is}
+use Rattle.endpoint_laws.proofs.Calls.{FinIsLast, IsUsed, used_is, bounded_used, last_used}
 use Rattle.connection_laws.specs.Closing.{StandsClosed, ReadsOn, GoesOnClosed}
+use Rattle.connection_laws.proofs.Keeping.{Keeps, kept_same, kept_ticked}
 use Rattle.connection_laws.proofs.Quiet.{quiet_sends}
 
 -- a front goes on where the list does
@@ -142,9 +145,13 @@ rest_stops service news p q counted una sent =
     else 0
 
 -- what news make of a CLOSED TCP
-record IsStill (e m : Tcb) : Type 0 where
-  receiving : m.receiving ≡ e.receiving
-  closed : m.sending.closed ≡ e.sending.closed
+pub record IsStill (e m : Tcb) : Type 0 where
+  pub receiving : m.receiving ≡ e.receiving
+  pub una : m.sending.una ≡ e.sending.una
+  pub keeps : Keeps e.sending m.sending
+  pub kept : m.reset ≡ e.reset
+  pub bounds : IsBounded e → IsBounded m
+  pub last : FinIsLast e.sending → FinIsLast m.sending
 
 by_flags : {X : Type 0} (f : Tcb → X) (r a : Bool) (e x y : Tcb) → f x ≡ f e → f y ≡ f e → f (if r then e else (if a then x else y)) ≡ f e
 by_flags f true a e x y h k = refl
@@ -155,16 +162,40 @@ in_closed_keeps : {X : Type 0} (f : Tcb → X) (e : Tcb) (p : Segment) → e.nam
 unfolding received in_closed
 in_closed_keeps f e p closed h k = ap (λ n. f (received_in n e p)) closed ∙ by_flags f (has_rst p) (has_ack p) e (refusing e p) (refusing_without_ack e p) h k
 
-ticked_closed : (s : Sending) (b : Bool) → (if b then record s { interval = min 64 (2 * s.interval); rest = min 64 (2 * s.interval) } else record s { rest = s.rest - 1 }).closed ≡ s.closed
-ticked_closed s true = refl
-ticked_closed s false = refl
+still_halves : (e m : Tcb) → m.receiving ≡ e.receiving → m.sending ≡ e.sending → m.reset ≡ e.reset → IsStill e m
+still_halves e m r s k = record {
+  receiving = r;
+  una = ap (λ (x : Sending). x.una) s;
+  keeps = subst (λ (x : Sending). Keeps e.sending x) (sym s) (kept_same e.sending);
+  kept = k;
+  bounds = λ b. subst (λ (x : Receiving). Bounds x m.sending) (sym r) (subst (λ (x : Sending). Bounds e.receiving x) (sym s) b);
+  last = λ l. subst FinIsLast (sym s) l;
+}
 
-still : (news : News) (e : Tcb) → e.name ≡ Closed → IsStill e (arrived news e)
+last_ticked : (s : Sending) (b : Bool) → FinIsLast s
+    → FinIsLast (if b then record s { interval = min 64 (2 * s.interval); rest = min 64 (2 * s.interval) } else record s { rest = s.rest - 1 })
+last_ticked s true l = l
+last_ticked s false l = l
+
+una_ticked : (s : Sending) (b : Bool) → (if b then record s { interval = min 64 (2 * s.interval); rest = min 64 (2 * s.interval) } else record s { rest = s.rest - 1 }).una ≡ s.una
+una_ticked s true = refl
+una_ticked s false = refl
+
+pub still : (news : News) (e : Tcb) → e.name ≡ Closed → IsStill e (arrived news e)
 unfolding after_tick timer_ticked waited refusing refusing_without_ack
-still (Comes p) e closed = record { receiving = in_closed_keeps (λ (t : Tcb). t.receiving) e p closed refl refl; closed = in_closed_keeps (λ (t : Tcb). t.sending.closed) e p closed refl refl }
-still (Logged kept) e closed = record { receiving = refl; closed = refl }
-still Ticks e closed = record { receiving = refl; closed = ticked_closed e.sending (sending.expires e.sending) }
-still Begins e closed = record { receiving = refl; closed = refl }
+still (Comes p) e closed =
+    still_halves e (received e p) (in_closed_keeps (λ (t : Tcb). t.receiving) e p closed refl refl) (in_closed_keeps (λ (t : Tcb). t.sending) e p closed refl refl)
+    (in_closed_keeps (λ (t : Tcb). t.reset) e p closed refl refl)
+still (Logged kept) e closed = still_halves e e refl refl refl
+still Ticks e closed = record {
+  receiving = refl;
+  una = una_ticked e.sending (sending.expires e.sending);
+  keeps = kept_ticked e.sending;
+  kept = refl;
+  bounds = λ b. bounded_by_tick e b;
+  last = λ l. last_ticked e.sending (sending.expires e.sending) l;
+}
+still Begins e closed = still_halves e e refl refl refl
 
 -- its RST stays inside
 one_stays : (delta : ℕ) (q : Point) (r a : Bool) (x y : Segment) → has_rst x ≡ true → has_rst y ≡ true → passed delta q (if r then [] else (if a then x ∷ [] else y ∷ [])) ≡ []
@@ -208,6 +239,8 @@ outlives service server boot delta news p q calls e sent st l reads =
     let s : IsStill e m = still inner e st.name in
     let a : IsUsed m w = used_is calls m reads.may in
     let r : ReceivesAt p e = st.receives in
+    let last : FinIsLast w.sending = last_used m.sending w.sending a.sends (s.last st.fin_last) in
+    let bounds : IsBounded w = bounded_used calls m reads.may (s.last st.fin_last) (s.bounds st.bounds) in
     let stays = closed_stays_law inner calls e st.name st.answer in
     let at : ReceivesAt q w = record {
       cisn = a.irs ∙ ap (λ (x : Receiving). x.irs) s.receiving ∙ r.cisn ∙ (λ j. (sym l.same.cisn j + sym l.same.fetched j) % 2 ^ 32);
@@ -222,7 +255,9 @@ outlives service server boot delta news p q calls e sent st l reads =
         name = stays.0;
         kept = stays.3 ∙ st.kept;
         answer = stays.1;
-        ended = flush_keeps (λ (x : Sending). x.closed) w (record { sends = λ x n. refl; ends = λ x. refl; times = λ x y z. refl }) ∙ a.sends.closed (s.closed ∙ st.ended);
+        ended = flush_keeps (λ (x : Sending). x.closed) w (record { sends = λ x n. refl; ends = λ x. refl; times = λ x y z. refl }) ∙ a.sends.closed (s.keeps.closed ∙ st.ended);
+        bounds = bounded_by_flush w bounds;
+        fin_last = last_flushed w bounds last;
         receives = flushed_receives q w at;
         over = λ j. fin j && (ap (λ n. nat_lt n q.una) out ∙ ap (λ n. nat_lt (released service p) n) una ∙ over.1) j;
         counted = counted;

@@ -184,14 +184,14 @@ quiet_or : (bare : Segment) (xs : List Segment) → or_bare false bare xs ≡ xs
 quiet_or bare [] = refl
 quiet_or bare (x ∷ xs) = refl
 
-units_none : (n : ℕ) (b : Bool) → (n + (if b then 1 else 0) == 0) ≡ true → (n ≡ 0) × (b ≡ false)
+pub units_none : (n : ℕ) (b : Bool) → (n + (if b then 1 else 0) == 0) ≡ true → (n ≡ 0) × (b ≡ false)
 units_none n true h = absurd (grind (arith, h))
 units_none n false h = (grind (arith, h), refl)
 
-abbrev syn_at : Point → Segment → Bool
+abbrev pub syn_at : Point → Segment → Bool
 syn_at p segment = is_syn segment && segment.head.seq == p.cisn
 
-repeats_taken : (s a b : Bool) → (s && a && b) ≡ true → a ≡ true
+pub repeats_taken : (s a b : Bool) → (s && a && b) ≡ true → a ≡ true
 repeats_taken true true b h = refl
 repeats_taken true false b h = absurd (false≢true h)
 repeats_taken false a b h = absurd (false≢true h)

@@ -1,5 +1,5 @@
 -- A wrapped connection whose TCP is CLOSED, since both FINs are through: TCP sends nothing to the client any more, and the connection itself answers.
-use Rattle.std.specs.Prelude.{◌≡◌, ℕ, true, false, ◌+◌, max, sum, List, [], None}
+use Rattle.std.specs.Prelude.{◌≡◌, ℕ, true, false, ◌+◌, ◌-◌, ◌≤◌, length, max, sum, List, [], None}
 use Rattle.ft_io.specs.declared.Addr.{Addr}
 use Rattle.server_trait.specs.Service.{Machine}
 use Rattle.ft_model.specs.News.{News}
@@ -9,6 +9,7 @@ use Rattle.ft_model.specs.Segments.{segments_of, bare_segment, or_bare}
 use Rattle.tcp_endpoint.specs.declared.states.StateName.TheVariants.{Closed}
 use Rattle.tcp_endpoint.specs.States.{has_begun}
 use Rattle.tcp_endpoint.specs.Tcb.{Tcb}
+use Rattle.endpoint_laws.specs.Laws.{IsBounded}
 use Rattle.endpoint_laws.specs.Turn.{Call, MayUse, arrived, before_flush, turned, sent_in}
 use Rattle.endpoint_laws.specs.Standing.{ReceivesAt, IsUsedAt}
 use Rattle.connection_laws.specs.Inside.{swallowing, inside}
@@ -21,6 +22,8 @@ pub record StandsClosed {State : Type 0} (service : Machine State) (p : Point) (
   pub kept : e.reset ≡ false
   pub answer : e.answer ≡ None
   pub ended : e.sending.closed ≡ true
+  pub bounds : IsBounded e
+  pub fin_last : e.sending.fin_sent ≡ true → (e.sending.closed ≡ true) × (1 ≤ e.sending.sent) × (length e.sending.held ≡ e.sending.sent - 1 - e.sending.una)
   pub receives : ReceivesAt p e
   pub over : is_over service p ≡ true
   pub counted : p.counted ≡ true

@@ -1,5 +1,5 @@
 -- How the north wrapper's output comes into the TCP inside.
-use Rattle.std.specs.Prelude.{◌≡◌, ℕ, Bool, false, ◌+◌, ◌≤◌, ◌^◌, List, [], ◌∷◌, ◌++◌, map, length, if◌then◌else◌}
+use Rattle.std.specs.Prelude.{◌⊎◌, ◌≡◌, ℕ, Bool, false, ◌+◌, ◌≤◌, ◌^◌, List, [], ◌∷◌, ◌++◌, map, length, if◌then◌else◌}
 use Rattle.server_trait.specs.Service.{Machine}
 use Rattle.ft_model.specs.Network.{Packet}
 use Rattle.ft_model.specs.News.{News}
@@ -16,7 +16,7 @@ use Rattle.endpoint_laws.specs.Standing.{IsUsedAt}
 use Rattle.north_wrap.specs.declared.read_record.ReadRecord.{ReadRecord}
 use Rattle.north_wrap.specs.NorthState.{NorthState, lengths_of}
 use Rattle.north_wrap.specs.Sockets.{Reader, Writer, reader, writer}
-use Rattle.north_wrap.specs.Standing.{NorthStands, NorthTurn, HoldsUpTo, given_more}
+use Rattle.north_wrap.specs.Standing.{NorthStands, NorthTurn, HoldsUpTo, given_more, is_all_given}
 use Rattle.connection_laws.specs.Inside.{swallowing, inside}
 use Rattle.connection_laws.specs.Passing.{news_inside}
 use Rattle.connection_laws.specs.Turning.{NewsFit}
@@ -68,6 +68,8 @@ pub record FedBy {S : Type 0} (service : Machine S) (u i : ℕ) (q : Point) (giv
   pub feeds : Feeds service u q given (flushed (used calls m))
   pub kept : (flushed (used calls m)).reset ≡ false
   pub shut : (flushed (used calls m)).sending.closed ≡ new.shut
+  pub exact : new.shut ≡ is_all_given service q given
+  pub all_or_full : (given ≡ released service q) ⊎ (length (flushed (used calls m)).sending.held ≡ 65535)
 
 -- the turn of the north wrapper in it
 pub record FedInside {S : Type 0} (service : Machine S) (u i delta : ℕ) (news : News) (p q : Point) (given : ℕ) (new : NorthState S) (calls : List Call) (e t : Tcb) : Type 0 where

@@ -5,3 +5,4 @@ pub mod Splicing
 pub mod Beginning
 pub mod Closing
 pub mod Feeding
+pub mod Standing

@@ -1,14 +1,15 @@
 //! The laws of a wrapped connection and its inner TCP.
 
-ghost use Rattle.std.specs.Prelude.{◌≡◌, ◌<◌, ◌-◌, ◌^◌, ℕ, true, false, List, length};
+ghost use Rattle.std.specs.Prelude.{◌≡◌, ◌≤◌, ◌<◌, ◌^◌, ◌-◌, ℕ, true, false, List, [], length};
 ghost use Rattle.ft_io.specs.declared.Addr.{Addr};
 ghost use Rattle.server_trait.specs.Service.{machine};
 ghost use Rattle.ft_model.specs.Log.{Entry};
 ghost use Rattle.ft_model.specs.Network.{Packet};
 ghost use Rattle.ft_model.specs.News.{News};
-ghost use Rattle.ft_model.specs.News.News.{Comes, Begins};
+ghost use Rattle.ft_model.specs.News.News.{Comes, Ticks, Begins};
 ghost use Rattle.ft_model.specs.Opening.{point_opened};
 ghost use Rattle.ft_model.specs.Ending.{reset_after};
+ghost use Rattle.ft_model.specs.Sending.{acknowledged_after};
 ghost use Rattle.ft_model.specs.Connection.{LiveTurn};
 ghost use Rattle.ft_model.specs.Point.{Point, is_over, released};
 ghost use Rattle.seq_arith.specs.Number.{distance, number_at};
@@ -16,18 +17,19 @@ ghost use Rattle.seq_arith.specs.Packet.{Segment};
 ghost use Rattle.seq_arith.specs.Message.{Numbers};
 ghost use Rattle.tcp_endpoint.specs.Arrival.{received};
 ghost use Rattle.tcp_endpoint.specs.States.{is_time_wait};
-ghost use Rattle.tcp_endpoint.specs.Turning.{sent_number, acked_number, write_room};
+ghost use Rattle.tcp_endpoint.specs.Turning.{after_tick, sent_number, acked_number, write_room};
 ghost use Rattle.tcp_endpoint.specs.Tcb.{Tcb};
 ghost use Rattle.endpoint_laws.specs.Turn.{Call, MayUse, arrived};
 ghost use Rattle.endpoint_laws.specs.Ending.{IsNamedRightly, resets};
 ghost use Rattle.north_wrap.specs.declared.read_record.ReadRecord.{ReadRecord};
-ghost use Rattle.north_wrap.specs.NorthState.{NorthState, lengths_of};
+ghost use Rattle.north_wrap.specs.NorthState.{Turns as NorthTurns, NorthState, lengths_of};
 ghost use Rattle.north_wrap.specs.Standing.{given_text, off_socket};
 ghost use Rattle.connection_laws.specs.Beginning.{MayOpen, BeginsInside, opened_syn, listens_with};
 ghost use Rattle.connection_laws.specs.Closing.{StandsClosed, LeavesInside, EndsInside, ReadsOn, GoesOnClosed};
-ghost use Rattle.connection_laws.specs.Feeding.{TurnsNorth, FedInside, Feeds, north_calls, before_reads, given_after};
+ghost use Rattle.connection_laws.specs.Feeding.{tcp_reader, tcp_writer, TurnsNorth, FedInside, Feeds, north_calls, before_reads, given_after};
 ghost use Rattle.connection_laws.specs.Passing.{news_inside};
-ghost use Rattle.connection_laws.specs.Turning.{Turns, StandsInside, UsesInside, TurnsInside};
+ghost use Rattle.connection_laws.specs.Standing.{PartsStand, PartsRest, PartsTurn, heard};
+ghost use Rattle.connection_laws.specs.Turning.{NewsFit, IsLater, Turns, StandsInside, UsesInside, TurnsInside};
 ghost use Rattle.connection_laws.specs.Splicing.{GoesOnFrom, StandsAtEntry, spliced};
 
 use server_trait::Service;
@@ -82,6 +84,24 @@ pub fn connections_outlive_their_tcp<S: Service>()
 pub fn connections_are_reset_at_the_next_number()
     ensures { (u i delta : ℕ) (p : Point) (segment : Segment) (e : Tcb) → StandsInside u i delta p e → p.reset ≡ false → segment.head.seq < 2 ^ 32
         → resets (news_inside delta p (Comes segment)) e ≡ reset_after (Comes segment) p }
+{}
+
+/// From the parts at a point to the parts at the point after it: whatever comes, but for a RST at the next number, and whatever the north wrapper
+/// reads then, the turn is a lawful one of the connection, and what leaves is what the laws say. So in every incarnation, from the turn in which a
+/// connection becomes live at the end of a restart on, with its TCP open or CLOSED.
+pub fn connections_turn_by_their_parts<S: Service>()
+    ensures { (fresh : S) (boot u i delta given : ℕ) (news : News) (before : Point) (old new : NorthState S) (reads : List ReadRecord) (e t : Tcb)
+        → PartsStand (machine fresh S.after) u i delta given before old e → NewsFit before news → IsLater news before → reset_after news before ≡ false
+        → NorthTurns S.after tcp_reader tcp_writer (acknowledged_after news before) (heard news old) (arrived (news_inside delta before news) e) reads new t
+        → new.run.made ≤ 2 ^ 24
+        → PartsTurn (machine fresh S.after) e.local boot u i delta news before (lengths_of reads) new t }
+{}
+
+/// At a tick the north wrapper needs no turn, since nothing is due between two turns.
+pub fn connections_tick_by_their_tcp<S: Service>()
+    ensures { (fresh : S) (boot u i delta given : ℕ) (before : Point) (n : NorthState S) (e : Tcb)
+        → PartsRest (machine fresh S.after) u i delta given before n e
+        → PartsTurn (machine fresh S.after) e.local boot u i delta Ticks before [] n (after_tick e) }
 {}
 
 /// Where the north wrapper makes its calls of TCP in a lawful turn, TCP is used as `connections_turn_by_their_tcp` asks, and fed as before.
