@@ -1,5 +1,5 @@
 -- The turn in which the inner TCP becomes CLOSED, since both FINs are through.
-use Rattle.std.proofs.Common.{◌≡◌, ℕ, ◌≤◌, ◌+◌, ◌-◌, Bool, true, false, not, None, List, length, max, refl, sym, ap, arith, ⊎_elim, ◌∙◌}
+use Rattle.std.proofs.Common.{◌^◌, ◌%◌, ◌≡◌, ℕ, ◌≤◌, ◌+◌, ◌-◌, Bool, true, false, not, None, List, length, max, refl, sym, ap, arith, ⊎_elim, ◌∙◌}
 use Rattle.std.specs.Prelude.{◌⊎◌, ◌==◌, ◌&&◌, ◌||◌, nat_lt, if◌then◌else◌}
 use Rattle.std.proofs.lemmas.Bool.{false≢true}
 use Rattle.server_trait.specs.Service.{Machine}
@@ -40,7 +40,7 @@ use Rattle.connection_laws.proofs.Again.{stays}
 use Rattle.connection_laws.proofs.Resetting.{resets_is}
 use Rattle.connection_laws.proofs.Whole.{usual_news}
 use Rattle.connection_laws.proofs.Quiet.{quiet_sends}
-use Rattle.connection_laws.proofs.Outliving.{rest_stops, taken_stays}
+use Rattle.connection_laws.proofs.Outliving.{rest_stops, taken_stays, closed_sent}
 use Rattle.connection_laws.proofs.Taking.{taken_before}
 use Rattle.connection_laws.proofs.Keeping.{news_keep}
 
@@ -221,6 +221,15 @@ ends_inside service boot u i delta news p q calls e sent st named unreset_p off 
             ∙ (last (both_of w.sending.fin_sent (w.sending.una == w.sending.sent) over.1).0).0;
         bounds = bounded_by_flush w bounds;
         fin_last = last_flushed w bounds last;
+        counts = record {
+          iss = flush_keeps (λ (s : Sending). s.iss) w (record { sends = λ s n. refl; ends = λ s. refl; times = λ s x y. refl }) ∙ sym end.sends.sisn;
+          opened = flush_keeps (λ (s : Sending). s.opened) w (record { sends = λ s n. refl; ends = λ s. refl; times = λ s x y. refl }) ∙ h.opened;
+          una = end.sends.una ∙ sym (flush_keeps (λ (s : Sending). s.una) w (record { sends = λ s n. refl; ends = λ s. refl; times = λ s x y. refl }));
+          sent = end.sent ∙ sym (closed_sent w l.ended);
+          above = una_above;
+          shift = st.goes_on.shift ∙ ap (λ n. (n + u) % 2 ^ 32) (sym t.goes.same.sisn);
+          delta_fits = st.goes_on.delta_fits;
+        };
         receives = record { cisn = r.cisn; limit = r.limit; read = r.read; long = r.long; unread = r.unread; fin = r.fin };
         over = λ j. fin j && lt_by (released service q) q.una past j;
         counted = counted;

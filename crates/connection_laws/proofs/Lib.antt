@@ -21,3 +21,4 @@ pub mod Fed
 pub mod Over
 pub mod Joining
 pub mod Together
+pub mod Telling

@@ -11,7 +11,7 @@ use Rattle.tcp_endpoint.specs.Tcb.{Tcb}
 use Rattle.tcp_endpoint.specs.Turning.{sent_number, acked_number}
 use Rattle.connection_laws.specs.Turning.{StandsInside}
 
-listens_not : (name : StateName) → has_begun name ≡ true → is_listen name ≡ false
+pub listens_not : (name : StateName) → has_begun name ≡ true → is_listen name ≡ false
 listens_not Closed h = refl
 listens_not Listen h = absurd (false≢true h)
 listens_not SynSent h = refl
@@ -24,7 +24,7 @@ listens_not Closing h = refl
 listens_not LastAck h = refl
 listens_not TimeWait h = refl
 
-behind : (i delta sisn u k : ℕ) → (i + delta) % 2 ^ 32 ≡ (sisn + u) % 2 ^ 32 → u ≤ k → delta < 2 ^ 32 → number_at i (k - u) ≡ distance (number_at sisn k) delta
+pub behind : (i delta sisn u k : ℕ) → (i + delta) % 2 ^ 32 ≡ (sisn + u) % 2 ^ 32 → u ≤ k → delta < 2 ^ 32 → number_at i (k - u) ≡ distance (number_at sisn k) delta
 behind i delta sisn u k shift above fits = omega (arith, shift, above, fits)
 
 pub sent_behind : (u i delta : ℕ) (p : Point) (e : Tcb) → StandsInside u i delta p e → sent_number e ≡ distance (number_at p.sisn p.sent) delta

@@ -31,6 +31,10 @@ use Rattle.tcp_endpoint.specs.Turning.{after_tick, timer_ticked, waited}
 use Rattle.endpoint_laws.specs.Laws.{IsBounded, Bounds}
 use Rattle.endpoint_laws.specs.Turn.{Call, arrived, used}
 use Rattle.endpoint_laws.specs.Unconnected.{sent_in_closed}
+use Rattle.tcp_endpoint.specs.States.{has_begun}
+use Rattle.tcp_endpoint.specs.Leaving.{flushed, settled, announced, after_full, with_fin_out, with_text_sent, with_probe, probes, probes_text, probes_fin}
+use Rattle.endpoint_laws.proofs.TurnLaw.{after_steps, timed_sent}
+use Rattle.endpoint_laws.proofs.EndingLaw.{flushed_name}
 use Rattle.endpoint_laws.proofs.NoConnection.{closed_stays_law, closed_answers_law}
 use Rattle.endpoint_laws.proofs.Bounding.{bounded_by_flush, bounded_by_tick}
 use Rattle.endpoint_laws.proofs.TurnEnd.{flush_keeps, last_flushed}
@@ -91,7 +95,7 @@ una_same : (b : Bool) (una ack sent : ℕ) → una ≡ sent → (if b then una_a
 una_same true una ack sent h = grind (arith, h)
 una_same false una ack sent h = refl
 
-una_stays : (news : News) (p : Point) → p.una ≡ p.sent → acknowledged_after news p ≡ p.una
+pub una_stays : (news : News) (p : Point) → p.una ≡ p.sent → acknowledged_after news p ≡ p.una
 unfolding acknowledged_after
 una_stays (Comes segment) p h = una_same (acknowledges p segment) p.una (nat_abs (ack_of p.sisn segment)) p.sent h
 una_stays (Logged kept) p h = refl
@@ -147,6 +151,8 @@ rest_stops service news p q counted una sent =
 -- what news make of a CLOSED TCP
 pub record IsStill (e m : Tcb) : Type 0 where
   pub receiving : m.receiving ≡ e.receiving
+  pub iss : m.sending.iss ≡ e.sending.iss
+  pub opened : m.sending.opened ≡ e.sending.opened
   pub una : m.sending.una ≡ e.sending.una
   pub keeps : Keeps e.sending m.sending
   pub kept : m.reset ≡ e.reset
@@ -165,6 +171,8 @@ in_closed_keeps f e p closed h k = ap (λ n. f (received_in n e p)) closed ∙ b
 still_halves : (e m : Tcb) → m.receiving ≡ e.receiving → m.sending ≡ e.sending → m.reset ≡ e.reset → IsStill e m
 still_halves e m r s k = record {
   receiving = r;
+  iss = ap (λ (x : Sending). x.iss) s;
+  opened = ap (λ (x : Sending). x.opened) s;
   una = ap (λ (x : Sending). x.una) s;
   keeps = subst (λ (x : Sending). Keeps e.sending x) (sym s) (kept_same e.sending);
   kept = k;
@@ -177,9 +185,10 @@ last_ticked : (s : Sending) (b : Bool) → FinIsLast s
 last_ticked s true l = l
 last_ticked s false l = l
 
-una_ticked : (s : Sending) (b : Bool) → (if b then record s { interval = min 64 (2 * s.interval); rest = min 64 (2 * s.interval) } else record s { rest = s.rest - 1 }).una ≡ s.una
-una_ticked s true = refl
-una_ticked s false = refl
+part_ticked : {X : Type 0} (f : Sending → X) (s : Sending) (b : Bool) → ((interval rest : ℕ) → f (record s { interval = interval; rest = rest }) ≡ f s)
+    → f (if b then record s { interval = min 64 (2 * s.interval); rest = min 64 (2 * s.interval) } else record s { rest = s.rest - 1 }) ≡ f s
+part_ticked f s true h = h (min 64 (2 * s.interval)) (min 64 (2 * s.interval))
+part_ticked f s false h = h s.interval (s.rest - 1)
 
 pub still : (news : News) (e : Tcb) → e.name ≡ Closed → IsStill e (arrived news e)
 unfolding after_tick timer_ticked waited refusing refusing_without_ack
@@ -189,13 +198,32 @@ still (Comes p) e closed =
 still (Logged kept) e closed = still_halves e e refl refl refl
 still Ticks e closed = record {
   receiving = refl;
-  una = una_ticked e.sending (sending.expires e.sending);
+  iss = part_ticked (λ x. x.iss) e.sending (sending.expires e.sending) (λ a b. refl);
+  opened = part_ticked (λ x. x.opened) e.sending (sending.expires e.sending) (λ a b. refl);
+  una = part_ticked (λ x. x.una) e.sending (sending.expires e.sending) (λ a b. refl);
   keeps = kept_ticked e.sending;
   kept = refl;
   bounds = λ b. bounded_by_tick e b;
   last = λ l. last_ticked e.sending (sending.expires e.sending) l;
 }
 still Begins e closed = still_halves e e refl refl refl
+
+-- its flush sends nothing
+none_more : (n : ℕ) → n + 0 ≡ n
+none_more n = omega arith
+
+off_second_of : (p b o f : Bool) → b ≡ false → (p && b && o && f) ≡ false
+off_second_of true b o f h = ap (λ x. x && o && f) h
+off_second_of false b o f h = refl
+
+pub closed_sent : (w : Tcb) → has_begun w.name ≡ false → (flushed w).sending.sent ≡ w.sending.sent
+unfolding flushed settled announced after_full with_fin_out with_text_sent with_probe
+closed_sent w off =
+    let s : Sending = w.sending in
+    let none : probes w ≡ false = off_second_of w.probe (has_begun w.name) s.opened (not s.fin_sent) off in
+    timed_sent _ (after_steps (has_begun w.name) (probes_text w) (probes_fin w) s)
+    ∙ (λ j. (after_steps (off j) (none j && nat_lt (s.sent - s.una) (length s.held)) (none j && not (nat_lt (s.sent - s.una) (length s.held)) && s.closed) s).sent)
+    ∙ none_more s.sent
 
 -- its RST stays inside
 one_stays : (delta : ℕ) (q : Point) (r a : Bool) (x y : Segment) → has_rst x ≡ true → has_rst y ≡ true → passed delta q (if r then [] else (if a then x ∷ [] else y ∷ [])) ≡ []
@@ -209,10 +237,10 @@ refusals_stay delta q local (Logged kept) = refl
 refusals_stay delta q local Ticks = refl
 refusals_stay delta q local Begins = refl
 
-pub outlives : {State : Type 0} (service : Machine State) (server : Addr) (boot delta : ℕ) (news : News) (p q : Point) (calls : List Call) (e : Tcb) (sent : List Packet)
-    → StandsClosed service p e → LiveTurn service server boot news p q sent → ReadsOn delta news p q calls e → GoesOnClosed service server delta news p q calls e
+pub outlives : {State : Type 0} (service : Machine State) (server : Addr) (boot u i delta : ℕ) (news : News) (p q : Point) (calls : List Call) (e : Tcb) (sent : List Packet)
+    → StandsClosed service u i delta p e → LiveTurn service server boot news p q sent → ReadsOn delta news p q calls e → GoesOnClosed service server u i delta news p q calls e
 unfolding sent_after sent_at_once
-outlives service server boot delta news p q calls e sent st l reads =
+outlives service server boot u i delta news p q calls e sent st l reads =
     let over = right_of p.fin (nat_lt (released service p) p.una) st.over in
     let closed : (answered_run service p).closed ≡ true = closed_of (answered_run service p).closed (released service p) p.una p.sent over.1 st.acknowledged st.all_sent in
     let taken : q.taken ≡ p.taken = l.taken ∙ taken_stays news p over.0 in
@@ -259,6 +287,16 @@ outlives service server boot delta news p q calls e sent st l reads =
         bounds = bounded_by_flush w bounds;
         fin_last = last_flushed w bounds last;
         receives = flushed_receives q w at;
+        counts = record {
+          iss = flush_keeps (λ (x : Sending). x.iss) w (record { sends = λ x n. refl; ends = λ x. refl; times = λ x y z. refl }) ∙ a.sends.iss ∙ s.iss ∙ st.counts.iss;
+          opened = flush_keeps (λ (x : Sending). x.opened) w (record { sends = λ x n. refl; ends = λ x. refl; times = λ x y z. refl }) ∙ a.sends.opened ∙ s.opened ∙ st.counts.opened;
+          una = ap (λ k. k - u) una ∙ st.counts.una
+              ∙ sym (flush_keeps (λ (x : Sending). x.una) w (record { sends = λ x n. refl; ends = λ x. refl; times = λ x y z. refl }) ∙ a.sends.una ∙ s.una);
+          sent = ap (λ k. k - u) sent_is ∙ st.counts.sent ∙ sym (closed_sent w (ap has_begun (sym (flushed_name w) ∙ stays.0)) ∙ a.sends.sent ∙ s.keeps.sent);
+          above = subst (λ k. u ≤ k) (sym una) st.counts.above;
+          shift = st.counts.shift ∙ ap (λ k. (k + u) % 2 ^ 32) (sym l.same.sisn);
+          delta_fits = st.counts.delta_fits;
+        };
         over = λ j. fin j && (ap (λ n. nat_lt n q.una) out ∙ ap (λ n. nat_lt (released service p) n) una ∙ over.1) j;
         counted = counted;
         acknowledged = una_sent;

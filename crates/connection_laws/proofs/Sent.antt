@@ -313,7 +313,7 @@ left_none : (a b : Bool) → (a || b) ≡ false → a ≡ false
 left_none true b h = h
 left_none false b h = refl
 
-still_unopened : (news : News) (p : Point) → counted_after news p ≡ false → p.counted ≡ false
+pub still_unopened : (news : News) (p : Point) → counted_after news p ≡ false → p.counted ≡ false
 unfolding counted_after
 still_unopened (Comes segment) p h = left_none p.counted (counts p segment) h
 still_unopened (Logged kept) p h = h

@@ -89,7 +89,7 @@ unfolding sent_after sent_at_once
 settles service server boot news p q sent l = subst (λ n. min (target service q) q.edge ≤ n) (sym l.sent_units) (up_to p.sent (target service q) q.edge (one_if (probes news p)))
 
 -- a name that has begun isn't CLOSED's
-begun_open : (name : StateName) → has_begun name ≡ true → is_closed name ≡ false
+pub begun_open : (name : StateName) → has_begun name ≡ true → is_closed name ≡ false
 begun_open Closed h = absurd (false≢true h)
 begun_open Listen h = refl
 begun_open SynSent h = refl
@@ -230,7 +230,7 @@ pub record IsServed {S : Type 0} (service : Machine S) (u i delta given given' :
 
 -- TCP after it, and what leaves
 record IsDone {S : Type 0} (service : Machine S) (server : Addr) (u i delta : ℕ) (news : News) (p q : Point) (w : Tcb) : Type 0 where
-  tcp : StandsOpen u i delta q (flushed w) ⊎ StandsClosed service q (flushed w)
+  tcp : StandsOpen u i delta q (flushed w) ⊎ StandsClosed service u i delta q (flushed w)
   segments : leaves_with service server delta news p q w ≡ segments_of service server news p q
 
 done_open : {S : Type 0} (service : Machine S) (boot u i delta given given' : ℕ) (news : News) (p q : Point) (old new : NorthState S) (calls : List Call) (e : Tcb) (sent : List Packet) (b : Bool)
@@ -259,12 +259,12 @@ done_open service boot u i delta given given' news p q old new calls e sent fals
     }
 
 done_closed : {S : Type 0} (service : Machine S) (boot u i delta given given' : ℕ) (news : News) (p q : Point) (old new : NorthState S) (calls : List Call) (e : Tcb) (sent : List Packet)
-    → IsServed service u i delta given given' news p q old new calls e → LiveTurn service e.local boot news p q sent → StandsClosed service p e
+    → IsServed service u i delta given given' news p q old new calls e → LiveTurn service e.local boot news p q sent → StandsClosed service u i delta p e
     → IsDone service e.local u i delta news p q (before_flush (news_inside delta p news) calls e)
 done_closed service boot u i delta given given' news p q old new calls e sent s l st =
     let w : Tcb = before_flush (news_inside delta p news) calls e in
-    let t : GoesOnClosed service e.local delta news p q calls e =
-    outlives service e.local boot delta news p q calls e sent st l (record { may = s.by.may; read = s.by.is_used.read }) in
+    let t : GoesOnClosed service e.local u i delta news p q calls e =
+    outlives service e.local boot u i delta news p q calls e sent st l (record { may = s.by.may; read = s.by.is_used.read }) in
     record {
       tcp = inr t.stands;
       segments = closed_leaves service e.local delta news p q w (sym (flushed_name w) ∙ t.stands.name) t.silent (no_repeat news p (opens_not news p (fin_of_over p.fin _ st.over) st.counted)) t.segments;
@@ -350,7 +350,7 @@ at_open service u i delta given news p b n e stand fits off taken fin lengths fe
 
 at_closed : {S : Type 0} (service : Machine S) (u i delta given : ℕ) (news : News) (p b : Point) (n : NorthState S) (e : Tcb) → PartsStand service u i delta given p n e
     → b.taken ≡ taken_after news p → b.fin ≡ fin_after news p → b.lengths ≡ p.lengths → b.fetched ≡ p.fetched
-    → StandsClosed service p e → IsAt u b e (arrived (news_inside delta p news) e)
+    → StandsClosed service u i delta p e → IsAt u b e (arrived (news_inside delta p news) e)
 at_closed service u i delta given news p b n e stand taken fin lengths fetched st =
     let inner : News = news_inside delta p news in
     let m : Tcb = arrived inner e in

@@ -1,5 +1,5 @@
 -- A wrapped connection whose TCP is CLOSED, since both FINs are through: TCP sends nothing to the client any more, and the connection itself answers.
-use Rattle.std.specs.Prelude.{◌≡◌, ℕ, true, false, ◌+◌, ◌-◌, ◌≤◌, length, max, sum, List, [], None}
+use Rattle.std.specs.Prelude.{◌≡◌, ◌^◌, ◌%◌, ◌<◌, ℕ, true, false, ◌+◌, ◌-◌, ◌≤◌, length, max, sum, List, [], None}
 use Rattle.ft_io.specs.declared.Addr.{Addr}
 use Rattle.server_trait.specs.Service.{Machine}
 use Rattle.ft_model.specs.News.{News}
@@ -15,9 +15,19 @@ use Rattle.endpoint_laws.specs.Standing.{ReceivesAt, IsUsedAt}
 use Rattle.connection_laws.specs.Inside.{swallowing, inside}
 use Rattle.connection_laws.specs.Passing.{news_inside, passed}
 
+-- TCP counts its output from u on, under the initial number i, which is delta below the client's number of the same unit
+pub record CountsFrom (u i delta : ℕ) (p : Point) (e : Tcb) : Type 0 where
+  pub iss : e.sending.iss ≡ i
+  pub opened : e.sending.opened ≡ true
+  pub una : p.una - u ≡ e.sending.una
+  pub sent : p.sent - u ≡ e.sending.sent
+  pub above : u ≤ p.una
+  pub shift : (i + delta) % 2 ^ 32 ≡ (p.sisn + u) % 2 ^ 32
+  pub delta_fits : delta < 2 ^ 32
+
 -- The point is over, and TCP with it: all output and the FIN behind it are sent and acknowledged, so the timer stands still. What TCP took may still
 -- be read; nothing can be written
-pub record StandsClosed {State : Type 0} (service : Machine State) (p : Point) (e : Tcb) : Type 0 where
+pub record StandsClosed {State : Type 0} (service : Machine State) (u i delta : ℕ) (p : Point) (e : Tcb) : Type 0 where
   pub name : e.name ≡ Closed
   pub kept : e.reset ≡ false
   pub answer : e.answer ≡ None
@@ -25,6 +35,7 @@ pub record StandsClosed {State : Type 0} (service : Machine State) (p : Point) (
   pub bounds : IsBounded e
   pub fin_last : e.sending.fin_sent ≡ true → (e.sending.closed ≡ true) × (1 ≤ e.sending.sent) × (length e.sending.held ≡ e.sending.sent - 1 - e.sending.una)
   pub receives : ReceivesAt p e
+  pub counts : CountsFrom u i delta p e
   pub over : is_over service p ≡ true
   pub counted : p.counted ≡ true
   pub acknowledged : p.una ≡ p.sent
@@ -44,7 +55,7 @@ pub record LeavesInside {State : Type 0} (service : Machine State) (u i delta : 
 
 -- TCP takes and sends nothing in it
 pub record EndsInside {State : Type 0} (service : Machine State) (u i delta : ℕ) (news : News) (p q : Point) (calls : List Call) (e : Tcb) : Type 0 where
-  pub stands : StandsClosed service q (turned (news_inside delta p news) calls e)
+  pub stands : StandsClosed service u i delta q (turned (news_inside delta p news) calls e)
   pub silent : sent_in (news_inside delta p news) calls e ≡ []
   pub taken : taken_units q ≡ taken_units p
   pub segments : SendsAlone service e.local news p q
@@ -55,8 +66,8 @@ pub record ReadsOn (delta : ℕ) (news : News) (p q : Point) (calls : List Call)
   pub read : max q.fetched (sum q.lengths) ≡ (before_flush (news_inside delta p news) calls e).receiving.read + q.fetched
 
 -- TCP answers at most with a RST then, which stays inside
-pub record GoesOnClosed {State : Type 0} (service : Machine State) (server : Addr) (delta : ℕ) (news : News) (p q : Point) (calls : List Call) (e : Tcb) : Type 0 where
-  pub stands : StandsClosed service q (turned (news_inside delta p news) calls e)
+pub record GoesOnClosed {State : Type 0} (service : Machine State) (server : Addr) (u i delta : ℕ) (news : News) (p q : Point) (calls : List Call) (e : Tcb) : Type 0 where
+  pub stands : StandsClosed service u i delta q (turned (news_inside delta p news) calls e)
   pub silent : passed delta q (sent_in (news_inside delta p news) calls e) ≡ []
   pub taken : taken_units q ≡ taken_units p
   pub segments : SendsAlone service server news p q

@@ -6,3 +6,4 @@ pub mod Beginning
 pub mod Closing
 pub mod Feeding
 pub mod Standing
+pub mod Telling

@@ -28,7 +28,7 @@ pub record StandsOpen (u i delta : ℕ) (p : Point) (e : Tcb) : Type 0 where
 
 -- the parts of a connection that isn't reset, before the turn in which it becomes live or between two turns
 pub record PartsStand {S : Type 0} (service : Machine S) (u i delta given : ℕ) (p : Point) (n : NorthState S) (e : Tcb) : Type 0 where
-  pub tcp : StandsOpen u i delta p e ⊎ StandsClosed service p e
+  pub tcp : StandsOpen u i delta p e ⊎ StandsClosed service u i delta p e
   pub north : NorthStands service p given n
   pub feeds : Feeds service u p given e
   pub unreset : p.reset ≡ false

@@ -29,6 +29,7 @@ ghost use Rattle.connection_laws.specs.Closing.{StandsClosed, LeavesInside, Ends
 ghost use Rattle.connection_laws.specs.Feeding.{tcp_reader, tcp_writer, TurnsNorth, FedInside, Feeds, north_calls, before_reads, given_after};
 ghost use Rattle.connection_laws.specs.Passing.{news_inside};
 ghost use Rattle.connection_laws.specs.Standing.{PartsStand, PartsRest, PartsTurn, heard};
+ghost use Rattle.connection_laws.specs.Telling.{PartsTell, NewsTell};
 ghost use Rattle.connection_laws.specs.Turning.{NewsFit, IsLater, Turns, StandsInside, UsesInside, TurnsInside};
 ghost use Rattle.connection_laws.specs.Splicing.{GoesOnFrom, StandsAtEntry, spliced};
 
@@ -75,9 +76,9 @@ pub fn connections_end_with_their_tcp<S: Service>()
 
 /// From then on the connection goes on beside it: TCP answers at most with a RST, which stays inside, and only its user's reads change it.
 pub fn connections_outlive_their_tcp<S: Service>()
-    ensures { (fresh : S) (boot delta : ℕ) (server : Addr) (news : News) (before after : Point) (calls : List Call) (e : Tcb) (sent : List Packet)
-        → StandsClosed (machine fresh S.after) before e → LiveTurn (machine fresh S.after) server boot news before after sent → ReadsOn delta news before after calls e
-        → GoesOnClosed (machine fresh S.after) server delta news before after calls e }
+    ensures { (fresh : S) (boot u i delta : ℕ) (server : Addr) (news : News) (before after : Point) (calls : List Call) (e : Tcb) (sent : List Packet)
+        → StandsClosed (machine fresh S.after) u i delta before e → LiveTurn (machine fresh S.after) server boot news before after sent → ReadsOn delta news before after calls e
+        → GoesOnClosed (machine fresh S.after) server u i delta news before after calls e }
 {}
 
 /// A RST at exactly the next number would reset TCP where it resets the connection, and nowhere else.
@@ -119,4 +120,16 @@ pub fn connections_are_over_in_time_wait<S: Service>()
     ensures { (fresh : S) (u i delta given : ℕ) (p : Point) (e : Tcb) → StandsInside u i delta p e → IsNamedRightly e
         → Feeds (machine fresh S.after) u p given e → (e.sending.closed ≡ true → given ≡ released (machine fresh S.after) p)
         → is_over (machine fresh S.after) p ≡ is_time_wait e.name }
+{}
+
+/// Between two turns the parts of a connection tell its numbers: the bytes taken, the FIN, whether it is over, and what is sent and acknowledged.
+pub fn parts_tell_the_point<S: Service>()
+    ensures { (fresh : S) (u i delta given : ℕ) (p : Point) (n : NorthState S) (e : Tcb) → PartsStand (machine fresh S.after) u i delta given p n e
+        → PartsTell (machine fresh S.after) delta p n e }
+{}
+
+/// Once the news of a turn have come they tell what the laws on taking and on acknowledgements lead to.
+pub fn news_tell_the_point<S: Service>()
+    ensures { (fresh : S) (u i delta given : ℕ) (news : News) (p : Point) (n : NorthState S) (e : Tcb) → PartsStand (machine fresh S.after) u i delta given p n e
+        → NewsFit p news → reset_after news p ≡ false → NewsTell delta news p n (arrived (news_inside delta p news) e) }
 {}

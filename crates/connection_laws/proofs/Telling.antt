@@ -1,0 +1,191 @@
+-- What a connection's parts tell of its point.
+use Rattle.std.proofs.Common.{◌≡◌, ℕ, ◌<◌, ◌≤◌, ◌+◌, ◌-◌, ◌%◌, ◌^◌, ⊎_elim, Bool, true, false, [], length, max, refl, sym, ap, arith, ◌∙◌}
+use Rattle.std.specs.Prelude.{◌&&◌, ◌||◌, if◌then◌else◌}
+use Rattle.std.proofs.lemmas.Bool.{false≢true}
+use Rattle.seq_arith.specs.Number.{distance, number_at}
+use Rattle.server_trait.specs.Service.{Machine}
+use Rattle.ft_model.specs.Ending.{reset_after}
+use Rattle.ft_model.specs.News.{News}
+use Rattle.ft_model.specs.Point.{Point, released, made}
+use Rattle.ft_model.specs.Sending.{counted_after, acknowledged_after}
+use Rattle.ft_model.proofs.Services.{prefix_length}
+use Rattle.tcp_endpoint.specs.declared.states.StateName.{StateName}
+use Rattle.tcp_endpoint.specs.declared.states.StateName.TheVariants.{Closed, Listen, SynSent, SynReceived, Established, FinWait1, FinWait2, CloseWait, Closing, LastAck, TimeWait}
+use Rattle.tcp_endpoint.specs.Receiving as receiver
+use Rattle.tcp_endpoint.specs.States.{has_begun, is_closed, is_listen, is_time_wait}
+use Rattle.tcp_endpoint.specs.Sending.{fin_acked}
+use Rattle.tcp_endpoint.specs.Tcb.{Tcb}
+use Rattle.endpoint_laws.specs.Ending.{IsNamed, has_taken_fin}
+use Rattle.endpoint_laws.specs.Standing.{ReceivesAt}
+use Rattle.endpoint_laws.specs.Turn.{IsUsualNews, arrived}
+use Rattle.endpoint_laws.proofs.Arrivals.{Arrived, arrives}
+use Rattle.endpoint_laws.proofs.Ends.{fin_by_name}
+use Rattle.endpoint_laws.proofs.EndingLaw.{IsPlaced, FollowsAt, unreset_follows, flushed_name}
+use Rattle.endpoint_laws.proofs.NoConnection.{closed_stays_law}
+use Rattle.north_wrap.specs.NorthState.{NorthState}
+use Rattle.north_wrap.proofs.Logged.{answered_front}
+use Rattle.connection_laws.specs.Inside.{inside}
+use Rattle.connection_laws.specs.Passing.{news_inside}
+use Rattle.connection_laws.specs.Turning.{NewsFit}
+use Rattle.connection_laws.specs.Closing.{StandsClosed, CountsFrom}
+use Rattle.connection_laws.specs.Standing.{StandsOpen, PartsStand}
+use Rattle.connection_laws.specs.Telling.{tells_fin, acked_at, PartsTell, NewsTell}
+use Rattle.connection_laws.proofs.Meets.{Moves, moves_inside_all}
+use Rattle.connection_laws.proofs.Again.{stays}
+use Rattle.connection_laws.proofs.Numbers.{behind, sent_behind}
+use Rattle.connection_laws.proofs.Sent.{still_unopened}
+use Rattle.connection_laws.proofs.Whole.{usual_news}
+use Rattle.connection_laws.proofs.Outliving.{IsStill, still, taken_stays, fin_stays, una_stays, counted_stays}
+use Rattle.connection_laws.proofs.Ending.{unreset}
+use Rattle.connection_laws.proofs.Over.{over_is}
+use Rattle.connection_laws.proofs.Together.{begun_open}
+
+off_or : (a c : Bool) → c ≡ false → (a || c) ≡ a
+off_or true c h = refl
+off_or false c h = h
+
+on_or : (a c : Bool) → c ≡ true → (a || c) ≡ true
+on_or true c h = refl
+on_or false c h = h
+
+-- the bytes that wait are those behind what is fetched or read
+bytes_by : (all fetched read unread north : ℕ) → all ≡ read + unread + fetched → max fetched north ≡ read + fetched → all ≡ max fetched north + unread
+bytes_by all fetched read unread north a b = omega (arith, a, b)
+
+-- before the SYN is acknowledged
+at_syn : (i delta sisn u : ℕ) → (i + delta) % 2 ^ 32 ≡ (sisn + u) % 2 ^ 32 → u ≡ 0 → delta < 2 ^ 32 → i < 2 ^ 32 → sisn < 2 ^ 32 → i ≡ distance sisn delta
+at_syn i delta sisn u shift none a b c = omega (arith, shift, none, a, b, c)
+
+acked_by : (counted opened : Bool) (iss una i delta sisn u units : ℕ) → counted ≡ opened → iss ≡ i → una ≡ units - u → (i + delta) % 2 ^ 32 ≡ (sisn + u) % 2 ^ 32 → u ≤ units → delta < 2 ^ 32
+    → i < 2 ^ 32 → sisn < 2 ^ 32 → (counted ≡ false → u ≡ 0) → (if opened then number_at iss una else iss) ≡ distance (acked_at counted sisn units) delta
+acked_by true true iss una i delta sisn u units c s a shift above d_fits i_fits fits none = (λ j. number_at (s j) (a j)) ∙ behind i delta sisn u units shift above d_fits
+acked_by true false iss una i delta sisn u units c s a shift above d_fits i_fits fits none = absurd (false≢true (sym c))
+acked_by false true iss una i delta sisn u units c s a shift above d_fits i_fits fits none = absurd (false≢true c)
+acked_by false false iss una i delta sisn u units c s a shift above d_fits i_fits fits none = s ∙ at_syn i delta sisn u shift (none refl) d_fits i_fits fits
+
+closed_listens_not : (name : StateName) → name ≡ Closed → is_listen name ≡ false
+closed_listens_not name h = ap is_listen h
+
+all_given : {S : Type 0} (service : Machine S) (u i delta given : ℕ) (p : Point) (n : NorthState S) (e : Tcb) → PartsStand service u i delta given p n e → e.sending.closed ≡ true
+    → given ≡ released service p
+all_given service u i delta given p n e st c =
+    let g : given ≡ made service p = st.north.shut_given (sym st.shut ∙ c) in
+    let less : released service p ≤ made service p = prefix_length _ _ (answered_front service p).output in
+    omega (arith, g, less, st.feeds.low)
+
+tell_open : {S : Type 0} (service : Machine S) (u i delta given : ℕ) (p : Point) (n : NorthState S) (e : Tcb) → PartsStand service u i delta given p n e → StandsOpen u i delta p e
+    → PartsTell service delta p n e
+tell_open service u i delta given p n e st o =
+    let r : ReceivesAt (inside u i p) e = o.stands.stands.receives in
+    let g = o.stands.goes_on in
+    let is_open : is_closed e.name ≡ false = begun_open e.name o.stands.begun in
+    record {
+      taken = bytes_by (length p.taken) p.fetched e.receiving.read (length e.receiving.unread) n.read r.long (ap (max p.fetched) st.north.read ∙ r.read);
+      fin = r.fin ∙ fin_by_name e.name e.sending.opened e.sending.closed e.receiving.fin (fin_acked e.sending) o.stands.begun o.named ∙ sym (off_or (has_taken_fin e.name) (is_closed e.name) is_open);
+      over = over_is service u i delta given p e o.stands o.named st.feeds (all_given service u i delta given p n e st) ∙ sym (off_or (is_time_wait e.name) (is_closed e.name) is_open);
+      sent = sent_behind u i delta p e o.stands;
+      acked = acked_by p.counted e.sending.opened e.sending.iss e.sending.una i delta p.sisn u p.una o.stands.stands.sends.counted (sym o.stands.stands.sends.sisn) (sym o.stands.stands.sends.una)
+          g.shift g.una g.delta_fits g.i_fits g.sisn (λ h. (g.unopened h).0);
+    }
+
+first_of : (f b : Bool) → (f && b) ≡ true → f ≡ true
+first_of true b h = refl
+first_of false b h = absurd (false≢true h)
+
+tell_closed : {S : Type 0} (service : Machine S) (u i delta given : ℕ) (p : Point) (n : NorthState S) (e : Tcb) → PartsStand service u i delta given p n e → StandsClosed service u i delta p e
+    → PartsTell service delta p n e
+tell_closed service u i delta given p n e st c =
+    let r : ReceivesAt p e = c.receives in
+    let k : CountsFrom u i delta p e = c.counts in
+    let closed : is_closed e.name ≡ true = ap is_closed c.name in
+    record {
+      taken = bytes_by (length p.taken) p.fetched e.receiving.read (length e.receiving.unread) n.read r.long (ap (max p.fetched) st.north.read ∙ r.read);
+      fin = first_of p.fin _ c.over ∙ sym (on_or (has_taken_fin e.name) (is_closed e.name) closed);
+      over = c.over ∙ sym (on_or (is_time_wait e.name) (is_closed e.name) closed);
+      sent = (λ j. if closed_listens_not e.name c.name j then e.sending.iss else number_at (k.iss j) (sym k.sent j))
+          ∙ behind i delta p.sisn u p.sent k.shift (omega (arith, k.above, c.acknowledged)) k.delta_fits;
+      acked = (λ j. if k.opened j then number_at (k.iss j) (sym k.una j) else e.sending.iss) ∙ behind i delta p.sisn u p.una k.shift k.above k.delta_fits
+          ∙ (λ j. distance (acked_at (sym c.counted j) p.sisn p.una) delta);
+    }
+
+pub parts_tell : {S : Type 0} (service : Machine S) (u i delta given : ℕ) (p : Point) (n : NorthState S) (e : Tcb) → PartsStand service u i delta given p n e → PartsTell service delta p n e
+parts_tell service u i delta given p n e st = ⊎_elim (tell_open service u i delta given p n e st) (tell_closed service u i delta given p n e st) st.tcp
+
+-- after the news: the state tells the FIN, too where it has become CLOSED
+closed_of_placed : (name : StateName) (o c f a : Bool) → has_begun name ≡ false → IsPlaced name o c f a → (is_closed name ≡ true) × (f ≡ true)
+closed_of_placed Closed o c f a ended h = (refl, h.2)
+closed_of_placed Listen o c f a ended h = absurd h
+closed_of_placed SynSent o c f a ended h = absurd h
+closed_of_placed SynReceived o c f a ended h = absurd (false≢true (sym ended))
+closed_of_placed Established o c f a ended h = absurd (false≢true (sym ended))
+closed_of_placed FinWait1 o c f a ended h = absurd (false≢true (sym ended))
+closed_of_placed FinWait2 o c f a ended h = absurd (false≢true (sym ended))
+closed_of_placed CloseWait o c f a ended h = absurd (false≢true (sym ended))
+closed_of_placed Closing o c f a ended h = absurd (false≢true (sym ended))
+closed_of_placed LastAck o c f a ended h = absurd (false≢true (sym ended))
+closed_of_placed TimeWait o c f a ended h = absurd (false≢true (sym ended))
+
+named_of_placed : (name : StateName) (o c f a : Bool) → has_begun name ≡ true → IsPlaced name o c f a → IsNamed name o c f a
+named_of_placed Closed o c f a begun h = absurd (false≢true begun)
+named_of_placed Listen o c f a begun h = absurd (false≢true begun)
+named_of_placed SynSent o c f a begun h = absurd (false≢true begun)
+named_of_placed SynReceived o c f a begun h = h
+named_of_placed Established o c f a begun h = h
+named_of_placed FinWait1 o c f a begun h = h
+named_of_placed FinWait2 o c f a begun h = h
+named_of_placed CloseWait o c f a begun h = h
+named_of_placed Closing o c f a begun h = h
+named_of_placed LastAck o c f a begun h = h
+named_of_placed TimeWait o c f a begun h = h
+
+fin_told : (inner : News) (e : Tcb) (b : Bool) → has_begun (arrived inner e).name ≡ b → FollowsAt (arrived inner e) → (arrived inner e).receiving.fin ≡ tells_fin (arrived inner e)
+fin_told inner e true begun f =
+    let m : Tcb = arrived inner e in
+    fin_by_name m.name m.sending.opened m.sending.closed m.receiving.fin (fin_acked m.sending) begun (named_of_placed m.name m.sending.opened m.sending.closed m.receiving.fin (fin_acked m.sending) begun f.placed)
+    ∙ sym (off_or (has_taken_fin m.name) (is_closed m.name) (begun_open m.name begun))
+fin_told inner e false ended f =
+    let m : Tcb = arrived inner e in
+    let c = closed_of_placed m.name m.sending.opened m.sending.closed m.receiving.fin (fin_acked m.sending) ended f.placed in
+    c.1 ∙ sym (on_or (has_taken_fin m.name) (is_closed m.name) c.0)
+
+news_open : {S : Type 0} (service : Machine S) (u i delta given : ℕ) (news : News) (p : Point) (n : NorthState S) (e : Tcb) → PartsStand service u i delta given p n e → NewsFit p news
+    → reset_after news p ≡ false → StandsOpen u i delta p e → NewsTell delta news p n (arrived (news_inside delta p news) e)
+news_open service u i delta given news p n e st fits off o =
+    let inner : News = news_inside delta p news in
+    let m : Tcb = arrived inner e in
+    let g = o.stands.goes_on in
+    let usual : IsUsualNews inner e = usual_news u i delta p e news g o.stands.stands fits in
+    let came : Arrived inner (inside u i p) e m = arrives inner (inside u i p) e o.stands.begun o.stands.between o.stands.stands usual in
+    let moves : Moves news p u i inner = moves_inside_all u i delta p news g fits in
+    let rises = stays u i delta news p g fits in
+    let follows : FollowsAt m = unreset_follows inner [] e o.stands.begun o.stands.between o.named (unreset u i delta p e news o.stands st.unreset fits off) in
+    record {
+      taken = ap length (sym moves.taken) ∙ bytes_by _ p.fetched m.receiving.read (length m.receiving.unread) n.read came.receives.long (ap (max p.fetched) st.north.read ∙ came.receives.read);
+      fin = sym moves.fin ∙ came.receives.fin ∙ fin_told inner e (has_begun m.name) refl follows;
+      acked = acked_by (counted_after news p) m.sending.opened m.sending.iss m.sending.una i delta p.sisn u (acknowledged_after news p) (sym moves.counted ∙ came.sends.counted) (sym came.sends.sisn)
+          (sym (sym moves.una ∙ came.sends.una)) g.shift rises.una g.delta_fits g.i_fits g.sisn (λ h. (g.unopened (still_unopened news p h)).0);
+    }
+
+news_closed : {S : Type 0} (service : Machine S) (u i delta given : ℕ) (news : News) (p : Point) (n : NorthState S) (e : Tcb) → PartsStand service u i delta given p n e
+    → StandsClosed service u i delta p e → NewsTell delta news p n (arrived (news_inside delta p news) e)
+news_closed service u i delta given news p n e st c =
+    let inner : News = news_inside delta p news in
+    let m : Tcb = arrived inner e in
+    let s : IsStill e m = still inner e c.name in
+    let k : CountsFrom u i delta p e = c.counts in
+    let fin : p.fin ≡ true = first_of p.fin _ c.over in
+    let closed : is_closed m.name ≡ true = ap is_closed (sym (flushed_name m) ∙ (closed_stays_law inner [] e c.name c.answer).0) in
+    let una : acknowledged_after news p ≡ p.una = una_stays news p c.acknowledged in
+    record {
+      taken = ap length (taken_stays news p fin)
+          ∙ bytes_by (length p.taken) p.fetched m.receiving.read (length m.receiving.unread) n.read (c.receives.long ∙ (λ j. receiver.taken (sym s.receiving j) + p.fetched))
+          (ap (max p.fetched) st.north.read ∙ c.receives.read ∙ (λ j. (sym s.receiving j).read + p.fetched));
+      fin = fin_stays news p fin ∙ sym (on_or (has_taken_fin m.name) (is_closed m.name) closed);
+      acked = (λ j. if (s.opened ∙ k.opened) j then number_at ((s.iss ∙ k.iss) j) ((s.una ∙ sym k.una) j) else m.sending.iss) ∙ behind i delta p.sisn u p.una k.shift k.above k.delta_fits
+          ∙ (λ j. distance (acked_at (sym (counted_stays news p c.counted) j) p.sisn (sym una j)) delta);
+    }
+
+pub news_tell : {S : Type 0} (service : Machine S) (u i delta given : ℕ) (news : News) (p : Point) (n : NorthState S) (e : Tcb) → PartsStand service u i delta given p n e → NewsFit p news
+    → reset_after news p ≡ false → NewsTell delta news p n (arrived (news_inside delta p news) e)
+news_tell service u i delta given news p n e st fits off =
+    ⊎_elim (news_open service u i delta given news p n e st fits off) (news_closed service u i delta given news p n e st) st.tcp

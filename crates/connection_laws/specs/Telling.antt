@@ -1,0 +1,38 @@
+-- What a connection's parts tell of its point: so its numbers needn't be kept beside them.
+use Rattle.std.specs.Prelude.{◌≡◌, ℕ, Bool, ◌+◌, ◌||◌, max, length, if◌then◌else◌}
+use Rattle.seq_arith.specs.Number.{distance, number_at}
+use Rattle.server_trait.specs.Service.{Machine}
+use Rattle.ft_model.specs.News.{News}
+use Rattle.ft_model.specs.Point.{Point, is_over}
+use Rattle.ft_model.specs.Sending.{counted_after, acknowledged_after}
+use Rattle.ft_model.specs.Taken.{taken_after, fin_after}
+use Rattle.tcp_endpoint.specs.States.{is_closed, is_time_wait}
+use Rattle.tcp_endpoint.specs.Tcb.{Tcb}
+use Rattle.tcp_endpoint.specs.Turning.{sent_number, acked_number}
+use Rattle.endpoint_laws.specs.Ending.{has_taken_fin}
+use Rattle.north_wrap.specs.NorthState.{NorthState}
+
+-- TCP that isn't reset tells by its state whether the client's FIN is taken, and whether both FINs are through
+abbrev pub tells_fin : Tcb → Bool
+tells_fin e = has_taken_fin e.name || is_closed e.name
+
+abbrev pub tells_over : Tcb → Bool
+tells_over e = is_time_wait e.name || is_closed e.name
+
+-- the number up to which output is acknowledged: before the SYN is, that of the SYN
+abbrev pub acked_at : (counted : Bool) → (sisn una : ℕ) → ℕ
+acked_at counted sisn una = if counted then number_at sisn una else sisn
+
+-- between two turns: the bytes taken, the FIN, whether it is over, and TCP's numbers, which are delta below the client's
+pub record PartsTell {S : Type 0} (service : Machine S) (delta : ℕ) (p : Point) (n : NorthState S) (e : Tcb) : Type 0 where
+  pub taken : length p.taken ≡ max p.fetched n.read + length e.receiving.unread
+  pub fin : p.fin ≡ tells_fin e
+  pub over : is_over service p ≡ tells_over e
+  pub sent : sent_number e ≡ distance (number_at p.sisn p.sent) delta
+  pub acked : acked_number e ≡ distance (acked_at p.counted p.sisn p.una) delta
+
+-- once the news have come, before the north wrapper's turn
+pub record NewsTell {S : Type 0} (delta : ℕ) (news : News) (p : Point) (n : NorthState S) (m : Tcb) : Type 0 where
+  pub taken : length (taken_after news p) ≡ max p.fetched n.read + length m.receiving.unread
+  pub fin : fin_after news p ≡ tells_fin m
+  pub acked : acked_number m ≡ distance (acked_at (counted_after news p) p.sisn (acknowledged_after news p)) delta
