@@ -151,4 +151,5 @@ begins_inside service boot local numbers q calls sent o may l =
       named = begun_named_law e numbers.sisn (2 ^ 24) syn calls listens refl;
       segments = subst (λ r. passed 0 r (sent_in (Comes syn) calls e) ≡ segments_of service local Begins (point_opened numbers) r) (sym q_is)
           (ap (passed 0 (begun numbers)) segments ∙ ap (λ s. s ∷ []) (syn_ack_is local numbers (begun numbers) o.sisn refl) ∙ sym (syn_ack_alone service local numbers));
+      alone = subst (λ r. segments_of service local Begins (point_opened numbers) r ≡ syn_ack local r ∷ []) (sym q_is) (syn_ack_alone service local numbers);
     }

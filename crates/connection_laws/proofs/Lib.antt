@@ -22,3 +22,4 @@ pub mod Over
 pub mod Joining
 pub mod Together
 pub mod Telling
+pub mod Starting

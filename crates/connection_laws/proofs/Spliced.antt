@@ -1,6 +1,6 @@
 -- A fresh endpoint to which these segments are forged stands at the point of the entry.
-use Rattle.std.proofs.Common.{◌≡◌, ℕ, ◌<◌, ◌≤◌, ◌+◌, ◌-◌, ◌^◌, Bool, true, false, List, [], ◌∷◌, length, take, drop, sum, min, max, refl, sym, ap, subst, arith, inl, ⊎_elim, ◌∙◌}
-use Rattle.std.specs.Prelude.{ℤ, pos, ◌-ℤ◌, ◌≤ℤ◌, ◌==◌, ◌&&◌, if◌then◌else◌}
+use Rattle.std.proofs.Common.{◌≡◌, ℕ, ◌<◌, ◌≤◌, ◌+◌, ◌-◌, ◌^◌, Bool, true, false, List, [], ◌∷◌, length, take, drop, sum, min, max, refl, sym, ap, subst, arith, inl, ⊎_elim, ◌∙◌, zero, suc, ◌%◌}
+use Rattle.std.specs.Prelude.{ℤ, pos, ◌-ℤ◌, ◌≤ℤ◌, ◌==◌, ◌&&◌, if◌then◌else◌, ◌||◌}
 use Rattle.std.proofs.lemmas.Int.{ints}
 use Rattle.std.proofs.lemmas.Bool.{false≢true}
 use Rattle.ft_io.specs.declared.Addr.{Addr}
@@ -32,6 +32,18 @@ use Rattle.endpoint_laws.proofs.Turns.{leads_law}
 use Rattle.endpoint_laws.proofs.Listening.{listens_at_listen, begun_by}
 use Rattle.endpoint_laws.proofs.Beginning.{begins_law}
 use Rattle.connection_laws.specs.Inside.{inside}
+use Rattle.std.proofs.lemmas.List.{take_all}
+use Rattle.server_trait.specs.Service.{reference}
+use Rattle.ft_model.specs.Restart.{run_of}
+use Rattle.north_wrap.specs.NorthState.{NorthState}
+use Rattle.north_wrap.specs.Standing.{HasReplayed}
+use Rattle.north_wrap.proofs.Offline.{begins_here}
+use Rattle.endpoint_laws.proofs.EndingLaw.{reset_law}
+use Rattle.connection_laws.specs.Inside.{GoesOn}
+use Rattle.connection_laws.specs.Feeding.{Feeds}
+use Rattle.connection_laws.specs.Standing.{PartsStand}
+use Rattle.connection_laws.specs.Splicing.{delta_from}
+use Rattle.connection_laws.proofs.Ending.{flushed_reset}
 use Rattle.connection_laws.specs.Splicing.{GoesOnFrom, StandsAtEntry, forged_syn, forged_ack, forged_fin, connected, spliced}
 use Rattle.connection_laws.proofs.Forged.{silent, IsForged, IsFresh, after_forged, forged_laws, run_is}
 
@@ -47,6 +59,7 @@ pub record Stood (p : Point) (e : Tcb) : Type 0 where
   pub named : IsNamedRightly e
   pub stands : StandsAt p e
   pub idle : IsIdle e.sending
+  pub kept : e.reset ≡ false
 
 empty : (xs : List ℕ) → length xs ≡ 0 → xs ≡ []
 empty [] h = refl
@@ -117,15 +130,16 @@ forged_turn p e segment fin t f s few seq =
         held = flush_keeps (λ (q : Sending). q.held) u (record { sends = λ x n. refl; ends = λ x. refl; times = λ x j r. refl }) ∙ held;
         closed = flush_keeps (λ (q : Sending). q.closed) u (record { sends = λ x n. refl; ends = λ x. refl; times = λ x j r. refl }) ∙ closed;
       };
+      kept = flushed_reset u ∙ reset_law (Comes segment) [] e t.begun ∙ (λ j. t.kept j || (s.rst j && int_eq (first_of e.receiving.irs segment) (pos (next e.receiving))));
     }
 
 abbrev begun_at : Key → Addr → Entry → ℕ → Point
 begun_at key local e i = point_begun e.bytes (numbers_with e.cisn i (forged_syn key local e.cisn (length e.bytes) e.mss))
 
-syn_turn : (local : Addr) (e : Entry) (i : ℕ) → GoesOnFrom e i
+syn_turn : {State : Type 0} (service : Machine State) (local : Addr) (e : Entry) (i : ℕ) → GoesOnFrom service e i
     → Stood (begun_at e.key local e i) (turned (Comes (forged_syn e.key local e.cisn (length e.bytes) e.mss)) [] (listening local i (2 ^ 24 - length e.bytes)))
 unfolding listening begun
-syn_turn local e i g =
+syn_turn service local e i g =
     let syn : Segment = forged_syn e.key local e.cisn (length e.bytes) e.mss in
     let limit : ℕ = 2 ^ 24 - length e.bytes in
     let l : Tcb = listening local i limit in
@@ -141,6 +155,7 @@ syn_turn local e i g =
         held = flush_keeps (λ (q : Sending). q.held) (received l syn) (record { sends = λ x n. refl; ends = λ x. refl; times = λ x j r. refl }) ∙ ap (λ (t : Tcb). t.sending.held) m;
         closed = flush_keeps (λ (q : Sending). q.closed) (received l syn) (record { sends = λ x n. refl; ends = λ x. refl; times = λ x j r. refl }) ∙ ap (λ (t : Tcb). t.sending.closed) m;
       };
+      kept = flushed_reset (received l syn) ∙ ap (λ (t : Tcb). t.reset) m;
     }
 
 begun_fresh : (local : Addr) (e : Entry) (i : ℕ) → IsFresh (begun_at e.key local e i)
@@ -169,8 +184,8 @@ acked_fresh local e i = record {
   timer = ((λ h. (refl, refl)), (λ h. absurd (false≢true (sym h))));
 }
 
-ack_is_forged : (local : Addr) (e : Entry) (i : ℕ) → GoesOnFrom e i → IsForged (begun_at e.key local e i) (forged_ack e.key local e.cisn (length e.bytes) i) false
-ack_is_forged local e i g = record {
+ack_is_forged : {State : Type 0} (service : Machine State) (local : Addr) (e : Entry) (i : ℕ) → GoesOnFrom service e i → IsForged (begun_at e.key local e i) (forged_ack e.key local e.cisn (length e.bytes) i) false
+ack_is_forged service local e i g = record {
   ack = refl;
   syn = refl;
   rst = refl;
@@ -181,9 +196,9 @@ ack_is_forged local e i g = record {
   back = offset_of_number i 0 (omega arith);
 }
 
-fin_is_forged : (local : Addr) (e : Entry) (i : ℕ) → GoesOnFrom e i
+fin_is_forged : {State : Type 0} (service : Machine State) (local : Addr) (e : Entry) (i : ℕ) → GoesOnFrom service e i
     → IsForged (after_forged false (begun_at e.key local e i)) (forged_fin e.key local e.cisn (length e.bytes) i) true
-fin_is_forged local e i g = record {
+fin_is_forged service local e i g = record {
   ack = refl;
   syn = refl;
   rst = refl;
@@ -197,18 +212,18 @@ fin_is_forged local e i g = record {
 number_fits : (n k : ℕ) → number_at n k < 2 ^ 32
 number_fits n k = omega arith
 
-ack_turn : (local : Addr) (e : Entry) (i : ℕ) → GoesOnFrom e i → Stood (after_forged false (begun_at e.key local e i)) (connected e.key local e.cisn (length e.bytes) e.mss i)
+ack_turn : {State : Type 0} (service : Machine State) (local : Addr) (e : Entry) (i : ℕ) → GoesOnFrom service e i → Stood (after_forged false (begun_at e.key local e i)) (connected e.key local e.cisn (length e.bytes) e.mss i)
 unfolding connected
-ack_turn local e i g =
-    forged_turn (begun_at e.key local e i) _ (forged_ack e.key local e.cisn (length e.bytes) i) false (syn_turn local e i g) (begun_fresh local e i) (ack_is_forged local e i g)
+ack_turn service local e i g =
+    forged_turn (begun_at e.key local e i) _ (forged_ack e.key local e.cisn (length e.bytes) i) false (syn_turn service local e i g) (begun_fresh local e i) (ack_is_forged service local e i g)
     (λ h. absurd (false≢true h)) (number_fits e.cisn (length e.bytes))
 
-whole : (local : Addr) (e : Entry) (i : ℕ) (fin : Bool) → GoesOnFrom e i → (fin ≡ true → length e.bytes < 2 ^ 24)
+whole : {State : Type 0} (service : Machine State) (local : Addr) (e : Entry) (i : ℕ) (fin : Bool) → GoesOnFrom service e i → (fin ≡ true → length e.bytes < 2 ^ 24)
     → Stood (record (after_forged fin (begun_at e.key local e i)) { fin = fin; answered = length e.bytes + one_if fin }) (spliced e.key local e.cisn (length e.bytes) e.mss i fin)
-whole local e i true g few =
+whole service local e i true g few =
     forged_turn (after_forged false (begun_at e.key local e i)) (connected e.key local e.cisn (length e.bytes) e.mss i) (forged_fin e.key local e.cisn (length e.bytes) i) true
-    (ack_turn local e i g) (acked_fresh local e i) (fin_is_forged local e i g) few (number_fits e.cisn (length e.bytes))
-whole local e i false g few = ack_turn local e i g
+    (ack_turn service local e i g) (acked_fresh local e i) (fin_is_forged service local e i g) few (number_fits e.cisn (length e.bytes))
+whole service local e i false g few = ack_turn service local e i g
 
 pub size_stays : (mss : ℕ) → 64 ≤ mss → mss ≤ 1460 → mss ≡ max 64 (min 1460 mss)
 size_stays mss a b = omega (arith, a, b)
@@ -219,7 +234,7 @@ less_self u = omega arith
 cut_read : (f s r : ℕ) → s ≤ f → max f 0 ≡ r + f → max f s ≡ r + f
 cut_read f s r a b = omega (arith, a, b)
 
-at_entry : {State : Type 0} (service : Machine State) (local : Addr) (e : Entry) (i : ℕ) (t : Tcb) → GoesOnFrom e i
+at_entry : {State : Type 0} (service : Machine State) (local : Addr) (e : Entry) (i : ℕ) (t : Tcb) → GoesOnFrom service e i
     → StandsAt (record (after_forged e.fin (begun_at e.key local e i)) { fin = e.fin; answered = length e.bytes + one_if e.fin }) t
     → StandsAt (inside (resumed_at service e) i (point_of service e)) t
 at_entry service local e i t g st =
@@ -249,8 +264,71 @@ at_entry service local e i t g st =
       rest = st.rest;
     }
 
-pub splices : {State : Type 0} (service : Machine State) (local : Addr) (e : Entry) (i : ℕ) → GoesOnFrom e i
+-- nothing is written yet
+none_left : (n : ℕ) (output : List ℕ) → drop n (take n output) ≡ []
+none_left zero output = refl
+none_left (suc n) [] = refl
+none_left (suc n) (x ∷ output) = none_left n output
+
+end_none : (f c : Bool) (una sent len u : ℕ) → (f ≡ true → c ≡ true) → c ≡ false → una ≡ 0 → len ≡ 0 → (if f then sent - 1 else una + len) + u ≡ u
+end_none true c una sent len u last off a b = absurd (false≢true (sym off ∙ last refl))
+end_none false c una sent len u last off a b = omega (arith, a, b)
+
+fed_nothing : {State : Type 0} (service : Machine State) (local : Addr) (e : Entry) (i : ℕ) (t : Tcb) → IsBetweenTurns t → IsIdle t.sending → 0 ≡ t.sending.una
+    → Feeds service (resumed_at service e) (point_of service e) (resumed_at service e) t
+fed_nothing service local e i t between idle una =
+    let u : ℕ = resumed_at service e in
+    let output : List ℕ = (answered_run service (point_of service e)).output in
+    let whole_output : output ≡ (run_of service e).output = ap (λ l. (reference service e.bytes l).output) (take_all (length e.lengths) e.lengths (omega arith)) in
+    record {
+      holds = idle.held ∙ sym (none_left u output) ∙ ap (λ n. drop n (take u output)) (omega (arith, una));
+      until = end_none t.sending.fin_sent t.sending.closed t.sending.una t.sending.sent (length t.sending.held) u (λ h. (between.fin_last h).0) idle.closed (sym una) (ap length idle.held);
+      low = subst (λ (l : List ℕ). u ≤ length l) (sym whole_output) (omega arith);
+      queued = subst (λ (l : List ℕ). length l ≤ 65535) (sym idle.held) (omega arith);
+    }
+
+goes_on_from : {State : Type 0} (service : Machine State) (e : Entry) (i : ℕ) → GoesOnFrom service e i → GoesOn (resumed_at service e) i (delta_from service e i) (point_of service e)
+goes_on_from service e i g = record {
+  shift = back_again (resumed_at service e) i e.sisn g.i_fits;
+  small = g.small;
+  sisn = g.sisn;
+  delta_fits = omega arith;
+  i_fits = g.i_fits;
+  una = omega arith;
+  order = omega arith;
+  sent = omega (arith, g.small);
+  edge = omega arith;
+  wl2 = omega arith;
+  unopened = λ h. absurd (false≢true (sym h));
+}
+  where
+    back_again : (u i sisn : ℕ) → i < 2 ^ 32 → (i + ((sisn + u) % 2 ^ 32 + 2 ^ 32 - i) % 2 ^ 32) % 2 ^ 32 ≡ (sisn + u) % 2 ^ 32
+    back_again u i sisn h = omega (arith, h)
+
+pub splices : {State : Type 0} (service : Machine State) (local : Addr) (e : Entry) (i : ℕ) → GoesOnFrom service e i
     → StandsAtEntry service e i (spliced e.key local e.cisn (length e.bytes) e.mss i e.fin)
 splices service local e i g =
-    let t = whole local e i e.fin g g.fin in
-    record { begun = t.begun; between = t.between; named = t.named; stands = at_entry service local e i (spliced e.key local e.cisn (length e.bytes) e.mss i e.fin) g t.stands }
+    let t = whole service local e i e.fin g g.fin in
+    let tcb : Tcb = spliced e.key local e.cisn (length e.bytes) e.mss i e.fin in
+    let at = at_entry service local e i tcb g t.stands in
+    record {
+      tcp = record { stands = record { begun = t.begun; between = t.between; stands = at; goes_on = goes_on_from service e i g }; named = t.named };
+      feeds = fed_nothing service local e i tcb t.between t.idle (sym (less_self (resumed_at service e)) ∙ at.sends.una);
+      kept = t.kept;
+      open_still = t.idle.closed;
+    }
+
+-- with the north wrapper beside it that was replayed
+pub splices_parts : {S : Type 0} (service : Machine S) (local : Addr) (e : Entry) (i : ℕ) (n : NorthState S) → GoesOnFrom service e i → HasReplayed service (point_of service e) (resumed_at service e) n
+    → PartsStand service (resumed_at service e) i (delta_from service e i) (resumed_at service e) (point_of service e) n (spliced e.key local e.cisn (length e.bytes) e.mss i e.fin)
+splices_parts service local e i n g replayed =
+    let t = splices service local e i g in
+    record {
+      tcp = inl t.tcp;
+      north = begins_here service (point_of service e) (resumed_at service e) n replayed;
+      feeds = t.feeds;
+      unreset = refl;
+      kept = t.kept;
+      shut = t.open_still ∙ sym replayed.shut;
+      settled = omega arith;
+    }

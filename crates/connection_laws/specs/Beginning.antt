@@ -1,5 +1,5 @@
 -- How a new connection begins: its TCP is given the SYN with the kept numbers, and sends the SYN-ACK (RFC 9293, 3.10.7.2).
-use Rattle.std.specs.Prelude.{◌≡◌, ◌≤◌, ◌<◌, ◌^◌, List}
+use Rattle.std.specs.Prelude.{◌≡◌, ◌≤◌, ◌<◌, ◌^◌, List, [], ◌∷◌}
 use Rattle.ft_io.specs.declared.Addr.{Addr}
 use Rattle.seq_arith.specs.Message.{Numbers}
 use Rattle.seq_arith.specs.Packet.{Segment}
@@ -7,7 +7,7 @@ use Rattle.server_trait.specs.Service.{Machine}
 use Rattle.ft_model.specs.News.News.{Comes, Begins}
 use Rattle.ft_model.specs.Opening.{point_opened}
 use Rattle.ft_model.specs.Point.{Point}
-use Rattle.ft_model.specs.Segments.{segments_of}
+use Rattle.ft_model.specs.Segments.{segments_of, syn_ack}
 use Rattle.tcp_endpoint.specs.Tcb.{Tcb, listening}
 use Rattle.endpoint_laws.specs.Ending.{IsNamedRightly}
 use Rattle.endpoint_laws.specs.Turn.{Call, turned, sent_in}
@@ -35,3 +35,4 @@ pub record BeginsInside {State : Type 0} (service : Machine State) (local : Addr
   pub stands : StandsInside 0 numbers.sisn 0 q (turned (Comes (opened_syn local numbers)) calls (listens_with local numbers))
   pub named : IsNamedRightly (turned (Comes (opened_syn local numbers)) calls (listens_with local numbers))
   pub segments : passed 0 q (sent_in (Comes (opened_syn local numbers)) calls (listens_with local numbers)) ≡ segments_of service local Begins (point_opened numbers) q
+  pub alone : segments_of service local Begins (point_opened numbers) q ≡ syn_ack local q ∷ []

@@ -1,19 +1,16 @@
 -- How a fresh endpoint is brought to where a restart goes on: the segments that are forged to it.
-use Rattle.std.specs.Prelude.{◌≡◌, ◌≤◌, ◌<◌, true, length, sum, ℕ, Bool, ◌+◌, ◌-◌, ◌%◌, ◌^◌, Option, Some, None, [], if◌then◌else◌}
+use Rattle.std.specs.Prelude.{false, ◌≡◌, ◌≤◌, ◌<◌, true, length, sum, ℕ, Bool, ◌+◌, ◌-◌, ◌%◌, ◌^◌, Option, Some, None, [], if◌then◌else◌}
 use Rattle.ft_io.specs.declared.Addr.{Addr}
 use Rattle.ft_io.specs.declared.Key.{Key}
 use Rattle.seq_arith.specs.declared.flags.TheConstants.{FIN, SYN, ACK}
-use Rattle.seq_arith.specs.Number.{number_at}
+use Rattle.seq_arith.specs.Number.{distance, number_at}
 use Rattle.seq_arith.specs.Packet.{Segment}
 use Rattle.ft_model.specs.News.News.{Comes}
 use Rattle.server_trait.specs.Service.{Machine}
 use Rattle.ft_model.specs.Log.{Entry}
 use Rattle.ft_model.specs.Restart.{point_of, resumed_at}
-use Rattle.tcp_endpoint.specs.States.{has_begun}
-use Rattle.endpoint_laws.specs.Ending.{IsNamedRightly}
-use Rattle.endpoint_laws.specs.Turn.{IsBetweenTurns}
-use Rattle.endpoint_laws.specs.Standing.{StandsAt}
-use Rattle.connection_laws.specs.Inside.{inside}
+use Rattle.connection_laws.specs.Feeding.{Feeds}
+use Rattle.connection_laws.specs.Standing.{StandsOpen}
 use Rattle.tcp_endpoint.specs.Tcb.{Tcb, listening}
 use Rattle.endpoint_laws.specs.Turn.{turned}
 
@@ -47,17 +44,24 @@ spliced key local cisn fetched mss i fin =
     if fin then turned (Comes (forged_fin key local cisn fetched i)) [] (connected key local cisn fetched mss i)
     else connected key local cisn fetched mss i
 
--- the entry and the numbers with which it goes on
-pub record GoesOnFrom (e : Entry) (i : ℕ) : Type 0 where
+-- the entry and the initial number with which it goes on
+pub record GoesOnFrom {State : Type 0} (service : Machine State) (e : Entry) (i : ℕ) : Type 0 where
   pub least : 64 ≤ e.mss
   pub most : e.mss ≤ 1460
   pub short : length e.bytes ≤ 2 ^ 24
   pub fin : e.fin ≡ true → length e.bytes < 2 ^ 24
   pub cut : sum e.lengths ≤ length e.bytes
+  pub small : resumed_at service e ≤ 2 ^ 24
+  pub sisn : e.sisn < 2 ^ 32
+  pub i_fits : i < 2 ^ 32
 
--- the result stands inside the point of the entry
+-- the number of the unit with which output goes on, less the initial number
+abbrev pub delta_from : {State : Type 0} → Machine State → Entry → (i : ℕ) → ℕ
+delta_from service e i = distance ((e.sisn + resumed_at service e) % 2 ^ 32) i
+
+-- the result stands inside the point of the entry. Nothing is written to it yet, so that it holds nothing of the output
 pub record StandsAtEntry {State : Type 0} (service : Machine State) (e : Entry) (i : ℕ) (t : Tcb) : Type 0 where
-  pub begun : has_begun t.name ≡ true
-  pub between : IsBetweenTurns t
-  pub named : IsNamedRightly t
-  pub stands : StandsAt (inside (resumed_at service e) i (point_of service e)) t
+  pub tcp : StandsOpen (resumed_at service e) i (delta_from service e i) (point_of service e) t
+  pub feeds : Feeds service (resumed_at service e) (point_of service e) (resumed_at service e) t
+  pub kept : t.reset ≡ false
+  pub open_still : t.sending.closed ≡ false

@@ -4,6 +4,7 @@ ghost use Rattle.std.specs.Prelude.{◌≡◌, ◌≤◌, ◌<◌, ◌^◌, ◌-
 ghost use Rattle.ft_io.specs.declared.Addr.{Addr};
 ghost use Rattle.server_trait.specs.Service.{machine};
 ghost use Rattle.ft_model.specs.Log.{Entry};
+ghost use Rattle.ft_model.specs.Restart.{point_of, resumed_at};
 ghost use Rattle.ft_model.specs.Network.{Packet};
 ghost use Rattle.ft_model.specs.News.{News};
 ghost use Rattle.ft_model.specs.News.News.{Comes, Ticks, Begins};
@@ -23,7 +24,7 @@ ghost use Rattle.endpoint_laws.specs.Turn.{Call, MayUse, arrived};
 ghost use Rattle.endpoint_laws.specs.Ending.{IsNamedRightly, resets};
 ghost use Rattle.north_wrap.specs.declared.read_record.ReadRecord.{ReadRecord};
 ghost use Rattle.north_wrap.specs.NorthState.{Turns as NorthTurns, NorthState, lengths_of};
-ghost use Rattle.north_wrap.specs.Standing.{given_text, off_socket};
+ghost use Rattle.north_wrap.specs.Standing.{NorthStands, HasReplayed, given_text, off_socket};
 ghost use Rattle.connection_laws.specs.Beginning.{MayOpen, BeginsInside, opened_syn, listens_with};
 ghost use Rattle.connection_laws.specs.Closing.{StandsClosed, LeavesInside, EndsInside, ReadsOn, GoesOnClosed};
 ghost use Rattle.connection_laws.specs.Feeding.{tcp_reader, tcp_writer, TurnsNorth, FedInside, Feeds, north_calls, before_reads, given_after};
@@ -31,7 +32,7 @@ ghost use Rattle.connection_laws.specs.Passing.{news_inside};
 ghost use Rattle.connection_laws.specs.Standing.{PartsStand, PartsRest, PartsTurn, heard};
 ghost use Rattle.connection_laws.specs.Telling.{PartsTell, NewsTell};
 ghost use Rattle.connection_laws.specs.Turning.{NewsFit, IsLater, Turns, StandsInside, UsesInside, TurnsInside};
-ghost use Rattle.connection_laws.specs.Splicing.{GoesOnFrom, StandsAtEntry, spliced};
+ghost use Rattle.connection_laws.specs.Splicing.{GoesOnFrom, delta_from, StandsAtEntry, spliced};
 
 use server_trait::Service;
 
@@ -50,10 +51,15 @@ pub fn tcp_counts_behind_delta()
     ensures acked { (u i delta : ℕ) (p : Point) (e : Tcb) → StandsInside u i delta p e → p.counted ≡ true → acked_number e ≡ distance (number_at p.sisn p.una) delta }
 {}
 
-/// A fresh endpoint to which an entry's segments are forged stands, inside, at the point of the entry.
+/// A fresh endpoint to which an entry's segments are forged stands, inside, at the point of the entry; and so do the parts of a connection, where
+/// the north wrapper beside it was replayed.
 pub fn splices_stand_at_the_entry<S: Service>()
-    ensures { (fresh : S) (i : ℕ) (local : Addr) (e : Entry) → GoesOnFrom e i
+    ensures tcp { (fresh : S) (i : ℕ) (local : Addr) (e : Entry) → GoesOnFrom (machine fresh S.after) e i
         → StandsAtEntry (machine fresh S.after) e i (spliced e.key local e.cisn (length e.bytes) e.mss i e.fin) }
+    ensures parts { (fresh : S) (i : ℕ) (local : Addr) (e : Entry) (n : NorthState S) → GoesOnFrom (machine fresh S.after) e i
+        → HasReplayed (machine fresh S.after) (point_of (machine fresh S.after) e) (resumed_at (machine fresh S.after) e) n
+        → PartsStand (machine fresh S.after) (resumed_at (machine fresh S.after) e) i (delta_from (machine fresh S.after) e i) (resumed_at (machine fresh S.after) e)
+        (point_of (machine fresh S.after) e) n (spliced e.key local e.cisn (length e.bytes) e.mss i e.fin) }
 {}
 
 /// A new connection begins with its SYN: its TCP stands at the point inside, with nothing between the numbers, and sends the law's SYN-ACK alone.
@@ -96,6 +102,14 @@ pub fn connections_turn_by_their_parts<S: Service>()
         → NorthTurns S.after tcp_reader tcp_writer (acknowledged_after news before) (heard news old) (arrived (news_inside delta before news) e) reads new t
         → new.run.made ≤ 2 ^ 24
         → PartsTurn (machine fresh S.after) e.local boot u i delta news before (lengths_of reads) new t }
+{}
+
+/// A new connection starts so too, from the SYN that has come to its TCP: its SYN-ACK is all that leaves.
+pub fn new_connections_start_with_their_parts<S: Service>()
+    ensures { (fresh : S) (boot : ℕ) (local : Addr) (numbers : Numbers) (old new : NorthState S) (reads : List ReadRecord) (t : Tcb) → MayOpen numbers
+        → NorthStands (machine fresh S.after) (point_opened numbers) 0 old → old.shut ≡ false
+        → NorthTurns S.after tcp_reader tcp_writer 0 old (received (listens_with local numbers) (opened_syn local numbers)) reads new t → new.run.made ≤ 2 ^ 24
+        → PartsTurn (machine fresh S.after) local boot 0 numbers.sisn 0 Begins (point_opened numbers) (lengths_of reads) new t }
 {}
 
 /// At a tick the north wrapper needs no turn, since nothing is due between two turns.
