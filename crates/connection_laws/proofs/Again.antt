@@ -33,7 +33,7 @@ above_if u false x y h t = t
 -- the edge and SND.WL2 don't fall below where output goes on
 pub record Stays (u : ℕ) (news : News) (p : Point) : Type 0 where
   pub una : u ≤ acknowledged_after news p
-  most : acknowledged_after news p ≤ p.sent
+  pub most : acknowledged_after news p ≤ p.sent
   edge : u ≤ edge_after news p
   wl2 : u ≤ wl2_after news p
 

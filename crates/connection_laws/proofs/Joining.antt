@@ -3,6 +3,8 @@ use Rattle.std.proofs.Common.{◌≡◌, ℕ, ◌+◌, Bool, true, false, List, 
 use Rattle.std.specs.Prelude.{◌||◌}
 use Rattle.server_trait.specs.Service.{Machine}
 use Rattle.ft_model.specs.Answered.{reads_answered_after}
+use Rattle.ft_model.specs.Connection.{ResetTurn}
+use Rattle.ft_model.specs.Network.{Packet}
 use Rattle.ft_model.specs.Growth.{IsPrefix}
 use Rattle.ft_model.specs.News.{News}
 use Rattle.ft_model.specs.News.News.{Comes, Logged, Ticks, Begins}
@@ -93,3 +95,14 @@ socket_stands b n m read unread fin kept shut = record {
   queue = record { waits = sym unread ∙ ap (λ k. drop k b.taken) (sym read); fin = sym fin };
   shut = or_none m.sending.closed m.reset n.shut kept shut;
 }
+
+-- and where the client has reset the connection
+pub reset_hears : {S : Type 0} (service : Machine S) (boot : ℕ) (news : News) (p q : Point) (given : ℕ) (n : NorthState S) (sent : List Packet) → NorthStands service p given n
+    → ResetTurn boot news p q sent → NorthStands service q given (heard news n)
+unfolding reads_answered_after
+reset_hears service boot (Comes segment) p q given n sent st t = subst (λ r. NorthStands service r given n) (sym t.point) (north_alike service p _ given n refl refl refl refl st)
+reset_hears service boot (Logged kept) p q given n sent st t =
+    subst (λ r. NorthStands service r given (answered_on kept.reads n)) (sym t.point)
+    (north_alike service (with_answered kept.reads p) _ given (answered_on kept.reads n) refl refl refl refl (answers_stand service p given n kept.reads st))
+reset_hears service boot Ticks p q given n sent st t = subst (λ r. NorthStands service r given n) (sym t.point) (north_alike service p _ given n refl refl refl refl st)
+reset_hears service boot Begins p q given n sent st t = subst (λ r. NorthStands service r given n) (sym t.point) (north_alike service p _ given n refl refl refl refl st)

@@ -8,7 +8,7 @@ use Rattle.tcp_endpoint.specs.declared.states.StateName.{StateName}
 use Rattle.tcp_endpoint.specs.declared.states.StateName.TheVariants.{Closed, Listen, SynSent, SynReceived, Established, FinWait1, FinWait2, CloseWait, Closing, LastAck, TimeWait}
 use Rattle.tcp_endpoint.specs.States.{has_begun, is_listen}
 use Rattle.tcp_endpoint.specs.Tcb.{Tcb}
-use Rattle.tcp_endpoint.specs.Turning.{sent_number, acked_number}
+use Rattle.tcp_endpoint.specs.Turning.{sent_number}
 use Rattle.connection_laws.specs.Turning.{StandsInside}
 
 pub listens_not : (name : StateName) → has_begun name ≡ true → is_listen name ≡ false
@@ -31,8 +31,3 @@ pub sent_behind : (u i delta : ℕ) (p : Point) (e : Tcb) → StandsInside u i d
 sent_behind u i delta p e st =
     (λ j. if listens_not e.name st.begun j then e.sending.iss else number_at (sym st.stands.sends.sisn j) (sym st.stands.sent j))
     ∙ behind i delta p.sisn u p.sent st.goes_on.shift (omega (arith, st.goes_on.una, st.goes_on.order)) st.goes_on.delta_fits
-
-pub acked_behind : (u i delta : ℕ) (p : Point) (e : Tcb) → StandsInside u i delta p e → p.counted ≡ true → acked_number e ≡ distance (number_at p.sisn p.una) delta
-acked_behind u i delta p e st counted =
-    (λ j. if (sym st.stands.sends.counted ∙ counted) j then number_at (sym st.stands.sends.sisn j) (sym st.stands.sends.una j) else e.sending.iss)
-    ∙ behind i delta p.sisn u p.una st.goes_on.shift st.goes_on.una st.goes_on.delta_fits

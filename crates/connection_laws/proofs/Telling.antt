@@ -6,7 +6,7 @@ use Rattle.seq_arith.specs.Number.{distance, number_at}
 use Rattle.server_trait.specs.Service.{Machine}
 use Rattle.ft_model.specs.Ending.{reset_after}
 use Rattle.ft_model.specs.News.{News}
-use Rattle.ft_model.specs.Point.{Point, released, made}
+use Rattle.ft_model.specs.Point.{Point, answered_run, released, made}
 use Rattle.ft_model.specs.Sending.{counted_after, acknowledged_after}
 use Rattle.ft_model.proofs.Services.{prefix_length}
 use Rattle.tcp_endpoint.specs.declared.states.StateName.{StateName}
@@ -73,6 +73,29 @@ all_given service u i delta given p n e st c =
     let less : released service p ≤ made service p = prefix_length _ _ (answered_front service p).output in
     omega (arith, g, less, st.feeds.low)
 
+-- what is sent is what was given, and a FIN
+sent_few : (f : Bool) (una sent len u given made p_sent : ℕ) → (if f then sent - 1 else una + len) + u ≡ given → sent ≤ una + len + (if f then 1 else 0) → (f ≡ true → 1 ≤ sent) → p_sent - u ≡ sent
+    → u ≤ p_sent → given ≤ made → p_sent ≤ made + 1
+sent_few true una sent len u given made p_sent until flight some is above low = let one : 1 ≤ sent = some refl in omega (arith, until, one, is, above, low)
+sent_few false una sent len u given made p_sent until flight some is above low = omega (arith, until, flight, is, above, low)
+
+few_open : {S : Type 0} (service : Machine S) (u i delta given : ℕ) (p : Point) (n : NorthState S) (e : Tcb) → PartsStand service u i delta given p n e → StandsOpen u i delta p e
+    → p.sent ≤ n.run.made + 1
+few_open service u i delta given p n e st o =
+    let b = o.stands.between in
+    sent_few e.sending.fin_sent e.sending.una e.sending.sent (length e.sending.held) u given n.run.made p.sent st.feeds.until b.bounds.flight (λ h. (b.fin_last h).1) o.stands.stands.sent
+    (omega (arith, o.stands.goes_on.una, o.stands.goes_on.order)) (omega (arith, st.north.run.made, st.north.run.within))
+
+few_by : (c : Bool) (sent released made : ℕ) → sent ≡ released + (if c then 1 else 0) → released ≤ made → sent ≤ made + 1
+few_by true sent released made a b = omega (arith, a, b)
+few_by false sent released made a b = omega (arith, a, b)
+
+few_closed : {S : Type 0} (service : Machine S) (u i delta given : ℕ) (p : Point) (n : NorthState S) (e : Tcb) → PartsStand service u i delta given p n e → StandsClosed service u i delta p e
+    → p.sent ≤ n.run.made + 1
+few_closed service u i delta given p n e st c =
+    let less : released service p ≤ made service p = prefix_length _ _ (answered_front service p).output in
+    few_by (answered_run service p).closed p.sent (released service p) n.run.made c.all_sent (omega (arith, less, st.north.run.made))
+
 tell_open : {S : Type 0} (service : Machine S) (u i delta given : ℕ) (p : Point) (n : NorthState S) (e : Tcb) → PartsStand service u i delta given p n e → StandsOpen u i delta p e
     → PartsTell service delta p n e
 tell_open service u i delta given p n e st o =
@@ -86,6 +109,8 @@ tell_open service u i delta given p n e st o =
       sent = sent_behind u i delta p e o.stands;
       acked = acked_by p.counted e.sending.opened e.sending.iss e.sending.una i delta p.sisn u p.una o.stands.stands.sends.counted (sym o.stands.stands.sends.sisn) (sym o.stands.stands.sends.una)
           g.shift g.una g.delta_fits g.i_fits g.sisn (λ h. (g.unopened h).0);
+      order = g.order;
+      few = few_open service u i delta given p n e st o;
     }
 
 first_of : (f b : Bool) → (f && b) ≡ true → f ≡ true
@@ -106,6 +131,8 @@ tell_closed service u i delta given p n e st c =
           ∙ behind i delta p.sisn u p.sent k.shift (omega (arith, k.above, c.acknowledged)) k.delta_fits;
       acked = (λ j. if k.opened j then number_at (k.iss j) (sym k.una j) else e.sending.iss) ∙ behind i delta p.sisn u p.una k.shift k.above k.delta_fits
           ∙ (λ j. distance (acked_at (sym c.counted j) p.sisn p.una) delta);
+      order = omega (arith, c.acknowledged);
+      few = few_closed service u i delta given p n e st c;
     }
 
 pub parts_tell : {S : Type 0} (service : Machine S) (u i delta given : ℕ) (p : Point) (n : NorthState S) (e : Tcb) → PartsStand service u i delta given p n e → PartsTell service delta p n e
@@ -164,6 +191,7 @@ news_open service u i delta given news p n e st fits off o =
       fin = sym moves.fin ∙ came.receives.fin ∙ fin_told inner e (has_begun m.name) refl follows;
       acked = acked_by (counted_after news p) m.sending.opened m.sending.iss m.sending.una i delta p.sisn u (acknowledged_after news p) (sym moves.counted ∙ came.sends.counted) (sym came.sends.sisn)
           (sym (sym moves.una ∙ came.sends.una)) g.shift rises.una g.delta_fits g.i_fits g.sisn (λ h. (g.unopened (still_unopened news p h)).0);
+      few = omega (arith, rises.most, few_open service u i delta given p n e st o);
     }
 
 news_closed : {S : Type 0} (service : Machine S) (u i delta given : ℕ) (news : News) (p : Point) (n : NorthState S) (e : Tcb) → PartsStand service u i delta given p n e
@@ -183,6 +211,7 @@ news_closed service u i delta given news p n e st c =
       fin = fin_stays news p fin ∙ sym (on_or (has_taken_fin m.name) (is_closed m.name) closed);
       acked = (λ j. if (s.opened ∙ k.opened) j then number_at ((s.iss ∙ k.iss) j) ((s.una ∙ sym k.una) j) else m.sending.iss) ∙ behind i delta p.sisn u p.una k.shift k.above k.delta_fits
           ∙ (λ j. distance (acked_at (sym (counted_stays news p c.counted) j) p.sisn (sym una j)) delta);
+      few = omega (arith, una, c.acknowledged, few_closed service u i delta given p n e st c);
     }
 
 pub news_tell : {S : Type 0} (service : Machine S) (u i delta given : ℕ) (news : News) (p : Point) (n : NorthState S) (e : Tcb) → PartsStand service u i delta given p n e → NewsFit p news

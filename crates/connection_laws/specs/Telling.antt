@@ -1,5 +1,5 @@
 -- What a connection's parts tell of its point: so its numbers needn't be kept beside them.
-use Rattle.std.specs.Prelude.{◌≡◌, ℕ, Bool, ◌+◌, ◌||◌, max, length, if◌then◌else◌}
+use Rattle.std.specs.Prelude.{◌≡◌, ◌≤◌, ℕ, Bool, ◌+◌, ◌||◌, max, length, if◌then◌else◌}
 use Rattle.seq_arith.specs.Number.{distance, number_at}
 use Rattle.server_trait.specs.Service.{Machine}
 use Rattle.ft_model.specs.News.{News}
@@ -30,9 +30,12 @@ pub record PartsTell {S : Type 0} (service : Machine S) (delta : ℕ) (p : Point
   pub over : is_over service p ≡ tells_over e
   pub sent : sent_number e ≡ distance (number_at p.sisn p.sent) delta
   pub acked : acked_number e ≡ distance (acked_at p.counted p.sisn p.una) delta
+  pub order : p.una ≤ p.sent
+  pub few : p.sent ≤ n.run.made + 1
 
 -- once the news have come, before the north wrapper's turn
 pub record NewsTell {S : Type 0} (delta : ℕ) (news : News) (p : Point) (n : NorthState S) (m : Tcb) : Type 0 where
   pub taken : length (taken_after news p) ≡ max p.fetched n.read + length m.receiving.unread
   pub fin : fin_after news p ≡ tells_fin m
   pub acked : acked_number m ≡ distance (acked_at (counted_after news p) p.sisn (acknowledged_after news p)) delta
+  pub few : acknowledged_after news p ≤ n.run.made + 1

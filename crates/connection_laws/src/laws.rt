@@ -11,7 +11,7 @@ ghost use Rattle.ft_model.specs.News.News.{Comes, Ticks, Begins};
 ghost use Rattle.ft_model.specs.Opening.{point_opened};
 ghost use Rattle.ft_model.specs.Ending.{reset_after};
 ghost use Rattle.ft_model.specs.Sending.{acknowledged_after};
-ghost use Rattle.ft_model.specs.Connection.{LiveTurn};
+ghost use Rattle.ft_model.specs.Connection.{LiveTurn, ResetTurn};
 ghost use Rattle.ft_model.specs.Point.{Point, is_over, released};
 ghost use Rattle.seq_arith.specs.Number.{distance, number_at};
 ghost use Rattle.seq_arith.specs.Packet.{Segment};
@@ -43,12 +43,6 @@ pub fn connections_turn_by_their_tcp<S: Service>()
         → StandsInside u i delta before e → Turns (machine fresh S.after) e.local boot news before after sent u i delta
         → UsesInside (machine fresh S.after) u i delta news before after calls e
         → TurnsInside (machine fresh S.after) u i delta news before after calls e }
-{}
-
-/// TCP's numbers are the connection's, less delta.
-pub fn tcp_counts_behind_delta()
-    ensures sent { (u i delta : ℕ) (p : Point) (e : Tcb) → StandsInside u i delta p e → sent_number e ≡ distance (number_at p.sisn p.sent) delta }
-    ensures acked { (u i delta : ℕ) (p : Point) (e : Tcb) → StandsInside u i delta p e → p.counted ≡ true → acked_number e ≡ distance (number_at p.sisn p.una) delta }
 {}
 
 /// A fresh endpoint to which an entry's segments are forged stands, inside, at the point of the entry; and so do the parts of a connection, where
@@ -129,14 +123,8 @@ pub fn north_feeds_tcp<S: Service>()
         e t }
 {}
 
-/// While its TCP isn't CLOSED a connection is over where that is in TIME-WAIT.
-pub fn connections_are_over_in_time_wait<S: Service>()
-    ensures { (fresh : S) (u i delta given : ℕ) (p : Point) (e : Tcb) → StandsInside u i delta p e → IsNamedRightly e
-        → Feeds (machine fresh S.after) u p given e → (e.sending.closed ≡ true → given ≡ released (machine fresh S.after) p)
-        → is_over (machine fresh S.after) p ≡ is_time_wait e.name }
-{}
-
 /// Between two turns the parts of a connection tell its numbers: the bytes taken, the FIN, whether it is over, and what is sent and acknowledged.
+/// TCP's numbers are the client's, less delta; it is in TIME-WAIT or CLOSED exactly where the connection is over.
 pub fn parts_tell_the_point<S: Service>()
     ensures { (fresh : S) (u i delta given : ℕ) (p : Point) (n : NorthState S) (e : Tcb) → PartsStand (machine fresh S.after) u i delta given p n e
         → PartsTell (machine fresh S.after) delta p n e }
@@ -146,4 +134,10 @@ pub fn parts_tell_the_point<S: Service>()
 pub fn news_tell_the_point<S: Service>()
     ensures { (fresh : S) (u i delta given : ℕ) (news : News) (p : Point) (n : NorthState S) (e : Tcb) → PartsStand (machine fresh S.after) u i delta given p n e
         → NewsFit p news → reset_after news p ≡ false → NewsTell delta news p n (arrived (news_inside delta p news) e) }
+{}
+
+/// A connection that its client has reset only hears what is logged, and its north wrapper with it.
+pub fn reset_connections_hear_what_is_logged<S: Service>()
+    ensures { (fresh : S) (boot given : ℕ) (news : News) (before after : Point) (n : NorthState S) (sent : List Packet)
+        → NorthStands (machine fresh S.after) before given n → ResetTurn boot news before after sent → NorthStands (machine fresh S.after) after given (heard news n) }
 {}
