@@ -38,9 +38,9 @@ use Rattle.connection_laws.proofs.Swallowed.{inside_runs, inside_released}
 use Rattle.connection_laws.proofs.Meets.{laws_inside}
 use Rattle.connection_laws.proofs.Again.{stays}
 use Rattle.connection_laws.proofs.Resetting.{resets_is}
-use Rattle.connection_laws.proofs.Whole.{usual_news}
+use Rattle.connection_laws.proofs.Whole.{usual_news, above}
 use Rattle.connection_laws.proofs.Quiet.{quiet_sends}
-use Rattle.connection_laws.proofs.Outliving.{rest_stops, taken_stays, closed_sent}
+use Rattle.connection_laws.proofs.Outliving.{rest_stops, taken_stays, closed_sent, both_of}
 use Rattle.connection_laws.proofs.Taking.{taken_before}
 use Rattle.connection_laws.proofs.Keeping.{news_keep}
 
@@ -51,10 +51,6 @@ unreset u i delta p e (Comes segment) st none fits off = resets_is u i delta p s
 unreset u i delta p e (Logged kept) st none fits off = refl
 unreset u i delta p e Ticks st none fits off = refl
 unreset u i delta p e Begins st none fits off = refl
-
-both_of : (a b : Bool) → (a && b) ≡ true → (a ≡ true) × (b ≡ true)
-both_of true b h = (refl, h)
-both_of false b h = absurd (false≢true h)
 
 same_of : (a b : ℕ) → (a == b) ≡ true → a ≡ b
 same_of a b h = grind (arith, h)
@@ -156,9 +152,6 @@ una_ticks Begins p h = absurd (false≢true h)
 
 less_same : (u a b w : ℕ) → u ≤ a → u ≤ b → a ≡ b → a - u ≡ w → b - u ≡ w
 less_same u a b w x y h k = omega (arith, x, y, h, k)
-
-pub above : (u a b : ℕ) → u ≤ a → b ≡ a → u ≤ b
-above u a b h e = omega (arith, h, e)
 
 flushed_answer : (w : Tcb) → (flushed w).answer ≡ None
 unfolding flushed settled announced after_full with_fin_out with_text_sent with_probe

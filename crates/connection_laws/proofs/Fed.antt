@@ -35,11 +35,11 @@ use Rattle.connection_laws.specs.Passing.{news_inside}
 use Rattle.connection_laws.specs.Turning.{StandsInside}
 use Rattle.connection_laws.specs.Feeding.{tcp_reader, tcp_writer, Feeds, north_calls, before_reads, TurnsNorth, given_after, FedBy, FedInside}
 use Rattle.connection_laws.proofs.Swallowed.{inside_runs, inside_released}
-use Rattle.connection_laws.proofs.Whole.{usual_news}
+use Rattle.connection_laws.proofs.Whole.{usual_news, above}
 use Rattle.connection_laws.proofs.Outliving.{front_goes_on, reads_rise}
 use Rattle.connection_laws.proofs.Meets.{laws_inside}
 use Rattle.connection_laws.proofs.Again.{stays}
-use Rattle.connection_laws.proofs.Ending.{unreset, above, flushed_reset}
+use Rattle.connection_laws.proofs.Ending.{unreset, flushed_reset}
 use Rattle.connection_laws.proofs.Keeping.{Keeps, news_keep, end_kept}
 use Rattle.connection_laws.proofs.Flushed.{end_flushed}
 
@@ -65,7 +65,7 @@ reads_hold : (ks : List ℕ) (m : Tcb) → (used (map Reads ks) m).sending.held 
 reads_hold [] m = refl
 reads_hold (k ∷ ks) m = reads_hold ks (after_read m k)
 
-pub held_then : (text : List ℕ) (closes : Bool) (ks : List ℕ) (m : Tcb) → (used (north_calls text closes ks) m).sending.held ≡ m.sending.held ++ text
+held_then : (text : List ℕ) (closes : Bool) (ks : List ℕ) (m : Tcb) → (used (north_calls text closes ks) m).sending.held ≡ m.sending.held ++ text
 held_then text true ks m = reads_hold ks (closing (after_write m text))
 held_then text false ks m = reads_hold ks (after_write m text)
 

@@ -68,7 +68,7 @@ at_start : (b : Bool) → (b || int_le (pos 0) (pos 0)) ≡ true
 at_start true = refl
 at_start false = grind (arith, ints)
 
-pub forged_counts : (p : Point) (segment : Segment) (fin : Bool) → IsFresh p → IsForged p segment fin → (fin ≡ true → length p.taken < 2 ^ 24) → counts p segment ≡ true
+forged_counts : (p : Point) (segment : Segment) (fin : Bool) → IsFresh p → IsForged p segment fin → (fin ≡ true → length p.taken < 2 ^ 24) → counts p segment ≡ true
 unfolding counts accepts
 forged_counts p segment fin f s few =
     let n : ℕ = length p.taken in
@@ -89,7 +89,7 @@ either false x y h = refl
 nothing_added : (taken text : List ℕ) (k m : ℕ) → text ≡ [] → taken ++ take k (drop m text) ≡ taken
 nothing_added taken text k m none = (λ j. taken ++ take k (drop m (none j))) ∙ ap (λ xs. taken ++ take k xs) (drop_none m) ∙ ap (λ xs. taken ++ xs) (take_none k) ∙ append-nil taken
 
-pub forged_taken : (p : Point) (segment : Segment) (fin : Bool) → IsForged p segment fin → taken_after (Comes segment) p ≡ p.taken
+forged_taken : (p : Point) (segment : Segment) (fin : Bool) → IsForged p segment fin → taken_after (Comes segment) p ≡ p.taken
 unfolding taken_after
 forged_taken p segment fin s =
     let none : text_of segment ≡ [] = λ j. if s.syn j || s.rst j then [] else s.text j in
@@ -109,7 +109,7 @@ fin_off : (a c d : Bool) → (a && false && c && d) ≡ false
 fin_off true c d = refl
 fin_off false c d = refl
 
-pub forged_fin_is : (p : Point) (segment : Segment) (fin : Bool) → IsFresh p → IsForged p segment fin → (fin ≡ true → length p.taken < 2 ^ 24) → fin_after (Comes segment) p ≡ fin
+forged_fin_is : (p : Point) (segment : Segment) (fin : Bool) → IsFresh p → IsForged p segment fin → (fin ≡ true → length p.taken < 2 ^ 24) → fin_after (Comes segment) p ≡ fin
 unfolding fin_after
 forged_fin_is p segment true f s few =
     let n : ℕ = length p.taken in

@@ -56,7 +56,7 @@ parts_stand service p b given n st = record {
   shut_given = st.shut_given;
 }
 
-pub north_alike : {S : Type 0} (service : Machine S) (p b : Point) (given : ℕ) (n : NorthState S) → p.taken ≡ b.taken → p.lengths ≡ b.lengths → p.reads_answered ≡ b.reads_answered
+north_alike : {S : Type 0} (service : Machine S) (p b : Point) (given : ℕ) (n : NorthState S) → p.taken ≡ b.taken → p.lengths ≡ b.lengths → p.reads_answered ≡ b.reads_answered
     → p.fetched ≡ b.fetched → NorthStands service p given n → NorthStands service b given n
 north_alike service p b given n t l a f st =
     let same : with_parts p.taken p.lengths p.reads_answered p.fetched b ≡ b = λ j. record b { taken = t j; lengths = l j; reads_answered = a j; fetched = f j } in

@@ -17,6 +17,7 @@ use Rattle.connection_laws.specs.Inside.{swallowing, inside}
 use Rattle.connection_laws.specs.Passing.{passed}
 use Rattle.south_wrap.specs.Patching.{outward}
 use Rattle.south_wrap.specs.Standing.{south_at}
+use Rattle.connection_laws.proofs.Meets.{lt_less}
 use Rattle.connection_laws.proofs.Swallowed.{inside_runs, inside_target, inside_released}
 
 number_is : (i delta sisn u k : ℕ) → (i + delta) % 2 ^ 32 ≡ (sisn + u) % 2 ^ 32 → (number_at i k + delta) % 2 ^ 32 ≡ number_at sisn (k + u)
@@ -40,22 +41,6 @@ segment_is server u i delta q k flags payload shift = λ j. record {
   payload = payload;
 }
 
-syn_ack_is : (server : Addr) (i delta : ℕ) (q : Point) → (i + delta) % 2 ^ 32 ≡ q.sisn → outward (south_at delta q) (syn_ack server (inside 0 i q)) ≡ syn_ack server q
-syn_ack_is server i delta q shift = λ j. record {
-  head = record {
-    src = server.ip;
-    dst = q.key.ip;
-    sport = server.port;
-    dport = q.key.port;
-    seq = shift j;
-    ack = number_at q.cisn (acknowledgement q);
-    flags = 18;
-    window = window q;
-    mss = Some 1460;
-  };
-  payload = [];
-}
-
 text_is : {State : Type 0} (service : Machine State) (server : Addr) (u i delta : ℕ) (q : Point) (k n : ℕ) → (i + delta) % 2 ^ 32 ≡ (q.sisn + u) % 2 ^ 32
     → outward (south_at delta q) (text_at (swallowing u service) server (inside u i q) k n) ≡ text_at service server q (k + u) n
 text_is service server u i delta q k n shift =
@@ -74,7 +59,7 @@ outs_if : (f : Segment → Segment) (b : Bool) (x y : Segment) (xs ys : List Seg
 outs_if f true x y xs ys h t = λ j. h j ∷ t j
 outs_if f false x y xs ys h t = refl
 
-pub texts_are : {State : Type 0} (service : Machine State) (server : Addr) (u i delta : ℕ) (q : Point) (fuel k left : ℕ) → (i + delta) % 2 ^ 32 ≡ (q.sisn + u) % 2 ^ 32
+texts_are : {State : Type 0} (service : Machine State) (server : Addr) (u i delta : ℕ) (q : Point) (fuel k left : ℕ) → (i + delta) % 2 ^ 32 ≡ (q.sisn + u) % 2 ^ 32
     → map (outward (south_at delta q)) (texts (swallowing u service) server (inside u i q) fuel k left) ≡ texts service server q fuel (k + u) left
 texts_are service server u i delta q zero k left shift = refl
 texts_are service server u i delta q (suc fuel) k left shift =
@@ -117,9 +102,6 @@ back u n h = omega (arith, h)
 
 same_less : (u a b : ℕ) → u ≤ a → u ≤ b → (a - u == b - u) ≡ (a == b)
 same_less u a b x y = grind (arith, x, y)
-
-lt_less : (u a b : ℕ) → u ≤ a → nat_lt (a - u) (b - u) ≡ nat_lt a b
-lt_less u a b h = grind (arith, h)
 
 le_less : (u a b : ℕ) → u ≤ b → nat_le (a - u) (b - u) ≡ nat_le a b
 le_less u a b h = grind (arith, h)
@@ -191,7 +173,7 @@ probe_is service server news inner p q u i delta s =
     (λ k. one_is out (text_at (swallowing u service) server (inside u i q) (p.sent - u) 1) (text_at service server q p.sent 1) (text_is service server u i delta q (p.sent - u) 1 s.shift ∙ ap (λ n. text_at service server q n 1) (back u p.sent s.sent)))
     (λ k. fin_if_is service server u i delta q s.shift s.given)
 
-pub resent_is : {State : Type 0} (service : Machine State) (server : Addr) (news inner : News) (p q : Point) (u i delta : ℕ) → Sends service news inner p q u i delta
+resent_is : {State : Type 0} (service : Machine State) (server : Addr) (news inner : News) (p q : Point) (u i delta : ℕ) → Sends service news inner p q u i delta
     → map (outward (south_at delta q)) (resent (swallowing u service) server inner (inside u i p) (inside u i q)) ≡ resent service server news p q
 unfolding resent
 resent_is service server news inner p q u i delta s =
@@ -206,7 +188,7 @@ resent_is service server news inner p q u i delta s =
 new_less : (u a r s : ℕ) → u ≤ s → min (a - u) (r - u) - (s - u) ≡ min a r - s
 new_less u a r s h = omega (arith, h)
 
-pub new_texts_are : {State : Type 0} (service : Machine State) (server : Addr) (news inner : News) (p q : Point) (u i delta : ℕ) → Sends service news inner p q u i delta
+new_texts_are : {State : Type 0} (service : Machine State) (server : Addr) (news inner : News) (p q : Point) (u i delta : ℕ) → Sends service news inner p q u i delta
     → map (outward (south_at delta q)) (new_texts (swallowing u service) server (inside u i p) (inside u i q)) ≡ new_texts service server p q
 unfolding new_texts
 new_texts_are service server news inner p q u i delta s =
@@ -217,10 +199,7 @@ new_texts_are service server news inner p q u i delta s =
     ∙ texts_are service server u i delta q (new_length service p q) (p.sent - u) (new_length service p q) s.shift
     ∙ ap (λ m. texts service server q (new_length service p q) m (new_length service p q)) (back u p.sent s.sent)
 
-once_above : (u a t e : ℕ) → u ≤ a → u ≤ max a (min t e)
-once_above u a t e h = omega (arith, h)
-
-pub new_fin_is : {State : Type 0} (service : Machine State) (server : Addr) (news inner : News) (p q : Point) (u i delta : ℕ) → Sends service news inner p q u i delta
+new_fin_is : {State : Type 0} (service : Machine State) (server : Addr) (news inner : News) (p q : Point) (u i delta : ℕ) → Sends service news inner p q u i delta
     → map (outward (south_at delta q)) (new_fin (swallowing u service) server (inside u i p) (inside u i q)) ≡ new_fin service server p q
 unfolding new_fin
 new_fin_is service server news inner p q u i delta s =
@@ -234,7 +213,7 @@ new_fin_is service server news inner p q u i delta s =
     ∙ choose (outward (south_at delta q)) (nat_lt (released service q) (sent_at_once service p q) && nat_le p.sent (released service q)) _ [] _ []
     (λ k. fin_if_is service server u i delta q s.shift s.given) (λ k. refl)
 
-pub bare_is : (server : Addr) (u i delta : ℕ) (q : Point) → (i + delta) % 2 ^ 32 ≡ (q.sisn + u) % 2 ^ 32 → u ≤ q.sent
+bare_is : (server : Addr) (u i delta : ℕ) (q : Point) → (i + delta) % 2 ^ 32 ≡ (q.sisn + u) % 2 ^ 32 → u ≤ q.sent
     → outward (south_at delta q) (bare_segment server (inside u i q)) ≡ bare_segment server q
 bare_is server u i delta q shift above =
     segment_is server u i delta q (q.sent - u) 16 [] shift ∙ ap (λ n. segment_at server q n 16 []) (back u q.sent above)
@@ -283,7 +262,7 @@ full_quiet service server news p q =
     (texts_quiet service server q (new_length service p q) p.sent (new_length service p q))
     (either_quiet (nat_lt (released service q) (sent_at_once service p q) && nat_le p.sent (released service q)) _ [] (fin_quiet service server q) refl))
 
-pub full_is : {State : Type 0} (service : Machine State) (server : Addr) (news inner : News) (p q : Point) (u i delta : ℕ) → Sends service news inner p q u i delta
+full_is : {State : Type 0} (service : Machine State) (server : Addr) (news inner : News) (p q : Point) (u i delta : ℕ) → Sends service news inner p q u i delta
     → map (outward (south_at delta q)) (full (swallowing u service) server inner (inside u i p) (inside u i q)) ≡ full service server news p q
 full_is service server news inner p q u i delta s =
     map-append (outward (south_at delta q)) (resent (swallowing u service) server inner (inside u i p) (inside u i q)) _

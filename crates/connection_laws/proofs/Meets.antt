@@ -38,7 +38,7 @@ pub record Moves (news : News) (p : Point) (u i : ℕ) (inner : News) : Type 0 w
   pub ticks : is_tick inner ≡ is_tick news
 
 -- a segment that goes inside
-pub counts_is : (u i delta : ℕ) (p : Point) (segment : Segment) → GoesOn u i delta p
+counts_is : (u i delta : ℕ) (p : Point) (segment : Segment) → GoesOn u i delta p
     → Lowers u p.sent (ack_of p.sisn segment) (ack_of i (inward (south_at delta p) segment)) → counts (inside u i p) (inward (south_at delta p) segment) ≡ counts p segment
 unfolding counts accepts
 counts_is u i delta p segment g l =
@@ -54,7 +54,7 @@ taken_is p q segment inner c d same = ap (λ (b : Bool).
     if b && not p.fin && int_le (first_of p.cisn segment) (pos (length p.taken))
     then p.taken ++ take (receive_edge p - length p.taken) (drop (below (length p.taken) (first_of p.cisn segment)) (text_of segment)) else p.taken) same
 
-pub comes_inside : (u i delta : ℕ) (p : Point) (segment : Segment) → GoesOn u i delta p
+comes_inside : (u i delta : ℕ) (p : Point) (segment : Segment) → GoesOn u i delta p
     → Lowers u p.sent (ack_of p.sisn segment) (ack_of i (inward (south_at delta p) segment)) → Moves (Comes segment) p u i (Comes (inward (south_at delta p) segment))
 unfolding taken_after fin_after counted_after acknowledged_after edge_after wl1_after wl2_after
 comes_inside u i delta p segment g l =
@@ -174,7 +174,7 @@ moves_inside_all u i delta p Ticks g f = record { taken = refl; fin = refl; coun
 moves_inside_all u i delta p Begins g f = record { taken = refl; fin = refl; counted = refl; una = refl; edge = refl; wl1 = refl; wl2 = refl; expires = refl; ticks = refl }
 
 -- differences
-lt_less : (u a b : ℕ) → u ≤ a → nat_lt (a - u) (b - u) ≡ nat_lt a b
+pub lt_less : (u a b : ℕ) → u ≤ a → nat_lt (a - u) (b - u) ≡ nat_lt a b
 lt_less u a b h = grind (arith, h)
 
 sent_less : (u a t e : ℕ) (b : Bool) → u ≤ a → max (a - u) (min (t - u) (e - u)) + (if b then 1 else 0) ≡ max a (min t e) + (if b then 1 else 0) - u

@@ -11,7 +11,7 @@ use Rattle.tcp_endpoint.specs.Tcb.{Tcb}
 use Rattle.tcp_endpoint.specs.Turning.{sent_number}
 use Rattle.connection_laws.specs.Turning.{StandsInside}
 
-pub listens_not : (name : StateName) → has_begun name ≡ true → is_listen name ≡ false
+listens_not : (name : StateName) → has_begun name ≡ true → is_listen name ≡ false
 listens_not Closed h = refl
 listens_not Listen h = absurd (false≢true h)
 listens_not SynSent h = refl

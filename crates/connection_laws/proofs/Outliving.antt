@@ -122,7 +122,7 @@ never_one : (b : Bool) (rest : ℕ) → rest ≡ 0 → (b && rest == 1) ≡ fals
 never_one true rest h = grind (arith, h)
 never_one false rest h = refl
 
-pub stands_still : (news : News) (p : Point) → p.rest ≡ 0 → expires news p ≡ false
+stands_still : (news : News) (p : Point) → p.rest ≡ 0 → expires news p ≡ false
 stands_still news p h = never_one (is_tick news) p.rest h
 
 -- all that may leave was sent
@@ -133,12 +133,12 @@ closed_of : (c : Bool) (r u s : ℕ) → nat_lt r u ≡ true → u ≡ s → s �
 closed_of true r u s a b h = refl
 closed_of false r u s a b h = absurd (grind (arith, a, b, h))
 
-right_of : (a b : Bool) → (a && b) ≡ true → (a ≡ true) × (b ≡ true)
-right_of true b h = (refl, h)
-right_of false b h = absurd (false≢true h)
+pub both_of : (a b : Bool) → (a && b) ≡ true → (a ≡ true) × (b ≡ true)
+both_of true b h = (refl, h)
+both_of false b h = absurd (false≢true h)
 
 -- it needn't run
-pub no_need : (una sent t : ℕ) → una ≡ sent → sent ≡ t → nat_lt una (max sent t) ≡ false
+no_need : (una sent t : ℕ) → una ≡ sent → sent ≡ t → nat_lt una (max sent t) ≡ false
 no_need una sent t a b = grind (arith, a, b)
 
 pub rest_stops : {State : Type 0} (service : Machine State) (news : News) (p q : Point) → q.counted ≡ true → q.una ≡ q.sent → q.sent ≡ target service q → rest_after service news p q ≡ 0
@@ -241,7 +241,7 @@ pub outlives : {State : Type 0} (service : Machine State) (server : Addr) (boot 
     → StandsClosed service u i delta p e → LiveTurn service server boot news p q sent → ReadsOn delta news p q calls e → GoesOnClosed service server u i delta news p q calls e
 unfolding sent_after sent_at_once
 outlives service server boot u i delta news p q calls e sent st l reads =
-    let over = right_of p.fin (nat_lt (released service p) p.una) st.over in
+    let over = both_of p.fin (nat_lt (released service p) p.una) st.over in
     let closed : (answered_run service p).closed ≡ true = closed_of (answered_run service p).closed (released service p) p.una p.sent over.1 st.acknowledged st.all_sent in
     let taken : q.taken ≡ p.taken = l.taken ∙ taken_stays news p over.0 in
     let fin : q.fin ≡ true = l.fin ∙ fin_stays news p over.0 in

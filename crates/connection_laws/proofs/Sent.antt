@@ -32,40 +32,19 @@ use Rattle.south_wrap.specs.Standing.{south_at}
 use Rattle.endpoint_laws.specs.Standing.{MeetsLaws, owes_to, is_owed, refuses, refusals, segments_by_laws}
 use Rattle.connection_laws.specs.Turning.{Turns, Fits}
 use Rattle.connection_laws.proofs.Lowered.{Lowers, lowers}
-use Rattle.connection_laws.proofs.Meets.{Moves, moves_inside_all, stays_inside, laws_inside}
+use Rattle.connection_laws.proofs.Meets.{Moves, moves_inside_all, stays_inside, laws_inside, minus_none}
 use Rattle.connection_laws.proofs.Leaving.{Sends, full, passed_is, or_besides}
 
+-- in what order the reasons for a segment are asked doesn't matter
 or_five : (o x y b r : Bool) → (((o || x) || y) || (b || r)) ≡ ((((o || b) || r) || x) || y)
-or_five true true true true true = refl
-or_five true true true true false = refl
-or_five true true true false true = refl
-or_five true true true false false = refl
-or_five true true false true true = refl
-or_five true true false true false = refl
-or_five true true false false true = refl
-or_five true true false false false = refl
-or_five true false true true true = refl
-or_five true false true true false = refl
-or_five true false true false true = refl
-or_five true false true false false = refl
-or_five true false false true true = refl
-or_five true false false true false = refl
-or_five true false false false true = refl
-or_five true false false false false = refl
-or_five false true true true true = refl
-or_five false true true true false = refl
-or_five false true true false true = refl
-or_five false true true false false = refl
-or_five false true false true true = refl
-or_five false true false true false = refl
-or_five false true false false true = refl
-or_five false true false false false = refl
-or_five false false true true true = refl
-or_five false false true true false = refl
+or_five true x y b r = refl
+or_five false true y true r = refl
+or_five false true y false true = refl
+or_five false true y false false = refl
+or_five false false true true r = refl
 or_five false false true false true = refl
 or_five false false true false false = refl
-or_five false false false true true = refl
-or_five false false false true false = refl
+or_five false false false true r = refl
 or_five false false false false true = refl
 or_five false false false false false = refl
 
@@ -99,11 +78,11 @@ refused_any u i delta p segment false h g f =
     none_middle (not p.counted) (has_ack segment) (int_lt (ack_of i (inward (south_at delta p) segment)) (pos 0)) h
     ∙ sym (none_middle (not p.counted) (has_ack segment) (int_lt (ack_of p.sisn segment) (pos 0)) h)
 
-pub refused_is : (u i delta : ℕ) (p : Point) (segment : Segment) → GoesOn u i delta p → Fits p segment
+refused_is : (u i delta : ℕ) (p : Point) (segment : Segment) → GoesOn u i delta p → Fits p segment
     → is_refused (inside u i p) (inward (south_at delta p) segment) ≡ is_refused p segment
 refused_is u i delta p segment g f = refused_any u i delta p segment (has_ack segment) refl g f
 
-pub owes_is : (u i delta : ℕ) (p : Point) (segment : Segment) → GoesOn u i delta p → Fits p segment
+owes_is : (u i delta : ℕ) (p : Point) (segment : Segment) → GoesOn u i delta p → Fits p segment
     → owes (inside u i p) (inward (south_at delta p) segment) ≡ owes p segment
 unfolding owes accepts
 owes_is u i delta p segment g f =
@@ -114,11 +93,7 @@ owes_is u i delta p segment g f =
     else nat_lt 0 (length_of segment) || (has_ack segment && int_lt (pos (taken_units p)) (first_of p.cisn segment)))))
     else not (has_rst segment)) (refused_is u i delta p segment g f)
 
--- the usual case: no SYN is repeated, and none is refused
-or_nothing : (owed : Bool) (bare : Segment) (xs : List Segment) → or_bare owed bare ([] ++ xs) ≡ or_bare owed bare xs
-or_nothing owed bare xs = refl
-
-pub usually : {State : Type 0} (service : Machine State) (server : Addr) (news inner : News) (p q : Point) (u i delta : ℕ) → u ≤ q.sent
+usually : {State : Type 0} (service : Machine State) (server : Addr) (news inner : News) (p q : Point) (u i delta : ℕ) → u ≤ q.sent
     → Sends service news inner p q u i delta → refusals server inner (inside u i p) ≡ [] → opens_with news p ≡ false
     → (owes_to inner (inside u i p) || asks_besides service news p) ≡ asks service news p
     → leaves service server news p q (passed delta q (segments_by_laws (swallowing u service) server inner (inside u i p) (inside u i q)))
@@ -174,7 +149,7 @@ same_self : (n : ℕ) → (n == n) ≡ true
 same_self n = grind arith
 
 -- nothing is announced anew
-pub nothing_new : (p q : Point) → q.taken ≡ p.taken → q.fin ≡ p.fin → q.fetched ≡ p.fetched → q.lengths ≡ p.lengths
+nothing_new : (p q : Point) → q.taken ≡ p.taken → q.fin ≡ p.fin → q.fetched ≡ p.fetched → q.lengths ≡ p.lengths
     → (not (taken_units p == taken_units q) || not (announced_edge p == announced_edge q)) ≡ false
 nothing_new p q a b c d =
     (λ j. not (taken_units p == length (a j) + (if b j then 1 else 0)) || not (announced_edge p == min (max (c j) (sum (d j)) + 65535) (2 ^ 24) + (if b j then 1 else 0)))
@@ -240,9 +215,6 @@ not_both false h = refl
 less_itself : (n : ℕ) → nat_lt n n ≡ false
 less_itself n = grind arith
 
-minus_none : (a b : ℕ) → a - 0 ≡ b - 0 → a ≡ b
-minus_none a b h = omega (arith, h)
-
 nothing_at_once : (t : ℕ) → max 0 (min t 0) ≡ 0
 nothing_at_once t = omega arith
 
@@ -287,7 +259,7 @@ refused_turn service server boot segment p q sent u i delta g r l =
       edge = l.edge ∙ minus_none (edge_after (Comes segment) p) p.edge (sym m.edge) ∙ o.2;
     }
 
-pub refused : {State : Type 0} (service : Machine State) (server : Addr) (boot : ℕ) (segment inner : Segment) (p q : Point) (sent : List Packet) (u i delta : ℕ)
+refused : {State : Type 0} (service : Machine State) (server : Addr) (boot : ℕ) (segment inner : Segment) (p q : Point) (sent : List Packet) (u i delta : ℕ)
     → GoesOn u i delta p → refuses p segment ≡ true → refuses (inside u i p) inner ≡ true → LiveTurn service server boot (Comes segment) p q sent
     → leaves service server (Comes segment) p q (passed delta q (segments_by_laws (swallowing u service) server (Comes inner) (inside u i p) (inside u i q)))
     ≡ segments_of service server (Comes segment) p q

@@ -91,7 +91,7 @@ usual p e segment fin st s seq =
       text = omega (arith, ap length s.text);
     }
 
-pub forged_turn : (p : Point) (e : Tcb) (segment : Segment) (fin : Bool) → Stood p e → IsFresh p → IsForged p segment fin → (fin ≡ true → length p.taken < 2 ^ 24)
+forged_turn : (p : Point) (e : Tcb) (segment : Segment) (fin : Bool) → Stood p e → IsFresh p → IsForged p segment fin → (fin ≡ true → length p.taken < 2 ^ 24)
     → segment.head.seq < 2 ^ 32 → Stood (after_forged fin p) (turned (Comes segment) [] e)
 forged_turn p e segment fin t f s few seq =
     let us : IsUsual e segment = usual p e segment fin t.stands s seq in

@@ -6,7 +6,7 @@ use Rattle.server_trait.specs.Service.{Machine, Run, begun, fed, fold_from, cut,
 use Rattle.ft_model.specs.Point.{Point, answered_run, released, target}
 use Rattle.connection_laws.specs.Inside.{swallowing, swallowed_run, inside}
 
-pub drop_append : (n : ℕ) (xs ys : List ℕ) → drop n (xs ++ ys) ≡ drop n xs ++ drop (n - length xs) ys
+drop_append : (n : ℕ) (xs ys : List ℕ) → drop n (xs ++ ys) ≡ drop n xs ++ drop (n - length xs) ys
 drop_append zero xs ys = let e : 0 ≡ 0 - length xs = omega arith in ap (λ n. xs ++ drop n ys) e
 drop_append (suc n) [] ys = let e : suc n ≡ suc n - 0 = omega arith in ap (λ m. drop m ys) e
 drop_append (suc n) (x ∷ xs) ys =
@@ -41,7 +41,7 @@ folded_runs service u run (chunk ∷ chunks) =
 begun_runs : {State : Type 0} (service : Machine State) (u : ℕ) → begun (swallowing u service) ≡ swallowed_run u (begun service)
 begun_runs service u = let e : u ≡ u - 0 = omega arith in λ j. record { state = (service.fresh, e j); output = sym (drop_none u) j; closed = false }
 
-pub reference_runs : {State : Type 0} (service : Machine State) (u : ℕ) (bytes lengths : List ℕ)
+reference_runs : {State : Type 0} (service : Machine State) (u : ℕ) (bytes lengths : List ℕ)
     → reference (swallowing u service) bytes lengths ≡ swallowed_run u (reference service bytes lengths)
 unfolding reference
 reference_runs service u bytes lengths =

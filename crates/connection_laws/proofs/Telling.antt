@@ -1,6 +1,6 @@
 -- What a connection's parts tell of its point.
 use Rattle.std.proofs.Common.{◌≡◌, ℕ, ◌<◌, ◌≤◌, ◌+◌, ◌-◌, ◌%◌, ◌^◌, ⊎_elim, Bool, true, false, [], length, max, refl, sym, ap, arith, ◌∙◌}
-use Rattle.std.specs.Prelude.{◌&&◌, ◌||◌, if◌then◌else◌}
+use Rattle.std.specs.Prelude.{◌&&◌, ◌||◌, if◌then◌else◌, nat_lt}
 use Rattle.std.proofs.lemmas.Bool.{false≢true}
 use Rattle.seq_arith.specs.Number.{distance, number_at}
 use Rattle.server_trait.specs.Service.{Machine}
@@ -35,7 +35,7 @@ use Rattle.connection_laws.proofs.Again.{stays}
 use Rattle.connection_laws.proofs.Numbers.{behind, sent_behind}
 use Rattle.connection_laws.proofs.Sent.{still_unopened}
 use Rattle.connection_laws.proofs.Whole.{usual_news}
-use Rattle.connection_laws.proofs.Outliving.{IsStill, still, taken_stays, fin_stays, una_stays, counted_stays}
+use Rattle.connection_laws.proofs.Outliving.{IsStill, still, taken_stays, fin_stays, una_stays, counted_stays, both_of}
 use Rattle.connection_laws.proofs.Ending.{unreset}
 use Rattle.connection_laws.proofs.Over.{over_is}
 use Rattle.connection_laws.proofs.Together.{begun_open}
@@ -113,10 +113,6 @@ tell_open service u i delta given p n e st o =
       few = few_open service u i delta given p n e st o;
     }
 
-first_of : (f b : Bool) → (f && b) ≡ true → f ≡ true
-first_of true b h = refl
-first_of false b h = absurd (false≢true h)
-
 tell_closed : {S : Type 0} (service : Machine S) (u i delta given : ℕ) (p : Point) (n : NorthState S) (e : Tcb) → PartsStand service u i delta given p n e → StandsClosed service u i delta p e
     → PartsTell service delta p n e
 tell_closed service u i delta given p n e st c =
@@ -125,7 +121,7 @@ tell_closed service u i delta given p n e st c =
     let closed : is_closed e.name ≡ true = ap is_closed c.name in
     record {
       taken = bytes_by (length p.taken) p.fetched e.receiving.read (length e.receiving.unread) n.read r.long (ap (max p.fetched) st.north.read ∙ r.read);
-      fin = first_of p.fin _ c.over ∙ sym (on_or (has_taken_fin e.name) (is_closed e.name) closed);
+      fin = (both_of p.fin (nat_lt (released service p) p.una) c.over).0 ∙ sym (on_or (has_taken_fin e.name) (is_closed e.name) closed);
       over = c.over ∙ sym (on_or (is_time_wait e.name) (is_closed e.name) closed);
       sent = (λ j. if closed_listens_not e.name c.name j then e.sending.iss else number_at (k.iss j) (sym k.sent j))
           ∙ behind i delta p.sisn u p.sent k.shift (omega (arith, k.above, c.acknowledged)) k.delta_fits;
@@ -201,7 +197,7 @@ news_closed service u i delta given news p n e st c =
     let m : Tcb = arrived inner e in
     let s : IsStill e m = still inner e c.name in
     let k : CountsFrom u i delta p e = c.counts in
-    let fin : p.fin ≡ true = first_of p.fin _ c.over in
+    let fin : p.fin ≡ true = (both_of p.fin (nat_lt (released service p) p.una) c.over).0 in
     let closed : is_closed m.name ≡ true = ap is_closed (sym (flushed_name m) ∙ (closed_stays_law inner [] e c.name c.answer).0) in
     let una : acknowledged_after news p ≡ p.una = una_stays news p c.acknowledged in
     record {

@@ -50,7 +50,7 @@ use Rattle.connection_laws.specs.Standing.{StandsOpen, PartsStand, PartsRest, Pa
 use Rattle.connection_laws.proofs.Meets.{Moves, moves_inside_all, stays_inside, nothing_counts, is_syn_has, minus_none}
 use Rattle.connection_laws.proofs.Sent.{same_lengths, syn_at, units_none, repeats_taken}
 use Rattle.connection_laws.proofs.Whole.{usual_news, turns_inside}
-use Rattle.connection_laws.proofs.Outliving.{IsStill, still, outlives, opens_not, reads_rise, taken_stays, fin_stays}
+use Rattle.connection_laws.proofs.Outliving.{IsStill, still, outlives, opens_not, reads_rise, taken_stays, fin_stays, both_of}
 use Rattle.connection_laws.proofs.Ending.{unreset, flushed_reset, ends_inside, opens_not as opens_by_end}
 use Rattle.connection_laws.proofs.Keeping.{Keeps, news_keep}
 use Rattle.connection_laws.proofs.Fed.{reading, answered_goes, fed_later, fed_arrived, fed_flushed, full_flushed, used_inside, from_start, north_calls_feed}
@@ -267,14 +267,10 @@ done_closed service boot u i delta given given' news p q old new calls e sent s 
     outlives service e.local boot u i delta news p q calls e sent st l (record { may = s.by.may; read = s.by.is_used.read }) in
     record {
       tcp = inr t.stands;
-      segments = closed_leaves service e.local delta news p q w (sym (flushed_name w) ∙ t.stands.name) t.silent (no_repeat news p (opens_not news p (fin_of_over p.fin _ st.over) st.counted)) t.segments;
+      segments = closed_leaves service e.local delta news p q w (sym (flushed_name w) ∙ t.stands.name) t.silent (no_repeat news p (opens_not news p (both_of p.fin (nat_lt (released service p) p.una) st.over).0 st.counted)) t.segments;
     }
-  where
-    fin_of_over : (f b : Bool) → (f && b) ≡ true → f ≡ true
-    fin_of_over true b h = refl
-    fin_of_over false b h = absurd (false≢true h)
 
-pub finish : {S : Type 0} (service : Machine S) (boot u i delta given given' : ℕ) (news : News) (p q : Point) (ks : List ℕ) (old new : NorthState S) (calls : List Call) (e t : Tcb)
+finish : {S : Type 0} (service : Machine S) (boot u i delta given given' : ℕ) (news : News) (p q : Point) (ks : List ℕ) (old new : NorthState S) (calls : List Call) (e t : Tcb)
     → t ≡ before_flush (news_inside delta p news) calls e → IsServed service u i delta given given' news p q old new calls e → q.lengths ≡ p.lengths ++ ks
     → LiveTurn service e.local boot news p q (sent_by service e.local boot news p q)
     → PartsTurn service e.local boot u i delta news p ks new t
@@ -355,7 +351,7 @@ at_closed service u i delta given news p b n e stand taken fin lengths fetched s
     let inner : News = news_inside delta p news in
     let m : Tcb = arrived inner e in
     let s : IsStill e m = still inner e st.name in
-    let over : p.fin ≡ true = fin_of_over p.fin _ st.over in
+    let over : p.fin ≡ true = (both_of p.fin (nat_lt (released service p) p.una) st.over).0 in
     let r = st.receives in
     let taken_is : b.taken ≡ p.taken = taken ∙ taken_stays news p over in
     let long : length b.taken ≡ receiver.taken m.receiving + b.fetched = ap length taken_is ∙ r.long ∙ (λ j. receiver.taken (sym s.receiving j) + sym fetched j) in
@@ -374,10 +370,6 @@ at_closed service u i delta given news p b n e stand taken fin lengths fetched s
       kept = s.kept ∙ stand.kept;
       enough = omega (arith, long, read);
     }
-  where
-    fin_of_over : (f b : Bool) → (f && b) ≡ true → f ≡ true
-    fin_of_over true b h = refl
-    fin_of_over false b h = absurd (false≢true h)
 
 pub turns_together : {S : Type 0} (service : Machine S) (boot u i delta given : ℕ) (news : News) (p : Point) (old new : NorthState S) (reads : List ReadRecord) (e t : Tcb)
     → PartsStand service u i delta given p old e → NewsFit p news → IsLater news p → reset_after news p ≡ false

@@ -41,7 +41,7 @@ begun_still : (e : Tcb) → has_begun (flushed e).name ≡ has_begun e.name
 unfolding flushed settled announced after_full with_fin_out with_text_sent with_probe
 begun_still e = refl
 
-above : (u a b : ℕ) → u ≤ a → b ≡ a → u ≤ b
+pub above : (u a b : ℕ) → u ≤ a → b ≡ a → u ≤ b
 above u a b h e = omega (arith, h, e)
 
 short : (u s t : ℕ) (f : Bool) → u ≤ 2 ^ 24 → s - u ≡ t → t ≤ 2 ^ 24 + one_if f → s ≤ 2 ^ 25 + 1
