@@ -1,6 +1,6 @@
 //! The laws of a wrapped connection and its inner TCP.
 
-ghost use Rattle.std.specs.Prelude.{◌≡◌, ◌≤◌, ◌<◌, ◌^◌, ◌-◌, ℕ, true, false, List, [], length};
+ghost use Rattle.std.specs.Prelude.{◌≡◌, ◌≤◌, ◌<◌, ◌^◌, ◌-◌, ℕ, false, List, [], length};
 ghost use Rattle.ft_io.specs.declared.Addr.{Addr};
 ghost use Rattle.server_trait.specs.Service.{machine};
 ghost use Rattle.ft_model.specs.Log.{Entry};
@@ -12,13 +12,11 @@ ghost use Rattle.ft_model.specs.Opening.{point_opened};
 ghost use Rattle.ft_model.specs.Ending.{reset_after};
 ghost use Rattle.ft_model.specs.Sending.{acknowledged_after};
 ghost use Rattle.ft_model.specs.Connection.{LiveTurn, ResetTurn};
-ghost use Rattle.ft_model.specs.Point.{Point, is_over, released};
-ghost use Rattle.seq_arith.specs.Number.{distance, number_at};
+ghost use Rattle.ft_model.specs.Point.{Point};
 ghost use Rattle.seq_arith.specs.Packet.{Segment};
 ghost use Rattle.seq_arith.specs.Message.{Numbers};
 ghost use Rattle.tcp_endpoint.specs.Arrival.{received};
-ghost use Rattle.tcp_endpoint.specs.States.{is_time_wait};
-ghost use Rattle.tcp_endpoint.specs.Turning.{after_tick, sent_number, acked_number, write_room};
+ghost use Rattle.tcp_endpoint.specs.Turning.{after_tick, write_room};
 ghost use Rattle.tcp_endpoint.specs.Tcb.{Tcb};
 ghost use Rattle.endpoint_laws.specs.Turn.{Call, MayUse, arrived};
 ghost use Rattle.endpoint_laws.specs.Ending.{IsNamedRightly, resets};
@@ -27,7 +25,7 @@ ghost use Rattle.north_wrap.specs.NorthState.{Turns as NorthTurns, NorthState, l
 ghost use Rattle.north_wrap.specs.Standing.{NorthStands, HasReplayed, given_text, off_socket};
 ghost use Rattle.connection_laws.specs.Beginning.{MayOpen, BeginsInside, opened_syn, listens_with};
 ghost use Rattle.connection_laws.specs.Closing.{StandsClosed, LeavesInside, EndsInside, ReadsOn, GoesOnClosed};
-ghost use Rattle.connection_laws.specs.Feeding.{tcp_reader, tcp_writer, TurnsNorth, FedInside, Feeds, north_calls, before_reads, given_after};
+ghost use Rattle.connection_laws.specs.Feeding.{tcp_reader, tcp_writer, TurnsNorth, FedInside, north_calls, before_reads, given_after};
 ghost use Rattle.connection_laws.specs.Passing.{news_inside};
 ghost use Rattle.connection_laws.specs.Standing.{PartsStand, PartsRest, PartsTurn, heard};
 ghost use Rattle.connection_laws.specs.Telling.{PartsTell, NewsTell};
