@@ -1,5 +1,5 @@
 -- The turn in which the inner TCP becomes CLOSED, since both FINs are through.
-use Rattle.std.proofs.Common.{◌^◌, ◌%◌, ◌≡◌, ℕ, ◌≤◌, ◌+◌, ◌-◌, Bool, true, false, not, None, List, length, max, refl, sym, ap, arith, ⊎_elim, ◌∙◌}
+use Rattle.std.proofs.Common.{◌^◌, ◌%◌, ◌≡◌, ℕ, ◌≤◌, ◌+◌, ◌-◌, Bool, true, false, not, None, List, length, max, refl, sym, ap, arith, ⊎_elim, ◌∙◌, subst, ◌<◌}
 use Rattle.std.specs.Prelude.{◌⊎◌, ◌==◌, ◌&&◌, ◌||◌, nat_lt, if◌then◌else◌}
 use Rattle.std.proofs.lemmas.Bool.{false≢true}
 use Rattle.server_trait.specs.Service.{Machine}
@@ -220,6 +220,8 @@ ends_inside service boot u i delta news p q calls e sent st named unreset_p off 
           una = end.sends.una ∙ sym (flush_keeps (λ (s : Sending). s.una) w (record { sends = λ s n. refl; ends = λ s. refl; times = λ s x y. refl }));
           sent = end.sent ∙ sym (closed_sent w l.ended);
           above = una_above;
+          small = st.goes_on.small;
+          sisn = subst (λ n. n < 2 ^ 32) (sym t.goes.same.sisn) st.goes_on.sisn;
           shift = st.goes_on.shift ∙ ap (λ n. (n + u) % 2 ^ 32) (sym t.goes.same.sisn);
           delta_fits = st.goes_on.delta_fits;
         };

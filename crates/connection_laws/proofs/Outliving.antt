@@ -1,5 +1,5 @@
 -- A connection goes on without its TCP, once that is CLOSED.
-use Rattle.std.proofs.Common.{◌≡◌, ℕ, zero, suc, ◌≤◌, ◌+◌, ◌-◌, ◌%◌, ◌^◌, ◌*◌, Bool, true, false, not, List, [], ◌∷◌, ◌++◌, length, take, drop, map, min, max, refl, sym, ap, subst, arith, ◌∙◌}
+use Rattle.std.proofs.Common.{◌≡◌, ℕ, zero, suc, ◌≤◌, ◌+◌, ◌-◌, ◌%◌, ◌^◌, ◌*◌, Bool, true, false, not, List, [], ◌∷◌, ◌++◌, length, take, drop, map, min, max, refl, sym, ap, subst, arith, ◌∙◌, ◌<◌}
 use Rattle.std.specs.Prelude.{pos, ◌==◌, ◌&&◌, ◌||◌, nat_abs, nat_lt, int_le, if◌then◌else◌}
 use Rattle.std.proofs.lemmas.Bool.{false≢true}
 use Rattle.ft_io.specs.declared.Addr.{Addr}
@@ -294,6 +294,8 @@ outlives service server boot u i delta news p q calls e sent st l reads =
               ∙ sym (flush_keeps (λ (x : Sending). x.una) w (record { sends = λ x n. refl; ends = λ x. refl; times = λ x y z. refl }) ∙ a.sends.una ∙ s.una);
           sent = ap (λ k. k - u) sent_is ∙ st.counts.sent ∙ sym (closed_sent w (ap has_begun (sym (flushed_name w) ∙ stays.0)) ∙ a.sends.sent ∙ s.keeps.sent);
           above = subst (λ k. u ≤ k) (sym una) st.counts.above;
+          small = st.counts.small;
+          sisn = subst (λ k. k < 2 ^ 32) (sym l.same.sisn) st.counts.sisn;
           shift = st.counts.shift ∙ ap (λ k. (k + u) % 2 ^ 32) (sym l.same.sisn);
           delta_fits = st.counts.delta_fits;
         };

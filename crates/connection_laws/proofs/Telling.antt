@@ -1,8 +1,10 @@
 -- What a connection's parts tell of its point.
 use Rattle.std.proofs.Common.{◌≡◌, ℕ, ◌<◌, ◌≤◌, ◌+◌, ◌-◌, ◌%◌, ◌^◌, ⊎_elim, Bool, true, false, [], length, max, refl, sym, ap, arith, ◌∙◌}
-use Rattle.std.specs.Prelude.{◌||◌, if◌then◌else◌, nat_lt}
+use Rattle.std.specs.Prelude.{◌||◌, if◌then◌else◌, nat_lt, pos, negsuc}
 use Rattle.std.proofs.lemmas.Bool.{false≢true}
-use Rattle.seq_arith.specs.Number.{distance, number_at}
+use Rattle.seq_arith.specs.Number.{distance, number_at, offset_of}
+use Rattle.seq_arith.proofs.Shifts.{offset_of_number}
+use Rattle.ft_model.specs.Copy.{from_start}
 use Rattle.server_trait.specs.Service.{Machine}
 use Rattle.ft_model.specs.Ending.{reset_after}
 use Rattle.ft_model.specs.News.{News}
@@ -15,6 +17,7 @@ use Rattle.tcp_endpoint.specs.Receiving as receiver
 use Rattle.tcp_endpoint.specs.States.{has_begun, is_closed, is_listen, is_time_wait}
 use Rattle.tcp_endpoint.specs.Sending.{fin_acked}
 use Rattle.tcp_endpoint.specs.Tcb.{Tcb}
+use Rattle.tcp_endpoint.specs.Turning.{sent_number, acked_number}
 use Rattle.endpoint_laws.specs.Ending.{IsNamed, has_taken_fin}
 use Rattle.endpoint_laws.specs.Standing.{ReceivesAt}
 use Rattle.endpoint_laws.specs.Turn.{IsUsualNews, arrived}
@@ -29,7 +32,7 @@ use Rattle.connection_laws.specs.Passing.{news_inside}
 use Rattle.connection_laws.specs.Turning.{NewsFit}
 use Rattle.connection_laws.specs.Closing.{StandsClosed, CountsFrom}
 use Rattle.connection_laws.specs.Standing.{StandsOpen, PartsStand}
-use Rattle.connection_laws.specs.Telling.{tells_fin, acked_at, PartsTell, NewsTell}
+use Rattle.connection_laws.specs.Telling.{raised_by, units_before, tells_fin, acked_at, PartsTell, NewsTell}
 use Rattle.connection_laws.proofs.Meets.{Moves, moves_inside_all}
 use Rattle.connection_laws.proofs.Again.{stays}
 use Rattle.connection_laws.proofs.Numbers.{behind, sent_behind}
@@ -73,6 +76,26 @@ all_given service u i delta given p n e st c =
     let less : released service p ≤ made service p = prefix_length _ _ (answered_front service p).output in
     omega (arith, g, less, st.feeds.low)
 
+-- numbers outside name the units
+outside : (x delta : ℕ) → x < 2 ^ 32 → delta < 2 ^ 32 → raised_by delta (distance x delta) ≡ x
+outside x delta a b = omega (arith, a, b)
+
+units_at : (sisn delta number k : ℕ) → number ≡ distance (number_at sisn k) delta → delta < 2 ^ 32 → k < 2 ^ 31 → units_before sisn (raised_by delta number) ≡ k
+units_at sisn delta number k is fits small =
+    (λ j. units_before sisn (raised_by delta (is j))) ∙ ap (units_before sisn) (outside (number_at sisn k) delta (omega arith) fits) ∙ ap from_start (offset_of_number sisn k small)
+
+syn_units : (sisn : ℕ) → sisn < 2 ^ 32 → units_before sisn sisn ≡ 0
+unfolding offset_of
+syn_units sisn fits =
+    let d : distance sisn ((sisn + 1) % 2 ^ 32) ≡ 2 ^ 32 - 1 = omega (arith, fits) in
+    λ j. from_start (if nat_lt (d j) (2 ^ 31) then pos (d j) else negsuc (2 ^ 32 - 1 - d j))
+
+acked_units_at : (counted : Bool) (sisn delta number k : ℕ) → number ≡ distance (acked_at counted sisn k) delta → delta < 2 ^ 32 → k < 2 ^ 31 → sisn < 2 ^ 32 → (counted ≡ false → k ≡ 0)
+    → units_before sisn (raised_by delta number) ≡ k
+acked_units_at true sisn delta number k is fits small s_fits none = units_at sisn delta number k is fits small
+acked_units_at false sisn delta number k is fits small s_fits none =
+    (λ j. units_before sisn (raised_by delta (is j))) ∙ ap (units_before sisn) (outside sisn delta s_fits fits) ∙ syn_units sisn s_fits ∙ sym (none refl)
+
 -- what is sent is what was given, and a FIN
 sent_few : (f : Bool) (una sent len u given made p_sent : ℕ) → (if f then sent - 1 else una + len) + u ≡ given → sent ≤ una + len + (if f then 1 else 0) → (f ≡ true → 1 ≤ sent) → p_sent - u ≡ sent
     → u ≤ p_sent → given ≤ made → p_sent ≤ made + 1
@@ -96,6 +119,12 @@ few_closed service u i delta given p n e st c =
     let less : released service p ≤ made service p = prefix_length _ _ (answered_front service p).output in
     few_by (answered_run service p).closed p.sent (released service p) n.run.made c.all_sent (omega (arith, less, st.north.run.made))
 
+acked_open : (u i delta : ℕ) (p : Point) (e : Tcb) → StandsOpen u i delta p e → acked_number e ≡ distance (acked_at p.counted p.sisn p.una) delta
+acked_open u i delta p e o =
+    let g = o.stands.goes_on in
+    let s = o.stands.stands.sends in
+    acked_by p.counted e.sending.opened e.sending.iss e.sending.una i delta p.sisn u p.una s.counted (sym s.sisn) (sym s.una) g.shift g.una g.delta_fits g.i_fits g.sisn (λ h. (g.unopened h).0)
+
 tell_open : {S : Type 0} (service : Machine S) (u i delta given : ℕ) (p : Point) (n : NorthState S) (e : Tcb) → PartsStand service u i delta given p n e → StandsOpen u i delta p e
     → PartsTell service delta p n e
 tell_open service u i delta given p n e st o =
@@ -107,11 +136,18 @@ tell_open service u i delta given p n e st o =
       fin = r.fin ∙ fin_by_name e.name e.sending.opened e.sending.closed e.receiving.fin (fin_acked e.sending) o.stands.begun o.named ∙ sym (off_or (has_taken_fin e.name) (is_closed e.name) is_open);
       over = over_is service u i delta given p e o.stands o.named st.feeds (all_given service u i delta given p n e st) ∙ sym (off_or (is_time_wait e.name) (is_closed e.name) is_open);
       sent = sent_behind u i delta p e o.stands;
-      acked = acked_by p.counted e.sending.opened e.sending.iss e.sending.una i delta p.sisn u p.una o.stands.stands.sends.counted (sym o.stands.stands.sends.sisn) (sym o.stands.stands.sends.una)
-          g.shift g.una g.delta_fits g.i_fits g.sisn (λ h. (g.unopened h).0);
+      acked = acked_open u i delta p e o;
+      sent_outside = ap (raised_by delta) (sent_behind u i delta p e o.stands) ∙ outside (number_at p.sisn p.sent) delta (omega arith) g.delta_fits;
+      sent_units = units_at p.sisn delta (sent_number e) p.sent (sent_behind u i delta p e o.stands) g.delta_fits (omega (arith, g.sent));
+      acked_units = acked_units_at p.counted p.sisn delta (acked_number e) p.una (acked_open u i delta p e o) g.delta_fits (omega (arith, g.order, g.sent)) g.sisn
+          (λ h. let s : p.sent ≡ 0 = (g.unopened h).1 in omega (arith, s, g.order));
       order = g.order;
       few = few_open service u i delta given p n e st o;
     }
+
+small_sent : (u p_sent sent : ℕ) (f : Bool) → u ≤ 2 ^ 24 → p_sent - u ≡ sent → sent ≤ 2 ^ 24 + (if f then 1 else 0) → p_sent < 2 ^ 31
+small_sent u p_sent sent true a b c = omega (arith, a, b, c)
+small_sent u p_sent sent false a b c = omega (arith, a, b, c)
 
 tell_closed : {S : Type 0} (service : Machine S) (u i delta given : ℕ) (p : Point) (n : NorthState S) (e : Tcb) → PartsStand service u i delta given p n e → StandsClosed service u i delta p e
     → PartsTell service delta p n e
@@ -119,14 +155,22 @@ tell_closed service u i delta given p n e st c =
     let r : ReceivesAt p e = c.receives in
     let k : CountsFrom u i delta p e = c.counts in
     let closed : is_closed e.name ≡ true = ap is_closed c.name in
+    let sent : sent_number e ≡ distance (number_at p.sisn p.sent) delta =
+    (λ j. if closed_listens_not e.name c.name j then e.sending.iss else number_at (k.iss j) (sym k.sent j))
+    ∙ behind i delta p.sisn u p.sent k.shift (omega (arith, k.above, c.acknowledged)) k.delta_fits in
+    let acked : acked_number e ≡ distance (acked_at p.counted p.sisn p.una) delta =
+    (λ j. if k.opened j then number_at (k.iss j) (sym k.una j) else e.sending.iss) ∙ behind i delta p.sisn u p.una k.shift k.above k.delta_fits
+    ∙ (λ j. distance (acked_at (sym c.counted j) p.sisn p.una) delta) in
+    let small : p.sent < 2 ^ 31 = small_sent u p.sent e.sending.sent e.sending.fin_sent k.small k.sent c.bounds.sent in
     record {
       taken = bytes_by (length p.taken) p.fetched e.receiving.read (length e.receiving.unread) n.read r.long (ap (max p.fetched) st.north.read ∙ r.read);
       fin = (both_of p.fin (nat_lt (released service p) p.una) c.over).0 ∙ sym (on_or (has_taken_fin e.name) (is_closed e.name) closed);
       over = c.over ∙ sym (on_or (is_time_wait e.name) (is_closed e.name) closed);
-      sent = (λ j. if closed_listens_not e.name c.name j then e.sending.iss else number_at (k.iss j) (sym k.sent j))
-          ∙ behind i delta p.sisn u p.sent k.shift (omega (arith, k.above, c.acknowledged)) k.delta_fits;
-      acked = (λ j. if k.opened j then number_at (k.iss j) (sym k.una j) else e.sending.iss) ∙ behind i delta p.sisn u p.una k.shift k.above k.delta_fits
-          ∙ (λ j. distance (acked_at (sym c.counted j) p.sisn p.una) delta);
+      sent = sent;
+      acked = acked;
+      sent_outside = ap (raised_by delta) sent ∙ outside (number_at p.sisn p.sent) delta (omega arith) k.delta_fits;
+      sent_units = units_at p.sisn delta (sent_number e) p.sent sent k.delta_fits small;
+      acked_units = acked_units_at p.counted p.sisn delta (acked_number e) p.una acked k.delta_fits (omega (arith, small, c.acknowledged)) k.sisn (λ h. absurd (false≢true (sym h ∙ c.counted)));
       order = omega (arith, c.acknowledged);
       few = few_closed service u i delta given p n e st c;
     }
@@ -182,11 +226,15 @@ news_open service u i delta given news p n e st fits off o =
     let moves : Moves news p u i inner = moves_inside_all u i delta p news g fits in
     let rises = stays u i delta news p g fits in
     let follows : FollowsAt m = unreset_follows inner [] e o.stands.begun o.stands.between o.named (unreset u i delta p e news o.stands st.unreset fits off) in
+    let acked : acked_number m ≡ distance (acked_at (counted_after news p) p.sisn (acknowledged_after news p)) delta =
+    acked_by (counted_after news p) m.sending.opened m.sending.iss m.sending.una i delta p.sisn u (acknowledged_after news p) (sym moves.counted ∙ came.sends.counted) (sym came.sends.sisn)
+    (sym (sym moves.una ∙ came.sends.una)) g.shift rises.una g.delta_fits g.i_fits g.sisn (λ h. (g.unopened (still_unopened news p h)).0) in
     record {
       taken = ap length (sym moves.taken) ∙ bytes_by _ p.fetched m.receiving.read (length m.receiving.unread) n.read came.receives.long (ap (max p.fetched) st.north.read ∙ came.receives.read);
       fin = sym moves.fin ∙ came.receives.fin ∙ fin_told inner e (has_begun m.name) refl follows;
-      acked = acked_by (counted_after news p) m.sending.opened m.sending.iss m.sending.una i delta p.sisn u (acknowledged_after news p) (sym moves.counted ∙ came.sends.counted) (sym came.sends.sisn)
-          (sym (sym moves.una ∙ came.sends.una)) g.shift rises.una g.delta_fits g.i_fits g.sisn (λ h. (g.unopened (still_unopened news p h)).0);
+      acked = acked;
+      acked_units = acked_units_at (counted_after news p) p.sisn delta (acked_number m) (acknowledged_after news p) acked g.delta_fits (omega (arith, rises.most, g.sent)) g.sisn
+          (λ h. let s : p.sent ≡ 0 = (g.unopened (still_unopened news p h)).1 in omega (arith, s, rises.most));
       few = omega (arith, rises.most, few_open service u i delta given p n e st o);
     }
 
@@ -200,13 +248,18 @@ news_closed service u i delta given news p n e st c =
     let fin : p.fin ≡ true = (both_of p.fin (nat_lt (released service p) p.una) c.over).0 in
     let closed : is_closed m.name ≡ true = ap is_closed (sym (flushed_name m) ∙ (closed_stays_law inner [] e c.name c.answer).0) in
     let una : acknowledged_after news p ≡ p.una = una_stays news p c.acknowledged in
+    let acked : acked_number m ≡ distance (acked_at (counted_after news p) p.sisn (acknowledged_after news p)) delta =
+    (λ j. if (s.opened ∙ k.opened) j then number_at ((s.iss ∙ k.iss) j) ((s.una ∙ sym k.una) j) else m.sending.iss) ∙ behind i delta p.sisn u p.una k.shift k.above k.delta_fits
+    ∙ (λ j. distance (acked_at (sym (counted_stays news p c.counted) j) p.sisn (sym una j)) delta) in
+    let small : p.sent < 2 ^ 31 = small_sent u p.sent e.sending.sent e.sending.fin_sent k.small k.sent c.bounds.sent in
     record {
       taken = ap length (taken_stays news p fin)
           ∙ bytes_by (length p.taken) p.fetched m.receiving.read (length m.receiving.unread) n.read (c.receives.long ∙ (λ j. receiver.taken (sym s.receiving j) + p.fetched))
           (ap (max p.fetched) st.north.read ∙ c.receives.read ∙ (λ j. (sym s.receiving j).read + p.fetched));
       fin = fin_stays news p fin ∙ sym (on_or (has_taken_fin m.name) (is_closed m.name) closed);
-      acked = (λ j. if (s.opened ∙ k.opened) j then number_at ((s.iss ∙ k.iss) j) ((s.una ∙ sym k.una) j) else m.sending.iss) ∙ behind i delta p.sisn u p.una k.shift k.above k.delta_fits
-          ∙ (λ j. distance (acked_at (sym (counted_stays news p c.counted) j) p.sisn (sym una j)) delta);
+      acked = acked;
+      acked_units = acked_units_at (counted_after news p) p.sisn delta (acked_number m) (acknowledged_after news p) acked k.delta_fits (omega (arith, small, una, c.acknowledged)) k.sisn
+          (λ h. absurd (false≢true (sym h ∙ counted_stays news p c.counted)));
       few = omega (arith, una, c.acknowledged, few_closed service u i delta given p n e st c);
     }
 

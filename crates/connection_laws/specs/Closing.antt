@@ -22,6 +22,8 @@ pub record CountsFrom (u i delta : ℕ) (p : Point) (e : Tcb) : Type 0 where
   pub una : p.una - u ≡ e.sending.una
   pub sent : p.sent - u ≡ e.sending.sent
   pub above : u ≤ p.una
+  pub small : u ≤ 2 ^ 24
+  pub sisn : p.sisn < 2 ^ 32
   pub shift : (i + delta) % 2 ^ 32 ≡ (p.sisn + u) % 2 ^ 32
   pub delta_fits : delta < 2 ^ 32
 

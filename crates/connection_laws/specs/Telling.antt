@@ -1,6 +1,7 @@
 -- What a connection's parts tell of its point: so its numbers needn't be kept beside them.
-use Rattle.std.specs.Prelude.{◌≡◌, ◌≤◌, ℕ, Bool, ◌+◌, ◌||◌, max, length, if◌then◌else◌}
-use Rattle.seq_arith.specs.Number.{distance, number_at}
+use Rattle.std.specs.Prelude.{◌≡◌, ◌≤◌, ℕ, Bool, ◌+◌, ◌%◌, ◌^◌, ◌||◌, max, length, if◌then◌else◌}
+use Rattle.seq_arith.specs.Number.{distance, number_at, offset_of}
+use Rattle.ft_model.specs.Copy.{from_start}
 use Rattle.server_trait.specs.Service.{Machine}
 use Rattle.ft_model.specs.News.{News}
 use Rattle.ft_model.specs.Point.{Point, is_over}
@@ -23,6 +24,13 @@ tells_over e = is_time_wait e.name || is_closed e.name
 abbrev pub acked_at : (counted : Bool) → (sisn una : ℕ) → ℕ
 acked_at counted sisn una = if counted then number_at sisn una else sisn
 
+-- TCP's number as the client knows it, and the units before a number: none before the SYN's end
+abbrev pub raised_by : (delta number : ℕ) → ℕ
+raised_by delta number = (number + delta) % 2 ^ 32
+
+abbrev pub units_before : (sisn number : ℕ) → ℕ
+units_before sisn number = from_start (offset_of sisn number)
+
 -- between two turns: the bytes taken, the FIN, whether it is over, and TCP's numbers, which are delta below the client's
 pub record PartsTell {S : Type 0} (service : Machine S) (delta : ℕ) (p : Point) (n : NorthState S) (e : Tcb) : Type 0 where
   pub taken : length p.taken ≡ max p.fetched n.read + length e.receiving.unread
@@ -30,6 +38,9 @@ pub record PartsTell {S : Type 0} (service : Machine S) (delta : ℕ) (p : Point
   pub over : is_over service p ≡ tells_over e
   pub sent : sent_number e ≡ distance (number_at p.sisn p.sent) delta
   pub acked : acked_number e ≡ distance (acked_at p.counted p.sisn p.una) delta
+  pub sent_outside : raised_by delta (sent_number e) ≡ number_at p.sisn p.sent
+  pub sent_units : units_before p.sisn (raised_by delta (sent_number e)) ≡ p.sent
+  pub acked_units : units_before p.sisn (raised_by delta (acked_number e)) ≡ p.una
   pub order : p.una ≤ p.sent
   pub few : p.sent ≤ n.run.made + 1
 
@@ -38,4 +49,5 @@ pub record NewsTell {S : Type 0} (delta : ℕ) (news : News) (p : Point) (n : No
   pub taken : length (taken_after news p) ≡ max p.fetched n.read + length m.receiving.unread
   pub fin : fin_after news p ≡ tells_fin m
   pub acked : acked_number m ≡ distance (acked_at (counted_after news p) p.sisn (acknowledged_after news p)) delta
+  pub acked_units : units_before p.sisn (raised_by delta (acked_number m)) ≡ acknowledged_after news p
   pub few : acknowledged_after news p ≤ n.run.made + 1
