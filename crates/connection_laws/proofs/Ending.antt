@@ -233,6 +233,7 @@ ends_inside service boot u i delta news p q calls e sent st named unreset_p off 
         still = t.goes.rest ∙ rest_stops service news p q counted acknowledged all_sent;
       };
       silent = end.silent;
+      counted = st.stands.sends.counted ∙ opened_by e.sending.opened e.sending.sent st.between.bounds.unopened (omega (arith, e_sent, h.some));
       taken = λ j. length ((t.goes.taken ∙ taken_stays news p fin_before) j) + one_if ((fin ∙ sym fin_before) j);
       segments = quiet_sends service e.local news p q (record {
         opens = opens_not u i delta p e news calls t.later st.begun l.may l.ended;

@@ -306,6 +306,7 @@ outlives service server boot u i delta news p q calls e sent st l reads =
         still = l.rest ∙ rest_stops service news p q counted una_sent sent_all;
       };
       silent = ap (passed delta q) (closed_answers_law inner calls e st.name st.answer) ∙ refusals_stay delta q e.local inner;
+      counted = st.counted;
       taken = λ j. length (taken j) + one_if ((fin ∙ sym over.0) j);
       segments = quiet_sends service server news p q (record { opens = opens_not news p over.0 st.counted; expires = still_p; past = past });
     }

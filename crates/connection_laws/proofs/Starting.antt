@@ -18,13 +18,14 @@ use Rattle.ft_model.proofs.Settled.{settled}
 use Rattle.ft_model.proofs.TurnTells.{settled_reads}
 use Rattle.tcp_endpoint.specs.Arrival.{received, begun}
 use Rattle.tcp_endpoint.specs.Leaving.{leaving}
-use Rattle.tcp_endpoint.specs.States.{is_closed}
+use Rattle.tcp_endpoint.specs.States.{has_begun, is_closed}
 use Rattle.tcp_endpoint.specs.Tcb.{Tcb, listening}
 use Rattle.tcp_endpoint.specs.Turning.{write_room, is_ended}
 use Rattle.endpoint_laws.specs.Laws.{IsBounded}
 use Rattle.endpoint_laws.specs.Turn.{Call, used}
 use Rattle.endpoint_laws.proofs.Bounding.{bounded_at_listen, bounded_in_listen}
 use Rattle.endpoint_laws.proofs.Calls.{FinIsLast}
+use Rattle.endpoint_laws.proofs.EndingLaw.{flushed_name}
 use Rattle.endpoint_laws.proofs.Listening.{begun_by}
 use Rattle.north_wrap.specs.declared.read_record.ReadRecord.{ReadRecord}
 use Rattle.north_wrap.specs.NorthState.{NorthState, lengths_of, Turns as NorthTurns}
@@ -38,7 +39,7 @@ use Rattle.connection_laws.specs.Standing.{PartsTurn}
 use Rattle.connection_laws.proofs.Beginning.{begins_inside}
 use Rattle.connection_laws.proofs.Fed.{reading, north_calls_feed}
 use Rattle.connection_laws.proofs.Joining.{socket_laws, hears, socket_stands}
-use Rattle.connection_laws.proofs.Together.{goes, settles}
+use Rattle.connection_laws.proofs.Together.{goes, settles, begun_open}
 
 -- TCP once its SYN has come: nothing is read, written or sent
 record IsFreshTcp (m : Tcb) : Type 0 where
@@ -130,4 +131,5 @@ starts_together service boot local numbers old new reads t o st open_still turns
       };
       segments = alone_or (owes_besides service Begins p q || (is_closed (used calls m).name && is_owed service Begins p q)) (bare_segment local q) (syn_ack local q)
           (passed 0 q (leaving (used calls m))) (segments_of service local Begins p q) begins.segments begins.alone;
+      closed = λ h. absurd (false≢true (sym (begun_open (used calls m).name (ap has_begun (sym (flushed_name (used calls m))) ∙ begins.stands.begun)) ∙ h));
     })

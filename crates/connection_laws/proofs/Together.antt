@@ -232,6 +232,7 @@ pub record IsServed {S : Type 0} (service : Machine S) (u i delta given given' :
 record IsDone {S : Type 0} (service : Machine S) (server : Addr) (u i delta : ℕ) (news : News) (p q : Point) (w : Tcb) : Type 0 where
   tcp : StandsOpen u i delta q (flushed w) ⊎ StandsClosed service u i delta q (flushed w)
   segments : leaves_with service server delta news p q w ≡ segments_of service server news p q
+  closed : is_closed w.name ≡ true → (p.counted ≡ true) × (taken_units q ≡ taken_units p)
 
 done_open : {S : Type 0} (service : Machine S) (boot u i delta given given' : ℕ) (news : News) (p q : Point) (old new : NorthState S) (calls : List Call) (e : Tcb) (sent : List Packet) (b : Bool)
     → IsServed service u i delta given given' news p q old new calls e → LiveTurn service e.local boot news p q sent → StandsOpen u i delta p e
@@ -245,6 +246,7 @@ done_open service boot u i delta given given' news p q old new calls e sent true
     record {
       tcp = inl (record { stands = t.stands; named = named_law inner calls e st.stands.begun st.stands.between st.named });
       segments = open_leaves service e.local boot delta news p q sent (before_flush inner calls e) begun s.later s.before.north.fetched s.before.settled l t.segments;
+      closed = λ h. absurd (false≢true (sym (begun_open (before_flush inner calls e).name begun) ∙ h));
     }
 done_open service boot u i delta given given' news p q old new calls e sent false s l st ended =
     let inner : News = news_inside delta p news in
@@ -256,6 +258,7 @@ done_open service boot u i delta given given' news p q old new calls e sent fals
     record {
       tcp = inr t.stands;
       segments = closed_leaves service e.local delta news p q w (sym (flushed_name w) ∙ t.stands.name) (ap (passed delta q) t.silent) (no_repeat news p none) t.segments;
+      closed = λ h. (t.counted, t.taken);
     }
 
 done_closed : {S : Type 0} (service : Machine S) (boot u i delta given given' : ℕ) (news : News) (p q : Point) (old new : NorthState S) (calls : List Call) (e : Tcb) (sent : List Packet)
@@ -268,6 +271,7 @@ done_closed service boot u i delta given given' news p q old new calls e sent s 
     record {
       tcp = inr t.stands;
       segments = closed_leaves service e.local delta news p q w (sym (flushed_name w) ∙ t.stands.name) t.silent (no_repeat news p (opens_not news p (both_of p.fin (nat_lt (released service p) p.una) st.over).0 st.counted)) t.segments;
+      closed = λ h. (t.counted, t.taken);
     }
 
 finish : {S : Type 0} (service : Machine S) (boot u i delta given given' : ℕ) (news : News) (p q : Point) (ks : List ℕ) (old new : NorthState S) (calls : List Call) (e t : Tcb)
@@ -301,6 +305,7 @@ finish service boot u i delta given given' news p q ks old new calls e t is s le
         all_or_full = s.by.all_or_full;
       };
       segments = done.segments;
+      closed = done.closed;
     })
 
 -- TCP once the news have come, at the point that they lead to

@@ -59,6 +59,7 @@ pub record LeavesInside {State : Type 0} (service : Machine State) (u i delta : 
 pub record EndsInside {State : Type 0} (service : Machine State) (u i delta : ℕ) (news : News) (p q : Point) (calls : List Call) (e : Tcb) : Type 0 where
   pub stands : StandsClosed service u i delta q (turned (news_inside delta p news) calls e)
   pub silent : sent_in (news_inside delta p news) calls e ≡ []
+  pub counted : p.counted ≡ true
   pub taken : taken_units q ≡ taken_units p
   pub segments : SendsAlone service e.local news p q
 
@@ -71,5 +72,6 @@ pub record ReadsOn (delta : ℕ) (news : News) (p q : Point) (calls : List Call)
 pub record GoesOnClosed {State : Type 0} (service : Machine State) (server : Addr) (u i delta : ℕ) (news : News) (p q : Point) (calls : List Call) (e : Tcb) : Type 0 where
   pub stands : StandsClosed service u i delta q (turned (news_inside delta p news) calls e)
   pub silent : passed delta q (sent_in (news_inside delta p news) calls e) ≡ []
+  pub counted : p.counted ≡ true
   pub taken : taken_units q ≡ taken_units p
   pub segments : SendsAlone service server news p q

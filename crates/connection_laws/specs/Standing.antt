@@ -1,12 +1,12 @@
 -- The parts of a wrapped connection at a point: its TCP, its north wrapper, and how much output that has given to TCP.
-use Rattle.std.specs.Prelude.{◌≡◌, ◌⊎◌, ℕ, Bool, false, ◌≤◌, ◌&&◌, ◌||◌, ◌++◌, min, None, List, [], ◌∷◌, length, if◌then◌else◌}
+use Rattle.std.specs.Prelude.{true, ◌≡◌, ◌⊎◌, ℕ, Bool, false, ◌≤◌, ◌&&◌, ◌||◌, ◌++◌, min, None, List, [], ◌∷◌, length, if◌then◌else◌}
 use Rattle.ft_io.specs.declared.Addr.{Addr}
 use Rattle.server_trait.specs.Service.{Machine}
 use Rattle.ft_model.specs.Connection.{LiveTurn, sent_by}
 use Rattle.ft_model.specs.News.{News}
 use Rattle.ft_model.specs.News.News.{Comes, Logged}
 use Rattle.ft_model.specs.Owed.{is_owed}
-use Rattle.ft_model.specs.Point.{Point, released, target}
+use Rattle.ft_model.specs.Point.{Point, taken_units, released, target}
 use Rattle.ft_model.specs.Reads.{next_read}
 use Rattle.ft_model.specs.Segments.{repeats_syn, syn_ack, bare_segment, or_bare, segments_of}
 use Rattle.seq_arith.specs.Packet.{Segment}
@@ -72,3 +72,5 @@ pub record PartsTurn {S : Type 0} (service : Machine S) (server : Addr) (boot u 
   pub goes : LiveTurn service server boot news before after (sent_by service server boot news before after)
   pub rest : PartsRest service u i delta given after new (flushed t)
   pub segments : leaves_with service server delta news before after t ≡ segments_of service server news before after
+  -- where TCP is CLOSED then, an acknowledgement had counted, and nothing is taken
+  pub closed : is_closed t.name ≡ true → (before.counted ≡ true) × (taken_units after ≡ taken_units before)
