@@ -1,0 +1,141 @@
+-- Lengths of reads, in runs and in two bytes each.
+use Rattle.std.proofs.Common.{◌≡◌, ◌∙◌, ℕ, zero, suc, ◌+◌, ◌*◌, ◌-◌, ◌/◌, ◌%◌, ◌<◌, ◌≤◌, ◌^◌, ◌==◌, refl, sym, ap, subst, arith, List, [], ◌∷◌, ◌++◌, length, take, drop, slice_get, get_or, min, append_assoc, eqb-true, true, false, replicate, inl, inr}
+use Rattle.std.specs.Prelude.{Some, slice_index}
+use Rattle.std.specs.List.{flat_map}
+use Rattle.std.specs.Option.{option_map_or}
+use Rattle.std.specs.Int.{to_be_bytes, w16}
+use Rattle.std.proofs.lemmas.List.{length-append, take_all, drop_all, drop-append-le, length-replicate, replicate_more, drop-replicate, take-replicate, get_or-replicate, get_or-append_right, get_or_append_left, flat_map_more, take_more}
+use Rattle.std.proofs.lemmas.Bool.{cases_lt}
+use Rattle.std.proofs.Math.Seq.{drop-append-add, take-append-add}
+use Rattle.seq_arith.specs.MessageGrammar.{lens_in}
+use Rattle.logger_store.specs.declared.runs.Run.{Run}
+use Rattle.logger_store.specs.Pages.{lengths_in, ends_with}
+
+-- two bytes for each length
+pub count_of_lens : (bytes : List ℕ) → length bytes % 2 ≡ 0 → length bytes ≡ 2 * length (lens_in bytes)
+count_of_lens [] even = refl
+count_of_lens (high ∷ []) even = absurd (omega (arith, even))
+count_of_lens (high ∷ low ∷ bytes) even = omega (arith, count_of_lens bytes (omega (arith, even)))
+
+behind_even : (bytes more : List ℕ) → length bytes % 2 ≡ 0 → lens_in (bytes ++ more) ≡ lens_in bytes ++ lens_in more
+behind_even [] more even = refl
+behind_even (high ∷ []) more even = absurd (omega (arith, even))
+behind_even (high ∷ low ∷ bytes) more even = ap (λ ls. (256 * high + low) ∷ ls) (behind_even bytes more (omega (arith, even)))
+
+one_length : (n : ℕ) → n < 2 ^ 16 → lens_in (to_be_bytes w16 n) ≡ n ∷ []
+one_length n small = ap (λ k. k ∷ []) (again n small)
+  where
+    again : (n : ℕ) → n < 2 ^ 16 → 256 * (n / 256 % 256) + n % 256 ≡ n
+    again n small = omega (arith, small)
+
+pub one_length_more : (bytes : List ℕ) (n : ℕ) → length bytes % 2 ≡ 0 → n < 2 ^ 16 → lens_in (bytes ++ to_be_bytes w16 n) ≡ lens_in bytes ++ n ∷ []
+one_length_more bytes n even small = behind_even bytes (to_be_bytes w16 n) even ∙ ap (λ ls. lens_in bytes ++ ls) (one_length n small)
+
+front_of_equals : (m n y : ℕ) → take m (replicate n y) ≡ replicate (min m n) y
+front_of_equals m n y = elim (cases_lt m n) [
+  | inl less ↦ take-replicate m n y (omega (arith, less)) ∙ ap (λ k. replicate k y) (omega (arith, less))
+  | inr more ↦ take_all m (replicate n y) (subst (λ k. k ≤ m) (sym (length-replicate n y)) more) ∙ ap (λ k. replicate k y) (omega (arith, more))
+]
+
+-- what is left of a run behind its first lengths, as much as there is room for
+pub run_behind : (old : List ℕ) (count len skip k : ℕ) → length old ≤ 512 → k ≡ min (512 - length old) (count - skip)
+    → old ++ replicate k len ≡ take 512 (old ++ drop skip (replicate count len))
+run_behind old count len skip k within is =
+    let whole : length old + (512 - length old) ≡ 512 = omega (arith, within) in
+    ap (λ n. old ++ replicate n len) is
+    ∙ (ap (λ ys. old ++ ys) (sym (front_of_equals (512 - length old) (count - skip) len))
+    ∙ (ap (λ ys. old ++ take (512 - length old) ys) (sym (drop-replicate skip count len))
+    ∙ (sym (take-append-add old (drop skip (replicate count len)) (512 - length old)) ∙ ap (λ n. take n (old ++ drop skip (replicate count len))) whole)))
+
+-- the front of two lists, of which the first was cut
+cut_first : (n : ℕ) (xs ys : List ℕ) → take n (take n xs ++ ys) ≡ take n (xs ++ ys)
+cut_first zero xs ys = refl
+cut_first (suc n) [] ys = refl
+cut_first (suc n) (x ∷ xs) ys = ap (λ zs. x ∷ zs) (cut_first n xs ys)
+
+behind_both : (n : ℕ) (xs ys : List ℕ) → drop n (xs ++ ys) ≡ drop n xs ++ drop (n - length xs) ys
+behind_both n xs ys = elim (cases_lt n (length xs)) [ inl less ↦ inside less | inr more ↦ beyond more ]
+  where
+    nothing : (n m : ℕ) → n < m → 0 ≡ n - m
+    nothing n m h = omega (arith, h)
+
+    inside : n < length xs → drop n (xs ++ ys) ≡ drop n xs ++ drop (n - length xs) ys
+    inside h = drop-append-le n xs ys (omega (arith, h)) ∙ ap (λ k. drop n xs ++ drop k ys) (nothing n (length xs) h)
+
+    whole : (n m : ℕ) → m ≤ n → n ≡ m + (n - m)
+    whole n m h = omega (arith, h)
+
+    beyond : length xs ≤ n → drop n (xs ++ ys) ≡ drop n xs ++ drop (n - length xs) ys
+    beyond h = ap (λ k. drop k (xs ++ ys)) (whole n (length xs) h)
+        ∙ (drop-append-add xs ys (n - length xs) ∙ ap (λ zs. zs ++ drop (n - length xs) ys) (sym (drop_all n xs h)))
+
+-- one run more
+pub lengths_more : (first skip : ℕ) (done now run : List ℕ) → now ≡ take 512 (drop first done) → skip ≡ first - length done
+    → take 512 (now ++ drop skip run) ≡ take 512 (drop first (done ++ run))
+lengths_more first skip done now run is left =
+    ap (λ xs. take 512 (xs ++ drop skip run)) is
+    ∙ (cut_first 512 (drop first done) (drop skip run)
+    ∙ ap (take 512) (ap (λ n. drop first done ++ drop n run) left ∙ sym (behind_both first done run)))
+
+-- the last of some lengths is that of the last run
+last_there : (ys : List ℕ) (y : ℕ) → slice_get (ys ++ y ∷ []) (length ys) ≡ Some y
+last_there [] y = refl
+last_there (z ∷ zs) y = last_there zs y
+
+ends : (ys : List ℕ) (y len : ℕ) → ends_with len (ys ++ y ∷ []) ≡ (y == len)
+ends ys y len =
+    let long : length (ys ++ y ∷ []) - 1 ≡ length ys = ap (λ n. n - 1) (length-append ys (y ∷ [])) ∙ omega arith in
+    ap (λ o. option_map_or (λ last. last == len) o false) (ap (slice_get (ys ++ y ∷ [])) long ∙ last_there ys y)
+
+pub last_length : (xs : List ℕ) (n y len : ℕ) → 0 < n → ends_with len (xs ++ replicate n y) ≡ true → y ≡ len
+last_length xs n y len some is =
+    let more : replicate n y ≡ replicate (n - 1) y ++ y ∷ [] = ap (λ k. replicate k y) (back n some) ∙ sym (replicate_more (n - 1) y) in
+    let cut : xs ++ replicate n y ≡ (xs ++ replicate (n - 1) y) ++ y ∷ [] = ap (λ zs. xs ++ zs) more ∙ sym (append_assoc xs (replicate (n - 1) y) (y ∷ [])) in
+    eqb-true y len (sym (ends (xs ++ replicate (n - 1) y) y len) ∙ (ap (ends_with len) (sym cut) ∙ is))
+  where
+    back : (n : ℕ) → 0 < n → n ≡ n - 1 + 1
+    back n h = omega (arith, h)
+
+-- the length at a place, in the runs that are left
+pub here : (run : Run) (runs : List Run) (last : List ℕ) (left d : ℕ) → left < run.count
+    → slice_index (flat_map lengths_in (run ∷ runs) ++ last) left ≡ run.length
+here run runs last left d h =
+    ap (λ xs. slice_index xs left) (append_assoc (lengths_in run) (flat_map lengths_in runs) last)
+    ∙ (get_or_append_left (lengths_in run) (flat_map lengths_in runs ++ last) 0 left (subst (λ n. left < n) (sym (length-replicate run.count run.length)) h)
+    ∙ get_or-replicate run.count left run.length 0 h)
+
+pub further : (run : Run) (runs : List Run) (last : List ℕ) (left : ℕ) → run.count ≤ left
+    → slice_index (flat_map lengths_in (run ∷ runs) ++ last) left ≡ slice_index (flat_map lengths_in runs ++ last) (left - run.count)
+further run runs last left h =
+    ap (λ xs. slice_index xs left) (append_assoc (lengths_in run) (flat_map lengths_in runs) last)
+    ∙ get_or-append_right (lengths_in run) (flat_map lengths_in runs ++ last) run.count left 0 (length-replicate run.count run.length) h
+
+pub room_further : (run : Run) (runs : List Run) (last : List ℕ) (left : ℕ) → run.count ≤ left → left < length (flat_map lengths_in (run ∷ runs) ++ last)
+    → left - run.count < length (flat_map lengths_in runs ++ last)
+room_further run runs last left h there =
+    let parts : length (flat_map lengths_in (run ∷ runs) ++ last) ≡ run.count + length (flat_map lengths_in runs ++ last) =
+    ap length (append_assoc (lengths_in run) (flat_map lengths_in runs) last)
+    ∙ (length-append (lengths_in run) (flat_map lengths_in runs ++ last) ∙ ap (λ n. n + length (flat_map lengths_in runs ++ last)) (length-replicate run.count run.length)) in
+    omega (arith, h, there, parts)
+
+pub at_last : (len count left : ℕ) → left < length (replicate count len) → slice_index (replicate count len) left ≡ len
+at_last len count left h = get_or-replicate count left len 0 (subst (λ n. left < n) (length-replicate count len) h)
+
+-- the lengths of one run more
+pub run_more : (runs : List Run) (i first skip left : ℕ) (d : Run) (now next : List ℕ) → i < length runs
+    → (now ≡ take 512 (drop first (flat_map lengths_in (take i runs)))) × (skip ≡ first - length (flat_map lengths_in (take i runs)))
+    → next ≡ take 512 (now ++ drop skip (lengths_in (get_or runs i d))) → left ≡ skip - (get_or runs i d).count
+    → (next ≡ take 512 (drop first (flat_map lengths_in (take (i + 1) runs)))) × (left ≡ first - length (flat_map lengths_in (take (i + 1) runs)))
+run_more runs i first skip left d now next there before added after =
+    let run : Run = get_or runs i d in
+    let done : List ℕ = flat_map lengths_in (take i runs) in
+    let more : done ++ lengths_in run ≡ flat_map lengths_in (take (i + 1) runs) =
+    flat_map_more lengths_in [] (take i runs) run ∙ ap (flat_map lengths_in) (sym (take_more runs i d there)) in
+    let long : length (flat_map lengths_in (take (i + 1) runs)) ≡ length done + run.count =
+    ap length (sym more) ∙ (length-append done (lengths_in run) ∙ ap (λ n. length done + n) (length-replicate run.count run.length)) in (
+      added ∙ (lengths_more first skip done now (lengths_in run) before.0 before.1 ∙ ap (λ xs. take 512 (drop first xs)) more),
+      after ∙ (ap (λ n. n - run.count) before.1 ∙ (apart first (length done) run.count ∙ ap (λ n. first - n) (sym long))),
+    )
+  where
+    apart : (a b c : ℕ) → a - b - c ≡ a - (b + c)
+    apart a b c = omega arith

@@ -1,0 +1,81 @@
+-- What the store keeps, in the plain records of messages and log, the ranges in which it keeps its numbers, and which messages want memory.
+use Rattle.std.specs.Prelude.{ℕ, Bool, true, false, not, List, [], length, sum, ◌≡◌, ◌==◌, ◌≤◌, ◌+◌, ◌-◌, ◌^◌, ◌&&◌, ◌||◌, nat_le, nat_lt, Option, Some, None, option_map}
+use Rattle.std.specs.List.{list_any, list_all}
+use Rattle.std.specs.Option.{option_map_or}
+use Rattle.ft_io.specs.Key.{key_eq}
+use Rattle.seq_arith.specs.Message as said
+use Rattle.seq_arith.specs.Message.{Message, Body}
+use Rattle.seq_arith.specs.Message.Body.{OpenMsg, DataMsg, ReadMsg}
+use Rattle.seq_arith.specs.MessageGrammar.{spelling, flag}
+use Rattle.ft_model.specs.Log.{Log, Entry, with_bytes, is_next_read, entry_of}
+use Rattle.logger_wire.specs.Value.{is_set}
+use Rattle.logger_store.specs.Pages.{room_after, ends_with}
+use Rattle.logger_store.specs.declared.stored_entry.Numbers.{Numbers}
+use Rattle.logger_store.specs.declared.stored_entry.Part.{Part}
+use Rattle.logger_store.specs.declared.entry_head.EntryHead.{EntryHead}
+
+abbrev pub numbers_value : Numbers → said.Numbers
+numbers_value n = record { key = n.key; cisn = n.cisn; sisn = n.sisn; mss = n.mss }
+
+abbrev pub part_value : Part → said.Part
+part_value p = record { key = p.key; offset = p.offset; acked = p.acked; fin = p.fin; bytes = p.bytes.now }
+
+abbrev pub head_value : EntryHead → said.EntryHead
+head_value h = record {
+  key = h.key;
+  cisn = h.cisn;
+  sisn = h.sisn;
+  mss = h.mss;
+  length = h.length;
+  fin = is_set h.fin;
+  done = is_set h.done;
+  reads = h.reads;
+  acked = h.acked;
+}
+
+-- the ranges of an entry's numbers, which are those that a message may say
+pub record IsInRange (mss bytes output : ℕ) : Type 0 where
+  pub least : 64 ≤ mss
+  pub most : mss ≤ 1460
+  pub len : bytes ≤ 2 ^ 24
+  pub acked : output ≤ 2 ^ 24 + 1
+
+-- the lengths of reads, of a stream of which so many bytes are kept: they lie within these bytes, and at most one of them, the closing one, is 0
+pub record AreRead (bytes : ℕ) (lengths : List ℕ) : Type 0 where
+  pub within : sum lengths ≤ bytes
+  pub count : length lengths ≤ sum lengths + flag (list_any (λ k. k == 0) lengths)
+  pub each : list_all (λ n. nat_le n 2048) lengths ≡ true
+
+-- the bytes of an answer, or none
+abbrev pub answer_bytes : Option Message → List ℕ
+answer_bytes (Some message) = spelling message
+answer_bytes None = []
+
+-- What wants memory of an entry: bytes that its last page doesn't take, and a length other than the last one
+abbrev pub adds_page : said.Part → Entry → Bool
+adds_page part e = nat_lt (room_after (length e.bytes)) (length (with_bytes part e).bytes - length e.bytes)
+
+abbrev pub begins_run : ℕ → Entry → Bool
+begins_run n e = not (ends_with n e.lengths)
+
+-- .. and of a log: besides these an entry for another key
+abbrev pub adds : Body → Log → Bool
+adds (OpenMsg n) log = not (list_any (λ e. key_eq e.key n.key) log.entries || nat_le 64 (length log.entries))
+adds (DataMsg part) log = option_map_or (adds_page part) (entry_of part.key log) false
+adds (ReadMsg key index n) log = option_map_or (λ e. is_next_read e index n && begins_run n e) (entry_of key log) false
+adds _ log = false
+
+-- whether keeping what a message says may want memory
+unfoldable pub wants_memory : Log → Message → Bool
+wants_memory log message = message.boot == log.boot && adds message.body log
+
+-- what is told, in a message of this boot
+abbrev pub with_boot : ℕ → Option Body → Option Message
+with_boot boot told = option_map (λ body. record { boot = boot; body = body }) told
+
+-- the bytes of an entry, and its lengths, if there is one
+abbrev pub bytes_of : Option Entry → List ℕ
+bytes_of entry = option_map_or (λ e. e.bytes) entry []
+
+abbrev pub lengths_of : Option Entry → List ℕ
+lengths_of entry = option_map_or (λ e. e.lengths) entry []

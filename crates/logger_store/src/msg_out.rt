@@ -1,0 +1,59 @@
+//! Room for one answer.
+
+ghost use Rattle.std.specs.Prelude.{[], ◌≡◌};
+ghost use Rattle.seq_arith.specs.MessageGrammar.{spelling};
+ghost use Rattle.logger_wire.specs.Value.{message_of, IsSendable};
+
+use logger_wire::{Msg, write_msg};
+use std::marker::Model;
+
+/// The bytes of a message, or none, in room for 2,048 bytes.
+#[derive(Debug, Drop)]
+pub struct MsgOut {
+    bytes: [u8; 2_048],
+    len: usize,
+}
+
+impl Model for MsgOut {
+    ghost use Rattle.std.specs.Prelude.{ℕ, ◌≤◌, List, take};
+
+    ghost Value = { List ℕ };
+
+    ghost view = { λ out. take out.len out.bytes };
+
+    ghost invariant = { λ out. out.len ≤ 2048 };
+}
+
+impl MsgOut {
+    /// No bytes.
+    pub fn new() -> MsgOut
+        ensures { result ≡ [] }
+    {
+        MsgOut {
+            bytes: [0; 2_048],
+            len: 0,
+        }
+    }
+
+    /// The message's bytes, or none.
+    pub fn bytes(&self) -> &[u8]
+        ensures { result.now ≡ self.now }
+    {
+        &self.bytes[..self.len]
+    }
+
+    pub(crate) fn clear(&mut self)
+        ensures { self.new ≡ [] }
+    {
+        self.len = 0;
+    }
+
+    /// Puts a message in place of what there was.
+    #[tactic(auto, using(crate::proofs::Answers::message_written))]
+    pub(crate) fn put(&mut self, m: &Msg<'_>)
+        requires { IsSendable m.now }
+        ensures { self.new ≡ spelling (message_of m.now) }
+    {
+        self.len = write_msg(m, &mut self.bytes);
+    }
+}

@@ -1,0 +1,113 @@
+//! The lengths of an entry's reads, in runs of equal ones.
+
+ghost use Rattle.std.specs.Prelude.{[], ◌≡◌, ◌≤◌, ◌<◌, ◌+◌, ◌-◌, ◌^◌, ◌++◌, ◌∷◌, true, IsOk, OnOk, OnErr, length, take, drop, slice_index};
+ghost use Rattle.logger_store.specs.Pages.{ends_with, lengths_in};
+
+use crate::lens::{LENS, Lens};
+use ft_io::NoMemory;
+use std::alloc::Global;
+use std::marker::Model;
+
+/// Equal lengths that follow one another.
+#[derive(Clone, Copy, Debug)]
+pub struct Run {
+    /// In bytes.
+    pub length: u16,
+    pub count: u32,
+}
+
+/// The lengths of reads: closed runs, and the run of the last length. That run counts 0 before the first read.
+#[derive(Debug, Drop)]
+pub struct Runs {
+    closed: Vec<Run>,
+    last: Run,
+}
+
+impl Model for Runs {
+    ghost use Rattle.std.specs.Prelude.{ℕ, ◌++◌, List};
+    ghost use Rattle.std.specs.List.{flat_map};
+    ghost use Rattle.logger_store.specs.Pages.{lengths_in};
+
+    ghost Value = { List ℕ };
+
+    ghost view = { λ r. flat_map lengths_in r.closed.items ++ lengths_in r.last };
+}
+
+/// Adds those lengths of a run that stand behind its first `skip`, as many as there is room for, and says how many are left to be skipped.
+#[tactic(auto, using(crate::proofs::Lengths::run_behind, std::proofs::lemmas::List::replicate_more, std::proofs::Common::append_assoc))]
+fn spell_run(run: Run, skip: usize, lens: &mut Lens) -> usize
+    ensures skip { result ≡ skip - run.count }
+    ensures lens { lens.new ≡ take 512 (lens.old ++ drop skip (lengths_in run)) }
+{
+    let count = run.count as usize;
+    let room = LENS - lens.len();
+    for _more in 0..room.min(count.saturating_sub(skip)) {
+        lens.push(run.length);
+    }
+    skip.saturating_sub(count)
+}
+
+impl Runs {
+    /// No lengths. It takes no memory.
+    pub fn new(alloc: Global) -> Runs
+        ensures { result ≡ [] }
+    {
+        Runs {
+            closed: Vec::new(alloc),
+            last: Run {
+                length: 0,
+                count: 0,
+            },
+        }
+    }
+
+    /// Adds the length of the next read. The last length again needs no memory.
+    #[tactic(auto, using(crate::proofs::Lengths::last_length, std::proofs::Common::append_assoc))]
+    pub fn push(&mut self, len: u16) -> Result<(), NoMemory>
+        requires { length self.old < 2 ^ 32 - 1 }
+        ensures ok { OnOk result (self.new ≡ self.old ++ len ∷ []) }
+        ensures err { OnErr result (self.new ≡ self.old) }
+        ensures again { ends_with len self.old ≡ true → IsOk result }
+    {
+        if self.last.length == len {
+            self.last.count += 1;
+            return Ok(());
+        }
+        if self.last.count > 0 {
+            self.closed.push(self.last)?;
+        }
+        self.last = Run {
+            length: len,
+            count: 1,
+        };
+        Ok(())
+    }
+
+    /// The length at this place, from 0.
+    pub fn at(&self, i: usize) -> u16
+        requires { i < length self.now }
+        ensures { result ≡ slice_index self.now i }
+    {
+        let mut left = i;
+        for run in &self.closed {
+            let count = run.count as usize;
+            if left < count {
+                return run.length;
+            }
+            left -= count;
+        }
+        self.last.length
+    }
+
+    /// Adds to no lengths those from a place on, at most 512.
+    pub fn copy(&self, first: usize, lens: &mut Lens)
+        requires empty { lens.old ≡ [] }
+        ensures { lens.new ≡ take 512 (drop first self.now) }
+    {
+        let mut skip = first;
+        for run in &self.closed {
+            skip = spell_run(*run, skip, lens);
+        }
+        spell_run(self.last, skip, lens);
+    }
+}

@@ -1,0 +1,314 @@
+//! The log of all connections.
+
+ghost use Rattle.std.specs.Prelude.{[], ◌≡◌, ◌≤◌, ◌<◌, ◌^◌, ◌+◌, ℕ, Some, None, true, false, option_map, option_copied, OnOk, OnErr, IsOk, IfSome, length, slice_get, slice_index};
+ghost use Rattle.ft_model.specs.Log.{Entry, Log, log_after, answer_to, empty_log, opened, with_body, told, is_answer, is_hello, entry_of, with_entry, with_part, with_read, head_of};
+ghost use Rattle.std.specs.Prelude.{◌||◌, nat_le};
+ghost use Rattle.std.specs.List.{list_any};
+ghost use Rattle.ft_io.specs.Key.{key_eq};
+ghost use Rattle.seq_arith.specs.Message.Body.{OpenMsg, DataMsg, ReadMsg};
+ghost use Rattle.logger_wire.specs.Value.{body_of, message_of, IsSendable};
+ghost use Rattle.logger_store.specs.Stored.{numbers_value, part_value, head_value, adds, answer_bytes, with_boot, wants_memory, bytes_of, lengths_of};
+
+use crate::entry_head::EntryHead;
+use crate::msg_out::MsgOut;
+use crate::stored_entry::{Numbers, Part, StoredEntry};
+use crate::telling::{
+    tell_ended, tell_head, tell_lengths, tell_opened, tell_part, tell_reads, tell_stable,
+    tell_stale,
+};
+use ft_io::{Key, NoMemory};
+use indexmap::IndexMap;
+use logger_wire::{Body, Msg};
+use std::alloc::Global;
+use std::marker::Model;
+
+/// How many entries a log may have.
+const ENTRY_LIMIT: u16 = 64;
+
+/// The log: the boot number of the newest server that has said Hello, and an entry for each connection, in the order of their opening.
+#[derive(Drop)]
+pub struct LogStore {
+    boot: u64,
+    entries: IndexMap<Key, StoredEntry>,
+}
+
+impl Model for LogStore {
+    ghost use Rattle.std.specs.Prelude.{◌≡◌, ◌≤◌, length, map};
+    ghost use Rattle.ft_model.specs.Log.{Log};
+    ghost use Rattle.indexmap.specs.IndexMap.{keys, values};
+
+    ghost Value = { Log };
+
+    ghost view = { λ l. record { boot = l.boot; entries = values l.entries } };
+
+    ghost invariant = { λ l. (keys l.entries ≡ map (λ e. e.key) (values l.entries)) × (length (values l.entries) ≤ 64) };
+}
+
+/// Whether only the logger sends such a body.
+fn is_answer(body: &Body<'_>) -> bool
+    ensures { result ≡ is_answer (body_of body.now) }
+{
+    match body {
+        Body::SummaryMsg { .. }
+        | Body::EntryMsg { .. }
+        | Body::PartMsg { .. }
+        | Body::LensMsg { .. }
+        | Body::OpenedMsg { .. }
+        | Body::StableMsg { .. }
+        | Body::ReadsMsg { .. }
+        | Body::EndedMsg { .. }
+        | Body::StaleMsg { .. }
+        | Body::FullMsg { .. } => true,
+        _ => false,
+    }
+}
+
+/// Whether a body is Hello.
+fn is_hello(body: &Body<'_>) -> bool
+    ensures { result ≡ is_hello (body_of body.now) }
+{
+    match body {
+        Body::HelloMsg => true,
+        _ => false,
+    }
+}
+
+impl LogStore {
+    /// A log of boot 0 without entries. It takes no memory.
+    pub fn new(alloc: Global) -> LogStore
+        ensures { result ≡ empty_log }
+    {
+        LogStore {
+            boot: 0,
+            entries: IndexMap::new(alloc),
+        }
+    }
+
+    /// The boot number of the newest server that has said Hello, and 0 before.
+    pub fn boot(&self) -> u64
+        ensures { result ≡ self.now.boot }
+    {
+        self.boot
+    }
+
+    /// How many entries there are, at most 64.
+    pub fn count(&self) -> u16
+        ensures value { result ≡ length self.now.entries }
+        ensures within { result ≤ 64 }
+    {
+        self.entries.len() as u16
+    }
+
+    fn at(&self, i: u16) -> Option<&StoredEntry>
+        ensures { option_copied result ≡ slice_get self.now.entries i }
+    {
+        let (_key, entry) = self.entries.get_index(usize::from(i))?;
+        Some(entry)
+    }
+
+    /// The entry at this place, from 0, without its bytes and lengths. None exactly where there is none.
+    pub fn entry(&self, i: u16) -> Option<EntryHead>
+        ensures value { option_map head_value result ≡ option_map head_of (slice_get self.now.entries i) }
+        ensures flags { IfSome result (λ head. (head.fin ≤ 1) × (head.done ≤ 1)) }
+    {
+        Some(self.at(i)?.head())
+    }
+
+    /// The logged byte at this place, from 0, of the entry at place i.
+    pub fn byte(&self, i: u16, at: u32) -> u8
+        requires { at < length (bytes_of (slice_get self.now.entries i)) }
+        ensures { result ≡ slice_index (bytes_of (slice_get self.now.entries i)) at }
+    {
+        match self.at(i) {
+            Some(entry) => entry.byte(at),
+            None => 0,
+        }
+    }
+
+    /// The logged length of the read with this index, from 0, of the entry at place i.
+    pub fn length(&self, i: u16, at: u32) -> u16
+        requires { at < length (lengths_of (slice_get self.now.entries i)) }
+        ensures { result ≡ slice_index (lengths_of (slice_get self.now.entries i)) at }
+    {
+        match self.at(i) {
+            Some(entry) => entry.read_length(at),
+            None => 0,
+        }
+    }
+
+    fn find(&self, key: Key) -> Option<&StoredEntry>
+        ensures { option_copied result ≡ entry_of key self.now }
+    {
+        self.entries.get(&key)
+    }
+
+    fn knows(&self, key: Key) -> bool
+        ensures { result ≡ list_any (λ e. key_eq e.key key) self.now.entries }
+    {
+        self.find(key).is_some()
+    }
+
+    /// Whether no entry is added for a key: it has one, or the log is full.
+    fn turns_away(&self, key: Key) -> bool
+        ensures { result ≡ (list_any (λ e. key_eq e.key key) self.now.entries || nat_le 64 (length self.now.entries)) }
+    {
+        self.knows(key) || self.count() >= ENTRY_LIMIT
+    }
+
+    /// Adds an entry of an unknown key, while there is room.
+    fn open(&mut self, alloc: Global, numbers: &Numbers) -> Result<(), NoMemory>
+        requires { (64 ≤ numbers.now.mss) × (numbers.now.mss ≤ 1460) }
+        ensures ok { OnOk result (self.new ≡ opened (numbers_value numbers.now) self.old) }
+        ensures err { OnErr result (self.new ≡ self.old) }
+        ensures known { adds (OpenMsg (numbers_value numbers.now)) self.old ≡ false → IsOk result }
+    {
+        if self.turns_away(numbers.key) {
+            return Ok(());
+        }
+        let entry = StoredEntry::new(alloc, numbers);
+        self.entries.insert(numbers.key, entry)?;
+        Ok(())
+    }
+
+    /// Keeps a part of a client's stream.
+    fn take_part(&mut self, alloc: Global, part: &Part<'_>) -> Result<(), NoMemory>
+        requires room { part.now.offset + length part.now.bytes.now ≤ 2 ^ 24 }
+        requires few { length part.now.bytes.now ≤ 1460 }
+        requires acked { part.now.acked ≤ 2 ^ 24 + 1 }
+        ensures ok { OnOk result (self.new ≡ with_entry part.now.key (with_part (part_value part.now)) self.old) }
+        ensures err { OnErr result (self.new ≡ self.old) }
+        ensures in_page { adds (DataMsg (part_value part.now)) self.old ≡ false → IsOk result }
+    {
+        let Some(entry) = self.entries.get_mut(&part.key) else {
+            return Ok(());
+        };
+        entry.take_part(alloc, part)
+    }
+
+    /// Keeps the length of a read.
+    fn take_read(&mut self, key: Key, index: u32, len: u16) -> Result<(), NoMemory>
+        requires { len ≤ 2048 }
+        ensures ok { OnOk result (self.new ≡ with_entry key (with_read index len) self.old) }
+        ensures err { OnErr result (self.new ≡ self.old) }
+        ensures again { adds (ReadMsg key index len) self.old ≡ false → IsOk result }
+    {
+        let Some(entry) = self.entries.get_mut(&key) else {
+            return Ok(());
+        };
+        entry.take_read(index, len)
+    }
+
+    /// Notes that a connection has ended.
+    fn end(&mut self, key: Key)
+        ensures { self.new ≡ with_entry key (λ e. record e { done = true }) self.old }
+    {
+        let Some(entry) = self.entries.get_mut(&key) else {
+            return;
+        };
+        entry.end();
+    }
+
+    /// Keeps what a message of the log's own boot says.
+    #[tactic(auto, using(crate::proofs::Sending::open_ranges, crate::proofs::Sending::data_ranges, crate::proofs::Sending::data_few, crate::proofs::Sending::read_range))]
+    fn take(&mut self, alloc: Global, m: &Msg<'_>) -> Result<(), NoMemory>
+        requires { IsSendable m.now }
+        ensures ok { OnOk result (self.new ≡ with_body (body_of m.now.body) self.old) }
+        ensures err { OnErr result (self.new ≡ self.old) }
+        ensures memory { adds (body_of m.now.body) self.old ≡ false → IsOk result }
+    {
+        match m.body {
+            Body::OpenMsg {
+                key,
+                cisn,
+                sisn,
+                mss,
+            } => self.open(
+                alloc,
+                &Numbers {
+                    key,
+                    cisn,
+                    sisn,
+                    mss,
+                },
+            ),
+            Body::DataMsg {
+                key,
+                offset,
+                acked,
+                fin,
+                bytes,
+            } => self.take_part(
+                alloc,
+                &Part {
+                    key,
+                    offset,
+                    acked,
+                    fin: fin == 1,
+                    bytes,
+                },
+            ),
+            Body::ReadMsg { key, index, length } => self.take_read(key, index, length),
+            Body::DoneMsg { key } => {
+                self.end(key);
+                Ok(())
+            }
+            _ => Ok(()),
+        }
+    }
+
+    /// What the log tells after it took a message of its own boot.
+    #[tactic(auto, using(crate::proofs::Sending::some_boot, crate::proofs::Sending::list_range), unfolding(seq_arith::specs::MessageGrammar::has_length, seq_arith::specs::MessageGrammar::is_sound))]
+    fn tell(&self, m: &Msg<'_>, out: &mut MsgOut)
+        requires sendable { IsSendable m.now }
+        requires empty { out.old ≡ [] }
+        ensures { out.new ≡ answer_bytes (with_boot m.now.boot (told (body_of m.now.body) self.now)) }
+    {
+        match m.body {
+            Body::HelloMsg => out.put(&Msg {
+                boot: m.boot,
+                body: Body::SummaryMsg {
+                    count: self.count(),
+                },
+            }),
+            Body::ListMsg { index } => tell_head(self.at(index), m.boot, index, out),
+            Body::BytesMsg { key, offset } => tell_part(self.find(key), m.boot, offset, out),
+            Body::CutsMsg { key, first } => tell_lengths(self.find(key), m.boot, first, out),
+            Body::OpenMsg { key, .. } => tell_opened(self.find(key), m.boot, key, out),
+            Body::DataMsg { key, .. } => tell_stable(self.find(key), m.boot, out),
+            Body::ReadMsg { key, .. } => tell_reads(self.find(key), m.boot, out),
+            Body::DoneMsg { key } => tell_ended(self.find(key), m.boot, key, out),
+            _ => (),
+        }
+    }
+
+    /// Takes a message, and puts the answer to it, or nothing, in the place of what `out` held. Memory is wanted only for an entry of another
+    /// key, for bytes that the page of the entry's last byte doesn't take, and for a read of another length than the last one. Without it all
+    /// is as it was, and `out` is empty.
+    #[tactic(auto, using(crate::proofs::Sending::some_boot), unfolding(ft_model::specs::Log::log_after, ft_model::specs::Log::answer_to, crate::specs::Stored::wants_memory))]
+    pub fn answer(&mut self, alloc: Global, m: &Msg<'_>, out: &mut MsgOut) -> Result<(), NoMemory>
+        requires { IsSendable m.now }
+        ensures next { OnOk result (self.new ≡ log_after self.old (message_of m.now)) }
+        ensures answer { OnOk result (out.new ≡ answer_bytes (answer_to self.old (message_of m.now))) }
+        ensures refused { OnErr result (self.new ≡ self.old) }
+        ensures empty { OnErr result (out.new ≡ []) }
+        ensures memory { wants_memory self.old (message_of m.now) ≡ false → IsOk result }
+    {
+        out.clear();
+        if is_answer(&m.body) {
+            return Ok(());
+        }
+        if m.boot < self.boot {
+            tell_stale(m.boot, self.boot, out);
+            return Ok(());
+        }
+        if is_hello(&m.body) {
+            self.boot = m.boot;
+        } else if m.boot == self.boot {
+            self.take(alloc, m)?;
+        } else {
+            return Ok(());
+        }
+        self.tell(m, out);
+        Ok(())
+    }
+}

@@ -1,0 +1,231 @@
+//! What is logged of one connection.
+
+ghost use Rattle.std.specs.Prelude.{[], take, drop, ◌≡◌, ◌≤◌, ◌<◌, ◌+◌, ◌-◌, ◌^◌, ◌&&◌, min, nat_le, true, false, OnOk, OnErr, IsOk, length, slice_index};
+ghost use Rattle.std.specs.List.{list_all};
+ghost use Rattle.ft_model.specs.Log.{new_entry, with_bytes, with_its_fin, with_part, with_read, is_next_read, head_of, Entry};
+ghost use Rattle.logger_store.specs.Stored.{numbers_value, part_value, head_value, adds_page, begins_run};
+
+use crate::entry_head::EntryHead;
+use crate::lens::Lens;
+use crate::pages::{PART, Pages};
+use crate::runs::Runs;
+use arrayvec::ArrayVec;
+use ft_io::{Key, NoMemory};
+use std::alloc::Global;
+use std::marker::Model;
+
+/// The numbers of a connection.
+#[derive(Clone, Copy, Debug)]
+pub struct Numbers {
+    pub key: Key,
+    pub cisn: u32,
+    pub sisn: u32,
+    pub mss: u16,
+}
+
+/// A part of a client's stream.
+#[derive(Clone, Copy, Debug)]
+pub struct Part<'a> {
+    pub key: Key,
+    pub offset: u32,
+    pub acked: u32,
+    pub fin: bool,
+    pub bytes: &'a [u8],
+}
+
+/// What is logged of a connection. Its reads are counted and summed as they come.
+#[derive(Debug, Drop)]
+pub struct StoredEntry {
+    numbers: Numbers,
+    bytes: Pages,
+    fin: bool,
+    lengths: Runs,
+    /// How many reads there are, and how many bytes they took.
+    reads: u32,
+    read: u32,
+    /// Whether the read of length 0, which closes them, is kept.
+    closed: bool,
+    acknowledged: u32,
+    done: bool,
+}
+
+impl Model for StoredEntry {
+    ghost use Rattle.std.specs.Prelude.{◌≡◌, ◌==◌, ◌≤◌, ◌^◌, ◌+◌, length, sum};
+    ghost use Rattle.std.specs.List.{list_any};
+    ghost use Rattle.ft_model.specs.Log.{Entry};
+    ghost use Rattle.logger_store.specs.Stored.{AreRead, IsInRange};
+
+    ghost Value = { Entry };
+
+    ghost view = { λ e. record { key = e.numbers.key; cisn = e.numbers.cisn; sisn = e.numbers.sisn; mss = e.numbers.mss; bytes = e.bytes; fin = e.fin; lengths = e.lengths; acknowledged = e.acknowledged; done = e.done } };
+
+    ghost invariant = { λ e. (e.reads ≡ length e.lengths) × (e.read ≡ sum e.lengths) × (e.closed ≡ list_any (λ k. k == 0) e.lengths) × IsInRange e.numbers.mss (length e.bytes) e.acknowledged × AreRead (length e.bytes) e.lengths };
+}
+
+impl StoredEntry {
+    /// An entry in which nothing is logged yet. It takes no memory.
+    pub fn new(alloc: Global, numbers: &Numbers) -> StoredEntry
+        requires { (64 ≤ numbers.now.mss) × (numbers.now.mss ≤ 1460) }
+        ensures { result ≡ new_entry (numbers_value numbers.now) }
+    {
+        StoredEntry {
+            numbers: *numbers,
+            bytes: Pages::new(alloc),
+            fin: false,
+            lengths: Runs::new(alloc),
+            reads: 0,
+            read: 0,
+            closed: false,
+            acknowledged: 0,
+            done: false,
+        }
+    }
+
+    /// How many bytes are kept.
+    fn length(&self) -> u32
+        ensures value { result ≡ length self.now.bytes }
+        ensures within { result ≤ 2 ^ 24 }
+    {
+        self.bytes.len() as u32
+    }
+
+    /// What is known of the entry without its bytes and lengths.
+    pub fn head(&self) -> EntryHead
+        ensures value { head_value result ≡ head_of self.now }
+        ensures flags { (result.fin ≤ 1) × (result.done ≤ 1) }
+        ensures mss { (64 ≤ result.mss) × (result.mss ≤ 1460) }
+        ensures length { result.length ≤ 2 ^ 24 }
+        ensures reads { result.reads ≤ 2 ^ 24 + 1 }
+        ensures acked { result.acked ≤ 2 ^ 24 + 1 }
+    {
+        EntryHead {
+            key: self.numbers.key,
+            cisn: self.numbers.cisn,
+            sisn: self.numbers.sisn,
+            mss: self.numbers.mss,
+            length: self.length(),
+            fin: u8::from(self.fin),
+            done: u8::from(self.done),
+            reads: self.reads,
+            acked: self.acknowledged,
+        }
+    }
+
+    /// The byte at this place, from 0.
+    pub fn byte(&self, at: u32) -> u8
+        requires { at < length self.now.bytes }
+        ensures { result ≡ slice_index self.now.bytes at }
+    {
+        self.bytes.at(at as usize)
+    }
+
+    /// The length of the read with this index, from 0.
+    pub fn read_length(&self, index: u32) -> u16
+        requires { index < length self.now.lengths }
+        ensures { result ≡ slice_index self.now.lengths index }
+    {
+        self.lengths.at(index as usize)
+    }
+
+    /// Adds to a part without bytes those from an offset on, at most 1,024.
+    #[tactic(auto, using(crate::proofs::Fronts::front_length))]
+    pub fn copy_bytes(&self, offset: u32, part: &mut ArrayVec<u8, PART>)
+        requires empty { part.old.items ≡ [] }
+        requires there { offset < length self.now.bytes }
+        ensures value { part.new.items ≡ take 1024 (drop offset self.now.bytes) }
+        ensures count { length part.new.items ≡ min 1024 (length self.now.bytes - offset) }
+    {
+        self.bytes.copy(offset as usize, part);
+    }
+
+    /// Adds to no lengths those of the reads from one on, at most 512.
+    #[tactic(auto, using(crate::proofs::Fronts::front_length, crate::proofs::Fronts::front_holds))]
+    pub fn copy_lengths(&self, first: u32, lens: &mut Lens)
+        requires empty { lens.old ≡ [] }
+        ensures value { lens.new ≡ take 512 (drop first self.now.lengths) }
+        ensures count { length lens.new ≡ min 512 (length self.now.lengths - first) }
+        ensures each { list_all (λ n. nat_le n 2048) lens.new ≡ true }
+    {
+        self.lengths.copy(first as usize, lens);
+    }
+
+    /// Keeps the bytes past those that are kept, unless they leave a gap or stand behind the FIN.
+    fn take_bytes(&mut self, alloc: Global, part: &Part<'_>) -> Result<(), NoMemory>
+        requires room { part.now.offset + length part.now.bytes.now ≤ 2 ^ 24 }
+        requires few { length part.now.bytes.now ≤ 1460 }
+        ensures ok { OnOk result (self.new ≡ with_bytes (part_value part.now) self.old) }
+        ensures err { OnErr result (self.new ≡ self.old) }
+        ensures in_page { adds_page (part_value part.now) self.old ≡ false → IsOk result }
+    {
+        let kept = self.length();
+        if self.fin || part.offset > kept {
+            return Ok(());
+        }
+        match part.bytes.get((kept - part.offset) as usize..) {
+            Some(bytes) => self.bytes.add(alloc, bytes),
+            None => Ok(()),
+        }
+    }
+
+    /// Keeps the FIN of a part that ends where the kept bytes end.
+    fn take_fin(&mut self, part: &Part<'_>)
+        requires { part.now.offset + length part.now.bytes.now ≤ 2 ^ 24 }
+        ensures { self.new ≡ with_its_fin (part_value part.now) self.old }
+    {
+        let end = part.offset + part.bytes.len() as u32;
+        if part.fin && end == self.length() {
+            self.fin = true;
+        }
+    }
+
+    /// Keeps a part of the client's stream.
+    pub fn take_part(&mut self, alloc: Global, part: &Part<'_>) -> Result<(), NoMemory>
+        requires room { part.now.offset + length part.now.bytes.now ≤ 2 ^ 24 }
+        requires few { length part.now.bytes.now ≤ 1460 }
+        requires acked { part.now.acked ≤ 2 ^ 24 + 1 }
+        ensures ok { OnOk result (self.new ≡ with_part (part_value part.now) self.old) }
+        ensures err { OnErr result (self.new ≡ self.old) }
+        ensures in_page { adds_page (part_value part.now) self.old ≡ false → IsOk result }
+        ensures key { self.new.key ≡ self.old.key }
+    {
+        self.take_bytes(alloc, part)?;
+        self.take_fin(part);
+        self.acknowledged = self.acknowledged.max(part.acked);
+        Ok(())
+    }
+
+    /// Whether a read of this index and length is the one to be kept next.
+    fn is_next_read(&self, index: u32, len: u16) -> bool
+        ensures { result ≡ is_next_read self.now index len }
+    {
+        let (end, length) = (self.read + u32::from(len), self.length());
+        index == self.reads
+            && !self.closed
+            && end <= length
+            && (0 < len || (self.fin && self.read == length))
+    }
+
+    /// Keeps the length of a read, if it is the next one.
+    pub fn take_read(&mut self, index: u32, len: u16) -> Result<(), NoMemory>
+        requires { len ≤ 2048 }
+        ensures ok { OnOk result (self.new ≡ with_read index len self.old) }
+        ensures err { OnErr result (self.new ≡ self.old) }
+        ensures again { (is_next_read self.old index len && begins_run len self.old) ≡ false → IsOk result }
+        ensures key { self.new.key ≡ self.old.key }
+    {
+        if self.is_next_read(index, len) {
+            self.lengths.push(len)?;
+            self.reads += 1;
+            self.read += u32::from(len);
+            self.closed = len == 0;
+        }
+        Ok(())
+    }
+
+    /// Notes that the connection has ended.
+    pub fn end(&mut self)
+        ensures { self.new ≡ record self.old { done = true } }
+    {
+        self.done = true;
+    }
+}

@@ -1,0 +1,196 @@
+//! What the log tells of an entry, each as a message in the room for an answer.
+
+ghost use Rattle.std.specs.Prelude.{[], ◌≡◌, ◌≤◌, ◌<◌, Some, option_copied};
+ghost use Rattle.seq_arith.specs.Message.Body.{EntryMsg, OpenedMsg, StableMsg, ReadsMsg, EndedMsg, StaleMsg};
+ghost use Rattle.ft_model.specs.Log.{head_of, kept_of, part_of, lens_of, on_entry, opened_answer};
+ghost use Rattle.logger_store.specs.Stored.{answer_bytes, with_boot};
+
+use crate::entry_head::EntryHead;
+use crate::lens::Lens;
+use crate::msg_out::MsgOut;
+use crate::stored_entry::StoredEntry;
+use arrayvec::ArrayVec;
+use ft_io::Key;
+use logger_wire::{Body, Msg};
+
+/// Of an entry all but its bytes and lengths, as the one at this place.
+#[tactic(auto, unfolding(seq_arith::specs::MessageGrammar::has_length, seq_arith::specs::MessageGrammar::is_sound))]
+pub fn tell_head(stored: Option<&StoredEntry>, boot: u64, index: u16, out: &mut MsgOut)
+    requires boot { 1 ≤ boot }
+    requires index { index ≤ 63 }
+    requires empty { out.old ≡ [] }
+    ensures { out.new ≡ answer_bytes (with_boot boot (on_entry (λ e. Some (EntryMsg index (head_of e))) (option_copied stored.entry))) }
+{
+    let Some(entry) = stored else {
+        return;
+    };
+    let EntryHead {
+        key,
+        cisn,
+        sisn,
+        mss,
+        length,
+        fin,
+        done,
+        reads,
+        acked,
+    } = entry.head();
+    let body = Body::EntryMsg {
+        index,
+        key,
+        cisn,
+        sisn,
+        mss,
+        length,
+        fin,
+        done,
+        reads,
+        acked,
+    };
+    out.put(&Msg { boot, body });
+}
+
+/// Its bytes from an offset below its length on.
+#[tactic(auto, unfolding(seq_arith::specs::MessageGrammar::has_length, seq_arith::specs::MessageGrammar::is_sound))]
+pub fn tell_part(stored: Option<&StoredEntry>, boot: u64, offset: u32, out: &mut MsgOut)
+    requires boot { 1 ≤ boot }
+    requires empty { out.old ≡ [] }
+    ensures { out.new ≡ answer_bytes (with_boot boot (on_entry (λ e. part_of e offset) (option_copied stored.entry))) }
+{
+    let Some(entry) = stored else {
+        return;
+    };
+    let head = entry.head();
+    if offset >= head.length {
+        return;
+    }
+    let mut part = ArrayVec::new();
+    entry.copy_bytes(offset, &mut part);
+    let body = Body::PartMsg {
+        key: head.key,
+        offset,
+        bytes: part.as_slice(),
+    };
+    out.put(&Msg { boot, body });
+}
+
+/// The lengths of its reads from one of them on.
+#[tactic(auto, unfolding(seq_arith::specs::MessageGrammar::has_length, seq_arith::specs::MessageGrammar::is_sound))]
+pub fn tell_lengths(stored: Option<&StoredEntry>, boot: u64, first: u32, out: &mut MsgOut)
+    requires boot { 1 ≤ boot }
+    requires empty { out.old ≡ [] }
+    ensures { out.new ≡ answer_bytes (with_boot boot (on_entry (λ e. lens_of e first) (option_copied stored.entry))) }
+{
+    let Some(entry) = stored else {
+        return;
+    };
+    let head = entry.head();
+    if first >= head.reads {
+        return;
+    }
+    let mut lens = Lens::new();
+    entry.copy_lengths(first, &mut lens);
+    let body = Body::LensMsg {
+        key: head.key,
+        first,
+        lens: lens.as_bytes(),
+    };
+    out.put(&Msg { boot, body });
+}
+
+/// The numbers with which a key was opened, or that the log is full.
+#[tactic(auto, unfolding(seq_arith::specs::MessageGrammar::has_length, seq_arith::specs::MessageGrammar::is_sound))]
+pub fn tell_opened(stored: Option<&StoredEntry>, boot: u64, key: Key, out: &mut MsgOut)
+    requires { 1 ≤ boot }
+    ensures { out.new ≡ answer_bytes (with_boot boot (opened_answer key (option_copied stored.entry))) }
+{
+    let Some(entry) = stored else {
+        let body = Body::FullMsg { key };
+        out.put(&Msg { boot, body });
+        return;
+    };
+    let head = entry.head();
+    let body = Body::OpenedMsg {
+        key: head.key,
+        cisn: head.cisn,
+        sisn: head.sisn,
+        mss: head.mss,
+    };
+    out.put(&Msg { boot, body });
+}
+
+/// How much of it is logged, as an answer to bytes.
+#[tactic(auto, unfolding(seq_arith::specs::MessageGrammar::has_length, seq_arith::specs::MessageGrammar::is_sound))]
+pub fn tell_stable(stored: Option<&StoredEntry>, boot: u64, out: &mut MsgOut)
+    requires boot { 1 ≤ boot }
+    requires empty { out.old ≡ [] }
+    ensures { out.new ≡ answer_bytes (with_boot boot (on_entry (λ e. Some (StableMsg (kept_of e))) (option_copied stored.entry))) }
+{
+    let Some(entry) = stored else {
+        return;
+    };
+    let EntryHead {
+        key,
+        length,
+        fin,
+        reads,
+        ..
+    } = entry.head();
+    let body = Body::StableMsg {
+        key,
+        length,
+        fin,
+        reads,
+    };
+    out.put(&Msg { boot, body });
+}
+
+/// How much of it is logged, as an answer to a read.
+#[tactic(auto, unfolding(seq_arith::specs::MessageGrammar::has_length, seq_arith::specs::MessageGrammar::is_sound))]
+pub fn tell_reads(stored: Option<&StoredEntry>, boot: u64, out: &mut MsgOut)
+    requires boot { 1 ≤ boot }
+    requires empty { out.old ≡ [] }
+    ensures { out.new ≡ answer_bytes (with_boot boot (on_entry (λ e. Some (ReadsMsg (kept_of e))) (option_copied stored.entry))) }
+{
+    let Some(entry) = stored else {
+        return;
+    };
+    let EntryHead {
+        key,
+        length,
+        fin,
+        reads,
+        ..
+    } = entry.head();
+    let body = Body::ReadsMsg {
+        key,
+        length,
+        fin,
+        reads,
+    };
+    out.put(&Msg { boot, body });
+}
+
+/// That its end is logged.
+#[tactic(auto, unfolding(seq_arith::specs::MessageGrammar::has_length, seq_arith::specs::MessageGrammar::is_sound))]
+pub fn tell_ended(stored: Option<&StoredEntry>, boot: u64, key: Key, out: &mut MsgOut)
+    requires boot { 1 ≤ boot }
+    requires empty { out.old ≡ [] }
+    ensures { out.new ≡ answer_bytes (with_boot boot (on_entry (λ e. Some (EndedMsg key)) (option_copied stored.entry))) }
+{
+    if stored.is_some() {
+        let body = Body::EndedMsg { key };
+        out.put(&Msg { boot, body });
+    }
+}
+
+/// That a newer server than a message's has started.
+#[tactic(auto, unfolding(seq_arith::specs::MessageGrammar::has_length, seq_arith::specs::MessageGrammar::is_sound))]
+pub fn tell_stale(boot: u64, newer: u64, out: &mut MsgOut)
+    requires boot { 1 ≤ boot }
+    requires newer { boot < newer }
+    ensures { out.new ≡ answer_bytes (with_boot boot (Some (StaleMsg newer))) }
+{
+    let body = Body::StaleMsg { newer };
+    out.put(&Msg { boot, body });
+}
