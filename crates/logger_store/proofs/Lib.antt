@@ -5,3 +5,4 @@ pub mod Answers
 pub mod Entries
 pub mod Fronts
 pub mod Sending
+pub mod Fence

@@ -7,6 +7,7 @@ pub use msg_out::MsgOut;
 pub use store::LogStore;
 
 mod entry_head;
+pub mod laws;
 mod lens;
 mod msg_out;
 mod page;
