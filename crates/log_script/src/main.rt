@@ -1,0 +1,99 @@
+//! `log_script`: gives a log the datagrams of a script, which comes from standard input, and prints what it answers. The lines of a script:
+//!
+//! - `log` begins with an empty log, and `# ..` is printed as it stands;
+//! - `in HEX` gives a datagram; the answer is printed as `out HEX`, or `out -` where there is none;
+//! - `state` prints the log's boot number and its count of entries, and `entry I` the entry at place I;
+//! - `byte I AT` and `length I AT` print the byte and the length at place AT of the entry at place I;
+//! - `random COUNT SEED` gives COUNT datagrams that are drawn from SEED, and prints how many of them were refused, answered and passed over, and a
+//!   number that follows from all answers.
+#![tactic(auto)]
+
+use ft_io::NoMemory;
+use logger_store::{LogStore, MsgOut};
+use logger_wire::read_msg;
+use random::give_random;
+use readers::{byte_at, entry_at, length_at};
+use std::alloc::Global;
+use std::io;
+
+mod random;
+mod readers;
+
+/// What became of a datagram.
+#[derive(Clone, Copy, Debug, PartialEq, Eq)]
+enum Given {
+    /// It is no message.
+    Refused,
+    Answered,
+    /// It is a message without an answer.
+    Silent,
+}
+
+/// Gives the log a datagram.
+fn give(
+    alloc: Global,
+    log: &mut LogStore,
+    datagram: &[u8],
+    out: &mut MsgOut,
+) -> Result<Given, NoMemory> {
+    let Ok(message) = read_msg(datagram) else {
+        return Ok(Given::Refused);
+    };
+    log.answer(alloc, &message, out)?;
+    Ok(if out.bytes().is_empty() {
+        Given::Silent
+    } else {
+        Given::Answered
+    })
+}
+
+/// The log's answer to a datagram in hexadecimal, as a line.
+fn answer_to(alloc: Global, log: &mut LogStore, text: &str) -> Result<String, NoMemory> {
+    let Ok(datagram) = hex::decode(alloc, text) else {
+        return Ok(format!(in alloc; "no datagram")?);
+    };
+    let mut out = MsgOut::new();
+    match give(alloc, log, datagram.as_slice(), &mut out)? {
+        Given::Answered => {
+            let answer = hex::encode(alloc, out.bytes())?;
+            Ok(format!(in alloc; "out {answer}")?)
+        }
+        Given::Refused | Given::Silent => Ok(format!(in alloc; "out -")?),
+    }
+}
+
+/// Plays a line, and answers what it prints.
+fn play(alloc: Global, log: &mut LogStore, line: &str) -> Result<String, NoMemory> {
+    let (word, rest) = line.split_once(' ').unwrap_or((line, ""));
+    match word.as_bytes() {
+        b"#" => Ok(format!(in alloc; "{line}")?),
+        b"log" => {
+            *log = LogStore::new(alloc);
+            Ok(format!(in alloc; "log")?)
+        }
+        b"in" => answer_to(alloc, log, rest),
+        b"state" => {
+            let (boot, count) = (log.boot(), log.count());
+            Ok(format!(in alloc; "state boot {boot} count {count}")?)
+        }
+        b"entry" => entry_at(alloc, log, rest),
+        b"byte" => byte_at(alloc, log, rest),
+        b"length" => length_at(alloc, log, rest),
+        b"random" => give_random(alloc, log, rest),
+        _ => Ok(format!(in alloc; "no such line")?),
+    }
+}
+
+fn main(rt: HostRuntime) -> io::Result<()> {
+    let mut log = LogStore::new(rt.alloc());
+    for line in rt.lines(rt.alloc()) {
+        match play(rt.alloc(), &mut log, line?.as_str()) {
+            Ok(text) => println!(rt; "{text}")?,
+            Err(NoMemory) => {
+                println!(rt; "no memory")?;
+                return Ok(());
+            }
+        }
+    }
+    Ok(())
+}

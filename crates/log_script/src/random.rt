@@ -1,0 +1,153 @@
+//! Datagrams that look random and follow from a seed: half of them are any bytes, and the others messages whose kind, length and checksum are
+//! right.
+
+ghost use Rattle.std.specs.Prelude.{◌≡◌, ◌<◌, ◌≤◌, length};
+
+use crate::{Given, give};
+use ft_io::NoMemory;
+use logger_store::{LogStore, MsgOut};
+use seq_arith::{Generator, Sum16};
+use std::alloc::Global;
+
+/// How long a message of each kind is, in bytes, from the first kind on: Part and Lens with one byte or length.
+const LENGTHS: [u8; 18] = [
+    16, 18, 18, 64, 26, 27, 26, 28, 32, 32, 31, 31, 28, 31, 22, 22, 24, 22,
+];
+
+/// What came of many datagrams.
+#[derive(Clone, Copy)]
+struct Tally {
+    refused: u32,
+    answered: u32,
+    silent: u32,
+    /// 31 times the number before, and the byte, for each byte of each answer; modulo 2^32.
+    answers: u32,
+}
+
+impl Tally {
+    fn count(&mut self, given: Given, answer: &[u8]) {
+        match given {
+            Given::Refused => self.refused = self.refused.wrapping_add(1),
+            Given::Silent => self.silent = self.silent.wrapping_add(1),
+            Given::Answered => self.answered = self.answered.wrapping_add(1),
+        }
+        if given == Given::Answered {
+            for byte in answer {
+                self.answers = self.answers.wrapping_mul(31).wrapping_add(u32::from(*byte));
+            }
+        }
+    }
+}
+
+/// A number below a bound.
+fn below(generator: &mut Generator, bound: u32) -> u32
+    requires { 0 < bound }
+    ensures { result < bound }
+{
+    generator.draw() % bound
+}
+
+/// Any bytes, at most 100, at the front of `bytes`; answers how many.
+fn any_bytes(generator: &mut Generator, bytes: &mut [u8; 128]) -> usize
+    ensures { result ≤ 100 }
+{
+    let len = below(generator, 101) as usize;
+    for byte in bytes[..len].iter_mut() {
+        *byte = below(generator, 256) as u8;
+    }
+    len
+}
+
+/// A message of a kind from 1 to 18, most of whose numbers are small, at the front of `bytes`; answers how long it is. A Data has up to 69 bytes.
+fn any_message(generator: &mut Generator, boot: u8, bytes: &mut [u8; 128]) -> usize
+    ensures { result ≤ 100 }
+{
+    let kind = below(generator, 18) as usize;
+    let more = if kind == 10 {
+        below(generator, 70) as usize
+    } else {
+        0
+    };
+    let len = (usize::from(LENGTHS[kind]) + more).min(100);
+    let other = below(generator, 16);
+    for byte in bytes[..len].iter_mut() {
+        *byte = if below(generator, 4) == 0 {
+            below(generator, 256) as u8
+        } else {
+            0
+        };
+    }
+    bytes[..16].copy_from_slice(&[
+        0x46,
+        0x54,
+        1,
+        kind as u8 + 1,
+        0,
+        len as u8,
+        0,
+        0,
+        0,
+        0,
+        0,
+        0,
+        0,
+        0,
+        0,
+        boot,
+    ]);
+    if kind != 0 && other == 0 {
+        bytes[15] = boot.wrapping_sub(1);
+    }
+    if kind != 0 && other == 1 {
+        bytes[15] = boot.wrapping_add(1);
+    }
+    let mut sum = Sum16::new();
+    sum.take(&bytes[..len]);
+    bytes[6..8].copy_from_slice(&sum.check().to_be_bytes());
+    len
+}
+
+/// Gives the log so many datagrams from a seed. The boot number of messages grows by one every 2,000 datagrams.
+fn give_all(alloc: Global, log: &mut LogStore, count: u32, seed: u64) -> Result<Tally, NoMemory> {
+    let mut generator = Generator::new(seed);
+    let mut tally = Tally {
+        refused: 0,
+        answered: 0,
+        silent: 0,
+        answers: 0,
+    };
+    let mut bytes = [0u8; 128];
+    let mut out = MsgOut::new();
+    for i in 0..count {
+        let boot = (i / 2_000 % 100) as u8 + 1;
+        let len = if below(&mut generator, 2) == 0 {
+            any_bytes(&mut generator, &mut bytes)
+        } else {
+            any_message(&mut generator, boot, &mut bytes)
+        };
+        let given = give(alloc, log, &bytes[..len], &mut out)?;
+        tally.count(given, out.bytes());
+    }
+    Ok(tally)
+}
+
+/// Gives the log as many datagrams as a line says, and answers what it prints.
+pub(crate) fn give_random(
+    alloc: Global,
+    log: &mut LogStore,
+    text: &str,
+) -> Result<String, NoMemory> {
+    let (count, seed) = text.split_once(' ').unwrap_or((text, ""));
+    let (Ok(count), Ok(seed)) = (count.parse::<u32>(), seed.parse::<u64>()) else {
+        return Ok(format!(in alloc; "no such line")?);
+    };
+    let Tally {
+        refused,
+        answered,
+        silent,
+        answers,
+    } = give_all(alloc, log, count, seed)?;
+    Ok(format!(in alloc;
+        "random {count}: refused {refused} answered {answered} silent {silent} answers {answers}"
+    )?)
+}
