@@ -1,0 +1,33 @@
+-- The scripted client over bytes: what it sends at an event of a schedule, and what it does with bytes that come.
+use Rattle.std.specs.Prelude.{◌≡◌, ℕ, ◌<◌, ◌^◌, ◌++◌, List, take, drop, Some, None, Result, Ok, Err}
+use Rattle.seq_arith.specs.Packet.{Segment}
+use Rattle.seq_arith.specs.PacketGrammar.{reading, spelling}
+use Rattle.seq_arith.specs.declared.BadPacket.{BadPacket}
+use Rattle.ft_model.specs.Client.{Client, Move as Moves, move_of, window_of, refusal_of_move, segment_of, moved, received}
+use Rattle.ft_model.specs.declared.event.Event.{Event}
+use Rattle.ft_model.specs.declared.event.EventWhy.{EventWhy}
+
+-- it makes the move that the event asks for, which it may, and writes that move's packet in front of what the room held
+pub record Makes (before : Client) (event : Event) (room : List ℕ) (count : ℕ) (written : List ℕ) (after : Client) : Type 0 where
+  pub move : Moves
+  pub asked : move_of event ≡ Some move
+  pub allowed : refusal_of_move before move ≡ None
+  pub fits : window_of before event < 2 ^ 16
+  pub packet : written ≡ spelling (segment_of before move (window_of before event)) ++ drop count room
+  -- the packet is read as the move's segment
+  pub read : reading (take count written) ≡ Ok (segment_of before move (window_of before event))
+  pub after_is : after ≡ moved before move (window_of before event)
+
+-- a refusal is the client machine's
+pub record Refuses (client : Client) (event : Event) (why : EventWhy) : Type 0 where
+  pub move : Moves
+  pub asked : move_of event ≡ Some move
+  pub refused : refusal_of_move client move ≡ Some why
+
+-- the client with bytes that come to it: it receives the segment that they say, and drops bytes that say none
+abbrev pub hearing : Client → Result Segment BadPacket → Client
+hearing client (Ok segment) = received client segment
+hearing client (Err bad) = client
+
+abbrev pub delivered : Client → List ℕ → Client
+delivered client bytes = hearing client (reading bytes)

@@ -1,0 +1,141 @@
+//! What the scripted client does with a packet that comes to it (RFC 9293, 3.10.7.3 and 3.10.7.4, as far as a client that never answers goes).
+
+ghost use Rattle.std.specs.Prelude.{◌≡◌, ◌^◌, ◌<◌, pos, ◌+ℤ◌, ◌≤ℤ◌, OnOk, OnErr};
+ghost use Rattle.segment_codec.specs.Value.{segment_of as value_of};
+ghost use Rattle.ft_model.specs.Client as machine;
+ghost use Rattle.peer_client.specs.Scripted.{delivered};
+
+use crate::arrival::{is_acceptable, is_at, number_of, offset_of, part, skipped};
+use crate::client::Client;
+use crate::segment::{counted_text, counts_fin, has_ack, has_rst, has_syn, segment_len};
+use ft_io::NoMemory;
+use ft_model::Phase;
+use segment_codec::{PacketRef, read_packet};
+use std::alloc::Global;
+
+impl Client {
+    /// Takes a packet that comes to the client. Bytes that are no packet change nothing. After `NoMemory` the client is as before.
+    pub fn deliver(&mut self, _alloc: Global, packet: &[u8]) -> Result<(), NoMemory>
+        ensures taken { OnOk result (self.new ≡ delivered self.old packet.now) }
+        ensures kept { OnErr result (self.new ≡ self.old) }
+    {
+        match read_packet(packet) {
+            Ok(segment) => self.receive(&segment),
+            Err(_) => Ok(()),
+        }
+    }
+
+    fn receive(&mut self, segment: &PacketRef<'_>) -> Result<(), NoMemory>
+        ensures taken { OnOk result (self.new ≡ machine.received self.old (value_of segment.now)) }
+        ensures kept { OnErr result (self.new ≡ self.old) }
+    {
+        match self.phase {
+            Phase::Opening => {
+                self.open_by(segment);
+                Ok(())
+            }
+            Phase::Established | Phase::Ended => self.arrive(segment),
+            Phase::New | Phase::Reset => Ok(()),
+        }
+    }
+
+    /// A segment that comes while the SYN is unanswered.
+    fn open_by(&mut self, segment: &PacketRef<'_>)
+        ensures { self.new ≡ machine.opened_by self.old (value_of segment.now) }
+    {
+        if !has_ack(segment) || segment.head.ack.0 != number_of(self.isn, 0) {
+            return;
+        }
+        if has_rst(segment) {
+            self.phase = Phase::Reset;
+        } else if has_syn(segment) {
+            self.phase = Phase::Established;
+            self.sisn = segment.head.seq.0;
+        }
+    }
+
+    /// A segment that comes while the connection stands.
+    fn arrive(&mut self, segment: &PacketRef<'_>) -> Result<(), NoMemory>
+        ensures taken { OnOk result (self.new ≡ machine.arrived self.old (value_of segment.now)) }
+        ensures kept { OnErr result (self.new ≡ self.old) }
+    {
+        let next = self.accepted_units();
+        let room = self.edge.saturating_sub(self.accepted.len() as u64);
+        let first = offset_of(self.sisn, segment.head.seq.0);
+        if !is_acceptable(next, room, first, segment_len(segment)) {
+            return Ok(());
+        }
+        if has_rst(segment) {
+            if is_at(next, first, 0) {
+                self.phase = Phase::Reset;
+            }
+            return Ok(());
+        }
+        if has_syn(segment) || !has_ack(segment) {
+            return Ok(());
+        }
+        self.use_segment(segment)
+    }
+
+    /// An acceptable segment with ACK. One that acknowledges what was not sent is dropped.
+    fn use_segment(&mut self, segment: &PacketRef<'_>) -> Result<(), NoMemory>
+        ensures taken { OnOk result (self.new ≡ machine.used self.old (value_of segment.now)) }
+        ensures kept { OnErr result (self.new ≡ self.old) }
+    {
+        let ack = offset_of(self.isn, segment.head.ack.0);
+        if ack > i64::from(self.sent) {
+            return Ok(());
+        }
+        let first = offset_of(self.sisn, segment.head.seq.0);
+        let text = counted_text(segment);
+        self.use_ack_and_text(ack, first, text)?;
+        self.accept_fin(first, text.len() as u64, counts_fin(segment));
+        Ok(())
+    }
+
+    /// Nothing is acknowledged where there is no memory for the text.
+    #[tactic(auto, using(crate::proofs::Order::ack_or_text_first))]
+    fn use_ack_and_text(&mut self, ack: i64, first: i64, text: &[u8]) -> Result<(), NoMemory>
+        requires { ack ≤ℤ pos self.old.sent }
+        ensures taken { OnOk result (self.new ≡ machine.with_text (machine.with_ack self.old ack) first text.now) }
+        ensures kept { OnErr result (self.new ≡ self.old) }
+    {
+        self.accept_text(first, text)?;
+        self.note_ack(ack);
+        Ok(())
+    }
+
+    /// Text that continues what is accepted is accepted up to the right edge.
+    fn accept_text(&mut self, first: i64, text: &[u8]) -> Result<(), NoMemory>
+        ensures taken { OnOk result (self.new ≡ machine.with_text self.old first text.now) }
+        ensures kept { OnErr result (self.new ≡ self.old) }
+    {
+        let next = self.accepted.len() as u64;
+        if self.phase != Phase::Ended && (first < 0 || first as u64 <= next) {
+            let room = self.edge.saturating_sub(next);
+            self.accepted
+                .extend_from_slice(part(text, skipped(next, first), room))?;
+        }
+        Ok(())
+    }
+
+    fn note_ack(&mut self, ack: i64)
+        requires { ack ≤ℤ pos self.old.sent }
+        ensures { self.new ≡ machine.with_ack self.old ack }
+    {
+        if ack > i64::from(self.acknowledged) {
+            self.acknowledged = ack as u32;
+        }
+    }
+
+    /// A FIN at the next offset, below the right edge, ends the server's stream. It stands `len` behind `first`.
+    fn accept_fin(&mut self, first: i64, len: u64, fin: bool)
+        requires { len < 2 ^ 63 }
+        ensures { self.new ≡ machine.with_fin self.old (first +ℤ pos len) fin }
+    {
+        let next = self.accepted.len() as u64;
+        if fin && self.phase != Phase::Ended && is_at(next, first, len) && next < self.edge {
+            self.phase = Phase::Ended;
+        }
+    }
+}

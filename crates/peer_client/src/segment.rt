@@ -1,0 +1,64 @@
+//! What the flags of a segment that comes say of its text.
+
+ghost use Rattle.std.specs.Prelude.{◌≡◌, ◌≤◌, ◌^◌};
+ghost use Rattle.seq_arith.specs.Packet.{has_fin as fin_lem, has_syn as syn_lem, has_rst as rst_lem, has_ack as ack_lem};
+ghost use Rattle.ft_model.specs.Offset.{text_of, fin_of, length_of};
+ghost use Rattle.segment_codec.specs.Value.{segment_of};
+
+use segment_codec::PacketRef;
+use seq_arith::{ACK, FIN, RST, SYN, has};
+
+fn has_fin(segment: &PacketRef<'_>) -> bool
+    ensures { result ≡ fin_lem (segment_of segment.now) }
+{
+    has(segment.head.flags, FIN)
+}
+
+pub fn has_syn(segment: &PacketRef<'_>) -> bool
+    ensures { result ≡ syn_lem (segment_of segment.now) }
+{
+    has(segment.head.flags, SYN)
+}
+
+pub fn has_rst(segment: &PacketRef<'_>) -> bool
+    ensures { result ≡ rst_lem (segment_of segment.now) }
+{
+    has(segment.head.flags, RST)
+}
+
+pub fn has_ack(segment: &PacketRef<'_>) -> bool
+    ensures { result ≡ ack_lem (segment_of segment.now) }
+{
+    has(segment.head.flags, ACK)
+}
+
+/// The text that counts: none beside a SYN or a RST.
+pub fn counted_text<'a>(segment: &PacketRef<'a>) -> &'a [u8]
+    ensures { result.now ≡ text_of (segment_of segment.now) }
+{
+    if has_syn(segment) || has_rst(segment) {
+        return &[];
+    }
+    segment.payload
+}
+
+/// Whether it ends its sender's stream. A FIN beside a SYN or a RST doesn't count.
+pub fn counts_fin(segment: &PacketRef<'_>) -> bool
+    ensures { result ≡ fin_of (segment_of segment.now) }
+{
+    has_fin(segment) && !(has_syn(segment) || has_rst(segment))
+}
+
+/// SEG.LEN: data and FIN, or the SYN alone; none with a RST (RFC 9293, 3.4).
+pub fn segment_len(segment: &PacketRef<'_>) -> u64
+    ensures value { result ≡ length_of (segment_of segment.now) }
+    ensures within { result ≤ 2 ^ 63 }
+{
+    if has_rst(segment) {
+        return 0;
+    }
+    if has_syn(segment) {
+        return 1;
+    }
+    segment.payload.len() as u64 + u64::from(has_fin(segment))
+}
