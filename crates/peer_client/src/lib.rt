@@ -1,12 +1,14 @@
-//! The clients of a connection, over packets as bytes. A scripted client makes the moves that a schedule names. It stands on the client
-//! machine of the model.
+//! The clients of a connection, over packets as bytes. A scripted client makes the moves that a schedule names; a live one is a TCP of its
+//! own that sends a script and takes the server's bytes. Both stand on the client machine of the model.
 #![tactic(auto)]
 
 pub use client::{Client, Refused};
 pub use ft_model::Phase;
+pub use live::{ClientEnd, LiveClient};
 
 mod arrival;
 mod client;
+mod live;
 mod moves;
 mod receiving;
 mod segment;

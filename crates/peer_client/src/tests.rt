@@ -1,4 +1,4 @@
-//! The scripted client's refusals, and its life as its readers tell it. The client is at 192.0.2.1:40000
+//! The scripted client's refusals, its life as its readers tell it, and a live client's whole connection. The client is at 192.0.2.1:40000
 //! with the number 1000, and the server at 192.0.2.100:7 with the number 5000.
 
 ghost use Rattle.std.specs.Prelude.{◌≤◌, length};
@@ -7,10 +7,11 @@ use super::*;
 use crate::moves::of_event;
 use ft_io::{Addr, Key};
 use ft_model::{Event, EventWhy};
-use segment_codec::{Head, write_packet};
+use segment_codec::{Head, read_packet, write_packet};
 use seq_arith::{ACK, FIN, SYN, Seq};
 use std::alloc::Global;
 use std::test::Fail;
+use tcp_endpoint::Outbox;
 
 const CLIENT: Addr = Addr {
     ip: 0xC000_0201,
@@ -205,5 +206,45 @@ fn a_life_as_its_readers_tell_it(rt: HostRuntime) -> Result<(), Fail> {
     let len = coming(ACK, 5_081, 1_001, &text, &mut out);
     client.deliver(rt.alloc(), &out[..len])?;
     assert_eq!(rt; client.accepted().len(), 100);
+    Ok(())
+}
+
+/// What a segment that goes out says: number, acknowledgement, flags, the segment size that it offers.
+type Going = (u32, u32, u8, Option<u16>);
+
+/// Ends the turn, and says what goes out where it is one segment.
+fn flush(client: &mut LiveClient, out: &mut Outbox) -> Option<Going> {
+    out.clear();
+    client.flush(out);
+    if out.len() != 1 {
+        return None;
+    }
+    let p = read_packet(out.packet(0)).ok()?;
+    Some((p.head.seq.0, p.head.ack.0, p.head.flags, p.head.mss))
+}
+
+#[test]
+fn live_client(rt: HostRuntime) -> Result<(), Fail> {
+    let mut out = Outbox::new(rt.alloc())?;
+    let mut packet = [0u8; 1_500];
+    let mut client = LiveClient::new(rt.alloc(), CLIENT, SERVER, 1_000, Vec::new(rt.alloc()))?;
+    assert_eq!(rt;
+        flush(&mut client, &mut out),
+        Some((1_000, 0, SYN, Some(1_460)))
+    );
+    let len = coming(SYN | ACK, 5_000, 1_001, b"", &mut packet);
+    client.on_packet(&packet[..len]);
+    assert_eq!(rt;
+        flush(&mut client, &mut out),
+        Some((1_001, 5_001, FIN | ACK, None))
+    );
+    assert_eq!(rt; client.outcome(), None);
+    let len = coming(FIN | ACK, 5_001, 1_002, b"", &mut packet);
+    client.on_packet(&packet[..len]);
+    assert_eq!(rt;
+        flush(&mut client, &mut out),
+        Some((1_002, 5_002, ACK, None))
+    );
+    assert_eq!(rt; client.outcome(), Some(ClientEnd::Closed));
     Ok(())
 }

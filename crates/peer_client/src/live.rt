@@ -1,0 +1,224 @@
+//! The live client: an active open of the TCP endpoint that sends a script and hands out what the server sends.
+
+ghost use Rattle.std.specs.Prelude.{◌≡◌, ◌+◌, ◌-◌, ◌^◌, ◌≤◌, ◌==◌, ◌&&◌, ◌||◌, [], ◌++◌, IfOk, length, min, take, drop};
+ghost use Rattle.segment_codec.specs.Value.{segment_of};
+ghost use Rattle.tcp_endpoint.specs.Leaving.{packets};
+ghost use Rattle.tcp_endpoint.specs.Sending.{IsShort};
+ghost use Rattle.tcp_endpoint.specs.States.{has_begun as begun_lem};
+ghost use Rattle.tcp_endpoint.specs.Turning.{after_read};
+ghost use Rattle.peer_client.specs.Live.{new_live, is_of, end_of, first_end, met, heard, ticked, unread, handed, given_up, supplied, closes as closes_lem, shut as shut_lem, before_flush, sent_by, turned};
+
+use ft_io::{Addr, NoMemory};
+use segment_codec::{PacketRef, read_packet};
+use seq_arith::Seq;
+use socket_layer::Socket;
+use std::alloc::Global;
+use std::marker::Model;
+use tcp_endpoint::{Endpoint, Outbox, StateName};
+
+/// The most bytes that the server's stream has.
+const LIMIT: u32 = 1 << 24;
+
+/// How a live client's connection ended.
+#[derive(Clone, Copy, Debug, PartialEq, Eq)]
+pub enum ClientEnd {
+    /// The server acknowledged the client's FIN, and the client accepted the server's.
+    Closed,
+    /// A valid RST came.
+    Reset,
+}
+
+/// A client that is a TCP of its own. It opens a connection to the server, writes its script as room comes, closes behind it, and keeps the
+/// server's bytes until they are accepted. `on_packet` and `on_tick` begin a turn and `flush` ends it, so one flush stands between any two of
+/// them.
+#[derive(Drop)]
+pub struct LiveClient {
+    local: Addr,
+    server: Addr,
+    endpoint: Endpoint,
+    script: Vec<u8>,
+    /// How many bytes of the script the endpoint was given.
+    written: usize,
+    /// How many of the endpoint's unread bytes were handed out.
+    seen: usize,
+    outcome: Option<ClientEnd>,
+}
+
+impl Model for LiveClient {
+    ghost use Rattle.std.specs.Prelude.{◌≤◌, ◌^◌, length};
+    ghost use Rattle.peer_client.specs.Live.{LiveState};
+
+    ghost Value = { LiveState };
+
+    ghost view = { λ c. record { local = c.local; server = c.server; tcb = c.endpoint; script = c.script.items; written = c.written; seen = c.seen; outcome = c.outcome } };
+
+    ghost invariant = { λ c. (length c.script.items ≤ 2 ^ 24) × (c.written ≤ length c.script.items) };
+}
+
+impl LiveClient {
+    /// A client that connects from `local` to `server` with the initial number `isn`. Its script has at most 2^24 bytes. The next flush sends
+    /// the SYN.
+    pub fn new(
+        alloc: Global,
+        local: Addr,
+        server: Addr,
+        isn: u32,
+        script: Vec<u8>,
+    ) -> Result<LiveClient, NoMemory>
+        requires { length script.items ≤ 2 ^ 24 }
+        ensures { IfOk result (λ client. client ≡ new_live local server isn script.items) }
+    {
+        let endpoint = Endpoint::connect(alloc, local, server, Seq(isn), LIMIT)?;
+        Ok(LiveClient {
+            local,
+            server,
+            endpoint,
+            script,
+            written: 0,
+            seen: 0,
+            outcome: None,
+        })
+    }
+
+    /// How its connection ended, if it has. An outcome stays.
+    pub fn outcome(&self) -> Option<ClientEnd>
+        ensures { result ≡ self.now.outcome }
+    {
+        self.outcome
+    }
+
+    /// A datagram comes. Bytes that are no packet from the server to this client are dropped.
+    pub fn on_packet(&mut self, bytes: &[u8])
+        ensures { IsShort self.old.tcb.sending → self.new ≡ heard self.old bytes.now }
+    {
+        if let Ok(packet) = read_packet(bytes) {
+            if self.is_of_connection(packet) {
+                self.meet(packet);
+            }
+        }
+    }
+
+    fn is_of_connection(&self, p: PacketRef<'_>) -> bool
+        ensures { result ≡ is_of self.now.local self.now.server (segment_of p.entry) }
+    {
+        p.head.src == self.server.ip
+            && p.head.sport == self.server.port
+            && p.head.dst == self.local.ip
+            && p.head.dport == self.local.port
+    }
+
+    fn meet(&mut self, p: PacketRef<'_>)
+        requires { length p.payload.now ≤ 65535 }
+        ensures { IsShort self.old.tcb.sending → self.new ≡ met self.old (segment_of p.entry) }
+    {
+        self.endpoint.on_packet(p);
+        self.note_end();
+    }
+
+    /// The first end of the connection is its outcome.
+    fn note_end(&mut self)
+        ensures { self.new ≡ record self.old { outcome = first_end self.old.outcome (end_of self.old.tcb) } }
+    {
+        if self.outcome.is_none() {
+            self.outcome = self.end();
+        }
+    }
+
+    fn end(&self) -> Option<ClientEnd>
+        ensures { result ≡ end_of self.now.tcb }
+    {
+        let state = self.endpoint.state();
+        if state.reset {
+            return Some(ClientEnd::Reset);
+        }
+        match state.name {
+            StateName::TimeWait | StateName::Closed => Some(ClientEnd::Closed),
+            _ => None,
+        }
+    }
+
+    /// A tick passes.
+    pub fn on_tick(&mut self)
+        ensures { self.new ≡ ticked self.old }
+    {
+        self.endpoint.on_tick();
+    }
+
+    /// Copies the next accepted bytes to the front of `buf`, as many as there are and fit, and answers how many. The rest of `buf` stays.
+    pub fn accept(&mut self, buf: &mut [u8]) -> usize
+        ensures count { result ≡ min (length (unread self.old)) (length buf.old) }
+        ensures bytes { buf.new ≡ take result (unread self.old) ++ drop result buf.old }
+        ensures state { self.new ≡ handed self.old result }
+    {
+        if self.endpoint.readable() <= self.seen {
+            return 0;
+        }
+        let count = self.endpoint.peek(self.seen, buf);
+        self.seen += count;
+        count
+    }
+
+    /// Ends the turn: puts into the outbox, which is empty, what goes out.
+    pub fn flush(&mut self, out: &mut Outbox)
+        requires { out.old ≡ [] }
+        ensures state { self.new ≡ turned self.old }
+        ensures sent { out.new ≡ packets (sent_by self.old) }
+    {
+        self.give_up();
+        self.supply();
+        self.shut();
+        self.endpoint.flush(out);
+    }
+
+    /// The endpoint gives up what was handed out.
+    fn give_up(&mut self)
+        ensures { self.new ≡ given_up self.old }
+    {
+        pass_over(&mut self.endpoint, self.seen);
+        self.seen = 0;
+    }
+
+    /// The endpoint takes as much of the script as it has room for.
+    fn supply(&mut self)
+        ensures { self.new ≡ supplied self.old }
+    {
+        self.written += self.endpoint.write(&self.script[self.written..]);
+    }
+
+    /// The endpoint is closed behind the script, once the connection is established.
+    fn shut(&mut self)
+        ensures { self.new ≡ shut_lem self.old }
+    {
+        if self.closes() {
+            self.endpoint.close();
+        }
+    }
+
+    fn closes(&self) -> bool
+        ensures { result ≡ closes_lem self.now }
+    {
+        has_begun(self.endpoint.state().name) && self.script.len() <= self.written
+    }
+}
+
+/// Whether both initial numbers are known.
+fn has_begun(name: StateName) -> bool
+    ensures { result ≡ begun_lem name }
+{
+    !matches!(
+        name,
+        StateName::Closed | StateName::Listen | StateName::SynSent
+    )
+}
+
+/// Reads so many bytes, or all that there are.
+fn pass_over(endpoint: &mut Endpoint, count: usize)
+    ensures { endpoint.new ≡ after_read endpoint.old (min count (length endpoint.old.receiving.unread)) }
+{
+    let mut scratch = [0; 2_048];
+    let mut left = count.min(endpoint.readable());
+    while left > 0 {
+        let most = left.min(2_048);
+        left -= endpoint.read(&mut scratch[..most]);
+    }
+}
