@@ -1,10 +1,9 @@
 -- The live client: an active open of the TCP endpoint, whose user writes a script as room comes, closes behind it, and reads what was accepted.
-use Rattle.std.specs.Prelude.{ℕ, Bool, true, false, ◌+◌, ◌-◌, ◌^◌, ◌==◌, ◌&&◌, ◌||◌, nat_le, min, Option, None, Some, Result, Ok, Err, List, length, take, drop, if◌then◌else◌}
+use Rattle.std.specs.Prelude.{ℕ, Bool, ◌+◌, ◌^◌, ◌==◌, ◌&&◌, ◌||◌, nat_le, min, Option, None, Some, Result, Ok, Err, List, length, take, drop, if◌then◌else◌}
 use Rattle.ft_io.specs.declared.Addr.{Addr}
 use Rattle.seq_arith.specs.Packet.{Segment}
 use Rattle.seq_arith.specs.PacketGrammar.{reading}
 use Rattle.seq_arith.specs.declared.BadPacket.{BadPacket}
-use Rattle.tcp_endpoint.specs.declared.states.StateName.{StateName}
 use Rattle.tcp_endpoint.specs.States.{has_begun, is_closed, is_time_wait}
 use Rattle.tcp_endpoint.specs.Tcb.{Tcb, connecting}
 use Rattle.tcp_endpoint.specs.Arrival.{received}

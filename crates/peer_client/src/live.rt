@@ -1,12 +1,16 @@
 //! The live client: an active open of the TCP endpoint that sends a script and hands out what the server sends.
 
-ghost use Rattle.std.specs.Prelude.{◌≡◌, ◌+◌, ◌-◌, ◌^◌, ◌≤◌, ◌==◌, ◌&&◌, ◌||◌, [], ◌++◌, IfOk, length, min, take, drop};
+ghost use Rattle.std.specs.Prelude.{None, IsSome, ◌≡◌, ◌+◌, ◌-◌, ◌^◌, ◌≤◌, ◌==◌, ◌&&◌, ◌||◌, [], ◌++◌, IfOk, length, min, take, drop};
 ghost use Rattle.segment_codec.specs.Value.{segment_of};
 ghost use Rattle.tcp_endpoint.specs.Leaving.{packets};
 ghost use Rattle.tcp_endpoint.specs.Sending.{IsShort};
 ghost use Rattle.tcp_endpoint.specs.States.{has_begun as begun_lem};
 ghost use Rattle.tcp_endpoint.specs.Turning.{after_read};
 ghost use Rattle.peer_client.specs.Live.{new_live, is_of, end_of, first_end, met, heard, ticked, unread, handed, given_up, supplied, closes as closes_lem, shut as shut_lem, before_flush, sent_by, turned};
+ghost use Rattle.peer_client.specs.Standing.{IsBetween, IsDue, AcksNear, AckFits, receiving, Moves, handed_out, outcome_of};
+ghost use Rattle.seq_arith.specs.PacketGrammar.{reading};
+ghost use Rattle.ft_model.specs.Client.{Client, new_client};
+ghost use Rattle.ft_model.specs.Client.ClientKind.{Live};
 
 use ft_io::{Addr, NoMemory};
 use segment_codec::{PacketRef, read_packet};
@@ -66,7 +70,9 @@ impl LiveClient {
         script: Vec<u8>,
     ) -> Result<LiveClient, NoMemory>
         requires { length script.items ≤ 2 ^ 24 }
-        ensures { IfOk result (λ client. client ≡ new_live local server isn script.items) }
+        ensures made { IfOk result (λ client. client ≡ new_live local server isn script.items) }
+        // A new live client of the model stands beside it.
+        ensures beside { IfOk result (λ client. IsDue client (new_client Live server (record { ip = local.ip; port = local.port }) isn script.items)) }
     {
         let endpoint = Endpoint::connect(alloc, local, server, Seq(isn), LIMIT)?;
         Ok(LiveClient {
@@ -89,7 +95,22 @@ impl LiveClient {
 
     /// A datagram comes. Bytes that are no packet from the server to this client are dropped.
     pub fn on_packet(&mut self, bytes: &[u8])
-        ensures { IsShort self.old.tcb.sending → self.new ≡ heard self.old bytes.now }
+        ensures state { IsShort self.old.tcb.sending → self.new ≡ heard self.old bytes.now }
+        // The client machine receives what the client does ..
+        ensures beside { (c : Client) → IsBetween self.old c → self.old.outcome ≡ None → AcksNear c (reading bytes.now)
+            → IsDue self.new (receiving self.old c (reading bytes.now)) }
+        // .. and has the same outcome. The first one stays.
+        ensures outcome { (c : Client) → IsBetween self.old c → self.old.outcome ≡ None → AcksNear c (reading bytes.now)
+            → self.new.outcome ≡ outcome_of (receiving self.old c (reading bytes.now)) }
+        ensures stays { IsSome self.old.outcome → self.new.outcome ≡ self.old.outcome }
+    {
+        self.hear(bytes);
+    }
+
+    fn hear(&mut self, bytes: &[u8])
+        ensures state { IsShort self.old.tcb.sending → self.new ≡ heard self.old bytes.now }
+        ensures fits { AckFits (reading bytes.now) }
+        ensures stays { IsSome self.old.outcome → self.new.outcome ≡ self.old.outcome }
     {
         if let Ok(packet) = read_packet(bytes) {
             if self.is_of_connection(packet) {
@@ -109,7 +130,8 @@ impl LiveClient {
 
     fn meet(&mut self, p: PacketRef<'_>)
         requires { length p.payload.now ≤ 65535 }
-        ensures { IsShort self.old.tcb.sending → self.new ≡ met self.old (segment_of p.entry) }
+        ensures state { IsShort self.old.tcb.sending → self.new ≡ met self.old (segment_of p.entry) }
+        ensures stays { IsSome self.old.outcome → self.new.outcome ≡ self.old.outcome }
     {
         self.endpoint.on_packet(p);
         self.note_end();
@@ -139,6 +161,13 @@ impl LiveClient {
 
     /// A tick passes.
     pub fn on_tick(&mut self)
+        ensures state { self.new ≡ ticked self.old }
+        ensures beside { (c : Client) → IsBetween self.old c → IsDue self.new c }
+    {
+        self.tick();
+    }
+
+    fn tick(&mut self)
         ensures { self.new ≡ ticked self.old }
     {
         self.endpoint.on_tick();
@@ -146,6 +175,18 @@ impl LiveClient {
 
     /// Copies the next accepted bytes to the front of `buf`, as many as there are and fit, and answers how many. The rest of `buf` stays.
     pub fn accept(&mut self, buf: &mut [u8]) -> usize
+        ensures count { result ≡ min (length (unread self.old)) (length buf.old) }
+        ensures bytes { buf.new ≡ take result (unread self.old) ++ drop result buf.old }
+        ensures state { self.new ≡ handed self.old result }
+        // These are the bytes that the client machine has accepted, in order, behind those that were handed out before.
+        ensures accepted { (c : Client) → IsDue self.old c → unread self.old ≡ drop (handed_out self.old) c.accepted }
+        ensures due { (c : Client) → IsDue self.old c → IsDue self.new c }
+        ensures between { (c : Client) → IsBetween self.old c → IsBetween self.new c }
+    {
+        self.hand_out(buf)
+    }
+
+    fn hand_out(&mut self, buf: &mut [u8]) -> usize
         ensures count { result ≡ min (length (unread self.old)) (length buf.old) }
         ensures bytes { buf.new ≡ take result (unread self.old) ++ drop result buf.old }
         ensures state { self.new ≡ handed self.old result }
@@ -160,6 +201,16 @@ impl LiveClient {
 
     /// Ends the turn: puts into the outbox, which is empty, what goes out.
     pub fn flush(&mut self, out: &mut Outbox)
+        requires { out.old ≡ [] }
+        ensures state { self.new ≡ turned self.old }
+        ensures sent { out.new ≡ packets (sent_by self.old) }
+        // Each of these segments is a move of the client machine, which goes on beside the client until there is an outcome.
+        ensures moves { (c : Client) → IsDue self.old c → Moves self.new (sent_by self.old) c }
+    {
+        self.end_turn(out);
+    }
+
+    fn end_turn(&mut self, out: &mut Outbox)
         requires { out.old ≡ [] }
         ensures state { self.new ≡ turned self.old }
         ensures sent { out.new ≡ packets (sent_by self.old) }

@@ -1,7 +1,16 @@
-use Rattle.std.proofs.Common.{◌≡◌, sym, ap, ◌∙◌}
-use Rattle.segment_codec.specs.Value.{segment_of, seen}
-use Rattle.peer_client.proofs.Order.{payload_is_short}
+use Rattle.std.proofs.Common.{sym, subst}
+use Rattle.seq_arith.specs.PacketGrammar.{reading}
+use Rattle.peer_client.specs.Live.{LiveState}
+use Rattle.peer_client.specs.Standing.{IsDue, receiving}
+use Rattle.peer_client.proofs.Whole.{heard_due, short_between, due_outcome}
 use Rattle.peer_client.proofs.live.LiveClient.on_packet.Goals as goal
 
-pub meet-requires : goal.meet-requires
-meet-requires c = payload_is_short c.args.bytes.now (segment_of c.in-Ok.packet) (sym c.read_packet.ensures ∙ ap seen c.in-Ok.is)
+pub returns-clause-beside : goal.returns-clause-beside
+returns-clause-beside c = λ client between none near.
+    subst (λ (l : LiveState). IsDue l (receiving c.args.self.now client (reading c.args.bytes.now)))
+    (sym (c.hear.ensures.state (short_between c.args.self.now client between)))
+    (heard_due c.args.self.now client (reading c.args.bytes.now) between none near c.hear.ensures.fits)
+
+pub returns-clause-outcome : goal.returns-clause-outcome
+returns-clause-outcome c = λ client between none near.
+    due_outcome c.hear.new.self (receiving c.args.self.now client (reading c.args.bytes.now)) (returns-clause-beside c client between none near)

@@ -1,0 +1,265 @@
+-- The checks on a segment, one by one, in an established connection: the client machine makes the same of it as TCP.
+use Rattle.std.proofs.Common.{◌≡◌, ℕ, ◌≤◌, ◌+◌, ◌-◌, ◌^◌, Bool, true, false, not, [], length, refl, sym, ap, subst, arith, ◌∙◌}
+use Rattle.std.specs.Prelude.{ℤ, pos, ◌+ℤ◌, ◌-ℤ◌, ◌≤ℤ◌, ◌&&◌, ◌||◌, nat_lt, int_lt, if◌then◌else◌}
+use Rattle.std.proofs.lemmas.Int.{ints}
+use Rattle.std.proofs.lemmas.Bool.{false≢true}
+use Rattle.seq_arith.specs.Arrival.{int_eq, is_acceptable}
+use Rattle.seq_arith.specs.Offset.{length_of, first_of, ack_of, text_of, fin_of, one_if}
+use Rattle.seq_arith.specs.Packet.{Segment, has_fin, has_syn, has_rst, has_ack}
+use Rattle.tcp_buffers.specs.Near.{is_ahead}
+use Rattle.tcp_endpoint.specs.declared.states.StateName.{StateName}
+use Rattle.tcp_endpoint.specs.declared.states.StateName.TheVariants.{Closed}
+use Rattle.tcp_endpoint.specs.States.{after_fin, after_fin_acked}
+use Rattle.tcp_endpoint.specs.Receiving.{Receiving, next, taken, window, receive_edge, with_segment}
+use Rattle.tcp_endpoint.specs.Sending.{Sending, acknowledged, fin_acked}
+use Rattle.tcp_endpoint.specs.Tcb.{Tcb}
+use Rattle.tcp_endpoint.specs.Arrival.{first, ack_at, owing_if, killed, entering, with_text_and_fin, with_fin_acked, with_first_ack, with_ack, check_ack, check_syn, check_rst, waiting_again, check_place, in_others}
+use Rattle.ft_model.specs.Client as machine
+use Rattle.ft_model.specs.Client.{Client, is_ended, is_open, next_of, room_of}
+use Rattle.ft_model.specs.declared.phase.Phase.TheVariants.{Reset}
+use Rattle.endpoint_laws.proofs.EndingLaw.{holds_if}
+use Rattle.peer_client.specs.Standing.{Hears, Sends}
+use Rattle.peer_client.proofs.Leaves.{left_true, right_true}
+use Rattle.peer_client.proofs.Comes.{both_if, and_true, Heard, segment_heard, ack_sends, ahead_is}
+
+-- an endpoint and the machine after some of the checks, with those before them
+pub record Keeps (e : Tcb) (c : Client) (written : ℕ) (t : Tcb) (d : Client) : Type 0 where
+  pub local : t.local ≡ e.local
+  pub remote : t.remote ≡ e.remote
+  pub iss : t.sending.iss ≡ e.sending.iss
+  pub opened : t.sending.opened ≡ e.sending.opened
+  pub reset : t.reset ≡ e.reset
+  pub answer : t.answer ≡ e.answer
+  pub told_next : t.told_next ≡ e.told_next
+  pub told_edge : t.told_edge ≡ e.told_edge
+  pub read : t.receiving.read ≡ e.receiving.read
+  pub limit : t.receiving.limit ≡ e.receiving.limit
+  pub grows : taken e.receiving ≤ taken t.receiving
+  pub fin : e.receiving.fin ≡ true → t.receiving.fin ≡ true
+  pub hears : Hears t.receiving d
+  pub sends : Sends t.sending written d
+  pub same : d ≡ record c { phase = d.phase; acknowledged = d.acknowledged; accepted = d.accepted }
+  pub phase : is_open d.phase ≡ true
+
+-- what may go on before a segment comes
+pub record Before (e : Tcb) (c : Client) (written : ℕ) : Type 0 where
+  pub hears : Hears e.receiving c
+  pub sends : Sends e.sending written c
+  pub iss : e.sending.iss ≡ c.isn
+  pub phase : is_open c.phase ≡ true
+  pub edge : c.edge ≡ receive_edge e.receiving
+  pub opened : e.sending.opened ≡ true
+
+kept : (e : Tcb) (c : Client) (written : ℕ) (name : StateName) (owed : Bool) (wait : ℕ) → Before e c written
+    → Keeps e c written (record e { name = name; owed = owed; wait = wait }) c
+kept e c written name owed wait b = record {
+  local = refl;
+  remote = refl;
+  iss = refl;
+  opened = refl;
+  reset = refl;
+  answer = refl;
+  told_next = refl;
+  told_edge = refl;
+  read = refl;
+  limit = refl;
+  grows = omega arith;
+  fin = λ k. k;
+  hears = b.hears;
+  sends = b.sends;
+  same = refl;
+  phase = b.phase;
+}
+
+-- an acknowledgement that isn't beyond
+ack_kept : (e : Tcb) (c : Client) (written : ℕ) (name : StateName) (owed : Bool) (wait seq room : ℕ) (ack : ℤ) → Before e c written → int_lt (pos e.sending.sent) ack ≡ false
+    → Keeps e c written (record e { name = name; owed = owed; wait = wait; sending = acknowledged e.sending seq ack room }) (machine.with_ack c ack)
+unfolding acknowledged
+ack_kept e c written name owed wait seq room ack b sent = record {
+  local = refl;
+  remote = refl;
+  iss = refl;
+  opened = refl;
+  reset = refl;
+  answer = refl;
+  told_next = refl;
+  told_edge = refl;
+  read = refl;
+  limit = refl;
+  grows = omega arith;
+  fin = λ k. k;
+  hears = record {
+    sisn = b.hears.sisn;
+    limit = b.hears.limit;
+    count = b.hears.count;
+    rest = b.hears.rest;
+    fin = b.hears.fin;
+    within = b.hears.within;
+    queued = b.hears.queued;
+  };
+  sends = ack_sends e.sending seq ack room written c sent b.sends;
+  same = refl;
+  phase = b.phase;
+}
+
+-- text and FIN
+sends_heard : (s : Sending) (written : ℕ) (d d' : Client) → d' ≡ record d { phase = d'.phase; accepted = d'.accepted } → Sends s written d → Sends s written d'
+sends_heard s written d d' same h =
+    subst (λ (x : Client). Sends s written x) (sym same) (record {
+      sent = h.sent;
+      acknowledged = h.acknowledged;
+      held = h.held;
+      order = h.order;
+      wl2 = h.wl2;
+      within = h.within;
+      script = h.script;
+      text = h.text;
+      ended = h.ended;
+      shut = h.shut;
+      least = h.least;
+      most = h.most;
+    })
+
+heard_kept : (e : Tcb) (c : Client) (written : ℕ) (x : Tcb) (d d' : Client) (r : Receiving) (name : StateName) (owed : Bool) (wait : ℕ) → Keeps e c written x d
+    → Heard x.receiving d r d' → Keeps e c written (record x { receiving = r; name = name; owed = owed; wait = wait }) d'
+heard_kept e c written x d d' r name owed wait k h = record {
+  local = k.local;
+  remote = k.remote;
+  iss = k.iss;
+  opened = k.opened;
+  reset = k.reset;
+  answer = k.answer;
+  told_next = k.told_next;
+  told_edge = k.told_edge;
+  read = h.read ∙ k.read;
+  limit = h.limit ∙ k.limit;
+  grows = omega (arith, k.grows, h.grows);
+  fin = λ f. h.keeps (k.fin f);
+  hears = h.hears;
+  sends = sends_heard x.sending written d d' h.same k.sends;
+  same = h.same
+      ∙ (λ i. record (k.same i) { phase = d'.phase; accepted = d'.accepted })
+      ∙ (λ i. record c { phase = d'.phase; acknowledged = ap (λ (y : Client). y.acknowledged) (sym h.same) i; accepted = d'.accepted });
+  phase = h.phase;
+}
+
+text_kept : (e : Tcb) (c : Client) (written : ℕ) (x : Tcb) (d : Client) (p : Segment) → has_syn p ≡ false → has_rst p ≡ false → d.edge ≡ receive_edge x.receiving
+    → Keeps e c written x d
+    → Keeps e c written (with_text_and_fin x p)
+    (machine.with_fin (machine.with_text d (first_of d.sisn p) (text_of p)) (first_of d.sisn p +ℤ pos (length (text_of p))) (fin_of p))
+unfolding with_text_and_fin
+text_kept e c written x d p syn rst edge k =
+    let z : ℤ = first x p in
+    let r : Receiving = with_segment x.receiving z p.payload (has_fin p) in
+    let text : p.payload ≡ text_of p = λ i. if sym syn i || sym rst i then [] else p.payload in
+    let fin : has_fin p ≡ fin_of p = sym (and_true (has_fin p)) ∙ (λ i. has_fin p && not (sym syn i || sym rst i)) in
+    let d' : Client = machine.with_fin (machine.with_text d (first_of d.sisn p) (text_of p)) (first_of d.sisn p +ℤ pos (length (text_of p))) (fin_of p) in
+    let args : machine.with_fin (machine.with_text d z p.payload) (z +ℤ pos (length p.payload)) (has_fin p) ≡ d' =
+    λ i. machine.with_fin (machine.with_text d (first_of (sym k.hears.sisn i) p) (text i)) (first_of (sym k.hears.sisn i) p +ℤ pos (length (text i))) (fin i) in
+    let h : Heard x.receiving d r d' =
+    subst (λ (y : Client). Heard x.receiving d r y) args (segment_heard x.receiving d z p.payload (has_fin p) k.hears k.phase edge) in
+    let taking : Tcb = record x { receiving = r; owed = x.owed || int_lt (pos (next x.receiving)) z } in
+    holds_if (λ (t : Tcb). Keeps e c written t d') (r.fin && not x.receiving.fin) (entering (after_fin x.name) taking) taking
+    (λ _. heard_kept e c written x d d' r (after_fin x.name) taking.owed (entering (after_fin x.name) taking).wait k h)
+    (λ _. heard_kept e c written x d d' r x.name taking.owed x.wait k h)
+
+-- fifth check
+pub few_sent : (s : Sending) (written : ℕ) (c : Client) (b : Bool) → s.fin_sent ≡ b → Sends s written c → s.sent ≤ 2 ^ 24 + 1
+few_sent s written c true k h = omega (arith, (h.ended k).1, h.within, h.script)
+few_sent s written c false k h = omega (arith, h.text k, h.within, h.script)
+
+acked_kept : (e : Tcb) (c : Client) (written : ℕ) (e1 : Tcb) (owed : Bool) (wait : ℕ) (p : Segment) → e1 ≡ record e { owed = owed; wait = wait } → has_syn p ≡ false → has_rst p ≡ false
+    → (pos 0 -ℤ pos (2 ^ 30)) ≤ℤ ack_of c.isn p → Before e c written → Keeps e c written (with_ack e1 p) (machine.used c p)
+unfolding with_ack with_fin_acked
+acked_kept e c written e1 owed wait p is syn rst near b =
+    let near_at : (pos 0 -ℤ pos (2 ^ 30)) ≤ℤ ack_at e p = subst (λ n. (pos 0 -ℤ pos (2 ^ 30)) ≤ℤ ack_of n p) (sym b.iss) near in
+    let e2 : Tcb = record e { owed = owed; wait = wait } in
+    let m : Tcb = record e2 { sending = acknowledged e.sending p.head.seq (ack_at e p) p.head.window } in
+    let few : e.sending.sent ≤ 2 ^ 24 + 1 = few_sent e.sending written c e.sending.fin_sent refl b.sends in
+    let later : ℕ → Client = λ n. machine.with_fin (machine.with_text (machine.with_ack c (ack_of n p)) (first_of c.sisn p) (text_of p))
+    (first_of c.sisn p +ℤ pos (length (text_of p))) (fin_of p) in
+    subst (λ (t : Tcb). Keeps e c written (with_ack t p) (machine.used c p)) (sym is)
+    (both_if (λ (t : Tcb) (d : Client). Keeps e c written t d) (is_ahead e.sending.sent (ack_at e p)) (int_lt (pos c.sent) (ack_of c.isn p)) (owing_if true e2) _ c (later c.isn)
+    (ahead_is e.sending.sent (ack_at e p) few near_at ∙ (λ i. int_lt (pos (sym b.sends.sent i)) (ack_of (b.iss i) p)))
+    (λ k. kept e c written e.name (owed || true) wait b)
+    (λ k.
+    let within : int_lt (pos e.sending.sent) (ack_at e p) ≡ false = sym (ahead_is e.sending.sent (ack_at e p) few near_at) ∙ k in
+    subst (λ n. Keeps e c written (with_text_and_fin (if fin_acked m.sending then entering (after_fin_acked m.name) m else m) p) (later n)) b.iss
+    (holds_if (λ (x : Tcb). Keeps e c written (with_text_and_fin x p) (later e.sending.iss)) (fin_acked m.sending) (entering (after_fin_acked m.name) m) m
+    (λ q. text_kept e c written (entering (after_fin_acked m.name) m) (machine.with_ack c (ack_at e p)) p syn rst b.edge
+    (ack_kept e c written (after_fin_acked e.name) owed (entering (after_fin_acked m.name) m).wait p.head.seq p.head.window (ack_at e p) b within))
+    (λ q. text_kept e c written m (machine.with_ack c (ack_at e p)) p syn rst b.edge
+    (ack_kept e c written e.name owed wait p.head.seq p.head.window (ack_at e p) b within)))))
+
+-- a SYN and a segment without ACK change nothing of this
+syn_or_ack : (P : Tcb → Client → Type 0) (syn ack : Bool) (a x y : Tcb) (c u : Client) → P a c → P y c → (syn ≡ false → ack ≡ true → P x u)
+    → P (if syn then a else (if ack then x else y)) (if syn || not ack then c else u)
+syn_or_ack P true ack a x y c u h g k = h
+syn_or_ack P false true a x y c u h g k = k refl refl
+syn_or_ack P false false a x y c u h g k = g
+
+accept_alike : (e : Tcb) (c : Client) (written : ℕ) (p : Segment) → Before e c written
+    → is_acceptable (next e.receiving) (window e.receiving) (first e p) (length_of p) ≡ is_acceptable (next_of c) (room_of c) (first_of c.sisn p) (length_of p)
+accept_alike e c written p b = λ i.
+    is_acceptable (sym b.hears.count i + one_if (sym b.hears.fin i)) (sym b.edge i - sym b.hears.count i) (first_of (sym b.hears.sisn i) p) (length_of p)
+
+at_alike : (e : Tcb) (c : Client) (written : ℕ) (p : Segment) → Before e c written
+    → int_eq (first e p) (pos (next e.receiving)) ≡ int_eq (first_of c.sisn p) (pos (next_of c))
+at_alike e c written p b = λ i. int_eq (first_of (sym b.hears.sisn i) p) (pos (sym b.hears.count i + one_if (sym b.hears.fin i)))
+
+pub others_kept : (e : Tcb) (c : Client) (written : ℕ) (p : Segment) → (has_rst p && int_eq (first e p) (pos (next e.receiving))) ≡ false
+    → (has_ack p ≡ true → (pos 0 -ℤ pos (2 ^ 30)) ≤ℤ ack_of c.isn p) → Before e c written → Keeps e c written (in_others e p) (machine.arrived c p)
+unfolding in_others check_place check_rst check_syn check_ack waiting_again
+others_kept e c written p unreset near b =
+    let P : Tcb → Client → Type 0 = λ t d. Keeps e c written t d in
+    let e0 : Tcb = waiting_again e p in
+    let takes : Bool = nat_lt 0 (length_of p) in
+    both_if P (is_acceptable (next e.receiving) (window e.receiving) (first e p) (length_of p)) (is_acceptable (next_of c) (room_of c) (first_of c.sisn p) (length_of p))
+    (check_rst e0 p) (owing_if (not (has_rst p)) e0) _ c (accept_alike e c written p b)
+    (λ acceptable. both_if P (has_rst p) (has_rst p) _ (check_syn e0 p) _ _ refl
+    (λ rst. both_if P (int_eq (first e p) (pos (next e.receiving))) (int_eq (first_of c.sisn p) (pos (next_of c))) (killed e0) (owing_if true e0) (record c { phase = Reset }) c
+    (at_alike e c written p b)
+    (λ k. absurd (false≢true (sym unreset ∙ (λ i. rst i && k i))))
+    (λ k. kept e c written e.name (e.owed || true) e0.wait b))
+    (λ rst. syn_or_ack P (has_syn p) (has_ack p) (owing_if true e0) _ (owing_if takes e0) c (machine.used c p)
+    (kept e c written e.name (e.owed || true) e0.wait b)
+    (kept e c written e.name (e.owed || takes) e0.wait b)
+    (λ syn ack. holds_if (λ (t : Tcb). P t (machine.used c p)) e.sending.opened (with_ack (owing_if takes e0) p) (with_first_ack (owing_if takes e0) p)
+    (λ k. acked_kept e c written (owing_if takes e0) (e.owed || takes) e0.wait p refl syn rst (near ack) b)
+    (λ k. absurd (false≢true (sym k ∙ b.opened))))))
+    (λ unacceptable. kept e c written e.name (e.owed || not (has_rst p)) e0.wait b)
+
+-- a RST at exactly the next number
+pub record Resets (e : Tcb) (c : Client) (t : Tcb) (d : Client) : Type 0 where
+  pub name : t.name ≡ Closed
+  pub reset : t.reset ≡ true
+  pub answer : t.answer ≡ e.answer
+  pub phase : d.phase ≡ Reset
+  pub receiving : t.receiving ≡ e.receiving
+  pub accepted : d.accepted ≡ c.accepted
+
+next_acceptable : (n w : ℕ) (z : ℤ) → int_eq z (pos n) ≡ true → is_acceptable n w z 0 ≡ true
+next_acceptable n w z h = grind (arith, ints, h)
+
+rst_length : (p : Segment) → has_rst p ≡ true → length_of p ≡ 0
+rst_length p h = ap (λ b. if b then 0 else (if has_syn p then 1 else length p.payload + one_if (has_fin p))) h
+
+pub others_reset : (e : Tcb) (c : Client) (written : ℕ) (p : Segment) → (has_rst p && int_eq (first e p) (pos (next e.receiving))) ≡ true → Before e c written
+    → Resets e c (in_others e p) (machine.arrived c p)
+unfolding in_others check_place check_rst waiting_again
+others_reset e c written p resets b =
+    let P : Tcb → Client → Type 0 = λ t d. Resets e c t d in
+    let rst : has_rst p ≡ true = left_true (has_rst p) (int_eq (first e p) (pos (next e.receiving))) resets in
+    let at : int_eq (first e p) (pos (next e.receiving)) ≡ true = right_true (has_rst p) (int_eq (first e p) (pos (next e.receiving))) resets in
+    let in_window : is_acceptable (next e.receiving) (window e.receiving) (first e p) (length_of p) ≡ true =
+    ap (is_acceptable (next e.receiving) (window e.receiving) (first e p)) (rst_length p rst) ∙ next_acceptable (next e.receiving) (window e.receiving) (first e p) at in
+    let e0 : Tcb = waiting_again e p in
+    both_if P (is_acceptable (next e.receiving) (window e.receiving) (first e p) (length_of p)) (is_acceptable (next_of c) (room_of c) (first_of c.sisn p) (length_of p))
+    (check_rst e0 p) (owing_if (not (has_rst p)) e0) _ c (accept_alike e c written p b)
+    (λ acceptable. both_if P (has_rst p) (has_rst p) _ (check_syn e0 p) _ _ refl
+    (λ k. both_if P (int_eq (first e p) (pos (next e.receiving))) (int_eq (first_of c.sisn p) (pos (next_of c))) (killed e0) (owing_if true e0) (record c { phase = Reset }) c
+    (at_alike e c written p b)
+    (λ q. record { name = refl; reset = refl; answer = refl; phase = refl; receiving = refl; accepted = refl })
+    (λ q. absurd (false≢true (sym q ∙ at))))
+    (λ k. absurd (false≢true (sym k ∙ rst))))
+    (λ k. absurd (false≢true (sym k ∙ in_window)))

@@ -1,0 +1,342 @@
+-- Before its SYN is answered a live client sends its SYN and refuses wrong acknowledgements, as the client machine may.
+use Rattle.std.proofs.Common.{◌≡◌, ◌⊎◌, inl, inr, ℕ, ◌<◌, ◌≤◌, ◌+◌, ◌-◌, ◌^◌, Bool, true, false, not, Option, None, Some, List, [], ◌∷◌, ◌++◌, length, length-drop, take, drop, max, min, refl, sym, ap, subst, arith, ◌∙◌}
+use Rattle.std.specs.Prelude.{◌&&◌, ◌||◌, nat_lt, nat_le, if◌then◌else◌}
+use Rattle.std.proofs.lemmas.Bool.{false≢true}
+use Rattle.ft_io.specs.declared.Addr.{Addr}
+use Rattle.seq_arith.specs.Packet.{Segment}
+use Rattle.segment_codec.specs.Value.{said}
+use Rattle.segment_codec.specs.declared.Head.{Head}
+use Rattle.tcp_endpoint.specs.declared.states.StateName.TheVariants.{SynSent}
+use Rattle.tcp_endpoint.specs.States.{has_begun}
+use Rattle.tcp_endpoint.specs.Receiving.{Receiving, window, receive_edge, read_out}
+use Rattle.tcp_endpoint.specs.Sending.{Sending}
+use Rattle.tcp_endpoint.specs.Tcb.{Tcb, connecting, listening}
+use Rattle.tcp_endpoint.specs.Turning.{closing, write_room}
+use Rattle.tcp_endpoint.specs.Leaving.{head_at, opening_segment, again_out, again_segment, answer_out, answer_segments, probe_out, with_probe, text_out, texts, with_text_sent, fin_out, with_fin_out, full_out, after_full, is_owed, leaving, is_timed, announced, settled, flushed}
+use Rattle.ft_model.specs.Client.{Client, IsMove, new_client, is_new, is_opening, is_ended, is_live}
+use Rattle.ft_model.specs.Client.ClientKind.{Live}
+use Rattle.ft_model.specs.Client.Move.{Syn, Refuse}
+use Rattle.ft_model.specs.declared.phase.Phase.{Phase}
+use Rattle.ft_model.specs.declared.phase.Phase.TheVariants as phases
+use Rattle.peer_client.specs.Live.{LiveState, new_live, given_up, supplied, closes, before_flush, sent_by, turned}
+use Rattle.peer_client.specs.Standing.{AreMoves, IsSame, Sends, Refuses, AnswersBy, Waits, IsWaiting}
+use Rattle.peer_client.proofs.Spoken.{moves_on}
+use Rattle.peer_client.proofs.TurnEnds.{read_hears, write_sends, room_none, timed_sends, timed_same}
+
+-- at the start
+pub starts : (local server : Addr) (isn : ℕ) (script : List ℕ) → length script ≤ 2 ^ 24
+    → Waits (new_live local server isn script) (new_client Live server (record { ip = local.ip; port = local.port }) isn script)
+unfolding connecting listening
+starts local server isn script short = record {
+  agrees = record {
+    same = record { kind = refl; ip = refl; port = refl; server = refl; script = refl; isn = refl; local = refl; remote = refl };
+    hears = record { sisn = refl; limit = omega arith; count = refl; rest = refl; fin = refl; within = omega arith; queued = omega arith };
+    sends = record {
+      sent = refl;
+      acknowledged = refl;
+      held = refl;
+      order = omega arith;
+      wl2 = omega arith;
+      within = omega arith;
+      script = short;
+      text = λ k. omega arith;
+      ended = λ k. absurd (false≢true k);
+      shut = λ k. absurd (false≢true k);
+      least = omega arith;
+      most = omega arith;
+    };
+  };
+  name = refl;
+  phase = inl refl;
+  due = λ k. refl;
+  opened = refl;
+  closed = refl;
+  nothing_sent = refl;
+  nothing_taken = refl;
+  unreset = refl;
+  probe = refl;
+  answer = tt;
+  edge = omega arith;
+  told = λ k. absurd (false≢true (ap is_opening k));
+  outcome = refl;
+}
+
+-- before the flush
+supplied_waits : (l : LiveState) (c : Client) → Waits l c → Waits (supplied (given_up l)) c
+supplied_waits l c h =
+    let n : ℕ = min l.seen (length l.tcb.receiving.unread) in
+    let few : n ≤ length l.tcb.receiving.unread = omega arith in
+    let none : n ≡ 0 = omega (arith, few, h.nothing_taken) in
+    let u : Tcb = (given_up l).tcb in
+    let room : ℕ = write_room u in
+    let full : u.sending.closed ≡ true → room ≡ 0 = λ k. room_none u.sending.closed u.reset (65535 - length u.sending.held) k in
+    let S : List ℕ → Type 0 = λ script.
+    Sends (record u.sending { held = u.sending.held ++ take room (drop l.written script) }) (l.written + length (take room (drop l.written script))) c in
+    let same : IsSame l c = h.agrees.same in
+    let edge : receive_edge (read_out l.tcb.receiving n) ≡ receive_edge l.tcb.receiving = omega (arith, none) in
+    record {
+      agrees = record {
+        same = record {
+          kind = same.kind;
+          ip = same.ip;
+          port = same.port;
+          server = same.server;
+          script = same.script;
+          isn = same.isn;
+          local = same.local;
+          remote = same.remote;
+        };
+        hears = read_hears l.tcb.receiving c n few h.agrees.hears;
+        sends = subst S same.script (write_sends u.sending l.written room c full h.agrees.sends);
+      };
+      name = h.name;
+      phase = h.phase;
+      due = h.due;
+      opened = h.opened;
+      closed = h.closed;
+      nothing_sent = h.nothing_sent;
+      nothing_taken = omega (arith, h.nothing_taken, length-drop n l.tcb.receiving.unread, none);
+      unreset = h.unreset;
+      probe = h.probe;
+      answer = answers_still l (supplied (given_up l)) c l.tcb.answer refl refl h.answer;
+      edge = omega (arith, h.edge, edge);
+      told = λ k. h.told k ∙ sym edge;
+      outcome = h.outcome;
+    }
+  where
+    answers_still : (l m : LiveState) (c : Client) (answer : Option Head) → l.local ≡ m.local → l.server ≡ m.server → AnswersBy l c answer → AnswersBy m c answer
+    answers_still l m c None a b h = tt
+    answers_still l m c (Some head) a b h = (
+      h.0,
+      record {
+        src = h.1.src ∙ ap (λ (x : Addr). x.ip) a;
+        dst = h.1.dst ∙ ap (λ (x : Addr). x.ip) b;
+        sport = h.1.sport ∙ ap (λ (x : Addr). x.port) a;
+        dport = h.1.dport ∙ ap (λ (x : Addr). x.port) b;
+        seq = h.1.seq;
+        wrong = h.1.wrong;
+        ack = h.1.ack;
+        flags = h.1.flags;
+        window = h.1.window;
+        mss = h.1.mss;
+      },
+    )
+
+still_open : (l : LiveState) (c : Client) → Waits (supplied (given_up l)) c → before_flush l ≡ supplied (given_up l)
+still_open l c h =
+    let m : LiveState = supplied (given_up l) in
+    let off : closes m ≡ false = ap (λ n. has_begun n && nat_le (length m.script) m.written) h.name in
+    λ i. record m { tcb = if off i then closing m.tcb else m.tcb }
+
+-- an endpoint in SYN-SENT, by what is due
+abbrev syn_sent : Tcb → Bool → Option Head → Tcb
+syn_sent u again answer = record u { name = SynSent; again = again; probe = false; answer = answer; sending = record u.sending { opened = false } }
+
+abbrev syn_if : Bool → Tcb → List Segment
+syn_if again u = if again then opening_segment u ∷ [] else []
+
+syn_sent_leaves : (u : Tcb) (again : Bool) (answer : Option Head)
+    → leaving (syn_sent u again answer) ≡ answer_segments answer ++ syn_if again (syn_sent u again answer)
+unfolding leaving full_out answer_out again_out again_segment probe_out with_probe text_out texts with_text_sent fin_out is_owed after_full with_fin_out
+syn_sent_leaves u true None = refl
+syn_sent_leaves u false None = refl
+syn_sent_leaves u true (Some head) = refl
+syn_sent_leaves u false (Some head) = refl
+
+syn_sent_is : (l : LiveState) (c : Client) → Waits l c → l.tcb ≡ syn_sent l.tcb l.tcb.again l.tcb.answer
+syn_sent_is l c h = λ i. record l.tcb { name = h.name i; probe = h.probe i; sending = record l.tcb.sending { opened = h.opened i } }
+
+-- the refusal is a move
+abbrev refused : Client → ℕ → Client
+refused c edge = record c { edge = edge }
+
+refuse_move : (l : LiveState) (c : Client) (head : Head) → Waits l c → is_opening c.phase ≡ true → Refuses l c head
+    → IsMove c (record { head = said head; payload = [] }) c
+refuse_move l c head h opening r =
+    let none : max c.edge (length c.accepted + 0) ≡ c.edge = omega (arith, h.agrees.hears.count, h.nothing_taken) in
+    record {
+      move = Refuse head.seq.0;
+      window = 0;
+      may = (λ i. is_live (h.agrees.same.kind i) && opening i && (nat_lt head.seq.0 (2 ^ 32) && not (r.wrong i))) ∙ in_range head.seq.0 r.seq;
+      fits = refl;
+      segment_is = λ i. record {
+        head = record {
+          src = (r.src ∙ sym h.agrees.same.ip) i;
+          dst = (r.dst ∙ ap (λ (a : Addr). a.ip) (sym h.agrees.same.server)) i;
+          sport = (r.sport ∙ sym h.agrees.same.port) i;
+          dport = (r.dport ∙ ap (λ (a : Addr). a.port) (sym h.agrees.same.server)) i;
+          seq = head.seq.0;
+          ack = r.ack i;
+          flags = r.flags i;
+          window = r.window i;
+          mss = r.mss i;
+        };
+        payload = [];
+      };
+      after_is = λ i. refused c (sym none i);
+    }
+  where
+    in_range : (n : ℕ) → n < 2 ^ 32 → (true && true && (nat_lt n (2 ^ 32) && true)) ≡ true
+    in_range n h = grind arith
+
+-- the SYN is a move
+abbrev opened_at : Client → ℕ → Client
+opened_at c edge = record c { phase = phases.Opening; edge = edge }
+
+may_begin : (phase : Phase) → (phase ≡ phases.New) ⊎ (phase ≡ phases.Opening) → (is_new phase || is_opening phase) ≡ true
+may_begin phase (inl h) = ap (λ p. is_new p || is_opening p) h
+may_begin phase (inr h) = ap (λ p. is_new p || is_opening p) h
+
+syn_move : (l : LiveState) (c : Client) → Waits l c → IsMove c (opening_segment (syn_sent l.tcb true l.tcb.answer)) (opened_at c (receive_edge l.tcb.receiving))
+unfolding opening_segment head_at
+syn_move l c h =
+    let r : Receiving = l.tcb.receiving in
+    let most : max c.edge (length c.accepted + window r) ≡ receive_edge r =
+    omega (arith, h.agrees.hears.count, h.agrees.hears.within, h.agrees.hears.queued, h.edge) in
+    record {
+      move = Syn (Some 1460);
+      window = window r;
+      may = λ i. (is_live (h.agrees.same.kind i) && true) && may_begin c.phase h.phase i && true;
+      fits = below_is (window r) (omega (arith));
+      segment_is = λ i. record {
+        head = record {
+          src = (ap (λ (a : Addr). a.ip) h.agrees.same.local ∙ sym h.agrees.same.ip) i;
+          dst = (ap (λ (a : Addr). a.ip) (h.agrees.same.remote ∙ sym h.agrees.same.server)) i;
+          sport = (ap (λ (a : Addr). a.port) h.agrees.same.local ∙ sym h.agrees.same.port) i;
+          dport = (ap (λ (a : Addr). a.port) (h.agrees.same.remote ∙ sym h.agrees.same.server)) i;
+          seq = sym h.agrees.same.isn i;
+          ack = 0;
+          flags = 2;
+          window = window r;
+          mss = Some 1460;
+        };
+        payload = [];
+      };
+      after_is = λ i. opened_at c (sym most i);
+    }
+  where
+    below_is : (n : ℕ) → n < 2 ^ 16 → nat_lt n (2 ^ 16) ≡ true
+    below_is n h = grind arith
+
+-- what answers and the SYN, one after another
+answered_moves : (l : LiveState) (c : Client) (answer : Option Head) → Waits l c → AnswersBy l c answer → AreMoves c (answer_segments answer) c
+answered_moves l c None h a = refl
+answered_moves l c (Some head) h a = (c, refuse_move l c head h a.0 a.1, refl)
+
+opening_is : (phase : Phase) → (phase ≡ phases.New) ⊎ (phase ≡ phases.Opening) → (phase ≡ phases.New → ⊥) → phase ≡ phases.Opening
+opening_is phase (inl h) never = absurd (never h)
+opening_is phase (inr h) never = h
+
+syn_moves : (l : LiveState) (c : Client) (again : Bool) → l.tcb.again ≡ again → Waits l c
+    → AreMoves c (syn_if again (syn_sent l.tcb again l.tcb.answer)) (opened_at c (receive_edge l.tcb.receiving))
+syn_moves l c true is h = (opened_at c (receive_edge l.tcb.receiving), syn_move l c h, refl)
+syn_moves l c false is h =
+    let phase : c.phase ≡ phases.Opening = opening_is c.phase h.phase (λ k. false≢true (sym is ∙ h.due k)) in
+    λ i. record c { phase = sym phase i; edge = sym (h.told phase) i }
+
+-- what leaves
+waits_leave : (m : LiveState) (c : Client) → Waits m c → AreMoves c (leaving m.tcb) (opened_at c (receive_edge m.tcb.receiving))
+waits_leave m c h =
+    let d : Client = opened_at c (receive_edge m.tcb.receiving) in
+    let out : leaving m.tcb ≡ answer_segments m.tcb.answer ++ syn_if m.tcb.again (syn_sent m.tcb m.tcb.again m.tcb.answer) =
+    ap leaving (syn_sent_is m c h) ∙ syn_sent_leaves m.tcb m.tcb.again m.tcb.answer in
+    subst (λ (xs : List Segment). AreMoves c xs d) (sym out)
+    (moves_on c c d (answer_segments m.tcb.answer) (syn_if m.tcb.again (syn_sent m.tcb m.tcb.again m.tcb.answer)) (answered_moves m c m.tcb.answer h h.answer)
+    (syn_moves m c m.tcb.again refl h))
+
+-- and how it stands then
+syn_sent_flushed : (u : Tcb) (again : Bool) (answer : Option Head)
+    → flushed (syn_sent u again answer) ≡ settled (record (syn_sent u again answer) { sending = record u.sending { opened = false; sent = u.sending.sent + 0 } })
+unfolding flushed after_full with_fin_out with_text_sent with_probe
+syn_sent_flushed u again answer = refl
+
+settled_waits : (m : LiveState) (c : Client) → Waits m c
+    → IsWaiting (record m { tcb = settled (record (syn_sent m.tcb m.tcb.again m.tcb.answer) { sending = record m.tcb.sending { opened = false; sent = m.tcb.sending.sent + 0 } }) })
+    (opened_at c (receive_edge m.tcb.receiving))
+unfolding settled announced
+settled_waits m c h =
+    let d : Client = opened_at c (receive_edge m.tcb.receiving) in
+    let q : Sending = record m.tcb.sending { opened = false; sent = m.tcb.sending.sent + 0 } in
+    let t : Tcb = record (syn_sent m.tcb m.tcb.again m.tcb.answer) { sending = q } in
+    let runs : Bool = is_timed t in
+    let s = h.agrees.sends in
+    let sends : Sends q m.written d = record {
+      sent = omega (arith, s.sent);
+      acknowledged = s.acknowledged;
+      held = s.held;
+      order = omega (arith, s.order);
+      wl2 = omega (arith, s.wl2);
+      within = s.within;
+      script = s.script;
+      text = λ k. omega (arith, s.text k);
+      ended = λ k. absurd (false≢true (sym h.closed ∙ (s.ended k).0));
+      shut = s.shut;
+      least = s.least;
+      most = s.most;
+    } in
+    record {
+      waits = record {
+        agrees = record {
+          same = record {
+            kind = h.agrees.same.kind;
+            ip = h.agrees.same.ip;
+            port = h.agrees.same.port;
+            server = h.agrees.same.server;
+            script = h.agrees.same.script;
+            isn = h.agrees.same.isn ∙ sym (timed_same (λ (x : Sending). x.iss) (λ a b x. refl) runs q);
+            local = h.agrees.same.local;
+            remote = h.agrees.same.remote;
+          };
+          hears = record {
+            sisn = h.agrees.hears.sisn;
+            limit = h.agrees.hears.limit;
+            count = h.agrees.hears.count;
+            rest = h.agrees.hears.rest;
+            fin = unended c.phase h.phase ∙ h.agrees.hears.fin;
+            within = h.agrees.hears.within;
+            queued = h.agrees.hears.queued;
+          };
+          sends = timed_sends runs q m.written d sends;
+        };
+        name = refl;
+        phase = inr refl;
+        due = λ k. absurd (false≢true (ap is_new k));
+        opened = timed_same (λ (x : Sending). x.opened) (λ a b x. refl) runs q;
+        closed = timed_same (λ (x : Sending). x.closed) (λ a b x. refl) runs q ∙ h.closed;
+        nothing_sent = timed_same (λ (x : Sending). x.sent) (λ a b x. refl) runs q ∙ omega (arith, h.nothing_sent);
+        nothing_taken = h.nothing_taken;
+        unreset = h.unreset;
+        probe = refl;
+        answer = tt;
+        edge = omega arith;
+        told = λ k. refl;
+        outcome = h.outcome;
+      };
+      phase = refl;
+      again = refl;
+      answer = refl;
+    }
+  where
+    unended : (phase : Phase) → (phase ≡ phases.New) ⊎ (phase ≡ phases.Opening) → false ≡ is_ended phase
+    unended phase (inl k) = ap is_ended (sym k)
+    unended phase (inr k) = ap is_ended (sym k)
+
+pub record Opened (l : LiveState) (c : Client) : Type 0 where
+  pub later : Client
+  pub moves : AreMoves c (sent_by l) later
+  pub waiting : IsWaiting (turned l) later
+
+pub waits_end : (l : LiveState) (c : Client) → Waits l c → Opened l c
+waits_end l c h =
+    let m : LiveState = supplied (given_up l) in
+    let w : Waits m c = supplied_waits l c h in
+    let d : Client = opened_at c (receive_edge m.tcb.receiving) in
+    let stays : before_flush l ≡ m = still_open l c w in
+    let after : flushed m.tcb ≡ settled (record (syn_sent m.tcb m.tcb.again m.tcb.answer) { sending = record m.tcb.sending { opened = false; sent = m.tcb.sending.sent + 0 } }) =
+    ap flushed (syn_sent_is m c w) ∙ syn_sent_flushed m.tcb m.tcb.again m.tcb.answer in
+    record {
+      later = d;
+      moves = subst (λ (x : LiveState). AreMoves c (leaving x.tcb) d) (sym stays) (waits_leave m c w);
+      waiting = subst (λ (x : LiveState). IsWaiting (record x { tcb = flushed x.tcb }) d) (sym stays)
+          (subst (λ (t : Tcb). IsWaiting (record m { tcb = t }) d) (sym after) (settled_waits m c w));
+    }

@@ -1,0 +1,202 @@
+-- Every call of a live client keeps the client machine beside it.
+use Rattle.std.proofs.Common.{◌≡◌, ◌⊎◌, inl, inr, ℕ, ◌≤◌, ◌+◌, ◌^◌, Bool, true, false, Option, None, Some, List, [], length, drop, drop-drop, refl, sym, ap, subst, arith, ◌∙◌}
+use Rattle.std.specs.Prelude.{◌<◌, ◌==◌, ◌&&◌, Result, Ok, Err, if◌then◌else◌}
+use Rattle.std.proofs.lemmas.Bool.{false≢true}
+use Rattle.seq_arith.specs.Packet.{Segment}
+use Rattle.seq_arith.specs.declared.BadPacket.{BadPacket}
+use Rattle.segment_codec.specs.declared.Head.{Head}
+use Rattle.tcp_endpoint.specs.declared.states.StateName.TheVariants.{Closed}
+use Rattle.tcp_endpoint.specs.States.{has_begun, after_close}
+use Rattle.tcp_endpoint.specs.Sending.{IsShort}
+use Rattle.tcp_endpoint.specs.Tcb.{Tcb}
+use Rattle.tcp_endpoint.specs.Turning.{closing}
+use Rattle.tcp_endpoint.specs.Leaving.{answer_segments}
+use Rattle.ft_model.specs.Client as machine
+use Rattle.ft_model.specs.Client.{Client, is_ended}
+use Rattle.endpoint_laws.proofs.EndingLaw.{holds_if}
+use Rattle.endpoint_laws.proofs.AnswersAlone.{closed_sends}
+use Rattle.ft_model.specs.declared.phase.Phase.TheVariants as phases
+use Rattle.peer_client.specs.declared.live.ClientEnd.{ClientEnd}
+use Rattle.peer_client.specs.declared.live.ClientEnd.TheVariants as ends
+use Rattle.peer_client.specs.Live.{LiveState, is_of, met, hearing, ticked, unread, handed, given_up, supplied, closes, before_flush, sent_by, turned}
+use Rattle.peer_client.specs.Standing.{AreMoves, IsSame, AnswersBy, Waits, Stands, HasHeard, IsReset, IsBetween, IsDue, AcksNear, AckFits, Moves, outcome_of, is_reset, receiving, handed_out}
+use Rattle.peer_client.proofs.Named.{over_at, acked_at}
+use Rattle.peer_client.proofs.Arrives.{few_sent}
+use Rattle.peer_client.proofs.TurnEnds.{ready, turn_ends, closed_leaves, follows_before}
+use Rattle.peer_client.proofs.News.{segment_comes, tick_passes, not_reset}
+use Rattle.peer_client.proofs.Opens.{waits_end}
+use Rattle.peer_client.proofs.Answered.{answer_comes, tick_waits}
+
+-- between two turns nothing is due
+told_due : (l : LiveState) (c : Client) → IsBetween l c → IsDue l c
+told_due l c (inl h) = inl h.waits
+told_due l c (inr h) = inr (inl h.stands)
+
+if_of : {X Y : Type 0} (P : X → Y → Type 0) (b : Bool) (x y : X) (x' y' : Y) → (b ≡ true → P x x') → (b ≡ false → P y y')
+    → P (if b then x else y) (if b then x' else y')
+if_of P true x y x' y' on off = on refl
+if_of P false x y x' y' on off = off refl
+
+-- bytes come
+of_connection : (l : LiveState) (c : Client) (p : Segment) → IsBetween l c → l.outcome ≡ None → AcksNear c (Ok p) → p.head.ack < 2 ^ 32 → is_of l.local l.server p ≡ true
+    → IsDue (met l p) (machine.received c p)
+of_connection l c p (inl h) none near fits from = answer_comes l c p h from fits
+of_connection l c p (inr h) none near fits from = inr (segment_comes l c p h none near)
+
+pub heard_due : (l : LiveState) (c : Client) (r : Result Segment BadPacket) → IsBetween l c → l.outcome ≡ None → AcksNear c r → AckFits r
+    → IsDue (hearing l r) (receiving l c r)
+heard_due l c (Err bad) h none near fits = told_due l c h
+heard_due l c (Ok p) h none near fits =
+    if_of (λ (m : LiveState) (d : Client). IsDue m d) (is_of l.local l.server p) (met l p) l (machine.received c p) c
+    (λ from. of_connection l c p h none near fits from) (λ other. told_due l c h)
+
+-- numbers tell the order of offsets
+pub short_between : (l : LiveState) (c : Client) → IsBetween l c → IsShort l.tcb.sending
+short_between l c (inl h) =
+    let s = h.waits.agrees.sends in
+    record { sent = omega (arith, h.waits.nothing_sent); wl2 = omega (arith, h.waits.nothing_sent, s.wl2) }
+short_between l c (inr h) =
+    let s = h.stands.agrees.sends in
+    let few : l.tcb.sending.sent ≤ 2 ^ 24 + 1 = few_sent l.tcb.sending l.written c l.tcb.sending.fin_sent refl s in
+    record { sent = omega (arith, few); wl2 = omega (arith, few, s.wl2) }
+
+-- a tick passes
+pub tick_due : (l : LiveState) (c : Client) → IsBetween l c → IsDue (ticked l) c
+tick_due l c (inl h) = inl (tick_waits l c h)
+tick_due l c (inr h) = inr (inl (tick_passes l c h))
+
+-- a turn ends
+abbrev is_none : Option ClientEnd → Bool
+is_none None = true
+is_none (Some end) = false
+
+ended_outcome : (c : Client) → is_reset c.phase ≡ false → (is_ended c.phase && c.acknowledged == length c.script + 1) ≡ true → outcome_of c ≡ Some ends.Closed
+ended_outcome c unreset through =
+    ap (λ b. if b then Some ends.Reset else (if is_ended c.phase && c.acknowledged == length c.script + 1 then Some ends.Closed else None)) unreset
+    ∙ ap (λ b. if b then Some ends.Closed else None) through
+
+stands_ends : (l : LiveState) (c : Client) → Stands l c → (begun : Bool) → has_begun (before_flush l).tcb.name ≡ begun → Moves (turned l) (sent_by l) c
+stands_ends l c h true begun =
+    let t = turn_ends l c h begun in
+    record { later = t.later; moves = t.moves; goes_on = λ none. inr t.standing }
+stands_ends l c h false begun =
+    let u : Tcb = (before_flush l).tcb in
+    let r = ready l c h in
+    let over = over_at u (follows_before l c h) begun in
+    let through : (is_ended c.phase && c.acknowledged == length c.script + 1) ≡ true =
+    (λ i. r.hears.fin i && sym (acked_at u.sending (before_flush l).written c r.sends) i) ∙ over.2 in
+    let outcome : l.outcome ≡ Some ends.Closed = h.outcome ∙ ended_outcome c (not_reset c.phase h.phase) through in
+    record {
+      later = c;
+      moves = subst (λ (xs : List Segment). AreMoves c xs c) (sym (closed_leaves l c h begun)) refl;
+      goes_on = λ none. absurd (false≢true (ap is_none (sym outcome ∙ none)));
+    }
+
+reset_ends : (l : LiveState) (c : Client) → IsReset l c → Moves (turned l) (sent_by l) c
+reset_ends l c h =
+    let m : LiveState = supplied (given_up l) in
+    let name : (before_flush l).tcb.name ≡ Closed =
+    holds_if (λ (t : Tcb). t.name ≡ Closed) (closes m) (closing m.tcb) m.tcb (λ k. ap after_close h.name) (λ k. h.name) in
+    let answer : (before_flush l).tcb.answer ≡ None =
+    holds_if (λ (t : Tcb). t.answer ≡ None) (closes m) (closing m.tcb) m.tcb (λ k. h.answer) (λ k. h.answer) in
+    let nothing : sent_by l ≡ [] = closed_sends (before_flush l).tcb name ∙ ap answer_segments answer in
+    record {
+      later = c;
+      moves = subst (λ (xs : List Segment). AreMoves c xs c) (sym nothing) refl;
+      goes_on = λ none. absurd (false≢true (ap is_none (sym h.outcome ∙ none)));
+    }
+
+pub flush_moves : (l : LiveState) (c : Client) → IsDue l c → Moves (turned l) (sent_by l) c
+flush_moves l c (inl h) =
+    let o = waits_end l c h in
+    record { later = o.later; moves = o.moves; goes_on = λ none. inl o.waiting }
+flush_moves l c (inr (inl h)) = stands_ends l c h (has_begun (before_flush l).tcb.name) refl
+flush_moves l c (inr (inr h)) = reset_ends l c h
+
+-- what is handed out
+heard_of : (l : LiveState) (c : Client) → IsDue l c → HasHeard l.tcb.receiving c
+heard_of l c (inl h) = record { count = h.agrees.hears.count; rest = h.agrees.hears.rest }
+heard_of l c (inr (inl h)) = record { count = h.agrees.hears.count; rest = h.agrees.hears.rest }
+heard_of l c (inr (inr h)) = h.heard
+
+pub unread_is : (l : LiveState) (c : Client) → IsDue l c → unread l ≡ drop (handed_out l) c.accepted
+unread_is l c h =
+    let k = heard_of l c h in
+    ap (drop l.seen) (sym k.rest) ∙ drop-drop l.seen l.tcb.receiving.read c.accepted
+
+same_seen : (l : LiveState) (c : Client) (n : ℕ) → IsSame l c → IsSame (record l { seen = n }) c
+same_seen l c n h = record { kind = h.kind; ip = h.ip; port = h.port; server = h.server; script = h.script; isn = h.isn; local = h.local; remote = h.remote }
+
+answers_seen : (l : LiveState) (c : Client) (n : ℕ) (answer : Option Head) → AnswersBy l c answer → AnswersBy (record l { seen = n }) c answer
+answers_seen l c n None h = tt
+answers_seen l c n (Some head) h = (
+  h.0,
+  record {
+    src = h.1.src;
+    dst = h.1.dst;
+    sport = h.1.sport;
+    dport = h.1.dport;
+    seq = h.1.seq;
+    wrong = h.1.wrong;
+    ack = h.1.ack;
+    flags = h.1.flags;
+    window = h.1.window;
+    mss = h.1.mss;
+  },
+)
+
+waits_seen : (l : LiveState) (c : Client) (n : ℕ) → Waits l c → Waits (record l { seen = n }) c
+waits_seen l c n h = record {
+  agrees = record { same = same_seen l c n h.agrees.same; hears = h.agrees.hears; sends = h.agrees.sends };
+  name = h.name;
+  phase = h.phase;
+  due = h.due;
+  opened = h.opened;
+  closed = h.closed;
+  nothing_sent = h.nothing_sent;
+  nothing_taken = h.nothing_taken;
+  unreset = h.unreset;
+  probe = h.probe;
+  answer = answers_seen l c n l.tcb.answer h.answer;
+  edge = h.edge;
+  told = h.told;
+  outcome = h.outcome;
+}
+
+stands_seen : (l : LiveState) (c : Client) (n : ℕ) → Stands l c → Stands (record l { seen = n }) c
+stands_seen l c n h = record {
+  agrees = record { same = same_seen l c n h.agrees.same; hears = h.agrees.hears; sends = h.agrees.sends };
+  opened = h.opened;
+  phase = h.phase;
+  named = h.named;
+  over = h.over;
+  unreset = h.unreset;
+  answer = h.answer;
+  edge = h.edge;
+  told = h.told;
+  outcome = h.outcome;
+}
+
+pub due_handed : (l : LiveState) (c : Client) (n : ℕ) → IsDue l c → IsDue (handed l n) c
+due_handed l c n (inl h) = inl (waits_seen l c (l.seen + n) h)
+due_handed l c n (inr (inl h)) = inr (inl (stands_seen l c (l.seen + n) h))
+due_handed l c n (inr (inr h)) =
+    inr (inr (record { phase = h.phase; name = h.name; reset = h.reset; answer = h.answer; outcome = h.outcome; heard = h.heard }))
+
+pub between_handed : (l : LiveState) (c : Client) (n : ℕ) → IsBetween l c → IsBetween (handed l n) c
+between_handed l c n (inl h) = inl (record { waits = waits_seen l c (l.seen + n) h.waits; phase = h.phase; again = h.again; answer = h.answer })
+between_handed l c n (inr h) = inr (record { stands = stands_seen l c (l.seen + n) h.stands; begun = h.begun; edge = h.edge; told = h.told })
+
+-- the outcome is the machine's
+waiting_outcome : (c : Client) → (c.phase ≡ phases.New) ⊎ (c.phase ≡ phases.Opening) → None ≡ outcome_of c
+waiting_outcome c (inl h) =
+    ap (λ p. if is_reset p then Some ends.Reset else (if is_ended p && c.acknowledged == length c.script + 1 then Some ends.Closed else None)) (sym h)
+waiting_outcome c (inr h) =
+    ap (λ p. if is_reset p then Some ends.Reset else (if is_ended p && c.acknowledged == length c.script + 1 then Some ends.Closed else None)) (sym h)
+
+pub due_outcome : (l : LiveState) (c : Client) → IsDue l c → l.outcome ≡ outcome_of c
+due_outcome l c (inl h) = h.outcome ∙ waiting_outcome c h.phase
+due_outcome l c (inr (inl h)) = h.outcome
+due_outcome l c (inr (inr h)) =
+    h.outcome
+    ∙ ap (λ p. if is_reset p then Some ends.Reset else (if is_ended p && c.acknowledged == length c.script + 1 then Some ends.Closed else None)) (sym h.phase)
