@@ -149,7 +149,7 @@ same_self : (n : ℕ) → (n == n) ≡ true
 same_self n = grind arith
 
 -- nothing is announced anew
-nothing_new : (p q : Point) → q.taken ≡ p.taken → q.fin ≡ p.fin → q.fetched ≡ p.fetched → q.lengths ≡ p.lengths
+pub nothing_new : (p q : Point) → q.taken ≡ p.taken → q.fin ≡ p.fin → q.fetched ≡ p.fetched → q.lengths ≡ p.lengths
     → (not (taken_units p == taken_units q) || not (announced_edge p == announced_edge q)) ≡ false
 nothing_new p q a b c d =
     (λ j. not (taken_units p == length (a j) + (if b j then 1 else 0)) || not (announced_edge p == min (max (c j) (sum (d j)) + 65535) (2 ^ 24) + (if b j then 1 else 0)))
@@ -212,7 +212,7 @@ not_both : (x : Bool) → not x ≡ true → x ≡ false
 not_both true h = absurd (false≢true h)
 not_both false h = refl
 
-less_itself : (n : ℕ) → nat_lt n n ≡ false
+pub less_itself : (n : ℕ) → nat_lt n n ≡ false
 less_itself n = grind arith
 
 nothing_at_once : (t : ℕ) → max 0 (min t 0) ≡ 0

@@ -6,7 +6,7 @@ use Rattle.ft_io.specs.declared.Addr.{Addr}
 use Rattle.seq_arith.specs.Packet.{Segment, has_syn, has_ack, has_rst}
 use Rattle.seq_arith.specs.Offset.{one_if}
 use Rattle.server_trait.specs.Service.{Machine, reference}
-use Rattle.ft_model.specs.Answered.{reads_answered_after}
+use Rattle.ft_model.specs.Answered.{answered_after, reads_answered_after}
 use Rattle.ft_model.specs.Connection.{LiveTurn, sent_by}
 use Rattle.ft_model.specs.Ending.{reset_after, end_ticks_after}
 use Rattle.ft_model.specs.Network.{Packet}
@@ -46,9 +46,9 @@ use Rattle.connection_laws.specs.Passing.{news_inside, passed, owes_besides, lea
 use Rattle.connection_laws.specs.Turning.{NewsFit, IsLater, TurnsInside}
 use Rattle.connection_laws.specs.Closing.{StandsClosed, EndsInside, GoesOnClosed}
 use Rattle.connection_laws.specs.Feeding.{tcp_reader, tcp_writer, Feeds, north_calls, FedBy}
-use Rattle.connection_laws.specs.Standing.{StandsOpen, PartsStand, PartsRest, PartsTurn, heard, repeats, leaves_with}
+use Rattle.connection_laws.specs.Standing.{StandsOpen, PartsStand, PartsRest, PartsTurn, heard, repeats, adds, leaves_with}
 use Rattle.connection_laws.proofs.Meets.{Moves, moves_inside_all, stays_inside, nothing_counts, is_syn_has, minus_none}
-use Rattle.connection_laws.proofs.Sent.{same_lengths, syn_at, units_none, repeats_taken}
+use Rattle.connection_laws.proofs.Sent.{less_itself, nothing_new, same_lengths, syn_at, units_none, repeats_taken}
 use Rattle.connection_laws.proofs.Whole.{usual_news, turns_inside}
 use Rattle.connection_laws.proofs.Outliving.{IsStill, still, outlives, opens_not, reads_rise, taken_stays, fin_stays, both_of}
 use Rattle.connection_laws.proofs.Ending.{unreset, flushed_reset, ends_inside, opens_not as opens_by_end}
@@ -480,3 +480,23 @@ ticks_together service boot u i delta given p n e r =
       };
       north = hears service Ticks p q given n refl (append-nil p.lengths) refl refl st.north;
     }) refl (goes service e.local boot Ticks p [] (no_more service p (p.lengths ++ []) r.no_read))
+
+-- at a tick nothing is owed besides
+ticks_owe_nothing : {S : Type 0} (service : Machine S) (server : Addr) (boot : ℕ) (p q : Point) (sent : List Packet) → LiveTurn service server boot Ticks p q sent → q.lengths ≡ p.lengths ++ []
+    → is_owed service Ticks p q ≡ false
+unfolding is_owed answered_after taken_after fin_after
+ticks_owe_nothing service server boot p q sent l lengths =
+    (λ j. ((false || nat_lt p.answered (l.answered j)) || not (taken_units p == taken_units q)) || not (announced_edge p == announced_edge q))
+    ∙ (λ j. ((false || less_itself p.answered j) || not (taken_units p == taken_units q)) || not (announced_edge p == announced_edge q))
+    ∙ nothing_new p q l.taken l.fin l.same.fetched (lengths ∙ append-nil p.lengths)
+
+off_and : (c o : Bool) → o ≡ false → (c && o) ≡ false
+off_and true o h = h
+off_and false o h = refl
+
+pub ticks_add_nothing : {S : Type 0} (service : Machine S) (server : Addr) (boot : ℕ) (p q : Point) (t : Tcb) (sent : List Packet) → LiveTurn service server boot Ticks p q sent
+    → q.lengths ≡ p.lengths ++ [] → adds service Ticks p q t ≡ false
+unfolding answered_after
+ticks_add_nothing service server boot p q t sent l lengths =
+    (λ j. (false || nat_lt p.answered (l.answered j)) || (is_closed t.name && is_owed service Ticks p q))
+    ∙ (λ j. (false || less_itself p.answered j) || off_and (is_closed t.name) (is_owed service Ticks p q) (ticks_owe_nothing service server boot p q sent l lengths) j)

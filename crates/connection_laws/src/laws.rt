@@ -1,6 +1,6 @@
 //! The laws of a wrapped connection and its inner TCP.
 
-ghost use Rattle.std.specs.Prelude.{◌≡◌, ◌≤◌, ◌<◌, ◌^◌, ◌-◌, ℕ, false, List, [], length};
+ghost use Rattle.std.specs.Prelude.{◌≡◌, ◌≤◌, ◌<◌, ◌^◌, ◌-◌, ◌++◌, ℕ, false, List, [], length};
 ghost use Rattle.ft_io.specs.declared.Addr.{Addr};
 ghost use Rattle.server_trait.specs.Service.{machine};
 ghost use Rattle.ft_model.specs.Log.{Entry};
@@ -27,7 +27,7 @@ ghost use Rattle.connection_laws.specs.Beginning.{MayOpen, BeginsInside, opened_
 ghost use Rattle.connection_laws.specs.Closing.{StandsClosed, LeavesInside, EndsInside, ReadsOn, GoesOnClosed};
 ghost use Rattle.connection_laws.specs.Feeding.{tcp_reader, tcp_writer, TurnsNorth, FedInside, north_calls, before_reads, given_after};
 ghost use Rattle.connection_laws.specs.Passing.{news_inside};
-ghost use Rattle.connection_laws.specs.Standing.{PartsStand, PartsRest, PartsTurn, heard};
+ghost use Rattle.connection_laws.specs.Standing.{PartsStand, PartsRest, PartsTurn, heard, adds};
 ghost use Rattle.connection_laws.specs.Telling.{PartsTell, NewsTell};
 ghost use Rattle.connection_laws.specs.Turning.{NewsFit, IsLater, Turns, StandsInside, UsesInside, TurnsInside};
 ghost use Rattle.connection_laws.specs.Splicing.{GoesOnFrom, delta_from, StandsAtEntry, spliced};
@@ -104,11 +104,14 @@ pub fn new_connections_start_with_their_parts<S: Service>()
         → PartsTurn (machine fresh S.after) local boot 0 numbers.sisn 0 Begins (point_opened numbers) (lengths_of reads) new t }
 {}
 
-/// At a tick the north wrapper needs no turn, since nothing is due between two turns.
+/// At a tick the north wrapper needs no turn, since nothing is due between two turns, and the connection adds nothing.
 pub fn connections_tick_by_their_tcp<S: Service>()
-    ensures { (fresh : S) (boot u i delta given : ℕ) (before : Point) (n : NorthState S) (e : Tcb)
+    ensures turn { (fresh : S) (boot u i delta given : ℕ) (before : Point) (n : NorthState S) (e : Tcb)
         → PartsRest (machine fresh S.after) u i delta given before n e
         → PartsTurn (machine fresh S.after) e.local boot u i delta Ticks before [] n (after_tick e) }
+    ensures adds { (fresh : S) (server : Addr) (boot : ℕ) (before after : Point) (t : Tcb) (sent : List Packet)
+        → LiveTurn (machine fresh S.after) server boot Ticks before after sent → after.lengths ≡ before.lengths ++ []
+        → adds (machine fresh S.after) Ticks before after t ≡ false }
 {}
 
 /// Where the north wrapper makes its calls of TCP in a lawful turn, TCP is used as `connections_turn_by_their_tcp` asks, and fed as before.
