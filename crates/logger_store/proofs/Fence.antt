@@ -2,7 +2,7 @@
 use Rattle.std.proofs.Common.{◌≡◌, ◌∙◌, true, false, ◌<◌, ◌≤◌, ◌==◌, ◌||◌, nat_lt, refl, sym, arith, Some, true≢false, ltb-true, le_refl, ⊎_elim, if◌then◌else◌}
 use Rattle.seq_arith.specs.Message.{Body, Message}
 use Rattle.seq_arith.specs.Message.Body.{HelloMsg, StaleMsg}
-use Rattle.ft_model.specs.Log.{Log, log_after, answer_to, heard, kept, is_hello, is_answer}
+use Rattle.ft_model.specs.Log.{Log, log_after, answer_to, heard, with_body, is_hello, is_answer}
 use Rattle.ft_model.specs.Growth.{LogGrows}
 use Rattle.ft_model.proofs.Lists.{of_choice, or_cases}
 
@@ -17,7 +17,7 @@ hello_raises log hello h =
     of_choice (λ l. hello.boot ≤ l.boot) (is_answer hello.body || nat_lt hello.boot log.boot) log (heard hello log)
     (λ t. ⊎_elim (λ a. absurd (true≢false (sym a ∙ no_answer hello.body h)))
     (λ b. let less : hello.boot < log.boot = ltb-true _ _ b in omega (arith, less)) (or_cases (is_answer hello.body) (nat_lt hello.boot log.boot) t))
-    (λ t. of_choice (λ l. hello.boot ≤ l.boot) (is_hello hello.body) (record log { boot = hello.boot }) (if hello.boot == log.boot then kept hello.body log else log)
+    (λ t. of_choice (λ l. hello.boot ≤ l.boot) (is_hello hello.body) (record log { boot = hello.boot }) (if hello.boot == log.boot then with_body hello.body log else log)
     (λ x. le_refl hello.boot) (λ x. absurd (true≢false (sym h ∙ x))))
 
 older_gets_stale : (log : Log) (message : Message) → message.boot < log.boot → is_answer message.body ≡ false
