@@ -1,0 +1,64 @@
+#!/usr/bin/env bash
+# The log, by log_bench, beside a plain C program that checks, copies and answers the same datagrams (gcc -O2), in one run. One entry is filled with
+# 16 MiB in Data of 1,460 bytes, each with its Read, and fetched whole in Parts and Lens: how many messages are spelled, read and answered a
+# second, with reads of equal lengths and with reads of 1,459 and 1,461 bytes in turn. Of each the least processor time of 7 turns of 8 rounds, taken in
+# turn. Then the time for the sixteenth MiB beside that for the first, and the most memory that a run holds, less what it holds for an empty entry.
+set -eu
+cd "$(dirname "$0")/.."
+(cd crates/log_bench && rt run -- equal 1000 1 >/dev/null 2>&1)
+ours="$PWD/crates/log_bench/out/log_bench"
+work=$(mktemp -d)
+trap 'rm -rf "$work"' EXIT
+gcc -O2 -Wall -o "$work/log" bench/log.c
+
+# user and system time of one run, in milliseconds
+TIMEFORMAT='%U %S'
+spent() {
+    local user system
+    read -r user system < <({ { time "$@" >"$work/out"; } 2>&1; } | tr -d .)
+    echo $((10#$user + 10#$system))
+}
+
+# the least of 7 turns
+least() {
+    local best=999999 a
+    for _ in 1 2 3 4 5 6 7; do
+        a=$(spent "$@")
+        ((a < best)) && best=$a
+    done
+    echo "$best"
+}
+
+whole=16777216 rounds=8
+printf '%s processors, %s, load %s\n' "$(nproc)" "$(lscpu | sed -n 's/^Model name: *//p')" "$(cut -d' ' -f1 /proc/loadavg)"
+for reads in equal other; do
+    least_ours=999999 least_c=999999
+    for _ in 1 2 3 4 5 6 7; do
+        a=$(spent "$ours" "$reads" "$whole" "$rounds")
+        mv "$work/out" "$work/said"
+        b=$(spent "$work/log" "$reads" "$whole" "$rounds")
+        cmp -s "$work/said" "$work/out" || { echo "the two differ"; exit 1; }
+        ((a < least_ours)) && least_ours=$a
+        ((b < least_c)) && least_c=$b
+    done
+    messages=$(cut -d' ' -f1 "$work/out")
+    awk -v reads="$reads" -v n="$messages" -v a="$least_ours" -v b="$least_c" 'BEGIN {
+        printf "%s lengths: %d messages in %d ms, %d a second; C %d a second; time as %d to 100\n", reads, n, a, n / a * 1000, n / b * 1000, 100 * a / b
+    }'
+done
+made=$(least "$ours" made "$whole" "$rounds")
+printf 'the messages alone, made and not given: %d ms\n' "$made"
+
+# one MiB more, at the front and at the end of an entry, 32 times
+one=$(least "$ours" other 1048576 32)
+none=$(least "$ours" other 0 32)
+before=$(least "$ours" other 15728640 32)
+all=$(least "$ours" other "$whole" 32)
+printf 'the first MiB: %d ms; the sixteenth MiB: %d ms; 32 times each\n' $((one - none)) $((all - before))
+
+held() { command time -f %M "$ours" "$1" "$2" 1 2>&1 >/dev/null; }
+for reads in equal other; do
+    awk -v reads="$reads" -v a="$(held "$reads" "$whole")" -v b="$(held "$reads" 0)" 'BEGIN {
+        printf "%s lengths: %d KiB held for 16,384 KiB, %.3f times\n", reads, a - b, (a - b) / 16384
+    }'
+done

@@ -1,0 +1,206 @@
+//! Fills a log and fetches it again, for `bench/log.sh`: `log_bench READS BYTES ROUNDS`. In each of ROUNDS rounds one entry of a new log takes
+//! BYTES bytes, at most 2^24, in Data of 1,460 bytes, and behind each Data a Read, and is then fetched whole in Parts and Lens. READS is `equal`, for
+//! reads of 1,460 bytes, or `other`, for reads of 1,459 and 1,461 bytes in turn; or it is `made`, and the messages for `equal` are made and not given
+//! to a log. Each message is spelled, read and answered. It prints how many messages there were, and what the lengths and checksums of all
+//! answers add up to.
+#![tactic(auto)]
+
+ghost use Rattle.std.specs.Prelude.{◌≡◌, ◌≤◌, ◌<◌, ◌+◌, ◌^◌, length};
+ghost use Rattle.logger_wire.specs.Value.{IsSendable};
+
+use anyhow::{Context, Result, ensure};
+use ft_io::{Key, NoMemory};
+use logger_store::{LogStore, MsgOut};
+use logger_wire::{Body, Msg, read_msg, write_msg};
+use std::alloc::Global;
+use std::env;
+
+const KEY: Key = Key {
+    ip: 0xC000_0201,
+    port: 40_000,
+};
+
+/// The most bytes of a Data.
+const DATA: u32 = 1_460;
+
+/// The most bytes of a Part, and the most lengths of a Lens.
+const PART: u32 = 1_024;
+
+const LENS: u32 = 512;
+
+/// The most bytes of a stream.
+const STREAM: u32 = 1 << 24;
+
+fn main(rt: HostRuntime) -> Result<()> {
+    let words: Vec<String> = env::args(&rt)?.skip(1).collect(rt.alloc())?;
+    let [reads, bytes, rounds] = words.as_slice() else {
+        ensure!(false, "log_bench READS BYTES ROUNDS");
+        return Ok(());
+    };
+    let bytes: u32 = bytes.as_str().parse().context("BYTES")?;
+    let rounds: u32 = rounds.as_str().parse().context("ROUNDS")?;
+    ensure!(bytes <= STREAM, "BYTES is at most 2^24");
+    let mut tally = Tally {
+        messages: 0,
+        total: 0,
+    };
+    for _ in 0..rounds {
+        let mut talk = Talk::new(rt.alloc(), reads.as_str() != "made", tally);
+        let done = round(rt.alloc(), &mut talk, bytes, reads.as_str() == "other");
+        ensure!(done.is_ok(), "no memory");
+        tally = talk.tally;
+    }
+    println!(rt; "{} messages, {}", tally.messages, tally.total)?;
+    Ok(())
+}
+
+/// The messages so far, and what their answers add up to, modulo 2^64.
+#[derive(Clone, Copy)]
+struct Tally {
+    messages: u64,
+    total: u64,
+}
+
+impl Tally {
+    /// Counts a message and its answer.
+    fn count(&mut self, answer: &[u8]) {
+        self.messages = self.messages.wrapping_add(1);
+        if let [_, _, _, _, _, _, high, low, ..] = answer {
+            let check = u64::from(u16::from_be_bytes([*high, *low]));
+            self.total = self
+                .total
+                .wrapping_add(answer.len() as u64)
+                .wrapping_add(check);
+        }
+    }
+}
+
+/// A log, and one who sends it messages.
+#[derive(Drop)]
+struct Talk {
+    log: LogStore,
+    /// Whether the log takes the messages.
+    is_heard: bool,
+    datagram: [u8; 2_048],
+    out: MsgOut,
+    tally: Tally,
+}
+
+impl Talk {
+    fn new(alloc: Global, is_heard: bool, tally: Tally) -> Talk {
+        Talk {
+            log: LogStore::new(alloc),
+            is_heard,
+            datagram: [0; 2_048],
+            out: MsgOut::new(),
+            tally,
+        }
+    }
+
+    /// Spells a message, and gives it to the log.
+    fn say(&mut self, alloc: Global, m: &Msg<'_>) -> Result<(), NoMemory>
+        requires { IsSendable m.now }
+    {
+        let len = write_msg(m, &mut self.datagram).min(2_048);
+        if self.is_heard
+            && let Ok(message) = read_msg(&self.datagram[..len])
+        {
+            self.log.answer(alloc, &message, &mut self.out)?;
+        }
+        self.tally.count(self.out.bytes());
+        Ok(())
+    }
+}
+
+/// Opens an entry, fills it, and fetches it.
+fn round(alloc: Global, talk: &mut Talk, bytes: u32, alternates: bool) -> Result<(), NoMemory>
+    requires { bytes ≤ 2 ^ 24 }
+{
+    open(alloc, talk)?;
+    let text = [b'a'; 1_460];
+    let mut read = 0u32;
+    for i in 0..bytes.div_ceil(DATA) {
+        let offset = i * DATA;
+        let len = DATA.min(bytes.saturating_sub(offset));
+        give_bytes(alloc, talk, offset, &text[..len as usize])?;
+        let other = if i % 2 == 0 { DATA - 1 } else { DATA + 1 };
+        let wanted = if alternates { other } else { len };
+        let next = wanted.min((offset + len).saturating_sub(read));
+        give_read(alloc, talk, i, next)?;
+        read += next;
+    }
+    for i in 0..bytes.div_ceil(PART) {
+        fetch_bytes(alloc, talk, i * PART)?;
+    }
+    for i in 0..bytes.div_ceil(DATA).div_ceil(LENS) {
+        fetch_lengths(alloc, talk, i * LENS)?;
+    }
+    Ok(())
+}
+
+#[tactic(auto, unfolding(seq_arith::specs::MessageGrammar::has_length, seq_arith::specs::MessageGrammar::is_sound))]
+fn open(alloc: Global, talk: &mut Talk) -> Result<(), NoMemory> {
+    talk.say(
+        alloc,
+        &Msg {
+            boot: 1,
+            body: Body::HelloMsg,
+        },
+    )?;
+    talk.say(
+        alloc,
+        &Msg {
+            boot: 1,
+            body: Body::OpenMsg {
+                key: KEY,
+                cisn: 1_000,
+                sisn: 5_000,
+                mss: 1_460,
+            },
+        },
+    )
+}
+
+#[tactic(auto, unfolding(seq_arith::specs::MessageGrammar::has_length, seq_arith::specs::MessageGrammar::is_sound))]
+fn give_bytes(alloc: Global, talk: &mut Talk, offset: u32, bytes: &[u8]) -> Result<(), NoMemory>
+    requires few { length bytes.now ≤ 1460 }
+    requires within { offset + length bytes.now ≤ 2 ^ 24 }
+{
+    let body = Body::DataMsg {
+        key: KEY,
+        offset,
+        acked: 0,
+        fin: 0,
+        bytes,
+    };
+    talk.say(alloc, &Msg { boot: 1, body })
+}
+
+#[tactic(auto, unfolding(seq_arith::specs::MessageGrammar::has_length, seq_arith::specs::MessageGrammar::is_sound))]
+fn give_read(alloc: Global, talk: &mut Talk, index: u32, len: u32) -> Result<(), NoMemory>
+    requires index { index ≤ 2 ^ 24 }
+    requires len { len ≤ 2048 }
+{
+    let body = Body::ReadMsg {
+        key: KEY,
+        index,
+        length: len as u16,
+    };
+    talk.say(alloc, &Msg { boot: 1, body })
+}
+
+#[tactic(auto, unfolding(seq_arith::specs::MessageGrammar::has_length, seq_arith::specs::MessageGrammar::is_sound))]
+fn fetch_bytes(alloc: Global, talk: &mut Talk, offset: u32) -> Result<(), NoMemory>
+    requires { offset ≤ 2 ^ 24 }
+{
+    let body = Body::BytesMsg { key: KEY, offset };
+    talk.say(alloc, &Msg { boot: 1, body })
+}
+
+#[tactic(auto, unfolding(seq_arith::specs::MessageGrammar::has_length, seq_arith::specs::MessageGrammar::is_sound))]
+fn fetch_lengths(alloc: Global, talk: &mut Talk, first: u32) -> Result<(), NoMemory>
+    requires { first ≤ 2 ^ 24 }
+{
+    let body = Body::CutsMsg { key: KEY, first };
+    talk.say(alloc, &Msg { boot: 1, body })
+}
