@@ -1,0 +1,53 @@
+//! What must hold of a client whatever comes to it.
+
+use crate::dice::Dice;
+use peer_client::Phase;
+
+/// A rule that a hostile datagram broke.
+#[derive(Clone, Copy, Debug, PartialEq, Eq)]
+pub(crate) enum Rule {
+    /// Bytes that are no packet change nothing.
+    Silence,
+    /// What was accepted stays, and what is accepted is what a datagram carried at that place.
+    Text,
+    /// No more is accepted than was announced.
+    Window,
+    /// What was sent stays sent, and no more is acknowledged.
+    Numbers,
+    /// A client that has ended or was reset stays so, and so does an outcome.
+    End,
+    /// Each segment that leaves is a packet from the client to the server.
+    Packet,
+    /// It acknowledges no more than was sent, and sends nothing beyond its script.
+    Script,
+}
+
+pub(crate) type Kept = Result<(), Rule>;
+
+pub(crate) fn keep(holds: bool, rule: Rule) -> Kept {
+    if holds { Ok(()) } else { Err(rule) }
+}
+
+/// The server's byte at a place of its stream.
+pub(crate) fn servers_byte(place: u32) -> u8 {
+    97 + (place % 26) as u8
+}
+
+/// A phase that follows another where a packet comes.
+pub(crate) fn may_follow(before: Phase, after: Phase) -> bool {
+    match before {
+        Phase::New | Phase::Reset => after == before,
+        Phase::Opening => after != Phase::New && after != Phase::Ended,
+        Phase::Established => after != Phase::New && after != Phase::Opening,
+        Phase::Ended => after == Phase::Ended || after == Phase::Reset,
+    }
+}
+
+/// Fills a datagram of 0 to 100 bytes with anything, and answers its length.
+pub(crate) fn anything(dice: &mut Dice, out: &mut [u8; 1_500]) -> usize {
+    let len = dice.roll(101) as usize;
+    for byte in out[..len].iter_mut() {
+        *byte = dice.byte();
+    }
+    len
+}
