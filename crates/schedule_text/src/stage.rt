@@ -2,17 +2,21 @@
 
 ghost use Rattle.std.specs.Prelude.{◌≡◌, ◌⊎◌, ℕ, ◌&&◌, ◌||◌, not, List, Ok, Err};
 ghost use Rattle.std.specs.List.{list_any};
+ghost use Rattle.ft_model.specs.Words.{lines_of};
 ghost use Rattle.ft_model.specs.Grammar.{read_text};
 ghost use Rattle.ft_model.specs.Grammar.Refusal.{BadLine};
+ghost use Rattle.ft_model.specs.declared.line.Draft.TheVariants.{Empty};
 ghost use Rattle.ft_model.specs.declared.schedule.LineWhy.TheVariants.{Built};
 ghost use Rattle.ft_model.specs.declared.schedule.Schedule.{Schedule};
-ghost use Rattle.schedule_text.specs.Stage.{is_fill, is_boot, is_played, has_client, has_boot, event_asks_for_more, asks_for_more, read_built, IsBuilt};
+ghost use Rattle.schedule_text.specs.Stage.{is_fill, is_boot, is_played, has_client, has_boot, event_asks_for_more, asks_for_more, read_built, IsFirstNotBuilt, IsBuilt};
 
 use ft_model::{Draft, Event, Line, Script, ServiceKind};
 
-/// A text is read as the grammar says, or a line of it is refused because what it asks for isn't built.
+/// A text is read as the grammar says, or it is refused at the first line that isn't built: one that is well-formed behind lines that
+/// the grammar accepts, and that asks for more.
 pub fn only_the_stage_is_refused()
-    ensures { (text : List ℕ) → (read_built text ≡ read_text text) ⊎ ((line : ℕ) × (read_built text ≡ Err (BadLine line Built))) }
+    ensures { (text : List ℕ) → (read_built text ≡ read_text text)
+        ⊎ ((line : ℕ) × IsFirstNotBuilt 1 Empty (lines_of text) line × (read_built text ≡ Err (BadLine line Built))) }
 {}
 
 /// So a text that is read spells the schedule.
@@ -20,8 +24,8 @@ pub fn built_texts_are_spelled()
     ensures { (text : List ℕ) (schedule : Schedule) → read_built text ≡ Ok schedule → read_text text ≡ Ok schedule }
 {}
 
-/// And that schedule asks for nothing that isn't built: the echo service, at most one client, and only boots, deliveries, and the
-/// client's SYNs, texts and acknowledgements.
+/// And that schedule asks for nothing that isn't built: the echo service, at most one client, whose script is given by its bytes, and only
+/// boots, one at most, deliveries, and the client's SYNs, texts and acknowledgements.
 pub fn read_schedules_are_built()
     ensures { (text : List ℕ) (schedule : Schedule) → read_built text ≡ Ok schedule → IsBuilt schedule }
 {}
