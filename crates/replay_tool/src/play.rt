@@ -26,7 +26,7 @@ use net_schedule::{PlainEntry, ScriptedClient, World};
 use sample_servers::AnyService;
 use schedule_text::{
     LogLine, Schedule, write_client_line, write_end, write_event, write_header, write_log_line,
-    write_packet_line,
+    write_packet_value,
 };
 use std::alloc::Global;
 
@@ -40,7 +40,7 @@ fn write_packet(
     ensures { OnOk result ((p : Seen) → packet_at world.now.packets n ≡ Some p → lines.new.items ≡ lines.old.items ++ packet_line n (way_of world.now.clients p) p) }
 {
     match (world.way(n), world.packet(n)) {
-        (Some(way), Some(packet)) => write_packet_line(alloc, n, way, packet, lines),
+        (Some(way), Some(packet)) => write_packet_value(alloc, n, way, packet, lines),
         _ => Ok(()),
     }
 }

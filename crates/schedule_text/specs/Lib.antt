@@ -1,3 +1,4 @@
+pub mod Bytes
 pub mod Packet
 pub mod Reading
 pub mod Stage

@@ -41,7 +41,7 @@ pub fn write_client_line(
     put_number(u64::from(n), &mut line)?;
     put_word(phase_word(phase), &mut line)?;
     put_field(b"accepted", accepted.len() as u64, &mut line)?;
-    put_hex(alloc, accepted, &mut line)?;
+    put_hex(accepted, &mut line)?;
     line.push(b'\n')?;
     out.extend_from_slice(line.as_slice())?;
     Ok(())
@@ -74,7 +74,7 @@ pub fn write_log_line(alloc: Global, entry: &LogLine<'_>, out: &mut Vec<u8>) -> 
     put_field(b"acked", u64::from(entry.acked), &mut line)?;
     put_bit(b"done", entry.done, &mut line)?;
     put_word(b"reads", &mut line)?;
-    put_list(alloc, entry.reads, &mut line)?;
+    put_list(entry.reads, &mut line)?;
     line.push(b'\n')?;
     out.extend_from_slice(line.as_slice())?;
     Ok(())

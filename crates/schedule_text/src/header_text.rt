@@ -5,7 +5,7 @@ ghost use Rattle.hex.specs.Hex.{encode_lower};
 ghost use Rattle.ft_model.specs.Texts.{service_text, script_text};
 ghost use Rattle.ft_model.specs.Report.{schedule_line, schedule_lines, header};
 
-use crate::line_text::{put_address, put_digits, put_number, put_word};
+use crate::line_text::{put_address, put_digits, put_hex_digits, put_number, put_word};
 use ft_io::NoMemory;
 use ft_model::{ClientLine, Schedule, Script, ServiceKind};
 use std::alloc::Global;
@@ -21,7 +21,7 @@ pub fn write_header(alloc: Global, s: &Schedule, out: &mut Vec<u8>) -> Result<()
     text.extend_from_slice(b"\nserver")?;
     put_address(s.server.ip, s.server.port, &mut text)?;
     text.push(b'\n')?;
-    put_clients(alloc, s.clients.as_slice(), &mut text)?;
+    put_clients(s.clients.as_slice(), &mut text)?;
     out.extend_from_slice(text.as_slice())?;
     Ok(())
 }
@@ -41,41 +41,36 @@ fn service_word(kind: ServiceKind) -> &'static [u8]
 
 /// The lines of the clients, numbered from 1.
 #[tactic(auto, using(std::proofs::Common::append_assoc))]
-fn put_clients(alloc: Global, clients: &[ClientLine], text: &mut Vec<u8>) -> Result<(), NoMemory>
+fn put_clients(clients: &[ClientLine], text: &mut Vec<u8>) -> Result<(), NoMemory>
     ensures { OnOk result (text.new.items ≡ text.old.items ++ schedule_lines 1 clients.now) }
 {
     for (i, client) in clients.iter().enumerate() {
-        put_client(alloc, i as u64 + 1, client, text)?;
+        put_client(i as u64 + 1, client, text)?;
     }
     Ok(())
 }
 
 /// The line of client `n`.
 #[tactic(auto, using(crate::proofs::LineLemmas::line_rules), unfolding(ft_model::specs::Report::schedule_line))]
-fn put_client(
-    alloc: Global,
-    n: u64,
-    client: &ClientLine,
-    text: &mut Vec<u8>,
-) -> Result<(), NoMemory>
+fn put_client(n: u64, client: &ClientLine, text: &mut Vec<u8>) -> Result<(), NoMemory>
     ensures { OnOk result (text.new.items ≡ text.old.items ++ schedule_line n client.now) }
 {
     text.extend_from_slice(b"client")?;
     put_number(n, text)?;
     put_address(client.key.ip, client.key.port, text)?;
     put_number(u64::from(client.isn), text)?;
-    put_script(alloc, &client.script, text)?;
+    put_script(&client.script, text)?;
     text.push(b'\n')?;
     Ok(())
 }
 
 /// A space, and what a client has to say.
 #[tactic(auto, using(std::proofs::Common::append_assoc), unfolding(ft_model::specs::Texts::script_text))]
-fn put_script(alloc: Global, script: &Script, text: &mut Vec<u8>) -> Result<(), NoMemory>
+fn put_script(script: &Script, text: &mut Vec<u8>) -> Result<(), NoMemory>
     ensures { OnOk result (text.new.items ≡ text.old.items ++ 32 ∷ script_text script.now) }
 {
     match script {
-        Script::Bytes(bytes) => put_bytes(alloc, bytes.as_slice(), text),
+        Script::Bytes(bytes) => put_bytes(bytes.as_slice(), text),
         Script::Fill { len } => {
             put_word(b"fill:", text)?;
             put_digits(u64::from(*len), text)
@@ -85,13 +80,12 @@ fn put_script(alloc: Global, script: &Script, text: &mut Vec<u8>) -> Result<(), 
 
 /// A space, and the bytes of a script: `-` for none, otherwise their hexadecimal behind `hex:`.
 #[tactic(auto, using(std::proofs::Common::append_assoc))]
-fn put_bytes(alloc: Global, bytes: &[u8], text: &mut Vec<u8>) -> Result<(), NoMemory>
+fn put_bytes(bytes: &[u8], text: &mut Vec<u8>) -> Result<(), NoMemory>
     ensures { OnOk result (text.new.items ≡ text.old.items ++ 32 ∷ (if length bytes.now == 0 then codes "-" else codes "hex:" ++ encode_lower bytes.now)) }
 {
     if bytes.is_empty() {
         return put_word(b"-", text);
     }
     put_word(b"hex:", text)?;
-    text.extend_from_slice(hex::encode(alloc, bytes)?.as_bytes())?;
-    Ok(())
+    put_hex_digits(bytes, text)
 }

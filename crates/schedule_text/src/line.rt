@@ -164,7 +164,6 @@ fn has_unknown_name(keyword: Keyword, words: &[u8]) -> bool
 /// Whether the line's number is the next one, or left to a later test.
 #[tactic(auto, unfolding(ft_model::specs::Grammar::has_next_number, ft_model::specs::Grammar::is_next))]
 fn fits_number(count: usize, words: &[u8]) -> bool
-    requires { count < 16 }
     ensures { result ≡ has_next_number count (words_of words.now) }
 {
     match next_word(words) {

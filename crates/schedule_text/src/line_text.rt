@@ -1,14 +1,16 @@
 //! The words of a report's line, appended one by one: each value in its one spelling. What is appended to after a refusal for want of
 //! memory is to be dropped.
 
-ghost use Rattle.std.specs.Prelude.{◌≡◌, ◌+◌, ◌<◌, ◌∷◌, [], ◌++◌, codes, decimal, length, map, OnOk, IfOk};
-ghost use Rattle.std.specs.List.{join_with_byte};
+ghost use Rattle.std.specs.Prelude.{◌≡◌, ◌<◌, ◌≤◌, ◌∷◌, [], ◌++◌, codes, decimal, length, take, drop, OnOk};
+ghost use Rattle.hex.specs.Hex.{encode_lower};
 ghost use Rattle.ft_model.specs.Texts.{or_dash, behind_commas, hex_text, list_text, address_text, letter_if, flag_letters, flags_text, mss_text, bit_text, way_text};
 
 use ft_io::NoMemory;
 use ft_model::Way;
 use itoa::Buffer;
-use std::alloc::Global;
+
+/// How many bytes are turned into hexadecimal at a time.
+const HEX_BYTES: usize = 64;
 
 /// A number in decimal, with nothing before it.
 pub(crate) fn put_digits(n: u64, line: &mut Vec<u8>) -> Result<(), NoMemory>
@@ -57,53 +59,68 @@ pub(crate) fn put_bit(name: &[u8], bit: bool, line: &mut Vec<u8>) -> Result<(), 
     }
 }
 
-/// A text, or a dash for none.
-fn text_or_dash(text: &[u8]) -> &[u8]
-    ensures { result.now ≡ or_dash text.now }
+/// A dash, where nothing stands behind the first `start` bytes.
+#[tactic(auto, using(crate::proofs::Dashes::dash_for_none, crate::proofs::Dashes::itself_for_some))]
+pub(crate) fn put_dash(start: usize, line: &mut Vec<u8>) -> Result<(), NoMemory>
+    requires { start ≤ length line.old.items }
+    ensures { OnOk result (line.new.items ≡ take start line.old.items ++ or_dash (drop start line.old.items)) }
 {
-    if text.is_empty() { b"-" } else { text }
+    if line.len() == start {
+        line.push(b'-')?;
+    }
+    Ok(())
 }
 
 /// A space, and bytes in hexadecimal.
-#[tactic(auto, unfolding(ft_model::specs::Texts::hex_text))]
-pub(crate) fn put_hex(alloc: Global, bytes: &[u8], line: &mut Vec<u8>) -> Result<(), NoMemory>
+#[tactic(auto, using(crate::proofs::Dashes::seams), unfolding(ft_model::specs::Texts::hex_text))]
+pub(crate) fn put_hex(bytes: &[u8], line: &mut Vec<u8>) -> Result<(), NoMemory>
     ensures { OnOk result (line.new.items ≡ line.old.items ++ 32 ∷ hex_text bytes.now) }
 {
-    let text = hex::encode(alloc, bytes)?;
-    put_word(text_or_dash(text.as_bytes()), line)
+    line.push(b' ')?;
+    let start = line.len();
+    put_hex_digits(bytes, line)?;
+    put_dash(start, line)
+}
+
+/// Bytes in hexadecimal, with nothing before them.
+#[tactic(auto, using(crate::proofs::Hex::part_written, crate::proofs::Hex::all_written))]
+pub(crate) fn put_hex_digits(bytes: &[u8], line: &mut Vec<u8>) -> Result<(), NoMemory>
+    ensures { OnOk result (line.new.items ≡ line.old.items ++ encode_lower bytes.now) }
+{
+    let mut rest = bytes;
+    while !rest.is_empty() {
+        let (part, behind) = rest.split_at(rest.len().min(HEX_BYTES));
+        let mut digits = [0u8; 2 * HEX_BYTES];
+        let room = &mut digits[..2 * part.len()];
+        let Ok(()) = hex::encode_to_slice(part, room) else {
+            unreachable!()
+        };
+        line.extend_from_slice(room)?;
+        rest = behind;
+    }
+    Ok(())
 }
 
 /// A space, and numbers joined by commas.
-#[tactic(auto, unfolding(ft_model::specs::Texts::list_text))]
-pub(crate) fn put_list(alloc: Global, numbers: &[u16], line: &mut Vec<u8>) -> Result<(), NoMemory>
+#[tactic(auto, using(crate::proofs::Lengths::no_numbers, crate::proofs::Lengths::numbers_cons, std::proofs::Common::append_assoc))]
+pub(crate) fn put_list(numbers: &[u16], line: &mut Vec<u8>) -> Result<(), NoMemory>
     ensures { OnOk result (line.new.items ≡ line.old.items ++ 32 ∷ list_text numbers.now) }
 {
-    let text = joined(alloc, numbers)?;
-    put_word(text_or_dash(text.as_slice()), line)
-}
-
-/// Numbers in decimal, joined by commas.
-#[tactic(auto, using(ft_model::proofs::ReportParts::joined_behind))]
-fn joined(alloc: Global, numbers: &[u16]) -> Result<Vec<u8>, NoMemory>
-    ensures { IfOk result (λ text. text.items ≡ join_with_byte 44 (map decimal numbers.now)) }
-{
-    let mut text = Vec::new(alloc);
     let Some((first, others)) = numbers.split_first() else {
-        return Ok(text);
+        return put_word(b"-", line);
     };
-    put_digits(u64::from(*first), &mut text)?;
-    put_others(others, &mut text)?;
-    Ok(text)
+    put_number(u64::from(*first), line)?;
+    put_others(others, line)
 }
 
 /// Numbers in decimal, each behind a comma.
 #[tactic(auto, using(std::proofs::Common::append_assoc))]
-fn put_others(numbers: &[u16], text: &mut Vec<u8>) -> Result<(), NoMemory>
-    ensures { OnOk result (text.new.items ≡ text.old.items ++ behind_commas numbers.now) }
+fn put_others(numbers: &[u16], line: &mut Vec<u8>) -> Result<(), NoMemory>
+    ensures { OnOk result (line.new.items ≡ line.old.items ++ behind_commas numbers.now) }
 {
     for number in numbers {
-        text.push(b',')?;
-        put_digits(u64::from(*number), text)?;
+        line.push(b',')?;
+        put_digits(u64::from(*number), line)?;
     }
     Ok(())
 }
@@ -132,38 +149,38 @@ fn put_part(n: u32, mark: u8, line: &mut Vec<u8>) -> Result<(), NoMemory>
 }
 
 /// A space, and the letters of the flags that are set.
-#[tactic(auto, unfolding(ft_model::specs::Texts::flags_text))]
-pub(crate) fn put_flags(alloc: Global, flags: u8, line: &mut Vec<u8>) -> Result<(), NoMemory>
+#[tactic(auto, using(crate::proofs::Dashes::seams), unfolding(ft_model::specs::Texts::flags_text))]
+pub(crate) fn put_flags(flags: u8, line: &mut Vec<u8>) -> Result<(), NoMemory>
     ensures { OnOk result (line.new.items ≡ line.old.items ++ 32 ∷ flags_text flags) }
 {
-    let letters = letters_of(alloc, flags)?;
-    put_word(text_or_dash(letters.as_slice()), line)
+    line.push(b' ')?;
+    let start = line.len();
+    put_letters(flags, line)?;
+    put_dash(start, line)
 }
 
 /// The letters of the flags that are set.
 #[tactic(auto, using(std::proofs::Common::append_assoc))]
-fn letters_of(alloc: Global, flags: u8) -> Result<Vec<u8>, NoMemory>
-    ensures { IfOk result (λ letters. letters.items ≡ flag_letters flags) }
+fn put_letters(flags: u8, line: &mut Vec<u8>) -> Result<(), NoMemory>
+    ensures { OnOk result (line.new.items ≡ line.old.items ++ flag_letters flags) }
 {
-    let mut letters = Vec::new(alloc);
-    put_letter(flags, 0x80, b'C', &mut letters)?;
-    put_letter(flags, 0x40, b'E', &mut letters)?;
-    put_letter(flags, 0x20, b'U', &mut letters)?;
-    put_letter(flags, 0x10, b'A', &mut letters)?;
-    put_letter(flags, 0x08, b'P', &mut letters)?;
-    put_letter(flags, 0x04, b'R', &mut letters)?;
-    put_letter(flags, 0x02, b'S', &mut letters)?;
-    put_letter(flags, 0x01, b'F', &mut letters)?;
-    Ok(letters)
+    put_letter(flags, 0x80, b'C', line)?;
+    put_letter(flags, 0x40, b'E', line)?;
+    put_letter(flags, 0x20, b'U', line)?;
+    put_letter(flags, 0x10, b'A', line)?;
+    put_letter(flags, 0x08, b'P', line)?;
+    put_letter(flags, 0x04, b'R', line)?;
+    put_letter(flags, 0x02, b'S', line)?;
+    put_letter(flags, 0x01, b'F', line)
 }
 
 /// A flag's letter, where the flag is set.
-fn put_letter(flags: u8, flag: u8, letter: u8, letters: &mut Vec<u8>) -> Result<(), NoMemory>
+fn put_letter(flags: u8, flag: u8, letter: u8, line: &mut Vec<u8>) -> Result<(), NoMemory>
     requires { 0 < flag }
-    ensures { OnOk result (letters.new.items ≡ letters.old.items ++ letter_if flag (letter ∷ []) flags) }
+    ensures { OnOk result (line.new.items ≡ line.old.items ++ letter_if flag (letter ∷ []) flags) }
 {
     if flags / flag % 2 == 1 {
-        letters.push(letter)?;
+        line.push(letter)?;
     }
     Ok(())
 }

@@ -3,6 +3,8 @@
 ghost use Rattle.std.specs.Prelude.{◌≡◌, ◌≤◌, ◌^◌, ◌&&◌, not};
 
 use ft_io::{Key, Octets};
+use logger_wire as codec;
+use logger_wire::Msg;
 use seq_arith::{ACK, FIN, Head, RST, SYN, has};
 
 /// A TCP packet.
@@ -158,6 +160,7 @@ pub enum Body {
 
 impl Body {
     ghost use Rattle.ft_model.specs.Log.{is_answer, is_hello};
+    ghost use Rattle.logger_wire.specs.Value.{body_of as said_body};
     ghost use Rattle.schedule_text.specs.Packet.{body_of};
 
     /// Whether only the logger sends this kind.
@@ -167,6 +170,54 @@ impl Body {
         match self {
             Body::HelloMsg | Body::OpenMsg(_) | Body::DataMsg(_) | Body::ReadMsg { .. } => false,
             _ => true,
+        }
+    }
+
+    /// The body as its codec has it, with its bytes where they stand.
+    fn as_codec(&self) -> codec::Body<'_>
+        ensures { said_body result ≡ body_of self.now }
+    {
+        match self {
+            Body::HelloMsg => codec::Body::HelloMsg,
+            Body::SummaryMsg { count } => codec::Body::SummaryMsg { count: *count },
+            Body::OpenMsg(n) => codec::Body::OpenMsg {
+                key: n.key,
+                cisn: n.cisn,
+                sisn: n.sisn,
+                mss: n.mss,
+            },
+            Body::OpenedMsg(n) => codec::Body::OpenedMsg {
+                key: n.key,
+                cisn: n.cisn,
+                sisn: n.sisn,
+                mss: n.mss,
+            },
+            Body::DataMsg(part) => codec::Body::DataMsg {
+                key: part.key,
+                offset: part.offset,
+                acked: part.acked,
+                fin: u8::from(part.fin),
+                bytes: part.bytes.as_slice(),
+            },
+            Body::StableMsg(kept) => codec::Body::StableMsg {
+                key: kept.key,
+                length: kept.length,
+                fin: u8::from(kept.fin),
+                reads: kept.reads,
+            },
+            Body::ReadMsg { key, index, length } => codec::Body::ReadMsg {
+                key: *key,
+                index: *index,
+                length: *length,
+            },
+            Body::ReadsMsg(kept) => codec::Body::ReadsMsg {
+                key: kept.key,
+                length: kept.length,
+                fin: u8::from(kept.fin),
+                reads: kept.reads,
+            },
+            Body::StaleMsg { newer } => codec::Body::StaleMsg { newer: *newer },
+            Body::FullMsg(key) => codec::Body::FullMsg { key: *key },
         }
     }
 
@@ -182,6 +233,21 @@ impl Body {
 pub struct Message {
     pub boot: u64,
     pub body: Body,
+}
+
+impl Message {
+    ghost use Rattle.logger_wire.specs.Value.{message_of as said_message};
+    ghost use Rattle.schedule_text.specs.Packet.{message_of};
+
+    /// The message as its codec has it, with its bytes where they stand.
+    pub(crate) fn as_msg(&self) -> Msg<'_>
+        ensures { said_message result ≡ message_of self.now }
+    {
+        Msg {
+            boot: self.boot,
+            body: self.body.as_codec(),
+        }
+    }
 }
 
 /// A packet of the network.

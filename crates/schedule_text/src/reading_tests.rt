@@ -22,13 +22,14 @@ fn end_of(alloc: Global, front: &[u8], lines: &[u8]) -> Result<Option<ScheduleEn
 
 #[test]
 fn refuses_the_first_line_by_its_first_test(rt: HostRuntime) -> Result<(), Fail> {
-    let rows: [(&[u8], &[u8], u32, LineWhy); 51] = [
+    let rows: [(&[u8], &[u8], u32, LineWhy); 54] = [
         (b"", b"", 1, LineWhy::Place),
         (b"", b"\n\n", 3, LineWhy::Place),
         (b"", b"service echo", 2, LineWhy::Place),
         (b"", b"service\techo\n", 1, LineWhy::Character),
         (b"", b"service echo\r\n", 1, LineWhy::Character),
         (b"", b"\x00\n", 1, LineWhy::Character),
+        (b"", b"\xef\xbb\xbfservice echo\n", 1, LineWhy::Character),
         (b"", b"services echo\n", 1, LineWhy::Word),
         (b"", b"service Echo\n", 1, LineWhy::Word),
         (b"", b"service tcp 1\n", 1, LineWhy::Word),
@@ -118,6 +119,8 @@ fn refuses_the_first_line_by_its_first_test(rt: HostRuntime) -> Result<(), Fail>
         ),
         (BASE, b"deliver 1\nclient\n", 5, LineWhy::Place),
         (BASE, b" # no comment\n", 4, LineWhy::Word),
+        (BASE, b"deliver 1 # the SYN\n", 4, LineWhy::Count),
+        (BASE, b"deliver -1\n", 4, LineWhy::Number),
         (BASE, b"send x\n", 4, LineWhy::Count),
         (BASE, b"boot 0 5000\n", 4, LineWhy::Number),
         (

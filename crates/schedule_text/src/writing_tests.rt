@@ -3,7 +3,7 @@
 use crate::packet::{Body, Kept, Message, Numbers, Packet, Part, Segment};
 use crate::{
     LogLine, write_client_line, write_end, write_event, write_header, write_log_line,
-    write_packet_line,
+    write_packet_value,
 };
 use ft_io::{Addr, Key, Octets};
 use ft_model::{ClientLine, ClientLines, Event, Events, Phase, Schedule, Script, ServiceKind, Way};
@@ -269,7 +269,7 @@ fn writes_packets(rt: HostRuntime) -> Result<(), Fail> {
         ),
     ] {
         let mut out = Vec::new(alloc);
-        write_packet_line(alloc, n, way, &packet, &mut out)?;
+        write_packet_value(alloc, n, way, &packet, &mut out)?;
         assert_eq!(rt; out.as_slice(), want.as_bytes(), "at {want}");
     }
     Ok(())

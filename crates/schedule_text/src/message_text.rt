@@ -1,0 +1,266 @@
+//! The words of a message: its name, its boot number, then its fields by name, in the order in which it holds them.
+
+ghost use Rattle.std.specs.Prelude.{◌≡◌, ◌+◌, ◌*◌, ◌++◌, ◌∷◌, [], codes, decimal, map, OnOk};
+ghost use Rattle.std.specs.List.{join_with_byte};
+ghost use Rattle.seq_arith.specs.MessageGrammar.{lens_in};
+ghost use Rattle.ft_model.specs.Texts.{spaced, key_text, bit_text, hex_text, list_text, behind_commas};
+ghost use Rattle.ft_model.specs.Report.{key_words, numbers_words, kept_words, part_words, read_words, field_words, name_of, message_words};
+ghost use Rattle.logger_wire.specs.Value.{is_set, body_of, message_of};
+
+use crate::line_text::{put_address, put_bit, put_dash, put_digits, put_field, put_hex, put_word};
+use ft_io::{Key, NoMemory};
+use logger_wire::{Body, Msg};
+
+/// A message: its name, its boot number, then the fields of its body.
+#[tactic(auto, using(crate::proofs::LineLemmas::line_rules), unfolding(ft_model::specs::Report::message_words))]
+pub(crate) fn put_message(msg: &Msg<'_>, line: &mut Vec<u8>) -> Result<(), NoMemory>
+    ensures { OnOk result (line.new.items ≡ line.old.items ++ spaced (message_words (message_of msg.now))) }
+{
+    put_word(name(&msg.body), line)?;
+    put_field(b"boot", msg.boot, line)?;
+    put_fields(&msg.body, line)
+}
+
+/// The name of a kind of message.
+fn name(body: &Body<'_>) -> &'static [u8]
+    ensures { result.now ≡ name_of (body_of body.now) }
+{
+    match body {
+        Body::HelloMsg => b"Hello",
+        Body::SummaryMsg { .. } => b"Summary",
+        Body::ListMsg { .. } => b"List",
+        Body::EntryMsg { .. } => b"Entry",
+        Body::BytesMsg { .. } => b"Bytes",
+        Body::PartMsg { .. } => b"Part",
+        Body::CutsMsg { .. } => b"Cuts",
+        Body::LensMsg { .. } => b"Lens",
+        Body::OpenMsg { .. } => b"Open",
+        Body::OpenedMsg { .. } => b"Opened",
+        Body::DataMsg { .. } => b"Data",
+        Body::StableMsg { .. } => b"Stable",
+        Body::ReadMsg { .. } => b"Read",
+        Body::ReadsMsg { .. } => b"Reads",
+        Body::DoneMsg { .. } => b"Done",
+        Body::EndedMsg { .. } => b"Ended",
+        Body::StaleMsg { .. } => b"Stale",
+        Body::FullMsg { .. } => b"Full",
+    }
+}
+
+/// The fields of a body.
+#[tactic(auto, using(crate::proofs::LineLemmas::line_rules))]
+fn put_fields(body: &Body<'_>, line: &mut Vec<u8>) -> Result<(), NoMemory>
+    ensures { OnOk result (line.new.items ≡ line.old.items ++ spaced (field_words (body_of body.now))) }
+{
+    match *body {
+        Body::HelloMsg => Ok(()),
+        Body::SummaryMsg { count } => put_field(b"count", u64::from(count), line),
+        Body::ListMsg { index } => put_field(b"index", u64::from(index), line),
+        Body::EntryMsg {
+            index,
+            key,
+            cisn,
+            sisn,
+            mss,
+            length,
+            fin,
+            done,
+            reads,
+            acked,
+        } => {
+            put_field(b"index", u64::from(index), line)?;
+            put_numbers(key, cisn, sisn, mss, line)?;
+            put_field(b"length", u64::from(length), line)?;
+            put_standing(fin, done, reads, acked, line)
+        }
+        Body::BytesMsg { key, offset } => put_place(key, b"offset", offset, line),
+        Body::PartMsg { key, offset, bytes } => put_part(key, offset, bytes, line),
+        Body::CutsMsg { key, first } => put_place(key, b"first", first, line),
+        Body::LensMsg { key, first, lens } => put_lens(key, first, lens, line),
+        Body::OpenMsg {
+            key,
+            cisn,
+            sisn,
+            mss,
+        }
+        | Body::OpenedMsg {
+            key,
+            cisn,
+            sisn,
+            mss,
+        } => put_numbers(key, cisn, sisn, mss, line),
+        Body::DataMsg {
+            key,
+            offset,
+            acked,
+            fin,
+            bytes,
+        } => put_data(key, offset, acked, fin, bytes, line),
+        Body::StableMsg {
+            key,
+            length,
+            fin,
+            reads,
+        }
+        | Body::ReadsMsg {
+            key,
+            length,
+            fin,
+            reads,
+        } => put_kept(key, length, fin, reads, line),
+        Body::ReadMsg { key, index, length } => put_read(key, index, length, line),
+        Body::DoneMsg { key } | Body::EndedMsg { key } | Body::FullMsg { key } => put_key(
+            key, line,
+        ),
+        Body::StaleMsg { newer } => put_field(b"newer", newer, line),
+    }
+}
+
+/// A connection's key.
+#[tactic(auto, using(crate::proofs::LineLemmas::line_rules))]
+fn put_key(key: Key, line: &mut Vec<u8>) -> Result<(), NoMemory>
+    ensures { OnOk result (line.new.items ≡ line.old.items ++ spaced (key_words key)) }
+{
+    put_word(b"key", line)?;
+    put_address(key.ip, key.port, line)
+}
+
+/// A key, and a place in what is logged of it.
+#[tactic(auto, using(crate::proofs::LineLemmas::line_rules))]
+fn put_place(key: Key, name: &[u8], place: u32, line: &mut Vec<u8>) -> Result<(), NoMemory>
+    ensures { OnOk result (line.new.items ≡ line.old.items ++ (spaced (key_words key) ++ 32 ∷ (name.now ++ 32 ∷ decimal place))) }
+{
+    put_key(key, line)?;
+    put_field(name, u64::from(place), line)
+}
+
+/// The numbers of a connection.
+#[tactic(auto, using(crate::proofs::LineLemmas::line_rules))]
+fn put_numbers(key: Key, cisn: u32, sisn: u32, mss: u16, line: &mut Vec<u8>) -> Result<(), NoMemory>
+    ensures { OnOk result (line.new.items ≡ line.old.items ++ spaced (numbers_words (record { key = key; cisn = cisn; sisn = sisn; mss = mss }))) }
+{
+    put_key(key, line)?;
+    put_field(b"cisn", u64::from(cisn), line)?;
+    put_field(b"sisn", u64::from(sisn), line)?;
+    put_field(b"mss", u64::from(mss), line)
+}
+
+/// How much of a connection is logged.
+#[tactic(auto, using(crate::proofs::LineLemmas::line_rules))]
+fn put_kept(key: Key, length: u32, fin: u8, reads: u32, line: &mut Vec<u8>) -> Result<(), NoMemory>
+    ensures { OnOk result (line.new.items ≡ line.old.items ++ spaced (kept_words (record { key = key; length = length; fin = is_set fin; reads = reads }))) }
+{
+    put_key(key, line)?;
+    put_field(b"length", u64::from(length), line)?;
+    put_bit(b"fin", fin == 1, line)?;
+    put_field(b"reads", u64::from(reads), line)
+}
+
+/// How a logged connection stands, behind how many bytes it has.
+#[tactic(auto, using(crate::proofs::LineLemmas::line_rules))]
+fn put_standing(
+    fin: u8,
+    done: u8,
+    reads: u32,
+    acked: u32,
+    line: &mut Vec<u8>,
+) -> Result<(), NoMemory>
+    ensures { OnOk result (line.new.items ≡ line.old.items ++ spaced (codes "fin" ∷ bit_text (is_set fin) ∷ codes "done" ∷ bit_text (is_set done) ∷ codes "reads" ∷ decimal reads ∷ codes "acked" ∷ decimal acked ∷ [])) }
+{
+    put_bit(b"fin", fin == 1, line)?;
+    put_bit(b"done", done == 1, line)?;
+    put_field(b"reads", u64::from(reads), line)?;
+    put_field(b"acked", u64::from(acked), line)
+}
+
+/// Logged bytes.
+#[tactic(auto, using(crate::proofs::LineLemmas::line_rules))]
+fn put_part(key: Key, offset: u32, bytes: &[u8], line: &mut Vec<u8>) -> Result<(), NoMemory>
+    ensures { OnOk result (line.new.items ≡ line.old.items ++ spaced (codes "key" ∷ key_text key ∷ codes "offset" ∷ decimal offset ∷ codes "bytes" ∷ hex_text bytes.now ∷ [])) }
+{
+    put_place(key, b"offset", offset, line)?;
+    put_word(b"bytes", line)?;
+    put_hex(bytes, line)
+}
+
+/// Bytes to be logged.
+#[tactic(auto, using(crate::proofs::LineLemmas::line_rules))]
+fn put_data(
+    key: Key,
+    offset: u32,
+    acked: u32,
+    fin: u8,
+    bytes: &[u8],
+    line: &mut Vec<u8>,
+) -> Result<(), NoMemory>
+    ensures { OnOk result (line.new.items ≡ line.old.items ++ spaced (part_words (record { key = key; offset = offset; acked = acked; fin = is_set fin; bytes = bytes.now }))) }
+{
+    put_place(key, b"offset", offset, line)?;
+    put_field(b"acked", u64::from(acked), line)?;
+    put_bit(b"fin", fin == 1, line)?;
+    put_word(b"bytes", line)?;
+    put_hex(bytes, line)
+}
+
+/// The length of a read.
+#[tactic(auto, using(crate::proofs::LineLemmas::line_rules))]
+fn put_read(key: Key, index: u32, length: u16, line: &mut Vec<u8>) -> Result<(), NoMemory>
+    ensures { OnOk result (line.new.items ≡ line.old.items ++ spaced (read_words key index length)) }
+{
+    put_place(key, b"index", index, line)?;
+    put_field(b"length", u64::from(length), line)
+}
+
+/// Logged lengths of reads.
+#[tactic(auto, using(crate::proofs::LineLemmas::line_rules))]
+fn put_lens(key: Key, first: u32, lens: &[u8], line: &mut Vec<u8>) -> Result<(), NoMemory>
+    ensures { OnOk result (line.new.items ≡ line.old.items ++ spaced (codes "key" ∷ key_text key ∷ codes "first" ∷ decimal first ∷ codes "lens" ∷ list_text (lens_in lens.now) ∷ [])) }
+{
+    put_place(key, b"first", first, line)?;
+    put_word(b"lens", line)?;
+    put_lengths(lens, line)
+}
+
+/// A space, and lengths of two bytes each, joined by commas.
+#[tactic(auto, using(crate::proofs::Dashes::seams), unfolding(ft_model::specs::Texts::list_text))]
+fn put_lengths(lens: &[u8], line: &mut Vec<u8>) -> Result<(), NoMemory>
+    ensures { OnOk result (line.new.items ≡ line.old.items ++ 32 ∷ list_text (lens_in lens.now)) }
+{
+    line.push(b' ')?;
+    let start = line.len();
+    put_joined(lens, line)?;
+    put_dash(start, line)
+}
+
+/// Lengths of two bytes each, joined by commas, with nothing before them.
+#[tactic(auto, using(crate::proofs::Lengths::nothing_joined, ft_model::proofs::ReportParts::joined_behind, std::proofs::Common::append_assoc))]
+fn put_joined(lens: &[u8], line: &mut Vec<u8>) -> Result<(), NoMemory>
+    ensures { OnOk result (line.new.items ≡ line.old.items ++ join_with_byte 44 (map decimal (lens_in lens.now))) }
+{
+    let [high, low, others @ ..] = lens else {
+        return Ok(());
+    };
+    put_digits(length_of(*high, *low), line)?;
+    put_others(others, line)
+}
+
+/// Lengths of two bytes each, each behind a comma.
+#[tactic(auto, using(std::proofs::Common::append_assoc))]
+fn put_others(lens: &[u8], line: &mut Vec<u8>) -> Result<(), NoMemory>
+    ensures { OnOk result (line.new.items ≡ line.old.items ++ behind_commas (lens_in lens.now)) }
+{
+    let mut rest = lens;
+    while let [high, low, behind @ ..] = rest {
+        line.push(b',')?;
+        put_digits(length_of(*high, *low), line)?;
+        rest = behind;
+    }
+    Ok(())
+}
+
+/// A length from its two bytes.
+fn length_of(high: u8, low: u8) -> u64
+    ensures { result ≡ 256 * high + low }
+{
+    256 * u64::from(high) + u64::from(low)
+}
