@@ -9,6 +9,7 @@
 #![tactic(auto)]
 
 use ft_io::NoMemory;
+use hex::FromHexError;
 use logger_store::{LogStore, MsgOut};
 use logger_wire::read_msg;
 use random::give_random;
@@ -49,8 +50,10 @@ fn give(
 
 /// The log's answer to a datagram in hexadecimal, as a line.
 fn answer_to(alloc: Global, log: &mut LogStore, text: &str) -> Result<String, NoMemory> {
-    let Ok(datagram) = hex::decode(alloc, text) else {
-        return Ok(format!(in alloc; "no datagram")?);
+    let datagram = match hex::decode(alloc, text) {
+        Ok(datagram) => datagram,
+        Err(FromHexError::OutOfMemory) => return Err(NoMemory),
+        Err(_) => return Ok(format!(in alloc; "no datagram")?),
     };
     let mut out = MsgOut::new();
     match give(alloc, log, datagram.as_slice(), &mut out)? {
@@ -84,16 +87,22 @@ fn play(alloc: Global, log: &mut LogStore, line: &str) -> Result<String, NoMemor
     }
 }
 
+/// Plays a line. Where memory is refused it is played once more, since the log is then as it was before.
+fn play_again(alloc: Global, log: &mut LogStore, line: &str) -> Result<String, NoMemory> {
+    match play(alloc, log, line) {
+        Ok(text) => Ok(text),
+        Err(NoMemory) => play(alloc, log, line),
+    }
+}
+
 fn main(rt: HostRuntime) -> io::Result<()> {
     let mut log = LogStore::new(rt.alloc());
     for line in rt.lines(rt.alloc()) {
-        match play(rt.alloc(), &mut log, line?.as_str()) {
-            Ok(text) => println!(rt; "{text}")?,
-            Err(NoMemory) => {
-                println!(rt; "no memory")?;
-                return Ok(());
-            }
-        }
+        let Ok(text) = play_again(rt.alloc(), &mut log, line?.as_str()) else {
+            println!(rt; "no memory")?;
+            return Ok(());
+        };
+        println!(rt; "{text}")?;
     }
     Ok(())
 }

@@ -1,0 +1,42 @@
+#!/bin/sh
+# Refuses memory to `log_script` on its cases but the random ones, one allocation a run, each in turn. A line for which memory is refused is played once
+# more, so each run must print what it prints with all memory: the log was as before. Or, while a line is read, it ends with status 1 and std's own error,
+# having printed a front of that.
+set -eu
+cd "$(dirname "$0")/../crates/log_script"
+
+rt run <stdin >/dev/null 2>&1
+program=$PWD/out/log_script
+folder=$(mktemp -d)
+trap 'rm -rf "$folder"' EXIT
+gcc -O2 -Wall -shared -fPIC -o "$folder/refuse.so" ../../bench/refuse.c -ldl
+
+# the cases up to the long runs of reads, and those of pages
+sed '/^# paged log$/,$d' stdin >"$folder/script"
+sed -n '/^# pages: /,/^# runs: /p' stdin >>"$folder/script"
+
+# a run in which allocation $1 is refused; 0 refuses none
+refuse() {
+    status=0
+    REFUSED=$1 LD_PRELOAD=$folder/refuse.so "$program" <"$folder/script" >"$folder/printed" 2>"$folder/told" 3>"$folder/calls" || status=$?
+}
+
+refuse 0
+cp "$folder/printed" "$folder/wanted"
+calls=$(wc -c <"$folder/calls")
+n=0 same=0 ended=0
+while [ "$n" -lt "$calls" ]; do
+    n=$((n + 1))
+    refuse "$n"
+    if [ "$status" -eq 0 ] && cmp -s "$folder/wanted" "$folder/printed"; then
+        same=$((same + 1))
+    elif [ "$status" -eq 1 ] && grep -q OutOfMemory "$folder/told" \
+        && head -c "$(wc -c <"$folder/printed")" "$folder/wanted" | cmp -s - "$folder/printed"; then
+        ended=$((ended + 1))
+    else
+        echo "allocation $n: status $status"
+        cat "$folder/told"
+        exit 1
+    fi
+done
+echo "$calls allocations refused, one a run: $same print all as wanted, $ended end while a line is read"
