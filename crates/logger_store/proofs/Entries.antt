@@ -225,7 +225,3 @@ opening boot es after n kept room added =
       ap (λ xs. let log : Log = record { boot = boot; entries = xs } in log) values
           ∙ sym (ap (λ b. if b then log_of boot es else record (log_of boot es) { entries = values_of es ++ new_entry n ∷ [] }) room),
     )
-
--- nothing is opened for a key that is turned away
-pub turned_away : (log : Log) (n : Numbers) → (list_any (λ e. key_eq e.key n.key) log.entries || nat_le 64 (length log.entries)) ≡ true → log ≡ opened n log
-turned_away log n away = sym (ap (λ b. if b then log else record log { entries = log.entries ++ new_entry n ∷ [] }) away)

@@ -1,10 +1,10 @@
 -- Lengths of reads, in runs and in two bytes each.
 use Rattle.std.proofs.Common.{◌≡◌, ◌∙◌, ℕ, zero, suc, ◌+◌, ◌*◌, ◌-◌, ◌/◌, ◌%◌, ◌<◌, ◌≤◌, ◌^◌, ◌==◌, refl, sym, ap, subst, arith, List, [], ◌∷◌, ◌++◌, length, take, drop, slice_get, get_or, min, append_assoc, eqb-true, true, false, replicate, inl, inr}
-use Rattle.std.specs.Prelude.{Some, slice_index}
+use Rattle.std.specs.Prelude.{Some}
 use Rattle.std.specs.List.{flat_map}
 use Rattle.std.specs.Option.{option_map_or}
 use Rattle.std.specs.Int.{to_be_bytes, w16}
-use Rattle.std.proofs.lemmas.List.{length-append, take_all, drop_all, drop-append-le, length-replicate, replicate_more, drop-replicate, take-replicate, get_or-replicate, get_or-append_right, get_or_append_left, flat_map_more, take_more}
+use Rattle.std.proofs.lemmas.List.{length-append, take_all, drop_all, drop-append-le, length-replicate, replicate_more, drop-replicate, take-replicate, flat_map_more, take_more}
 use Rattle.std.proofs.lemmas.Bool.{cases_lt}
 use Rattle.std.proofs.Math.Seq.{drop-append-add, take-append-add}
 use Rattle.seq_arith.specs.MessageGrammar.{lens_in}
@@ -95,31 +95,6 @@ last_length xs n y len some is =
   where
     back : (n : ℕ) → 0 < n → n ≡ n - 1 + 1
     back n h = omega (arith, h)
-
--- the length at a place, in the runs that are left
-pub here : (run : Run) (runs : List Run) (last : List ℕ) (left d : ℕ) → left < run.count
-    → slice_index (flat_map lengths_in (run ∷ runs) ++ last) left ≡ run.length
-here run runs last left d h =
-    ap (λ xs. slice_index xs left) (append_assoc (lengths_in run) (flat_map lengths_in runs) last)
-    ∙ (get_or_append_left (lengths_in run) (flat_map lengths_in runs ++ last) 0 left (subst (λ n. left < n) (sym (length-replicate run.count run.length)) h)
-    ∙ get_or-replicate run.count left run.length 0 h)
-
-pub further : (run : Run) (runs : List Run) (last : List ℕ) (left : ℕ) → run.count ≤ left
-    → slice_index (flat_map lengths_in (run ∷ runs) ++ last) left ≡ slice_index (flat_map lengths_in runs ++ last) (left - run.count)
-further run runs last left h =
-    ap (λ xs. slice_index xs left) (append_assoc (lengths_in run) (flat_map lengths_in runs) last)
-    ∙ get_or-append_right (lengths_in run) (flat_map lengths_in runs ++ last) run.count left 0 (length-replicate run.count run.length) h
-
-pub room_further : (run : Run) (runs : List Run) (last : List ℕ) (left : ℕ) → run.count ≤ left → left < length (flat_map lengths_in (run ∷ runs) ++ last)
-    → left - run.count < length (flat_map lengths_in runs ++ last)
-room_further run runs last left h there =
-    let parts : length (flat_map lengths_in (run ∷ runs) ++ last) ≡ run.count + length (flat_map lengths_in runs ++ last) =
-    ap length (append_assoc (lengths_in run) (flat_map lengths_in runs) last)
-    ∙ (length-append (lengths_in run) (flat_map lengths_in runs ++ last) ∙ ap (λ n. n + length (flat_map lengths_in runs ++ last)) (length-replicate run.count run.length)) in
-    omega (arith, h, there, parts)
-
-pub at_last : (len count left : ℕ) → left < length (replicate count len) → slice_index (replicate count len) left ≡ len
-at_last len count left h = get_or-replicate count left len 0 (subst (λ n. left < n) (length-replicate count len) h)
 
 -- the lengths of one run more
 pub run_more : (runs : List Run) (i first skip left : ℕ) (d : Run) (now next : List ℕ) → i < length runs

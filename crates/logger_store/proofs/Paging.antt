@@ -47,9 +47,6 @@ none_behind pages None i h l behind = no_page _ i (subst (λ n. n ≤ 4096 * i) 
 none_behind pages (Some p) i h l behind =
     no_page _ i (subst (λ n. n ≤ 4096 * i) (sym (length_is pages (Some p) h)) (omega (arith, l.within)))
 
-pub none_yet : (pages : List (List ℕ)) (i : ℕ) → All IsFull pages → length pages ≤ i → [] ≡ page_of (flat_map (λ p. p) pages ++ []) i
-none_yet pages i h behind = no_page _ i (subst (λ n. n ≤ 4096 * i) (sym (length_is pages None h)) (omega arith))
-
 -- a byte's page has it
 pub byte_there : (bytes : List ℕ) (at : ℕ) → at < length bytes → at % 4096 < length (page_of bytes (at / 4096))
 byte_there bytes at h =
