@@ -3,6 +3,7 @@
 ghost use Rattle.std.specs.Prelude.{None, IsSome, ◌≡◌, ◌+◌, ◌-◌, ◌^◌, ◌≤◌, ◌==◌, ◌&&◌, ◌||◌, [], ◌++◌, IfOk, length, min, take, drop};
 ghost use Rattle.segment_codec.specs.Value.{segment_of};
 ghost use Rattle.tcp_endpoint.specs.Leaving.{packets};
+ghost use Rattle.tcp_endpoint.specs.Packets.{AreReadable};
 ghost use Rattle.tcp_endpoint.specs.Sending.{IsShort};
 ghost use Rattle.tcp_endpoint.specs.States.{has_begun as begun_lem};
 ghost use Rattle.tcp_endpoint.specs.Turning.{after_read};
@@ -204,6 +205,7 @@ impl LiveClient {
         requires { out.old ≡ [] }
         ensures state { self.new ≡ turned self.old }
         ensures sent { out.new ≡ packets (sent_by self.old) }
+        ensures readable { AreReadable (sent_by self.old) }
         // Each of these segments is a move of the client machine, which goes on beside the client until there is an outcome.
         ensures moves { (c : Client) → IsDue self.old c → Moves self.new (sent_by self.old) c }
     {
@@ -214,6 +216,7 @@ impl LiveClient {
         requires { out.old ≡ [] }
         ensures state { self.new ≡ turned self.old }
         ensures sent { out.new ≡ packets (sent_by self.old) }
+        ensures readable { AreReadable (sent_by self.old) }
     {
         self.give_up();
         self.supply();
