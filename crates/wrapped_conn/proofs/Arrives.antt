@@ -1,0 +1,187 @@
+-- A segment leaves TCP sound, near or not.
+use Rattle.std.proofs.Common.{◌≡◌, ◌<◌, ◌≤◌, ◌^◌, Bool, true, false, not, length, refl, sym, subst, arith, ◌∙◌}
+use Rattle.std.specs.Prelude.{pos, ◌&&◌, ◌||◌, nat_lt, int_lt}
+use Rattle.std.proofs.lemmas.Bool.{false≢true}
+use Rattle.seq_arith.specs.Arrival.{int_eq, is_acceptable}
+use Rattle.seq_arith.specs.Offset.{one_if, length_of}
+use Rattle.seq_arith.specs.Packet.{Segment, has_syn, has_rst, has_ack, has_fin}
+use Rattle.tcp_buffers.specs.Near.{IsNearFirst, is_ahead}
+use Rattle.tcp_endpoint.specs.declared.states.StateName.{StateName}
+use Rattle.tcp_endpoint.specs.declared.states.StateName.TheVariants.{Closed, Listen, SynSent, SynReceived, Established, FinWait1, FinWait2, CloseWait, Closing, LastAck, TimeWait}
+use Rattle.tcp_endpoint.specs.States.{opened, after_fin, after_fin_acked}
+use Rattle.tcp_endpoint.specs.Receiving.{Receiving, next, window, with_segment}
+use Rattle.tcp_endpoint.specs.Sending.{opened_by, acknowledged, fin_acked}
+use Rattle.tcp_endpoint.specs.Tcb.{Tcb}
+use Rattle.tcp_endpoint.specs.Arrival.{first, ack_at, received, received_in, in_closed, in_others, waiting_again, check_place, check_rst, check_syn, check_ack, with_ack, with_first_ack, with_fin_acked, with_text_and_fin, entering, owing_if, killed, refusing, refusing_without_ack}
+use Rattle.tcp_endpoint.proofs.Places.{near_of_acceptable}
+use Rattle.endpoint_laws.proofs.SendingLaw.{next_near, window_short, length_short}
+use Rattle.endpoint_laws.proofs.TakenLaw.{window_is}
+use Rattle.wrapped_conn.specs.Sound.{has_peer, IsSoundTcp}
+use Rattle.wrapped_conn.proofs.Kept.{GoesOnFrom, TakesOn, stays, goes_if, goes_when, fin_has_peer, acked_has_peer, opened_has_peer, takes_segment, beside, later_bounds, held_stays, kept_fields, first_bounds}
+
+-- the fields of a segment fit their bytes
+pub record Fits (p : Segment) : Type 0 where
+  pub seq : p.head.seq < 2 ^ 32
+  pub window : p.head.window ≤ 65535
+  pub text : length p.payload ≤ 65535
+
+-- another state
+enters : (e t : Tcb) (name : StateName) → has_peer name ≡ true → GoesOnFrom e t → GoesOnFrom e (entering name t)
+enters e t name listens g = record {
+  sound = record { bounds = g.sound.bounds; buffered = g.sound.buffered; begun = listens; fin_last = g.sound.fin_last };
+  read = g.read;
+  limit = g.limit;
+  more = g.more;
+  iss = g.iss;
+  closed = g.closed;
+  sent = g.sent;
+  held = g.held;
+}
+
+text_goes : (e t : Tcb) (p : Segment) → GoesOnFrom e t → GoesOnFrom e (with_text_and_fin t p)
+unfolding with_text_and_fin
+text_goes e t p g =
+    let r : Receiving = with_segment t.receiving (first t p) p.payload (has_fin p) in
+    let k : TakesOn t.receiving r = takes_segment t.receiving (first t p) p.payload (has_fin p) in
+    let taking : Tcb = record t { receiving = r; owed = t.owed || int_lt (pos (next t.receiving)) (first t p) } in
+    let goes : GoesOnFrom e taking = record {
+      sound = record {
+        bounds = beside t.receiving t.sending g.sound.bounds r (omega (arith, k.limit, g.sound.bounds.limit)) (k.within g.sound.bounds.taken) k.irs;
+        buffered = k.buffered g.sound.buffered;
+        begun = g.sound.begun;
+        fin_last = g.sound.fin_last;
+      };
+      read = k.read ∙ g.read;
+      limit = k.limit ∙ g.limit;
+      more = omega (arith, k.more, g.more);
+      iss = g.iss;
+      closed = g.closed;
+      sent = g.sent;
+      held = g.held;
+    } in
+    goes_if (r.fin && not t.receiving.fin) e _ _ (enters e taking (after_fin t.name) (fin_has_peer t.name g.sound.begun) goes) goes
+
+acked_goes : (e t : Tcb) → GoesOnFrom e t → GoesOnFrom e (with_fin_acked t)
+unfolding with_fin_acked
+acked_goes e t g = goes_if (fin_acked t.sending) e _ _ (enters e t (after_fin_acked t.name) (acked_has_peer t.name g.sound.begun) g) g
+
+-- no FIN is sent by a user who hasn't closed
+no_fin : (b c : Bool) → (b ≡ true → c ≡ true) → c ≡ false → one_if b ≡ 0
+no_fin true true h k = absurd (false≢true (sym k))
+no_fin true false h k = absurd (false≢true (h refl))
+no_fin false c h k = refl
+
+owes : (e t : Tcb) (b : Bool) → GoesOnFrom e t → GoesOnFrom e (owing_if b t)
+owes e t b g = record { sound = record { bounds = g.sound.bounds; buffered = g.sound.buffered; begun = g.sound.begun; fin_last = g.sound.fin_last }; read = g.read; limit = g.limit; more = g.more; iss = g.iss; closed = g.closed; sent = g.sent; held = g.held }
+
+later_used : (e : Tcb) (p : Segment) → IsSoundTcp e → Fits p → IsNearFirst (first e p) → e.sending.opened ≡ true
+    → GoesOnFrom e (record e { sending = acknowledged e.sending p.head.seq (ack_at e p) p.head.window })
+later_used e p s fits near is_opened =
+    let held = held_stays e.sending p.head.seq p.head.window (ack_at e p) s.bounds.order in
+    let kept = kept_fields e.sending p.head.seq p.head.window (ack_at e p) in
+    record {
+      sound = record {
+        bounds = later_bounds e.receiving e.sending p.head.seq p.head.window (ack_at e p) s.bounds near fits.seq fits.window is_opened;
+        buffered = s.buffered;
+        begun = s.begun;
+        fin_last = λ f. kept.1 ∙ s.fin_last (sym kept.2 ∙ f);
+      };
+      read = refl;
+      limit = refl;
+      more = omega arith;
+      iss = kept.0;
+      closed = kept.1;
+      sent = omega (arith, kept.3);
+      held = λ open_still. held (omega (arith, s.bounds.flight, no_fin e.sending.fin_sent e.sending.closed s.fin_last open_still));
+    }
+
+later_goes : (e : Tcb) (p : Segment) → IsSoundTcp e → Fits p → IsNearFirst (first e p) → e.sending.opened ≡ true → GoesOnFrom e (with_ack e p)
+unfolding with_ack
+later_goes e p s fits near is_opened =
+    let used : Tcb = record e { sending = acknowledged e.sending p.head.seq (ack_at e p) p.head.window } in
+    goes_if (is_ahead e.sending.sent (ack_at e p)) e _ _ (owes e e true (stays e s)) (text_goes e (with_fin_acked used) p (acked_goes e used (later_used e p s fits near is_opened)))
+
+refuses : (e : Tcb) (p : Segment) → IsSoundTcp e → GoesOnFrom e (refusing e p)
+unfolding refusing
+refuses e p s = let g = stays e s in record { sound = record { bounds = s.bounds; buffered = s.buffered; begun = s.begun; fin_last = s.fin_last }; read = refl; limit = refl; more = g.more; iss = refl; closed = refl; sent = g.sent; held = g.held }
+
+refuses_bare : (e : Tcb) (p : Segment) → IsSoundTcp e → GoesOnFrom e (refusing_without_ack e p)
+unfolding refusing_without_ack
+refuses_bare e p s = let g = stays e s in record { sound = record { bounds = s.bounds; buffered = s.buffered; begun = s.begun; fin_last = s.fin_last }; read = refl; limit = refl; more = g.more; iss = refl; closed = refl; sent = g.sent; held = g.held }
+
+first_goes : (e : Tcb) (p : Segment) → IsSoundTcp e → Fits p → IsNearFirst (first e p) → e.sending.opened ≡ false → GoesOnFrom e (with_first_ack e p)
+unfolding with_first_ack
+first_goes e p s fits near unopened =
+    let opening : Tcb = record e { name = opened e.sending.closed; sending = opened_by e.sending p.head.seq p.head.window } in
+    let goes : GoesOnFrom e opening = record {
+      sound = record {
+        bounds = first_bounds e.receiving e.sending p.head.seq p.head.window s.bounds near fits.seq fits.window unopened;
+        buffered = s.buffered;
+        begun = opened_has_peer e.sending.closed;
+        fin_last = s.fin_last;
+      };
+      read = refl;
+      limit = refl;
+      more = omega arith;
+      iss = refl;
+      closed = refl;
+      sent = omega (arith, s.bounds.unopened unopened);
+      held = λ open_still. omega arith;
+    } in
+    goes_if (int_eq (ack_at e p) (pos 0)) e _ _ (text_goes e opening p goes) (refuses e p s)
+
+from_owing : (e : Tcb) (b : Bool) (t : Tcb) → GoesOnFrom (owing_if b e) t → GoesOnFrom e t
+from_owing e b t g = record { sound = g.sound; read = g.read; limit = g.limit; more = g.more; iss = g.iss; closed = g.closed; sent = g.sent; held = g.held }
+
+-- the checks in their order, of a segment that is acceptable, and so near
+checked : (e : Tcb) (p : Segment) → IsSoundTcp e → Fits p → IsNearFirst (first e p) → GoesOnFrom e (check_rst e p)
+unfolding check_rst check_syn check_ack
+checked e p s fits near =
+    let g : GoesOnFrom e e = stays e s in
+    let owing : Tcb = owing_if (nat_lt 0 (length_of p)) e in
+    let sound : IsSoundTcp owing = record { bounds = s.bounds; buffered = s.buffered; begun = s.begun; fin_last = s.fin_last } in
+    goes_if (has_rst p) e _ _
+    (goes_if (int_eq (first e p) (pos (next e.receiving))) e _ _ (closes e s) (owes e e true g))
+    (goes_if (has_syn p) e _ _ (owes e e true g)
+    (goes_if (has_ack p) e _ _
+    (goes_when e.sending.opened e _ _ (λ h. from_owing e _ _ (later_goes owing p sound fits near h)) (λ h. from_owing e _ _ (first_goes owing p sound fits near h)))
+    (owes e e _ g)))
+  where
+    closes : (x : Tcb) → IsSoundTcp x → GoesOnFrom x (killed x)
+    closes x s = let g = stays x s in record { sound = record { bounds = s.bounds; buffered = s.buffered; begun = refl; fin_last = s.fin_last }; read = refl; limit = refl; more = g.more; iss = refl; closed = refl; sent = g.sent; held = g.held }
+
+from_waiting : (e : Tcb) (p : Segment) (t : Tcb) → GoesOnFrom (waiting_again e p) t → GoesOnFrom e t
+unfolding waiting_again
+from_waiting e p t g = record { sound = g.sound; read = g.read; limit = g.limit; more = g.more; iss = g.iss; closed = g.closed; sent = g.sent; held = g.held }
+
+others_go : (e : Tcb) (p : Segment) → IsSoundTcp e → Fits p → GoesOnFrom e (in_others e p)
+unfolding in_others check_place waiting_again
+others_go e p s fits =
+    let x : Tcb = waiting_again e p in
+    let sound : IsSoundTcp x = record { bounds = s.bounds; buffered = s.buffered; begun = s.begun; fin_last = s.fin_last } in
+    goes_when (is_acceptable (next e.receiving) (window e.receiving) (first e p) (length_of p)) e _ _
+    (λ h. from_waiting e p _ (checked x p sound fits
+    (near_of_acceptable (next e.receiving) (window e.receiving) (first e p) (length_of p) (next_near e.receiving s.bounds.limit s.bounds.taken)
+    (subst (λ w. w ≤ 2 ^ 16) (window_is e.receiving) (window_short e.receiving)) (length_short p fits.text) h)))
+    (λ h. from_waiting e p _ (owes x x (not (has_rst p)) (stays x sound)))
+
+closed_goes : (e : Tcb) (p : Segment) → IsSoundTcp e → GoesOnFrom e (in_closed e p)
+unfolding in_closed
+closed_goes e p s = goes_if (has_rst p) e _ _ (stays e s) (goes_if (has_ack p) e _ _ (refuses e p s) (refuses_bare e p s))
+
+goes_by : (name : StateName) (e : Tcb) (p : Segment) → has_peer name ≡ true → IsSoundTcp e → Fits p → GoesOnFrom e (received_in name e p)
+goes_by Closed e p h s fits = closed_goes e p s
+goes_by Listen e p h s fits = absurd (false≢true h)
+goes_by SynSent e p h s fits = absurd (false≢true h)
+goes_by SynReceived e p h s fits = others_go e p s fits
+goes_by Established e p h s fits = others_go e p s fits
+goes_by FinWait1 e p h s fits = others_go e p s fits
+goes_by FinWait2 e p h s fits = others_go e p s fits
+goes_by CloseWait e p h s fits = others_go e p s fits
+goes_by Closing e p h s fits = others_go e p s fits
+goes_by LastAck e p h s fits = others_go e p s fits
+goes_by TimeWait e p h s fits = others_go e p s fits
+
+pub segment_goes : (e : Tcb) (p : Segment) → IsSoundTcp e → Fits p → GoesOnFrom e (received e p)
+unfolding received
+segment_goes e p s fits = goes_by e.name e p s.begun s fits

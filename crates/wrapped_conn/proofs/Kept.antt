@@ -1,0 +1,221 @@
+-- What news and the end of a turn leave of TCP, whatever comes.
+use Rattle.std.proofs.Common.{◌≡◌, ℕ, ◌<◌, ◌≤◌, ◌+◌, ◌-◌, ◌^◌, Bool, true, false, List, ◌++◌, length, length-append, take, drop, max, min, refl, sym, subst, arith, ◌∙◌}
+use Rattle.std.specs.Prelude.{ℤ, pos, ◌&&◌, ◌||◌, nat_abs, int_le, int_lt, if◌then◌else◌}
+use Rattle.std.proofs.lemmas.Int.{ints}
+use Rattle.std.proofs.lemmas.List.{length-take}
+use Rattle.std.proofs.lemmas.Bool.{false≢true}
+use Rattle.seq_arith.specs.Number.{offset_of}
+use Rattle.seq_arith.specs.Arrival.{is_new_ack}
+use Rattle.tcp_buffers.specs.Near.{IsNearFirst}
+use Rattle.tcp_endpoint.specs.declared.states.StateName.{StateName}
+use Rattle.tcp_endpoint.specs.declared.states.StateName.TheVariants.{Closed, Listen, SynSent, SynReceived, Established, FinWait1, FinWait2, CloseWait, Closing, LastAck, TimeWait}
+use Rattle.tcp_endpoint.specs.States.{is_listen, opened, after_fin, after_fin_acked}
+use Rattle.tcp_endpoint.specs.Receiving.{Receiving, taken, window, with_text, with_fin, with_segment}
+use Rattle.tcp_endpoint.specs.Sending.{Sending, opened_by, acknowledged, moves_edge}
+use Rattle.tcp_endpoint.specs.Tcb.{Tcb}
+use Rattle.endpoint_laws.specs.Laws.{Bounds}
+use Rattle.endpoint_laws.proofs.SendingLaw.{held_field}
+use Rattle.wrapped_conn.specs.Sound.{has_peer, IsSoundTcp}
+
+-- a TCP that has gone on from another one, and no call of its user
+pub record GoesOnFrom (e t : Tcb) : Type 0 where
+  pub sound : IsSoundTcp t
+  pub read : t.receiving.read ≡ e.receiving.read
+  pub limit : t.receiving.limit ≡ e.receiving.limit
+  pub more : length e.receiving.unread ≤ length t.receiving.unread
+  pub iss : t.sending.iss ≡ e.sending.iss
+  pub closed : t.sending.closed ≡ e.sending.closed
+  pub sent : e.sending.sent ≤ t.sending.sent
+  pub held : e.sending.closed ≡ false → t.sending.una + length t.sending.held ≤ e.sending.una + length e.sending.held
+
+pub stays : (e : Tcb) → IsSoundTcp e → GoesOnFrom e e
+stays e s = record { sound = s; read = refl; limit = refl; more = omega arith; iss = refl; closed = refl; sent = omega arith; held = λ h. omega arith }
+
+pub goes_if : (b : Bool) (e x y : Tcb) → GoesOnFrom e x → GoesOnFrom e y → GoesOnFrom e (if b then x else y)
+goes_if true e x y p q = p
+goes_if false e x y p q = q
+
+pub goes_when : (b : Bool) (e x y : Tcb) → (b ≡ true → GoesOnFrom e x) → (b ≡ false → GoesOnFrom e y) → GoesOnFrom e (if b then x else y)
+goes_when true e x y p q = p refl
+goes_when false e x y p q = q refl
+
+-- the states that follow have a peer too
+pub fin_has_peer : (name : StateName) → has_peer name ≡ true → has_peer (after_fin name) ≡ true
+fin_has_peer Closed h = refl
+fin_has_peer Listen h = h
+fin_has_peer SynSent h = h
+fin_has_peer SynReceived h = refl
+fin_has_peer Established h = refl
+fin_has_peer FinWait1 h = refl
+fin_has_peer FinWait2 h = refl
+fin_has_peer CloseWait h = refl
+fin_has_peer Closing h = refl
+fin_has_peer LastAck h = refl
+fin_has_peer TimeWait h = refl
+
+pub acked_has_peer : (name : StateName) → has_peer name ≡ true → has_peer (after_fin_acked name) ≡ true
+acked_has_peer Closed h = refl
+acked_has_peer Listen h = h
+acked_has_peer SynSent h = h
+acked_has_peer SynReceived h = refl
+acked_has_peer Established h = refl
+acked_has_peer FinWait1 h = refl
+acked_has_peer FinWait2 h = refl
+acked_has_peer CloseWait h = refl
+acked_has_peer Closing h = refl
+acked_has_peer LastAck h = refl
+acked_has_peer TimeWait h = refl
+
+pub opened_has_peer : (closed : Bool) → has_peer (opened closed) ≡ true
+opened_has_peer true = refl
+opened_has_peer false = refl
+
+pub not_listen : (name : StateName) → has_peer name ≡ true → is_listen name ≡ false
+not_listen Closed h = refl
+not_listen Listen h = absurd (false≢true h)
+not_listen SynSent h = refl
+not_listen SynReceived h = refl
+not_listen Established h = refl
+not_listen FinWait1 h = refl
+not_listen FinWait2 h = refl
+not_listen CloseWait h = refl
+not_listen Closing h = refl
+not_listen LastAck h = refl
+not_listen TimeWait h = refl
+
+-- the receiving half after a segment's text and FIN
+pub record TakesOn (r t : Receiving) : Type 0 where
+  pub irs : t.irs ≡ r.irs
+  pub read : t.read ≡ r.read
+  pub limit : t.limit ≡ r.limit
+  pub more : length r.unread ≤ length t.unread
+  pub within : taken r ≤ r.limit → taken t ≤ t.limit
+  pub buffered : length r.unread ≤ 65535 → length t.unread ≤ 65535
+
+takes_if : (b : Bool) (r x y : Receiving) → TakesOn r x → TakesOn r y → TakesOn r (if b then x else y)
+takes_if true r x y p q = p
+takes_if false r x y p q = q
+
+longer : (unread more : List ℕ) → length unread ≤ length (unread ++ more)
+longer unread more = omega (arith, length-append {A = ℕ} unread more)
+
+taken_within : (read limit : ℕ) (unread text : List ℕ) → read + length unread ≤ limit
+    → read + length (unread ++ take (min (read + 65535) limit - (read + length unread)) text) ≤ limit
+taken_within read limit unread text h = omega (arith, length-append {A = ℕ}, length-take {A = ℕ})
+
+buffered_within : (read limit : ℕ) (unread text : List ℕ) → length unread ≤ 65535
+    → length (unread ++ take (min (read + 65535) limit - (read + length unread)) text) ≤ 65535
+buffered_within read limit unread text h = omega (arith, length-append {A = ℕ}, length-take {A = ℕ})
+
+takes_text : (r : Receiving) (first : ℤ) (text : List ℕ) (place : ℤ) (fin : Bool) → TakesOn r (with_fin (with_text r first text) place fin)
+unfolding with_fin with_text
+takes_text r first text place fin = record {
+  irs = refl;
+  read = refl;
+  limit = refl;
+  more = longer r.unread _;
+  within = λ h. taken_within r.read r.limit r.unread _ h;
+  buffered = λ h. buffered_within r.read r.limit r.unread _ h;
+}
+
+pub takes_segment : (r : Receiving) (first : ℤ) (text : List ℕ) (fin : Bool) → TakesOn r (with_segment r first text fin)
+unfolding with_segment
+takes_segment r first text fin =
+    takes_if (r.fin || int_lt (pos (taken r)) first) r _ _
+    (record { irs = refl; read = refl; limit = refl; more = omega arith; within = λ h. h; buffered = λ h. h })
+    (takes_text r first text _ fin)
+
+-- the bounds of the sending half stay beside another receiving half of the same stream
+pub beside : (r : Receiving) (s : Sending) → Bounds r s → (t : Receiving) → t.limit ≤ 2 ^ 24 → taken t ≤ t.limit → t.irs ≡ r.irs → Bounds t s
+beside r s b t limit within irs = record {
+  limit = limit;
+  taken = within;
+  order = b.order;
+  unopened = b.unopened;
+  shut = b.shut;
+  flight = b.flight;
+  written = b.written;
+  sent = b.sent;
+  wl1 = λ h. let P : ℕ → Type 0 = λ n. IsNearFirst (offset_of n s.wl1) in subst P (sym irs) (b.wl1 h);
+  wl1_fits = b.wl1_fits;
+  wl2 = b.wl2;
+  edge = b.edge;
+  reach = b.reach;
+}
+
+new_within : (una sent : ℕ) (z : ℤ) → una ≤ sent → (if is_new_ack una sent z then nat_abs z else una) ≤ sent
+new_within una sent z h = grind (arith, ints)
+
+moved_within : (una sent : ℕ) (z : ℤ) (c : Bool) → (int_le (pos una) z && int_le z (pos sent) && c) ≡ true
+    → (nat_abs z ≤ (if is_new_ack una sent z then nat_abs z else una)) × (nat_abs z ≤ sent)
+moved_within una sent z c h = (grind (arith, ints), grind (arith, ints))
+
+near_of_choice : (irs x y : ℕ) (b : Bool) → IsNearFirst (offset_of irs x) → IsNearFirst (offset_of irs y) → IsNearFirst (offset_of irs (if b then x else y))
+near_of_choice irs x y true p q = p
+near_of_choice irs x y false p q = q
+
+choice_within : (x y n : ℕ) (b : Bool) → (b ≡ true → x ≤ n) → y ≤ n → (if b then x else y) ≤ n
+choice_within x y n true p q = p refl
+choice_within x y n false p q = q
+
+not_less : (una sent : ℕ) (z : ℤ) → una ≤ (if is_new_ack una sent z then nat_abs z else una)
+not_less una sent z = grind (arith, ints)
+
+-- a later acknowledgement
+pub later_bounds : (r : Receiving) (s : Sending) (seq window : ℕ) (z : ℤ) → Bounds r s → IsNearFirst (offset_of r.irs seq) → seq < 2 ^ 32 → window ≤ 65535 → s.opened ≡ true
+    → Bounds r (acknowledged s seq z window)
+unfolding acknowledged
+later_bounds r s seq window z b near fits small is_opened =
+    let una : ℕ = if is_new_ack s.una s.sent z then nat_abs z else s.una in
+    let una_sent : una ≤ s.sent = new_within s.una s.sent z b.order in
+    let kept : una + length (if is_new_ack s.una s.sent z then drop (nat_abs z - s.una) s.held else s.held) ≡ max una (s.una + length s.held) =
+    held_field s.una s.sent z s.held b.order in
+    let moved : moves_edge s seq z ≡ true → (nat_abs z ≤ una) × (nat_abs z ≤ s.sent) = λ h. moved_within s.una s.sent z _ h in
+    record {
+      limit = b.limit;
+      taken = b.taken;
+      order = una_sent;
+      unopened = b.unopened;
+      shut = λ h. absurd (false≢true (sym h ∙ is_opened));
+      flight = omega (arith, kept, b.flight);
+      written = omega (arith, kept, b.written, una_sent, b.sent);
+      sent = b.sent;
+      wl1 = λ h. near_of_choice r.irs seq s.wl1 (moves_edge s seq z) near (b.wl1 is_opened);
+      wl1_fits = choice_within seq s.wl1 (2 ^ 32 - 1) (moves_edge s seq z) (λ h. omega (arith, fits)) b.wl1_fits;
+      wl2 = choice_within (nat_abs z) s.wl2 una (moves_edge s seq z) (λ h. (moved h).0) (omega (arith, b.wl2, not_less s.una s.sent z));
+      edge = choice_within (nat_abs z + window) s.edge (2 ^ 24 + 2 ^ 16 + 1) (moves_edge s seq z) (λ h. grind (arith, moved h, b.sent)) b.edge;
+      reach = choice_within (nat_abs z + window) s.edge (una + 65535) (moves_edge s seq z) (λ h. omega (arith, (moved h).0, small)) (omega (arith, b.reach, not_less s.una s.sent z));
+    }
+
+-- what is held, where no FIN is sent
+pub held_stays : (s : Sending) (seq window : ℕ) (z : ℤ) → s.una ≤ s.sent → s.sent ≤ s.una + length s.held
+    → (acknowledged s seq z window).una + length (acknowledged s seq z window).held ≤ s.una + length s.held
+unfolding acknowledged
+held_stays s seq window z order flight = omega (arith, held_field s.una s.sent z s.held order, new_within s.una s.sent z order)
+
+-- and what an acknowledgement doesn't touch
+pub kept_fields : (s : Sending) (seq window : ℕ) (z : ℤ) → ((acknowledged s seq z window).iss ≡ s.iss) × ((acknowledged s seq z window).closed ≡ s.closed)
+    × ((acknowledged s seq z window).fin_sent ≡ s.fin_sent) × ((acknowledged s seq z window).sent ≡ s.sent)
+unfolding acknowledged
+kept_fields s seq window z = (refl, refl, refl, refl)
+
+-- the first acknowledgement
+pub first_bounds : (r : Receiving) (s : Sending) (seq window : ℕ) → Bounds r s → IsNearFirst (offset_of r.irs seq) → seq < 2 ^ 32 → window ≤ 65535 → s.opened ≡ false
+    → Bounds r (opened_by s seq window)
+first_bounds r s seq window b near fits small unopened =
+    let una : s.una ≡ 0 = omega (arith, b.order, b.unopened unopened) in
+    record {
+      limit = b.limit;
+      taken = b.taken;
+      order = omega arith;
+      unopened = λ h. refl;
+      shut = λ h. absurd (false≢true (sym h));
+      flight = omega arith;
+      written = omega (arith, b.written, una);
+      sent = omega arith;
+      wl1 = λ h. near;
+      wl1_fits = omega (arith, fits);
+      wl2 = omega arith;
+      edge = omega (arith, small);
+      reach = omega (arith, small);
+    }

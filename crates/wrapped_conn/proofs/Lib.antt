@@ -1,0 +1,16 @@
+pub mod Small
+pub mod Kept
+pub mod Arrives
+pub mod SoundAgain
+pub mod Flushed
+pub mod Passing
+pub mod PassedOn
+pub mod Serving
+pub mod Reached
+pub mod Served
+pub mod Begun
+pub mod Told
+pub mod Sendable
+pub mod Copied
+pub mod Onward
+pub mod Taking

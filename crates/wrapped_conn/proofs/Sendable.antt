@@ -1,0 +1,91 @@
+-- What a connection tells may be sent.
+use Rattle.std.proofs.Common.{◌≡◌, ℕ, ◌<◌, ◌≤◌, ◌+◌, ◌^◌, ◌==◌, Bool, true, false, ◌&&◌, nat_le, refl, List, length, arith}
+use mir.Val.{bool_byte}
+use Rattle.std.specs.Borrow.{Bor}
+use Rattle.std.proofs.lemmas.Bool.{and_from, le-leb, false≢true}
+use Rattle.ft_io.specs.declared.Key.{Key}
+use Rattle.seq_arith.specs.MessageGrammar.{flag, is_sound, has_length}
+use Rattle.logger_wire.specs.declared.Body.{Body}
+use Rattle.logger_wire.specs.declared.Body.TheVariants as body
+use Rattle.logger_wire.specs.Value.{IsSendable}
+
+pub record FitsKey (key : Key) : Type 0 where
+  pub ip : key.ip < 2 ^ 32
+  pub port : key.port < 2 ^ 16
+
+is_low : (m n : ℕ) → m ≤ n → nat_le m n ≡ true
+is_low m n h = le-leb m n h
+
+flag_low : (b : Bool) → flag b ≤ 1
+flag_low true = omega arith
+flag_low false = omega arith
+
+has_size : (front fewest most n : ℕ) → fewest ≤ n → n ≤ most → (nat_le (front + fewest) (front + n) && nat_le (front + n) (front + most)) ≡ true
+has_size front fewest most n low high =
+    and_from (nat_le (front + fewest) (front + n)) (nat_le (front + n) (front + most)) (le-leb _ _ (omega (arith, low))) (le-leb _ _ (omega (arith, high)))
+
+pub byte_low : (b : Bool) → bool_byte b ≤ 1
+byte_low true = omega arith
+byte_low false = omega arith
+
+pub done_sendable : (boot : ℕ) (key : Key) → 1 ≤ boot → boot < 2 ^ 64 → FitsKey key → IsSendable (record { boot = boot; body = body.DoneMsg key })
+unfolding is_sound has_length
+done_sendable boot key live fits k = record {
+  flags = refl;
+  lens = refl;
+  spellable = record {
+    boot = omega (arith, fits);
+    numbers = (omega (arith, k.ip), (omega (arith, k.port), tt));
+    sound = and_from (nat_le 1 boot && true) true (and_from (nat_le 1 boot) true (is_low 1 boot live) refl) refl;
+    size = refl;
+  };
+}
+
+pub read_sendable : (boot : ℕ) (key : Key) (index count : ℕ) → 1 ≤ boot → boot < 2 ^ 64 → FitsKey key → index ≤ 2 ^ 24 + 1 → count ≤ 2048
+    → IsSendable (record { boot = boot; body = body.ReadMsg key index count })
+unfolding is_sound has_length
+read_sendable boot key index count live fits k few short = record {
+  flags = refl;
+  lens = refl;
+  spellable = record {
+    boot = omega (arith, fits);
+    numbers = (omega (arith, k.ip), (omega (arith, k.port), (omega (arith, few), (omega (arith, short), tt))));
+    sound = and_from (nat_le 1 boot && (nat_le index (2 ^ 24 + 1) && (nat_le count 2048 && true))) true
+        (and_from (nat_le 1 boot) _ (is_low 1 boot live) (and_from _ _ (is_low index (2 ^ 24 + 1) few) (and_from _ _ (is_low count 2048 short) refl))) refl;
+    size = refl;
+  };
+}
+
+pub data_sendable : (boot : ℕ) (key : Key) (offset acked fin : ℕ) (bytes : Bor (List ℕ)) → 1 ≤ boot → boot < 2 ^ 64 → FitsKey key → offset + length bytes.now ≤ 2 ^ 24 → acked ≤ 2 ^ 24 + 1
+    → fin ≤ 1 → length bytes.now ≤ 1460 → IsSendable (record { boot = boot; body = body.DataMsg key offset acked fin bytes })
+unfolding is_sound has_length
+data_sendable boot key offset acked fin bytes live fits k within few low short = record {
+  flags = and_from _ true (is_low fin 1 low) refl;
+  lens = refl;
+  spellable = record {
+    boot = omega (arith, fits);
+    numbers = (omega (arith, k.ip), (omega (arith, k.port), (omega (arith, within), (omega (arith, few), (omega (arith, flag_low (fin == 1)), tt)))));
+    sound = and_from (nat_le 1 boot && _) true (and_from (nat_le 1 boot) _ (is_low 1 boot live)
+        (and_from _ _ (is_low (offset + length bytes.now) (2 ^ 24) within) (and_from _ _ (is_low acked (2 ^ 24 + 1) few) (and_from _ _ (is_low (flag (fin == 1)) 1 (flag_low (fin == 1))) refl)))) refl;
+    size = and_from _ true (has_size 31 0 1460 (length bytes.now) (omega arith) short) refl;
+  };
+}
+
+-- a count of bytes that is told is within a stream
+both : (a b : Bool) → (a && b) ≡ true → (a ≡ true) × (b ≡ true)
+both true b h = (refl, h)
+both false b h = absurd (false≢true h)
+
+low : (m n : ℕ) → nat_le m n ≡ true → m ≤ n
+low m n h = grind (arith, h)
+
+abbrev pub HasLowLength : Body → Type 0
+HasLowLength (body.StableMsg key length fin reads) = length ≤ 2 ^ 24
+HasLowLength (body.ReadsMsg key length fin reads) = length ≤ 2 ^ 24
+HasLowLength _ = Unit {0}
+
+pub length_low : (boot : ℕ) (said : Body) → IsSendable (record { boot = boot; body = said }) → HasLowLength said
+unfolding is_sound
+length_low boot (body.StableMsg key length fin reads) s = low length (2 ^ 24) (both _ _ (both _ _ (both _ _ s.spellable.sound).0).1).0
+length_low boot (body.ReadsMsg key length fin reads) s = low length (2 ^ 24) (both _ _ (both _ _ (both _ _ s.spellable.sound).0).1).0
+length_low boot _ s = tt

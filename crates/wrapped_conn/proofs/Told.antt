@@ -1,0 +1,40 @@
+-- Messages, one behind the other.
+use Rattle.std.proofs.Common.{◌≡◌, ℕ, zero, suc, ◌<◌, ◌≤◌, ◌+◌, ◌*◌, ◌^◌, Bool, true, false, sym, ap, subst, ◌∙◌, List, [], ◌∷◌, ◌++◌, length, drop, arith, length-append, append_assoc}
+use Rattle.std.specs.Prelude.{slice_get, IfSome}
+use Rattle.std.specs.Bool.{OnTrue, OnFalse}
+use Rattle.seq_arith.specs.Message.Body.{ReadMsg}
+use Rattle.seq_arith.specs.MessageGrammar.{spelling}
+use Rattle.ft_io.specs.declared.Key.{Key}
+use Rattle.north_wrap.specs.declared.read_record.ReadRecord.{ReadRecord}
+use Rattle.north_wrap.specs.Standing.{messages_of}
+use Rattle.tcp_endpoint.specs.Packets.{byte_count}
+use Rattle.wrapped_conn.specs.Telling.{spelled, AreTellable}
+
+pub counted : (xs : List (List ℕ)) (x : List ℕ) → byte_count (xs ++ x ∷ []) ≡ byte_count xs + length x
+counted [] x = omega arith
+counted (y ∷ ys) x = let more = counted ys x in omega (arith, more)
+
+abbrev pub pair : ℕ → ℕ → ℕ × ℕ
+pair x y = (x, y)
+
+pub read_next : (boot : ℕ) (key : Key) (reads : List ReadRecord) (i index count : ℕ) → i < length reads → IfSome (slice_get reads i) (λ r. pair index count ≡ pair r.index r.length)
+    → spelled boot (messages_of key (drop i reads)) ≡ spelling (record { boot = boot; body = ReadMsg key index count }) ∷ spelled boot (messages_of key (drop (suc i) reads))
+read_next boot key [] i index count low is = absurd (omega (arith, low))
+read_next boot key (r ∷ reads) zero index count low is = λ j. spelling (record { boot = boot; body = ReadMsg key ((sym is) j).0 ((sym is) j).1 }) ∷ spelled boot (messages_of key reads)
+read_next boot key (r ∷ reads) (suc i) index count low is = read_next boot key reads i index count (omega (arith, low)) is
+
+pub read_fits : (reads : List ReadRecord) (i index count : ℕ) → i < length reads → IfSome (slice_get reads i) (λ r. pair index count ≡ pair r.index r.length) → AreTellable reads
+    → (index ≤ 2 ^ 24 + 1) × (count ≤ 2048)
+read_fits [] i index count low is all = absurd (omega (arith, low))
+read_fits (r ∷ reads) zero index count low is all =
+    (subst (λ n. n ≤ 2 ^ 24 + 1) (sym (ap (λ (p : ℕ × ℕ). p.0) is)) all.0.index, subst (λ n. n ≤ 2048) (sym (ap (λ (p : ℕ × ℕ). p.1) is)) all.0.length)
+read_fits (r ∷ reads) (suc i) index count low is all = read_fits reads i index count (omega (arith, low)) is all.1
+
+pub one_told : (out rest : List (List ℕ)) (x : List ℕ) (all : List (List ℕ)) → out ++ (x ∷ rest) ≡ all → (out ++ x ∷ []) ++ rest ≡ all
+one_told out rest x all e = append_assoc out (x ∷ []) rest ∙ e
+
+-- a message has at most 2,048 bytes
+pub short_pushed : (b : Bool) (old new : List (List ℕ)) (x : List ℕ) → OnTrue b (new ≡ old ++ x ∷ []) → OnFalse b (new ≡ old) → length x ≤ 2048 → byte_count old ≤ 2048 * length old
+    → byte_count new ≤ 2048 * length new
+short_pushed true old new x on off few short = let e = on in omega (arith, ap byte_count e, ap length e, counted old x, length-append old (x ∷ []), few, short)
+short_pushed false old new x on off few short = let e = off in omega (arith, ap byte_count e, ap length e, short)

@@ -1,0 +1,32 @@
+-- What news make of a connection, before its user's turn.
+use Rattle.std.specs.Prelude.{Bool, ◌&&◌, not, if◌then◌else◌}
+use Rattle.seq_arith.specs.Packet.{Segment, has_rst}
+use Rattle.south_wrap.specs.Patching.{repeats_syn, inward}
+use Rattle.tcp_endpoint.specs.Arrival.{received}
+use Rattle.wrapped_conn.specs.declared.stage.Before.{Before}
+use Rattle.wrapped_conn.specs.ConnState.{ConnState}
+use Rattle.wrapped_conn.specs.Numbers.{has_fin, is_over, bytes_taken, una_units, announced, owes}
+
+-- what is known before a segment's turn: a connection that was over answers each but a RST
+abbrev pub before_segment : {S : Type 0} → ConnState S → Segment → Before
+before_segment c segment = record {
+  una = una_units c;
+  edge = announced c;
+  asks = is_over c.endpoint.name && not (has_rst segment);
+  owes = owes c segment;
+}
+
+-- before a turn without a segment, in which the connection owes an answer or not
+abbrev pub before_other : {S : Type 0} → Bool → ConnState S → Before
+before_other asks c = record { una = una_units c; edge = announced c; asks = asks; owes = Bool.false }
+
+-- the south wrapper learns what TCP has taken, and what the client has acknowledged
+abbrev pub noted : {S : Type 0} → ConnState S → ConnState S
+noted c = record c { south = record c.south { taken = bytes_taken c; fin = has_fin c.endpoint.name; una = una_units c } }
+
+-- a segment comes to TCP as the south wrapper passes it. The client's SYN again doesn't
+abbrev pub reached : {S : Type 0} → Segment → ConnState S → ConnState S
+reached segment c = if repeats_syn c.south segment then c else record c { endpoint = received c.endpoint (inward c.south segment) }
+
+unfoldable pub arrived : {S : Type 0} → Segment → ConnState S → ConnState S
+arrived segment c = noted (reached segment c)

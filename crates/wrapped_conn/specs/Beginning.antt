@@ -1,0 +1,41 @@
+-- How a connection begins.
+use Rattle.std.specs.Prelude.{ℕ, false, ◌+◌, ◌-◌, ◌%◌, ◌^◌, Some, []}
+use Rattle.ft_io.specs.declared.Addr.{Addr}
+use Rattle.ft_io.specs.declared.Key.{Key}
+use Rattle.seq_arith.specs.Number.{number_at, distance}
+use Rattle.seq_arith.specs.Offset.{one_if}
+use Rattle.seq_arith.specs.Packet.{Segment}
+use Rattle.south_wrap.specs.SouthState.{SouthState, first_south}
+use Rattle.north_wrap.specs.NorthState.{NorthState, fresh_north}
+use Rattle.tcp_endpoint.specs.Arrival.{received}
+use Rattle.tcp_endpoint.specs.Tcb.{Tcb, listening}
+use Rattle.wrapped_conn.specs.declared.stage.ConnStage.TheVariants.{Live}
+use Rattle.wrapped_conn.specs.ConnState.{ConnState}
+use Rattle.wrapped_conn.specs.Numbers.{has_fin}
+
+-- three parts that stand at one point: of what is logged there a FIN is one unit, and the rest was fetched
+abbrev pub joined_conn : {S : Type 0} → (boot : ℕ) → Key → Addr → SouthState → Tcb → NorthState S → ConnState S
+joined_conn boot key local south endpoint north = record {
+  boot = boot;
+  key = key;
+  local = local;
+  south = south;
+  endpoint = endpoint;
+  north = north;
+  fetched = distance (number_at south.cisn south.answered) ((south.cisn + 1) % 2 ^ 32) - one_if (has_fin endpoint.name);
+  end_ticks = 0;
+  reset = false;
+  stage = Live;
+}
+
+-- the client's SYN
+abbrev pub syn : Key → Addr → (cisn mss : ℕ) → Segment
+syn key local cisn mss = record {
+  head = record { src = key.ip; dst = local.ip; sport = key.port; dport = local.port; seq = cisn; ack = 0; flags = 2; window = 0; mss = Some mss };
+  payload = [];
+}
+
+-- a new connection: its SYN has come to a fresh TCP
+unfoldable pub first_conn : {S : Type 0} → (boot : ℕ) → Key → Addr → (cisn sisn mss : ℕ) → S → ConnState S
+first_conn boot key local cisn sisn mss service =
+    joined_conn boot key local (first_south cisn sisn) (received (listening local sisn (2 ^ 24)) (syn key local cisn mss)) (fresh_north service)

@@ -1,0 +1,20 @@
+-- A wrapped connection: what its parts are.
+use Rattle.std.specs.Prelude.{ℕ, Bool}
+use Rattle.ft_io.specs.declared.Addr.{Addr}
+use Rattle.ft_io.specs.declared.Key.{Key}
+use Rattle.south_wrap.specs.SouthState.{SouthState}
+use Rattle.north_wrap.specs.NorthState.{NorthState}
+use Rattle.tcp_endpoint.specs.Tcb.{Tcb}
+use Rattle.wrapped_conn.specs.declared.stage.ConnStage.{ConnStage}
+
+pub record ConnState (S : Type 0) : Type 0 where
+  pub boot : ℕ
+  pub key : Key
+  pub local : Addr
+  pub south : SouthState
+  pub endpoint : Tcb
+  pub north : NorthState S
+  pub fetched : ℕ  -- the client's bytes that a restart fetched; else 0
+  pub end_ticks : ℕ  -- the end ticks counted so far, up to four
+  pub reset : Bool  -- whether the client has reset it
+  pub stage : ConnStage

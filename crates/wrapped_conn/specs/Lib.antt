@@ -1,0 +1,9 @@
+pub mod ConnState
+pub mod Numbers
+pub mod Beginning
+pub mod Calls
+pub mod Arriving
+pub mod Leaving
+pub mod Telling
+pub mod Turning
+pub mod Sound

@@ -1,0 +1,76 @@
+-- Where a connection stands in its two streams, as its parts tell it (RFC 9293, 3.3.1, and FT-TCP, INFOCOM 2001: the inner TCP's numbers are
+-- delta below the client's).
+use Rattle.std.specs.Prelude.{ℕ, Bool, true, false, pos, ◌+◌, ◌-◌, ◌%◌, ◌^◌, ◌&&◌, ◌||◌, not, nat_lt, int_lt, min, max, length, if◌then◌else◌}
+use Rattle.seq_arith.specs.Arrival.{int_eq, is_acceptable}
+use Rattle.seq_arith.specs.Number.{number_at, distance, offset_of}
+use Rattle.seq_arith.specs.Offset.{one_if, first_of, length_of}
+use Rattle.seq_arith.specs.Packet.{Segment, has_rst, has_syn, has_ack}
+use Rattle.ft_model.specs.Copy.{from_start}
+use Rattle.south_wrap.specs.SouthState.{raised}
+use Rattle.tcp_endpoint.specs.declared.states.StateName.{StateName}
+use Rattle.tcp_endpoint.specs.declared.states.StateName.TheVariants.{Closed, CloseWait, Closing, LastAck, TimeWait}
+use Rattle.tcp_endpoint.specs.Turning.{sent_number, acked_number}
+use Rattle.wrapped_conn.specs.ConnState.{ConnState}
+
+-- the states in which the peer's FIN is taken, of a TCP that no RST has closed (RFC 9293, 3.3.2, figure 5) ..
+abbrev pub has_fin : StateName → Bool
+has_fin CloseWait = true
+has_fin Closing = true
+has_fin LastAck = true
+has_fin TimeWait = true
+has_fin Closed = true
+has_fin name = false
+
+-- .. and those in which its own FIN is acknowledged besides
+abbrev pub is_over : StateName → Bool
+is_over TimeWait = true
+is_over Closed = true
+is_over name = false
+
+-- up to where the stream is read or fetched
+abbrev pub fetched_or_read : {S : Type 0} → ConnState S → ℕ
+fetched_or_read c = max c.fetched c.north.read
+
+abbrev pub bytes_taken : {S : Type 0} → ConnState S → ℕ
+bytes_taken c = fetched_or_read c + length c.endpoint.receiving.unread
+
+abbrev pub units_taken : {S : Type 0} → ConnState S → ℕ
+units_taken c = bytes_taken c + one_if (has_fin c.endpoint.name)
+
+-- the receive edge that TCP announces
+abbrev pub announced : {S : Type 0} → ConnState S → ℕ
+announced c = min (fetched_or_read c + 65535) (2 ^ 24) + one_if (has_fin c.endpoint.name)
+
+-- the units of output that the client has acknowledged, none before the SYN is; a stream has at most 2^24 bytes and a FIN
+abbrev pub una_units : {S : Type 0} → ConnState S → ℕ
+una_units c = min (from_start (offset_of c.south.sisn (raised c.south (acked_number c.endpoint)))) (2 ^ 24 + 1)
+
+-- the number behind what TCP has sent, as the client knows it, and the units that are sent
+abbrev pub outer_sent : {S : Type 0} → ConnState S → ℕ
+outer_sent c = raised c.south (sent_number c.endpoint)
+
+abbrev pub sent_units : {S : Type 0} → ConnState S → ℕ
+sent_units c = distance (outer_sent c) ((c.south.sisn + 1) % 2 ^ 32)
+
+-- the units that are known to be logged
+abbrev pub logged_units : {S : Type 0} → ConnState S → ℕ
+logged_units c = distance (number_at c.south.cisn c.south.answered) ((c.south.cisn + 1) % 2 ^ 32)
+
+-- RFC 5961, 3.2: a RST at exactly the next number resets the connection
+abbrev pub resets : {S : Type 0} → ConnState S → Segment → Bool
+resets c segment = has_rst segment && int_eq (first_of c.south.cisn segment) (pos (units_taken c))
+
+-- RFC 9293, 3.10.7.4, first check
+abbrev pub accepts : {S : Type 0} → ConnState S → Segment → Bool
+accepts c segment = is_acceptable (units_taken c) (announced c - units_taken c) (first_of c.south.cisn segment) (length_of segment)
+
+-- an answer is owed to an acceptable segment: a challenge ACK to a RST elsewhere than at the next number and to a SYN, and an ACK to what takes
+-- up numbers or begins past the next one ..
+abbrev pub owes_acceptable : {S : Type 0} → ConnState S → Segment → Bool
+owes_acceptable c segment =
+    if has_rst segment then not (int_eq (first_of c.south.cisn segment) (pos (units_taken c)))
+    else (has_syn segment || nat_lt 0 (length_of segment) || (has_ack segment && int_lt (pos (units_taken c)) (first_of c.south.cisn segment)))
+
+-- .. and to each other one, unless it has RST
+unfoldable pub owes : {S : Type 0} → ConnState S → Segment → Bool
+owes c segment = if accepts c segment then owes_acceptable c segment else not (has_rst segment)

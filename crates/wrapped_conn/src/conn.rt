@@ -1,0 +1,189 @@
+//! One connection: what it is, and how it begins.
+
+ghost use Rattle.std.specs.Prelude.{◌≡◌, ◌<◌, ◌≤◌, ◌-◌, ◌%◌, ◌^◌, ◌+◌, false, Some, [], IfOk};
+ghost use Rattle.seq_arith.specs.Offset.{one_if};
+ghost use Rattle.segment_codec.specs.Value.{said};
+ghost use Rattle.wrapped_conn.specs.Beginning.{first_conn, joined_conn, syn};
+ghost use Rattle.wrapped_conn.specs.Numbers.{has_fin as has_fin_lem, is_over as is_over_lem};
+ghost use Rattle.wrapped_conn.specs.Sound.{IsSound};
+
+use crate::stage::ConnStage;
+use ft_io::{Addr, Key, NoMemory};
+use north_wrap::North;
+use segment_codec::{Head, PacketRef};
+use seq_arith::{SYN, Seq};
+use server_trait::Service;
+use south_wrap::South;
+use std::alloc::Global;
+use std::marker::Model;
+use tcp_endpoint::{Endpoint, StateName};
+
+/// The bytes of a stream.
+pub(crate) const STREAM: u32 = 16_777_216;
+
+/// One wrapped connection with the client `key` at the server's address `local`.
+#[derive(Drop)]
+pub struct Conn<S: Service> {
+    pub(crate) boot: u64,
+    pub(crate) key: Key,
+    pub(crate) local: Addr,
+    pub(crate) south: South,
+    pub(crate) endpoint: Endpoint,
+    pub(crate) north: North<S>,
+    /// The client's bytes that a restart fetched; else 0.
+    pub(crate) fetched: u32,
+    /// The end ticks counted so far, up to four.
+    pub(crate) end_ticks: u8,
+    /// Whether the client has reset the connection.
+    pub(crate) reset: bool,
+    pub(crate) stage: ConnStage,
+}
+
+impl<S: Service> Model for Conn<S> {
+    ghost use Rattle.wrapped_conn.specs.ConnState.{ConnState};
+
+    ghost Value = { ConnState S };
+
+    ghost view = { λ c. record {
+      boot = c.boot;
+      key = c.key;
+      local = c.local;
+      south = c.south;
+      endpoint = c.endpoint;
+      north = c.north;
+      fetched = c.fetched;
+      end_ticks = c.end_ticks;
+      reset = c.reset;
+      stage = c.stage;
+    } };
+}
+
+impl<S: Service> Conn<S> {
+    /// A connection that this incarnation opens: its client's SYN has come to a fresh TCP, whose SYN-ACK `start` sends. `mss` is the segment
+    /// size, 64 to 1,460 bytes, and `kind` that of the service.
+    pub fn first(
+        alloc: Global,
+        boot: u64,
+        key: Key,
+        local: Addr,
+        cisn: Seq,
+        sisn: Seq,
+        mss: u16,
+        kind: u8,
+    ) -> Result<Conn<S>, NoMemory>
+        requires boot { 1 ≤ boot }
+        requires least { 64 ≤ mss }
+        requires most { mss ≤ 1460 }
+        ensures state { IfOk result (λ c. c ≡ first_conn boot key local cisn.0 sisn.0 mss (S.started kind)) }
+        ensures sound { IfOk result (λ c. IsSound c) }
+    {
+        fit(sisn);
+        let mut endpoint = Endpoint::listen(alloc, local, sisn, STREAM)?;
+        endpoint.on_packet(PacketRef {
+            head: syn_of(key, local, cisn, mss),
+            payload: &[],
+        });
+        let south = South::new(cisn, sisn);
+        let north = North::new(alloc, kind);
+        Ok(Conn::joined(boot, key, local, south, endpoint, north))
+    }
+
+    /// A connection whose three parts stand at one point, as at the end of a restart.
+    pub fn joined(
+        boot: u64,
+        key: Key,
+        local: Addr,
+        south: South,
+        endpoint: Endpoint,
+        north: North<S>,
+    ) -> Conn<S>
+        ensures { result ≡ joined_conn boot key local south endpoint north }
+    {
+        let logged = south.stable().minus(south.cisn().add(1));
+        let fetched = logged.saturating_sub(u32::from(has_fin(endpoint.state().name)));
+        Conn {
+            boot,
+            key,
+            local,
+            south,
+            endpoint,
+            north,
+            fetched,
+            end_ticks: 0,
+            reset: false,
+            stage: ConnStage::Live,
+        }
+    }
+
+    /// Its TCP.
+    pub fn endpoint(&self) -> &Endpoint
+        ensures { result.now ≡ self.now.endpoint }
+    {
+        &self.endpoint
+    }
+
+    /// Its south wrapper.
+    pub fn south(&self) -> &South
+        ensures { result.now ≡ self.now.south }
+    {
+        &self.south
+    }
+
+    /// Its north wrapper.
+    pub fn north(&self) -> &North<S>
+        ensures { result.now ≡ self.now.north }
+    {
+        &self.north
+    }
+
+    pub fn stage(&self) -> ConnStage
+        ensures { result ≡ self.now.stage }
+    {
+        self.stage
+    }
+}
+
+/// What a proof may know of a number: it fits its type.
+fn fit(number: Seq)
+    ensures { number.0 < 2 ^ 32 }
+{
+    let _number = number.0;
+}
+
+/// The client's SYN.
+fn syn_of(key: Key, local: Addr, cisn: Seq, mss: u16) -> Head
+    ensures { record { head = said result; payload = [] } ≡ syn key local cisn.0 mss }
+{
+    Head {
+        src: key.ip,
+        dst: local.ip,
+        sport: key.port,
+        dport: local.port,
+        seq: cisn,
+        ack: Seq(0),
+        flags: SYN,
+        window: 0,
+        mss: Some(mss),
+    }
+}
+
+/// Whether the client's FIN is taken, in a TCP that its client hasn't reset.
+pub(crate) fn has_fin(name: StateName) -> bool
+    ensures { result ≡ has_fin_lem name }
+{
+    matches!(
+        name,
+        StateName::CloseWait
+            | StateName::Closing
+            | StateName::LastAck
+            | StateName::TimeWait
+            | StateName::Closed
+    )
+}
+
+/// Whether both FINs are through, in a TCP that its client hasn't reset.
+pub(crate) fn is_over(name: StateName) -> bool
+    ensures { result ≡ is_over_lem name }
+{
+    matches!(name, StateName::TimeWait | StateName::Closed)
+}

@@ -1,0 +1,119 @@
+//! The segments that leave in a turn: those of TCP, each through the south wrapper, and those that the connection owes besides.
+
+ghost use Rattle.std.specs.Prelude.{◌≡◌, ◌≤◌, ◌<◌, ◌+◌, ◌==◌, ◌∷◌, ◌++◌, [], Some, None, List, Option, ℕ, length, IsOk, slice_get, if◌then◌else◌};
+ghost use Rattle.std.specs.List.{AllByRecursion};
+ghost use Rattle.seq_arith.specs.Packet.{Segment};
+ghost use Rattle.seq_arith.specs.PacketGrammar.{reading, spelling, mss_option};
+ghost use Rattle.segment_codec.specs.Value.{said};
+ghost use Rattle.tcp_endpoint.specs.Leaving.{leaving, packets, or_bare};
+ghost use Rattle.tcp_endpoint.specs.Packets.{AreReadable, byte_count};
+ghost use Rattle.wrapped_conn.specs.Leaving.{passed, turn_ended, own_segment, syn_ack, bare, is_owed};
+ghost use Rattle.wrapped_conn.specs.Sound.{IsSound};
+
+use crate::conn::Conn;
+use crate::stage::Before;
+use segment_codec::{Head, write_header};
+use seq_arith::{ACK, SYN, Seq};
+use server_trait::Service;
+use south_wrap::South;
+use tcp_endpoint::Outbox;
+
+/// The length of a packet without data, and of one with the segment size.
+const BARE: usize = 40;
+
+const WITH_MSS: usize = 44;
+
+/// The segment size that a SYN-ACK offers.
+const OWN_MSS: u16 = 1_460;
+
+impl<S: Service> Conn<S> {
+    /// Ends TCP's turn, and passes on what it sends.
+    #[tactic(auto, using(crate::proofs::Flushed::sent_rises, crate::proofs::Flushed::sent_few, crate::proofs::Flushed::sound_again, crate::proofs::Passing::accepted))]
+    pub(crate) fn flush(&mut self, out: &mut Outbox)
+        requires sound { IsSound self.old }
+        requires empty { out.old ≡ [] }
+        ensures state { self.new ≡ turn_ended self.old }
+        ensures sent { out.new ≡ packets (passed (turn_ended self.old).south (leaving self.old.endpoint)) }
+        ensures count { length out.new ≤ 1030 }
+        ensures bytes { byte_count out.new ≤ 110000 }
+        ensures sound { IsSound self.new }
+    {
+        self.endpoint.flush(out);
+        let sent = self.sent();
+        self.south.sent(sent);
+        pass_outward(&mut self.south, out);
+    }
+
+    /// The head of a segment that the connection sends itself.
+    fn head(&self, seq: Seq, flags: u8, mss: Option<u16>) -> Head
+        ensures head { record { head = said result; payload = [] } ≡ own_segment self.now seq.0 flags mss }
+        ensures size { result.mss ≡ mss }
+    {
+        let told = self.south.ack_now();
+        Head {
+            src: self.local.ip,
+            dst: self.key.ip,
+            sport: self.local.port,
+            dport: self.key.port,
+            seq,
+            ack: told.ack,
+            flags,
+            window: told.window,
+            mss,
+        }
+    }
+
+    /// The kept SYN-ACK, where the client's SYN has come again.
+    #[tactic(auto, unfolding(crate::specs::Leaving::syn_ack))]
+    pub(crate) fn send_syn_ack(&self, repeats: bool, out: &mut Outbox)
+        requires count { length out.old ≤ 1030 }
+        requires bytes { byte_count out.old ≤ 110000 }
+        ensures { out.new ≡ (if repeats then out.old ++ spelling (syn_ack self.now) ∷ [] else out.old) }
+    {
+        if !repeats {
+            return;
+        }
+        let mut packet = [0u8; WITH_MSS];
+        let head = self.head(self.south.sisn(), SYN | ACK, Some(OWN_MSS));
+        write_header(&head, &mut packet);
+        out.push(&packet);
+    }
+
+    /// A segment without data, where one is owed and no other segment goes out.
+    #[tactic(auto, unfolding(crate::specs::Leaving::bare))]
+    pub(crate) fn send_bare(&self, owed: bool, out: &mut Outbox)
+        ensures { out.new ≡ or_bare owed (spelling (bare self.now)) out.old }
+    {
+        if !owed || !out.is_empty() {
+            return;
+        }
+        let mut packet = [0u8; BARE];
+        write_header(&self.head(self.sent_number(), ACK, None), &mut packet);
+        out.push(&packet);
+    }
+
+    /// Whether a segment without data is owed that its TCP doesn't send: it doesn't know that more is logged, or that the connection was over or
+    /// has become live; and a TCP that is CLOSED sends none.
+    pub(crate) fn is_owed(&self, before: Before) -> bool
+        requires { IsSound self.now }
+        ensures { result ≡ is_owed before self.now }
+    {
+        before.asks || (self.is_closed() && (before.owes || before.edge != self.edge()))
+    }
+}
+
+/// What TCP sends goes to the client. A RST, which goes out alone, doesn't.
+fn pass_outward(south: &mut South, out: &mut Outbox)
+    requires { AllByRecursion (λ packet. IsOk (reading packet)) out.old }
+    ensures south { south.new ≡ south.old }
+    ensures passed { (segments : List Segment) → out.old ≡ packets segments → AreReadable segments → out.new ≡ packets (passed south.old segments) }
+    ensures count { length out.new ≤ length out.old }
+    ensures bytes { byte_count out.new ≤ byte_count out.old }
+{
+    for i in 0..out.len() {
+        if !south.outward(out.packet_mut(i)) {
+            out.clear();
+            return;
+        }
+    }
+}

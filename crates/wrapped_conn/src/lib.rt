@@ -1,0 +1,15 @@
+//! One wrapped connection: an unchanged TCP between the two wrappers (FT-TCP, INFOCOM 2001). Segments of the client reach it through the south
+//! wrapper, its user is the north wrapper, and beside what it sends stand only the segments and messages that the wrappers owe.
+#![tactic(auto)]
+
+pub use conn::Conn;
+pub use stage::ConnStage;
+pub use turn_out::TurnOut;
+
+mod conn;
+mod leaving;
+mod numbers;
+mod stage;
+mod telling;
+mod turn;
+mod turn_out;

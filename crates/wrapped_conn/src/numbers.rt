@@ -1,0 +1,199 @@
+//! Where a connection stands in its two streams, as its parts tell it.
+
+ghost use Rattle.std.specs.Prelude.{◌≡◌, ◌≤◌, ◌+◌, ◌-◌, ◌^◌, ◌%◌, pos, nat_abs, length, max, min};
+ghost use Rattle.seq_arith.specs.Arrival.{is_acceptable, lies_in};
+ghost use Rattle.seq_arith.specs.Number.{number_at, offset_of};
+ghost use Rattle.seq_arith.specs.Offset.{length_of as length_of_lem};
+ghost use Rattle.segment_codec.specs.Value.{segment_of, said};
+ghost use Rattle.ft_model.specs.Copy.{from_start};
+ghost use Rattle.tcp_endpoint.specs.States.{is_closed};
+ghost use Rattle.wrapped_conn.specs.Numbers.{has_fin as has_fin_lem, is_over as is_over_lem, bytes_taken, units_taken, announced, una_units, outer_sent, sent_units, logged_units, resets, owes};
+ghost use Rattle.wrapped_conn.specs.Sound.{IsSound};
+
+use crate::conn::{Conn, STREAM, has_fin, is_over};
+use segment_codec::{Head, PacketRef};
+use seq_arith::{ACK, FIN, RST, SYN, Seq, has};
+use server_trait::Service;
+use socket_layer::Socket;
+use tcp_endpoint::StateName;
+
+/// The bytes that TCP buffers for a reader.
+const BUFFER: u32 = 65_535;
+
+/// The most units of a stream: its bytes and the FIN.
+const UNITS: i64 = 16_777_217;
+
+impl<S: Service> Conn<S> {
+    /// Whether its TCP is CLOSED.
+    pub(crate) fn is_closed(&self) -> bool
+        ensures { result ≡ is_closed self.now.endpoint.name }
+    {
+        matches!(self.endpoint.state().name, StateName::Closed)
+    }
+
+    /// Whether the client's FIN is taken.
+    pub(crate) fn has_fin(&self) -> bool
+        ensures { result ≡ has_fin_lem self.now.endpoint.name }
+    {
+        has_fin(self.endpoint.state().name)
+    }
+
+    /// Whether both FINs are through.
+    pub(crate) fn is_over(&self) -> bool
+        ensures { result ≡ is_over_lem self.now.endpoint.name }
+    {
+        is_over(self.endpoint.state().name)
+    }
+
+    /// The client's bytes that are taken.
+    #[tactic(auto, using(crate::proofs::Small::taken_small, crate::proofs::Small::buffered))]
+    pub(crate) fn taken(&self) -> u32
+        requires { IsSound self.now }
+        ensures value { result ≡ bytes_taken self.now }
+        ensures most { result ≤ 2 ^ 24 }
+    {
+        self.fetched.max(self.north.read()) + self.endpoint.readable() as u32
+    }
+
+    /// Its units that are taken.
+    pub(crate) fn taken_units(&self) -> u32
+        requires { IsSound self.now }
+        ensures value { result ≡ units_taken self.now }
+        ensures most { result ≤ 2 ^ 24 + 1 }
+    {
+        self.taken() + u32::from(self.has_fin())
+    }
+
+    /// The receive edge that TCP announces.
+    #[tactic(auto, using(crate::proofs::Small::taken_small))]
+    pub(crate) fn edge(&self) -> u32
+        requires { IsSound self.now }
+        ensures value { result ≡ announced self.now }
+        ensures most { result ≤ 2 ^ 24 + 1 }
+    {
+        (self.fetched.max(self.north.read()) + BUFFER).min(STREAM) + u32::from(self.has_fin())
+    }
+
+    /// The units of output that the client has acknowledged; 0 before the SYN is.
+    pub(crate) fn una(&self) -> u32
+        ensures value { result ≡ una_units self.now }
+        ensures most { result ≤ 2 ^ 24 + 1 }
+    {
+        let outer = self.endpoint.acked().add(self.south.delta());
+        units(offset(self.south.sisn(), outer))
+    }
+
+    /// The number behind what TCP has sent, as the client knows it.
+    pub(crate) fn sent_number(&self) -> Seq
+        ensures { result.0 ≡ outer_sent self.now }
+    {
+        self.endpoint.sent().add(self.south.delta())
+    }
+
+    /// The units of output that TCP has sent.
+    pub(crate) fn sent(&self) -> u32
+        ensures { result ≡ sent_units self.now }
+    {
+        self.sent_number().minus(self.south.sisn().add(1))
+    }
+
+    /// The client's units that are known to be logged.
+    pub(crate) fn logged(&self) -> u32
+        ensures { result ≡ logged_units self.now }
+    {
+        self.south.stable().minus(self.south.cisn().add(1))
+    }
+
+    /// Where a segment begins in the client's stream.
+    fn place_of(&self, head: &Head) -> i64
+        ensures value { result ≡ offset_of self.now.south.cisn (said head.now).seq }
+        ensures within { nat_abs result ≤ 2 ^ 31 }
+    {
+        offset(self.south.cisn(), head.seq)
+    }
+
+    /// Whether a segment resets the connection: a RST at exactly the next number does (RFC 5961, 3.2).
+    pub(crate) fn is_reset_by(&self, segment: &PacketRef<'_>) -> bool
+        requires { IsSound self.now }
+        ensures { result ≡ resets self.now (segment_of segment.now) }
+    {
+        has(segment.head.flags, RST)
+            && self.place_of(&segment.head) == i64::from(self.taken_units())
+    }
+
+    /// Whether TCP's rules owe an answer to a segment (RFC 9293, 3.10.7.4), once the SYN is acknowledged.
+    #[tactic(auto, unfolding(crate::specs::Numbers::owes))]
+    pub(crate) fn owes(&self, segment: &PacketRef<'_>) -> bool
+        requires sound { IsSound self.now }
+        requires short { length segment.now.payload.now ≤ 1460 }
+        ensures { result ≡ owes self.now (segment_of segment.now) }
+    {
+        let head = &segment.head;
+        let first = self.place_of(head);
+        let next = self.taken_units();
+        let len = length_of(segment);
+        let room = self.edge().saturating_sub(next);
+        if !accepts(next, room, first, len) {
+            return !has(head.flags, RST);
+        }
+        if has(head.flags, RST) {
+            return first != i64::from(next);
+        }
+        has(head.flags, SYN) || 0 < len || (has(head.flags, ACK) && i64::from(next) < first)
+    }
+}
+
+/// The offset that a number names in the stream of this initial number.
+#[tactic(auto, unfolding(seq_arith::specs::Number::offset_of))]
+fn offset(isn: Seq, number: Seq) -> i64
+    ensures value { result ≡ offset_of isn.0 number.0 }
+    ensures within { nat_abs result ≤ 2 ^ 31 }
+{
+    number.signed_gap(isn.add(1))
+}
+
+/// An offset as units of a stream: none before its first byte.
+fn units(offset: i64) -> u32
+    requires { nat_abs offset ≤ 2 ^ 31 }
+    ensures value { result ≡ min (from_start offset) (2 ^ 24 + 1) }
+    ensures most { result ≤ 2 ^ 24 + 1 }
+{
+    if offset < 0 {
+        return 0;
+    }
+    offset.min(UNITS) as u32
+}
+
+/// Whether a segment is acceptable, which begins at this offset (RFC 9293, 3.10.7.4, first check).
+fn accepts(next: u32, room: u32, first: i64, len: u32) -> bool
+    requires first { nat_abs first ≤ 2 ^ 31 }
+    requires len { len ≤ 2 ^ 16 }
+    ensures { result ≡ is_acceptable next room first len }
+{
+    if room == 0 {
+        return len == 0 && first == i64::from(next);
+    }
+    lies_in(next, room, first) || (0 < len && lies_in(next, room, first + i64::from(len - 1)))
+}
+
+/// Whether an offset lies in a window.
+fn lies_in(next: u32, room: u32, offset: i64) -> bool
+    ensures { result ≡ lies_in next room offset }
+{
+    i64::from(next) <= offset && offset < i64::from(next) + i64::from(room)
+}
+
+/// SEG.LEN: data and FIN, or the SYN alone; nothing of a RST.
+fn length_of(segment: &PacketRef<'_>) -> u32
+    requires { length segment.now.payload.now ≤ 1460 }
+    ensures value { result ≡ length_of_lem (segment_of segment.now) }
+    ensures most { result ≤ 2 ^ 16 }
+{
+    if has(segment.head.flags, RST) {
+        return 0;
+    }
+    if has(segment.head.flags, SYN) {
+        return 1;
+    }
+    segment.payload.len() as u32 + u32::from(has(segment.head.flags, FIN))
+}

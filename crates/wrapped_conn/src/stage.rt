@@ -1,0 +1,25 @@
+//! How far a connection has come.
+
+/// How far a connection has come.
+#[derive(Clone, Copy, Debug, PartialEq, Eq)]
+pub enum ConnStage {
+    /// Until the first Done is sent.
+    Live,
+    /// From there on until the logger answers it.
+    Ending,
+    /// From that answer on.
+    Done,
+}
+
+/// What a turn needs to know of the connection before it.
+#[derive(Clone, Copy, Debug)]
+pub(crate) struct Before {
+    /// The units of output that the client had acknowledged.
+    pub una: u32,
+    /// The receive edge.
+    pub edge: u32,
+    /// Whether the connection owes an answer that its TCP doesn't know of.
+    pub asks: bool,
+    /// Whether TCP's rules owe one.
+    pub owes: bool,
+}

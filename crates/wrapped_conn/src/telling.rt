@@ -1,0 +1,150 @@
+//! What a connection tells the logger.
+
+ghost use Rattle.std.specs.Prelude.{◌≡◌, ◌≤◌, ◌<◌, ◌+◌, ◌*◌, ◌^◌, ◌∷◌, ◌++◌, [], true, false, ℕ, min, length, take, drop, IsOk, IfOk};
+ghost use Rattle.seq_arith.specs.PacketGrammar.{reading};
+ghost use Rattle.seq_arith.specs.MessageGrammar.{spelling};
+ghost use Rattle.seq_arith.specs.Message.Body.{DataMsg};
+ghost use Rattle.logger_wire.specs.Value.{message_of, IsSendable};
+ghost use Rattle.north_wrap.specs.Standing.{messages_of};
+ghost use Rattle.tcp_endpoint.specs.Packets.{byte_count};
+ghost use Rattle.wrapped_conn.specs.Numbers.{logged_units, bytes_taken};
+ghost use Rattle.wrapped_conn.specs.Telling.{spelled, copies, dones, AreTellable, with_done};
+ghost use Rattle.wrapped_conn.specs.Sound.{IsSound};
+
+use crate::conn::Conn;
+use crate::stage::ConnStage;
+use ft_io::Key;
+use logger_wire::{Body, Msg, write_msg};
+use north_wrap::ReadRecords;
+use server_trait::Service;
+use tcp_endpoint::Outbox;
+
+/// The room of a message, in bytes.
+const MESSAGE: usize = 2_048;
+
+impl<S: Service> Conn<S> {
+    /// The copied part of a segment, or else that the client has acknowledged more.
+    #[tactic(auto, unfolding(crate::specs::Telling::copies))]
+    pub(crate) fn tell_copy(&self, packet: &[u8], una_before: u32, out: &mut Outbox)
+        requires sound { IsSound self.now }
+        requires accepted { IsOk (reading packet.now) }
+        requires empty { out.old ≡ [] }
+        ensures told { IfOk (reading packet.now) (λ segment. out.new ≡ spelled self.now.boot (copies una_before segment self.now)) }
+        ensures few { length out.new ≤ 1 }
+        ensures short { byte_count out.new ≤ 2048 * length out.new }
+    {
+        let acked = self.una();
+        match self.south.copy_of(packet) {
+            Some(part) => {
+                let bytes = &packet[part.from..part.to];
+                self.tell_data(part.offset, acked, part.fin, bytes, out);
+            }
+            None => {
+                if una_before < acked {
+                    self.tell_data(self.logged_bytes(), acked, false, &[], out);
+                }
+            }
+        }
+    }
+
+    fn tell_data(&self, offset: u32, acked: u32, fin: bool, bytes: &[u8], out: &mut Outbox)
+        requires boot { 1 ≤ self.now.boot }
+        requires within { offset + length bytes.now ≤ 2 ^ 24 }
+        requires acked { acked ≤ 2 ^ 24 + 1 }
+        requires most { length bytes.now ≤ 1460 }
+        requires few { length out.old ≤ 40 }
+        requires short { byte_count out.old ≤ 2048 * length out.old }
+        ensures told { out.new ≡ out.old ++ spelled self.now.boot (DataMsg (record { key = self.now.key; offset = offset; acked = acked; fin = fin; bytes = bytes.now }) ∷ []) }
+        ensures few { length out.new ≡ length out.old + 1 }
+        ensures short { byte_count out.new ≤ 2048 * length out.new }
+    {
+        fit(self.key, self.boot);
+        let body = Body::DataMsg {
+            key: self.key,
+            offset,
+            acked,
+            fin: u8::from(fin),
+            bytes,
+        };
+        tell(self.boot, body, out);
+    }
+
+    /// The client's bytes that are known to be logged.
+    fn logged_bytes(&self) -> u32
+        requires { IsSound self.now }
+        ensures value { result ≡ min (logged_units self.now) (bytes_taken self.now) }
+        ensures most { result ≤ 2 ^ 24 }
+    {
+        self.logged().min(self.taken())
+    }
+
+    /// The reads of this turn.
+    pub(crate) fn tell_reads(&self, reads: &ReadRecords, out: &mut Outbox)
+        requires boot { 1 ≤ self.now.boot }
+        requires tellable { AreTellable reads.now }
+        requires few { length out.old ≤ 1 }
+        requires short { byte_count out.old ≤ 2048 * length out.old }
+        ensures told { out.new ≡ out.old ++ spelled self.now.boot (messages_of self.now.key reads.now) }
+        ensures few { length out.new ≤ 33 }
+        ensures short { byte_count out.new ≤ 2048 * length out.new }
+    {
+        tell_reads(self.boot, self.key, reads, out);
+    }
+
+    /// That the connection has ended, until that is logged.
+    pub(crate) fn tell_done(&mut self, out: &mut Outbox)
+        requires boot { 1 ≤ self.old.boot }
+        requires few { length out.old ≤ 33 }
+        requires short { byte_count out.old ≤ 2048 * length out.old }
+        ensures state { self.new ≡ with_done self.old }
+        ensures told { out.new ≡ out.old ++ spelled self.old.boot (dones self.old) }
+    {
+        if self.stage == ConnStage::Done {
+            return;
+        }
+        self.stage = ConnStage::Ending;
+        fit(self.key, self.boot);
+        tell(self.boot, Body::DoneMsg { key: self.key }, out);
+    }
+}
+
+/// One message.
+fn tell(boot: u64, body: Body<'_>, out: &mut Outbox)
+    requires sendable { IsSendable (record { boot = boot; body = body }) }
+    requires few { length out.old ≤ 40 }
+    requires short { byte_count out.old ≤ 2048 * length out.old }
+    ensures told { out.new ≡ out.old ++ spelling (message_of (record { boot = boot; body = body.entry })) ∷ [] }
+    ensures few { length out.new ≡ length out.old + 1 }
+    ensures short { byte_count out.new ≤ 2048 * length out.new }
+{
+    let mut message = [0u8; MESSAGE];
+    let len = write_msg(&Msg { boot, body }, &mut message);
+    out.push(&message[..len]);
+}
+
+/// A Read for each of these reads, by index.
+fn tell_reads(boot: u64, key: Key, reads: &ReadRecords, out: &mut Outbox)
+    requires boot { 1 ≤ boot }
+    requires tellable { AreTellable reads.now }
+    requires few { length out.old ≤ 1 }
+    requires short { byte_count out.old ≤ 2048 * length out.old }
+    ensures told { out.new ≡ out.old ++ spelled boot (messages_of key reads.now) }
+    ensures few { length out.new ≤ 33 }
+    ensures short { byte_count out.new ≤ 2048 * length out.new }
+{
+    fit(key, boot);
+    for i in 0..reads.len() {
+        let (index, length) = reads.get(i);
+        tell(boot, Body::ReadMsg { key, index, length }, out);
+    }
+}
+
+/// What a proof may know of a key and a boot number: they fit their types.
+fn fit(key: Key, boot: u64)
+    ensures ip { key.ip < 2 ^ 32 }
+    ensures port { key.port < 2 ^ 16 }
+    ensures boot { boot < 2 ^ 64 }
+{
+    let (_ip, _port) = (key.ip, key.port);
+    let _boot = boot;
+}

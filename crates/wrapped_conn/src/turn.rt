@@ -1,0 +1,343 @@
+//! The turns of a connection.
+
+ghost use Rattle.std.specs.Prelude.{◌≡◌, ◌≤◌, ◌<◌, ◌+◌, ◌*◌, ◌^◌, ◌∷◌, ◌++◌, [], true, false, Bool, List, ℕ, length, nat_lt, OnOk, IsOk, IfOk, if◌then◌else◌};
+ghost use Rattle.seq_arith.specs.PacketGrammar.{reading};
+ghost use Rattle.seq_arith.specs.Message.{Body as Told};
+ghost use Rattle.segment_codec.specs.Value.{segment_of};
+ghost use Rattle.segment_codec.specs.Change.{changed};
+ghost use Rattle.logger_wire.specs.Value.{IsSendable};
+ghost use Rattle.south_wrap.specs.Patching.{answer_in, repeats_syn, passed_in};
+ghost use Rattle.north_wrap.specs.NorthState.{Turns};
+ghost use Rattle.tcp_endpoint.specs.Packets.{byte_count};
+ghost use Rattle.tcp_endpoint.specs.Leaving.{leaving, packets};
+ghost use Rattle.tcp_endpoint.specs.Turning.{after_tick};
+ghost use Rattle.north_wrap.specs.Standing.{messages_of};
+ghost use Rattle.wrapped_conn.specs.Leaving.{passed};
+ghost use Rattle.wrapped_conn.specs.Numbers.{una_units};
+ghost use Rattle.wrapped_conn.specs.Calls.{tcp_reader, tcp_writer};
+ghost use Rattle.wrapped_conn.specs.Arriving.{arrived, reached, noted, before_segment, before_other};
+ghost use Rattle.wrapped_conn.specs.Turning.{served, tcp_used, GoesOn, Starts, Receives, Hears, heard, is_news, IsTold, Ticks, ticked, counted};
+ghost use Rattle.wrapped_conn.specs.Telling.{spelled, copies, AreTellable};
+ghost use Rattle.wrapped_conn.specs.Sound.{IsSound};
+
+use crate::conn::Conn;
+use crate::stage::{Before, ConnStage};
+use crate::turn_out::TurnOut;
+use ft_io::NoMemory;
+use logger_wire::{Body, Msg};
+use north_wrap::ReadRecords;
+use segment_codec::{Head, read_accepted};
+use seq_arith::{RST, has};
+use server_trait::Service;
+use south_wrap::Inward;
+use std::alloc::Global;
+use tcp_endpoint::Outbox;
+
+impl<S: Service> Conn<S> {
+    /// The turn in which the connection becomes live. A new one sends its SYN-ACK; one at the end of a restart sends the acknowledgement with the
+    /// true window, and makes the reads that are due.
+    pub fn start(&mut self, alloc: Global, out: &mut TurnOut) -> Result<(), NoMemory>
+        requires sound { IsSound self.old }
+        requires no_segment { out.old.segments ≡ [] }
+        requires no_message { out.old.messages ≡ [] }
+        ensures turn { OnOk result (Starts S.after self.old self.new out.new.segments out.new.messages) }
+        ensures sound { OnOk result (IsSound self.new) }
+    {
+        let before = self.before(true);
+        self.go_on(alloc, before, false, out)
+    }
+
+    /// A segment of the client. A RST at exactly the next number resets the connection, which then only tells the logger that it has ended.
+    pub fn on_packet(
+        &mut self,
+        alloc: Global,
+        packet: &mut [u8],
+        out: &mut TurnOut,
+    ) -> Result<(), NoMemory>
+        requires sound { IsSound self.old }
+        requires accepted { IsOk (reading packet.old) }
+        requires no_segment { out.old.segments ≡ [] }
+        requires no_message { out.old.messages ≡ [] }
+        ensures turn { OnOk result (IfOk (reading packet.old) (λ segment. Receives S.after segment self.old self.new out.new.segments out.new.messages)) }
+        ensures sound { OnOk result (IsSound self.new) }
+    {
+        if self.reset {
+            return Ok(());
+        }
+        if self.is_reset_by(&read_accepted(packet)) {
+            self.reset = true;
+            self.tell_done(&mut out.messages);
+            return Ok(());
+        }
+        self.take_packet(alloc, packet, out)
+    }
+
+    /// A segment that doesn't reset the connection.
+    fn take_packet(
+        &mut self,
+        alloc: Global,
+        packet: &mut [u8],
+        out: &mut TurnOut,
+    ) -> Result<(), NoMemory>
+        requires sound { IsSound self.old }
+        requires accepted { IsOk (reading packet.old) }
+        requires no_segment { out.old.segments ≡ [] }
+        requires no_message { out.old.messages ≡ [] }
+        ensures turn { OnOk result (IfOk (reading packet.old) (λ segment. GoesOn S.after (before_segment self.old segment) (repeats_syn self.old.south segment) (copies (una_units self.old) segment (arrived segment self.old)) (arrived segment self.old) self.new out.new.segments out.new.messages)) }
+        ensures sound { OnOk result (IsSound self.new) }
+    {
+        let before = self.before_segment(packet);
+        let repeats = self.arrive(packet, before.una, &mut out.messages);
+        self.go_on(alloc, before, repeats, out)
+    }
+
+    /// What a turn with this segment needs to know of the connection before it.
+    fn before_segment(&self, packet: &[u8]) -> Before
+        requires sound { IsSound self.now }
+        requires accepted { IsOk (reading packet.now) }
+        ensures { IfOk (reading packet.now) (λ segment. result ≡ before_segment self.now segment) }
+    {
+        let segment = read_accepted(packet);
+        Before {
+            una: self.una(),
+            edge: self.edge(),
+            asks: self.is_over() && !has(segment.head.flags, RST),
+            owes: self.owes(&segment),
+        }
+    }
+
+    /// What a turn without a segment needs to know, in which the connection owes an answer or not.
+    fn before(&self, asks: bool) -> Before
+        requires sound { IsSound self.now }
+        ensures { result ≡ before_other asks self.now }
+    {
+        Before {
+            una: self.una(),
+            edge: self.edge(),
+            asks,
+            owes: false,
+        }
+    }
+
+    /// A segment arrives, and what of it is taken and not logged goes to the logger. Whether it is the client's SYN again.
+    fn arrive(&mut self, packet: &mut [u8], una_before: u32, messages: &mut Outbox) -> bool
+        requires sound { IsSound self.old }
+        requires accepted { IsOk (reading packet.old) }
+        requires empty { messages.old ≡ [] }
+        ensures repeats { IfOk (reading packet.old) (λ segment. result ≡ repeats_syn self.old.south segment) }
+        ensures state { IfOk (reading packet.old) (λ segment. self.new ≡ arrived segment self.old) }
+        ensures told { IfOk (reading packet.old) (λ segment. messages.new ≡ spelled self.old.boot (copies una_before segment (arrived segment self.old))) }
+        ensures few { length messages.new ≤ 1 }
+        ensures short { byte_count messages.new ≤ 2048 * length messages.new }
+        ensures sound { IsSound self.new }
+    {
+        let repeats = self.reach_tcp(packet);
+        self.note_arrival();
+        self.tell_copy(packet, una_before, messages);
+        repeats
+    }
+
+    /// A segment reaches TCP, unless it is the client's SYN again.
+    fn reach_tcp(&mut self, packet: &mut [u8]) -> bool
+        requires sound { IsSound self.old }
+        requires accepted { IsOk (reading packet.old) }
+        ensures repeats { IfOk (reading packet.old) (λ segment. result ≡ repeats_syn self.old.south segment) }
+        ensures state { IfOk (reading packet.old) (λ segment. self.new ≡ reached segment self.old) }
+        ensures accepted { IsOk (reading packet.new) }
+        ensures read { reading packet.new ≡ changed (passed_in self.old.south) (reading packet.old) }
+        ensures sound { IsSound self.new }
+    {
+        match self.south.inward(packet) {
+            Inward::Repeat => true,
+            Inward::Pass => {
+                let segment = read_accepted(packet);
+                fields_fit(&segment.head);
+                self.endpoint.on_packet(segment);
+                false
+            }
+        }
+    }
+
+    /// The south wrapper learns what TCP has taken, and what the client has acknowledged.
+    fn note_arrival(&mut self)
+        requires sound { IsSound self.old }
+        ensures state { self.new ≡ noted self.old }
+        ensures sound { IsSound self.new }
+    {
+        let taken = self.taken();
+        let fin = self.has_fin();
+        let una = self.una();
+        self.south.taken(taken, fin);
+        self.south.acked(una);
+    }
+
+    /// The north wrapper's turn.
+    fn serve(&mut self, alloc: Global, news: &mut ReadRecords) -> Result<(), NoMemory>
+        requires sound { IsSound self.old }
+        ensures north { OnOk result (Turns S.after tcp_reader tcp_writer (una_units self.old) self.old.north self.old.endpoint news.new self.new.north (tcp_used self.old news.new)) }
+        ensures state { OnOk result (self.new ≡ served self.new.north news.new self.old) }
+        ensures tellable { OnOk result (AreTellable news.new) }
+        ensures sound { OnOk result (IsSound self.new) }
+    {
+        let una = self.una();
+        self.north.turn(alloc, &mut self.endpoint, una, news)?;
+        self.south.read_to(self.north.read());
+        Ok(())
+    }
+
+    /// A turn from where its news have arrived.
+    fn go_on(
+        &mut self,
+        alloc: Global,
+        before: Before,
+        repeats: bool,
+        out: &mut TurnOut,
+    ) -> Result<(), NoMemory>
+        requires sound { IsSound self.old }
+        requires no_segment { out.old.segments ≡ [] }
+        requires few { length out.old.messages ≤ 1 }
+        requires short { byte_count out.old.messages ≤ 2048 * length out.old.messages }
+        ensures turn { (copied : List Told) → out.old.messages ≡ spelled self.old.boot copied → OnOk result (GoesOn S.after before repeats copied self.old self.new out.new.segments out.new.messages) }
+        ensures sound { OnOk result (IsSound self.new) }
+    {
+        let mut news = ReadRecords::new();
+        self.serve(alloc, &mut news)?;
+        self.flush(&mut out.segments);
+        self.send_syn_ack(repeats, &mut out.segments);
+        self.send_bare(self.is_owed(before), &mut out.segments);
+        self.tell_reads(&news, &mut out.messages);
+        Ok(())
+    }
+
+    /// A message of the logger.
+    pub fn on_msg(&mut self, alloc: Global, m: &Msg<'_>, out: &mut TurnOut) -> Result<(), NoMemory>
+        requires sound { IsSound self.old }
+        requires sendable { IsSendable m.now }
+        requires no_segment { out.old.segments ≡ [] }
+        requires no_message { out.old.messages ≡ [] }
+        ensures turn { OnOk result (IsTold S.after m.now.body self.old self.new out.new.segments out.new.messages) }
+        ensures sound { OnOk result (IsSound self.new) }
+    {
+        match m.body {
+            Body::StableMsg {
+                length,
+                fin,
+                reads,
+                ..
+            } => self.hear(alloc, length, fin == 1, reads, out),
+            Body::ReadsMsg {
+                length,
+                fin,
+                reads,
+                ..
+            } => self.hear(alloc, length, fin == 1, reads, out),
+            Body::EndedMsg { .. } => {
+                self.stage = ConnStage::Done;
+                Ok(())
+            }
+            _ => Ok(()),
+        }
+    }
+
+    /// So much of the connection is logged.
+    fn hear(
+        &mut self,
+        alloc: Global,
+        length: u32,
+        fin: bool,
+        reads: u32,
+        out: &mut TurnOut,
+    ) -> Result<(), NoMemory>
+        requires sound { IsSound self.old }
+        requires most { length ≤ 2 ^ 24 }
+        requires no_segment { out.old.segments ≡ [] }
+        requires no_message { out.old.messages ≡ [] }
+        ensures turn { OnOk result (Hears S.after length fin reads self.old self.new out.new.segments out.new.messages) }
+        ensures sound { OnOk result (IsSound self.new) }
+    {
+        let is_news = self.note_logged(length, fin, reads);
+        if self.reset {
+            return Ok(());
+        }
+        let before = self.before(is_news);
+        self.go_on(alloc, before, false, out)
+    }
+
+    /// Both wrappers learn what is logged. Whether that is news.
+    fn note_logged(&mut self, length: u32, fin: bool, reads: u32) -> bool
+        requires sound { IsSound self.old }
+        requires most { length ≤ 2 ^ 24 }
+        ensures state { self.new ≡ heard length fin reads self.old }
+        ensures news { result ≡ is_news length fin self.old }
+        ensures sound { IsSound self.new }
+    {
+        self.north.on_reads(reads);
+        self.south.on_stable(length, fin).is_some()
+    }
+
+    /// A tick. It takes no memory: each turn before it has made all reads that are due.
+    pub fn on_tick(&mut self, out: &mut TurnOut)
+        requires sound { IsSound self.old }
+        requires no_segment { out.old.segments ≡ [] }
+        requires no_message { out.old.messages ≡ [] }
+        ensures turn { Ticks self.old self.new out.new.segments out.new.messages }
+        ensures sound { IsSound self.new }
+    {
+        if self.reset {
+            self.tell_done(&mut out.messages);
+            return;
+        }
+        self.tick(out);
+        if self.end_ticks == 4 {
+            self.tell_done(&mut out.messages);
+        }
+    }
+
+    /// A tick passes for TCP.
+    #[tactic(auto, using(crate::proofs::Flushed::sound_ticked))]
+    fn tick_tcp(&mut self)
+        requires sound { IsSound self.old }
+        ensures state { self.new ≡ record self.old { endpoint = after_tick self.old.endpoint } }
+        ensures sound { IsSound self.new }
+    {
+        self.endpoint.on_tick();
+    }
+
+    /// A tick of a connection that isn't reset, before it may have ended.
+    fn tick(&mut self, out: &mut TurnOut)
+        requires sound { IsSound self.old }
+        requires no_segment { out.old.segments ≡ [] }
+        requires no_message { out.old.messages ≡ [] }
+        ensures state { self.new ≡ counted (ticked self.old) }
+        ensures sent { out.new.segments ≡ packets (passed (ticked self.old).south (leaving (after_tick self.old.endpoint))) }
+        ensures told { out.new.messages ≡ spelled self.old.boot (messages_of self.old.key self.old.north.reads) }
+        ensures few { length out.new.messages ≤ 33 }
+        ensures short { byte_count out.new.messages ≤ 2048 * length out.new.messages }
+        ensures sound { IsSound self.new }
+    {
+        self.tick_tcp();
+        self.flush(&mut out.segments);
+        self.tell_reads(self.north.unanswered(), &mut out.messages);
+        self.count_end_tick();
+    }
+
+    /// A tick counts where both FINs are through and all that is taken is known to be logged.
+    fn count_end_tick(&mut self)
+        requires sound { IsSound self.old }
+        ensures state { self.new ≡ counted self.old }
+        ensures sound { IsSound self.new }
+    {
+        if self.is_over() && self.taken_units() <= self.logged() && self.end_ticks < 4 {
+            self.end_ticks += 1;
+        }
+    }
+}
+
+/// What a proof may know of a head: its fields fit their types.
+fn fields_fit(head: &Head)
+    ensures seq { head.now.seq.0 < 2 ^ 32 }
+    ensures window { head.now.window ≤ 65535 }
+{
+    let _number = head.seq.0;
+    let _window = head.window;
+}

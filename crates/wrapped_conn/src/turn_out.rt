@@ -1,0 +1,58 @@
+//! What a connection sends in one turn.
+
+ghost use Rattle.std.specs.Prelude.{◌≡◌, ◌<◌, [], Some, length, slice_get, IfOk};
+
+use ft_io::NoMemory;
+use std::alloc::Global;
+use tcp_endpoint::Outbox;
+
+/// The segments and the messages that a connection sends in one turn, each list in order, in room that is made once. A turn has at most 34
+/// messages.
+#[derive(Drop)]
+pub struct TurnOut {
+    pub(crate) segments: Outbox,
+    pub(crate) messages: Outbox,
+}
+
+impl TurnOut {
+    /// Room for a turn, with nothing in it.
+    pub fn new(alloc: Global) -> Result<TurnOut, NoMemory>
+        ensures segments { IfOk result (λ out. out.segments ≡ []) }
+        ensures messages { IfOk result (λ out. out.messages ≡ []) }
+    {
+        Ok(TurnOut {
+            segments: Outbox::new(alloc)?,
+            messages: Outbox::new(alloc)?,
+        })
+    }
+
+    pub fn segments(&self) -> &Outbox
+        ensures { result.now ≡ self.now.segments }
+    {
+        &self.segments
+    }
+
+    /// How many messages there are.
+    pub fn messages(&self) -> usize
+        ensures { result ≡ length self.now.messages }
+    {
+        self.messages.len()
+    }
+
+    /// The bytes of message `i`, from 0.
+    pub fn message(&self, i: usize) -> &[u8]
+        requires { i < length self.now.messages }
+        ensures { slice_get self.now.messages i ≡ Some result.now }
+    {
+        self.messages.packet(i)
+    }
+
+    /// Takes all out.
+    pub fn clear(&mut self)
+        ensures segments { self.new.segments ≡ [] }
+        ensures messages { self.new.messages ≡ [] }
+    {
+        self.segments.clear();
+        self.messages.clear();
+    }
+}
