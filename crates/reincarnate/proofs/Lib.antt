@@ -1,0 +1,13 @@
+pub mod Lengths
+pub mod ReplayOn
+pub mod Sized
+pub mod Ready
+pub mod Sendable
+pub mod Finding
+pub mod ReplayLaw
+pub mod EntryLaw
+pub mod AnswerLaw
+pub mod EntriesLaw
+pub mod Outcomes
+pub mod Forging
+pub mod Joined

@@ -1,0 +1,11 @@
+use Rattle.std.proofs.Common.{subst, sym}
+use Rattle.server_trait.specs.Service.{machine}
+use Rattle.reincarnate.specs.Joining.{IsSpliced}
+use Rattle.reincarnate.proofs.Joined.{splice_stands}
+use Rattle.reincarnate.proofs.Outcomes.{if_ok}
+use Rattle.reincarnate.proofs.replayed.Replayed.splice.Goals as goal
+
+pub returns-clause-law : goal.returns-clause-law
+returns-clause-law g c =
+    if_ok c.join.result (λ s is fresh e re sound. subst (IsSpliced (machine fresh g.S.Service.after) e c.args.isn.0) (sym is)
+    (splice_stands (machine fresh g.S.Service.after) c.args.local c.args.boot e c.args.self c.args.isn.0 c.join.ensures.fits re sound)) c.join.ensures.value

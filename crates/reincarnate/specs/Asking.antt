@@ -1,0 +1,70 @@
+-- A restart while it asks: what is asked for next, what answers it, and what is known then.
+use Rattle.std.specs.Prelude.{ℕ, ◌==◌, Bool, ◌&&◌, is_none, nat_lt, Option, Some, None, List, [], ◌++◌, length, find, option_map, if◌then◌else◌}
+use Rattle.std.specs.Option.{option_to_list}
+use Rattle.ft_io.specs.declared.Key.{Key}
+use Rattle.ft_io.specs.Key.{key_eq}
+use Rattle.seq_arith.specs.Message.{EntryHead, Body, Message}
+use Rattle.seq_arith.specs.Message.Body.{ListMsg, EntryMsg, PartMsg, LensMsg}
+use Rattle.server_trait.specs.Service.{Served}
+use Rattle.reincarnate.specs.Progress.{EntryState, begun_entry, lacks, asked_for, part_fits, with_bytes, cuts_with, with_lengths}
+
+pub record FetchingState (S : Type 0) : Type 0 where
+  pub boot : ℕ
+  pub kind : ℕ  -- of the service
+  pub count : ℕ  -- of the entries that the log has
+  pub newest : Option (EntryState S)
+  pub earlier : List (EntryState S)  -- those fetched before it, the newest first
+
+abbrev pub begun_fetching : {S : Type 0} → (boot kind count : ℕ) → FetchingState S
+begun_fetching boot kind count = record { boot = boot; kind = kind; count = count; newest = None; earlier = [] }
+
+abbrev pub entries_of : {S : Type 0} → FetchingState S → List (EntryState S)
+entries_of s = option_to_list s.newest ++ s.earlier
+
+-- the newest entry is made whole before the next one is asked for
+abbrev pub asked_of : {S : Type 0} → Option (EntryState S) → Option Body
+asked_of None = None
+asked_of (Some e) = asked_for (lacks e) e
+
+abbrev pub asked_entry : {S : Type 0} → FetchingState S → Option Body
+asked_entry s = if nat_lt (length (entries_of s)) s.count then Some (ListMsg (length (entries_of s))) else None
+
+abbrev pub or_else : Option Body → Option Body → Option Body
+or_else (Some body) next = Some body
+or_else None next = next
+
+abbrev pub asked : {S : Type 0} → FetchingState S → Option Body
+asked s = or_else (asked_of s.newest) (asked_entry s)
+
+-- the entry of a key that has come
+abbrev pub entry_known : {S : Type 0} → Key → FetchingState S → Option (EntryState S)
+entry_known key s = find (λ e. key_eq e.head.key key) (entries_of s)
+
+-- an entry's head answers where that place is asked for and its key is new
+abbrev pub head_fits : {S : Type 0} → (index : ℕ) → Key → FetchingState S → Bool
+head_fits index key s = is_none (asked_of s.newest) && nat_lt index s.count && index == length (entries_of s) && is_none (entry_known key s)
+
+abbrev pub with_head : {S : Type 0} → S → EntryHead → FetchingState S → FetchingState S
+with_head fresh head s = record s { newest = Some (begun_entry fresh head); earlier = entries_of s }
+
+abbrev pub with_newest : {S : Type 0} → FetchingState S → EntryState S → FetchingState S
+with_newest s e = record s { newest = Some e }
+
+abbrev pub part_on : {S : Type 0} → (S → List ℕ → Served S) → Key → (offset : ℕ) → List ℕ → Option (EntryState S) → Option (EntryState S)
+part_on after key offset bytes None = None
+part_on after key offset bytes (Some e) = if part_fits key offset (length bytes) e then Some (with_bytes after bytes e) else None
+
+abbrev pub lens_on : {S : Type 0} → (S → List ℕ → Served S) → Key → (first : ℕ) → List ℕ → Option (EntryState S) → Option (EntryState S)
+lens_on after key first lens None = None
+lens_on after key first lens (Some e) = option_map (λ cuts. with_lengths after cuts lens e) (cuts_with key first lens e)
+
+-- what is known after an answer, if it fits
+abbrev pub answered : {S : Type 0} → (ℕ → S) → (S → List ℕ → Served S) → FetchingState S → Body → Option (FetchingState S)
+answered started after s (EntryMsg index head) = if head_fits index head.key s then Some (with_head (started s.kind) head s) else None
+answered started after s (PartMsg key offset bytes) = option_map (with_newest s) (part_on after key offset bytes s.newest)
+answered started after s (LensMsg key first lens) = option_map (with_newest s) (lens_on after key first lens s.newest)
+answered started after s _ = None
+
+-- an answer to another boot doesn't
+abbrev pub heard : {S : Type 0} → (ℕ → S) → (S → List ℕ → Served S) → Message → FetchingState S → Option (FetchingState S)
+heard started after message s = if message.boot == s.boot then answered started after s message.body else None

@@ -1,0 +1,57 @@
+-- The parts of a connection at the end of a restart, and where they stand: at the point of its entry.
+use Rattle.std.specs.Prelude.{◌≡◌, ℕ, ◌<◌, ◌≤◌, ◌^◌, min}
+use Rattle.ft_io.specs.declared.Addr.{Addr}
+use Rattle.ft_io.specs.declared.Key.{Key}
+use Rattle.server_trait.specs.Service.{Machine}
+use Rattle.ft_model.specs.Log.{Entry}
+use Rattle.ft_model.specs.Restart.{point_of, resumed_at}
+use Rattle.tcp_endpoint.specs.Tcb.{Tcb}
+use Rattle.south_wrap.specs.SouthState.{SouthState, resumed_south}
+use Rattle.south_wrap.specs.Standing.{south_at}
+use Rattle.north_wrap.specs.NorthState.{NorthState, resumed_north}
+use Rattle.connection_laws.specs.Splicing.{spliced, delta_from}
+use Rattle.connection_laws.specs.Standing.{PartsStand}
+use Rattle.reincarnate.specs.Progress.{ReplayedState, IsSegmentSize}
+
+pub record SplicedState (S : Type 0) : Type 0 where
+  pub boot : ℕ
+  pub key : Key
+  pub local : Addr
+  pub south : SouthState
+  pub endpoint : Tcb
+  pub north : NorthState S
+
+-- output goes on behind what the client has acknowledged of it. An acknowledged FIN is sent again
+abbrev pub goes_on_at : {S : Type 0} → ReplayedState S → ℕ
+goes_on_at r = min r.head.acked r.replay.made
+
+abbrev pub south_from : {S : Type 0} → (i : ℕ) → ReplayedState S → SouthState
+south_from i r = record (resumed_south r.head.cisn r.head.sisn r.head.length r.head.fin (goes_on_at r) i) { read = r.cuts.sum }
+
+abbrev pub north_from : {S : Type 0} → ReplayedState S → NorthState S
+north_from r = resumed_north r.replay.service r.replay.held r.replay.pending r.cuts.count r.cuts.sum r.replay.made r.cuts.ended r.replay.closed
+
+-- the inner TCP has the initial number i
+abbrev pub spliced_from : {S : Type 0} → (boot : ℕ) → Addr → (i : ℕ) → ReplayedState S → SplicedState S
+spliced_from boot local i r = record {
+  boot = boot;
+  key = r.head.key;
+  local = local;
+  south = south_from i r;
+  endpoint = spliced r.head.key local r.head.cisn r.head.length r.head.mss i r.head.fin;
+  north = north_from r;
+}
+
+-- They stand at the entry's point: the wrapper with delta = sisn + u - i modulo 2^32, where u is how much of the output the client has
+-- acknowledged, TCP where its next numbers are cisn + 1 + T and i + 1, and the service with the output from u on
+pub record IsSpliced {S : Type 0} (service : Machine S) (e : Entry) (i : ℕ) (s : SplicedState S) : Type 0 where
+  pub key : s.key ≡ e.key
+  pub south : s.south ≡ south_at (delta_from service e i) (point_of service e)
+  pub parts : PartsStand service (resumed_at service e) i (delta_from service e i) (resumed_at service e) (point_of service e) s.north s.endpoint
+
+-- the numbers of an entry and an initial number are within their ranges
+pub record Fits {S : Type 0} (r : ReplayedState S) (i : ℕ) : Type 0 where
+  pub stream : r.head.length ≤ 2 ^ 24
+  pub segments : IsSegmentSize r.head.mss
+  pub sisn : r.head.sisn < 2 ^ 32
+  pub i_fits : i < 2 ^ 32

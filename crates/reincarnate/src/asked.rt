@@ -1,0 +1,66 @@
+//! The first step of a restart.
+
+ghost use Rattle.std.specs.Prelude.{◌≡◌, ◌≤◌, [], Ok, IfOk};
+ghost use Rattle.seq_arith.specs.Message.Body.{HelloMsg};
+ghost use Rattle.logger_wire.specs.Value.{message_of};
+ghost use Rattle.reincarnate.specs.Asking.{begun_fetching};
+ghost use Rattle.reincarnate.specs.Standing.{StandsFetching};
+ghost use Rattle.server_trait.specs.Service.{machine};
+
+use crate::fetching::Fetching;
+use crate::lost::LostIn;
+use logger_wire::{Body, Msg};
+use server_trait::Service;
+use std::alloc::Global;
+use std::marker::Model;
+
+/// A server that has started, and asks the logger how many entries it has. Contracts see its boot number.
+#[derive(Debug, Drop)]
+pub struct Asked {
+    boot: u64,
+}
+
+impl Model for Asked {
+    ghost use Rattle.std.specs.Prelude.{ℕ, ◌≤◌};
+
+    ghost Value = { ℕ };
+
+    ghost view = { λ a. a.boot };
+
+    ghost invariant = { λ a. 1 ≤ a.boot };
+}
+
+impl Asked {
+    /// With this boot number.
+    pub fn new(boot: u64) -> Asked
+        requires { 1 ≤ boot }
+        ensures { result ≡ boot }
+    {
+        Asked { boot }
+    }
+
+    /// What is asked: Hello.
+    pub fn question(&self) -> Msg<'_>
+        ensures { message_of result ≡ record { boot = self.now; body = HelloMsg } }
+    {
+        Msg {
+            boot: self.boot,
+            body: Body::HelloMsg,
+        }
+    }
+
+    /// The log has so many entries. The services of this restart are of this kind.
+    pub fn on_summary<S: Service>(
+        self,
+        alloc: Global,
+        kind: u8,
+        count: u16,
+    ) -> Result<Fetching<S>, LostIn>
+        requires { count ≤ 64 }
+        ensures value { result ≡ Ok (begun_fetching self kind count) }
+        // Nothing is fetched so far.
+        ensures law { IfOk result (λ f. StandsFetching (machine (S.started kind) S.after) [] f) }
+    {
+        Ok(Fetching::begin(alloc, self.boot, kind, count))
+    }
+}

@@ -1,0 +1,63 @@
+//! Reads that are fetched, as far as further ones depend on them.
+
+ghost use Rattle.std.specs.Prelude.{◌≡◌, ◌≤◌, ◌+◌, ◌^◌, length, sum, Some, None, IfSome, if◌then◌else◌};
+ghost use Rattle.seq_arith.specs.MessageGrammar.{lens_in};
+ghost use Rattle.reincarnate.specs.Cutting.{may_cut, cut_on, cuts_through, HaveBytes};
+
+use logger_wire::len_at;
+
+/// How many reads are fetched, their bytes, and whether the closing one, of length 0, is among them.
+#[derive(Clone, Copy, Debug)]
+pub(crate) struct Cuts {
+    pub count: u32,
+    pub sum: u32,
+    pub ended: bool,
+}
+
+impl Cuts {
+    pub(crate) const NONE: Cuts = Cuts {
+        count: 0,
+        sum: 0,
+        ended: false,
+    };
+
+    /// With one read more, if the log's rule lets it follow in a stream with so many bytes.
+    fn with(self, n: u16, len: u32, fin: bool) -> Option<Cuts>
+        requires len { len ≤ 2 ^ 24 }
+        requires bytes { HaveBytes self }
+        ensures value { result ≡ (if may_cut len fin self n then Some (cut_on self n) else None) }
+        ensures bytes { IfSome result (λ cuts. HaveBytes cuts) }
+        ensures within { IfSome result (λ cuts. cuts.sum ≤ len) }
+    {
+        let n = u32::from(n);
+        if self.ended || len < self.sum || len - self.sum < n {
+            return None;
+        }
+        if n == 0 && !(fin && self.sum == len) {
+            return None;
+        }
+        Some(Cuts {
+            count: self.count + 1,
+            sum: self.sum + n,
+            ended: n == 0,
+        })
+    }
+
+    /// With the reads of these lengths, of two bytes each, if they may follow.
+    #[tactic(auto, using(crate::proofs::Lengths::length_lens, crate::proofs::Lengths::goes_through, crate::proofs::Lengths::stops_there, crate::proofs::Lengths::all_through, crate::proofs::Lengths::sum_through))]
+    pub(crate) fn through(self, lens: &[u8], len: u32, fin: bool) -> Option<Cuts>
+        requires len { len ≤ 2 ^ 24 }
+        requires bytes { HaveBytes self }
+        requires within { self.sum ≤ len }
+        ensures value { result ≡ cuts_through len fin self (lens_in lens.now) }
+        ensures bytes { IfSome result (λ cuts. HaveBytes cuts) }
+        ensures within { IfSome result (λ cuts. cuts.sum ≤ len) }
+        ensures sum { IfSome result (λ cuts. cuts.sum ≡ self.sum + sum (lens_in lens.now)) }
+    {
+        let mut cuts = self;
+        for i in 0..lens.len() / 2 {
+            cuts = cuts.with(len_at(lens, i), len, fin)?;
+        }
+        Some(cuts)
+    }
+}

@@ -1,0 +1,83 @@
+//! The entries of the log, all of which are fetched.
+
+ghost use Rattle.std.specs.Prelude.{◌≡◌, ◌++◌, [], List, IfSome, IfNone, None, reverse};
+ghost use Rattle.std.specs.Option.{option_to_list};
+ghost use Rattle.reincarnate.specs.declared.lack.Lack.TheVariants as lack;
+ghost use Rattle.reincarnate.specs.Progress.{lacks, next_live, behind_next, AreReady};
+ghost use Rattle.reincarnate.specs.Asking.{asked_of};
+ghost use Rattle.reincarnate.specs.Standing.{StandsWhole, NextIs, live_from};
+ghost use Rattle.server_trait.specs.Service.{machine};
+ghost use Rattle.ft_model.specs.Restart.{Fetched};
+
+use crate::fetched_entry::FetchedEntry;
+use crate::replayed::Replayed;
+use server_trait::Service;
+use std::marker::Model;
+
+/// The entries that are still to be restored. Contracts see them in the log's order.
+#[derive(Drop)]
+pub struct Entries<S: Service> {
+    newest: Option<FetchedEntry<S>>,
+    // Those before it, the newest first.
+    earlier: Vec<FetchedEntry<S>>,
+}
+
+impl<S: Service> Model for Entries<S> {
+    ghost use Rattle.std.specs.Prelude.{◌≡◌, ◌++◌, List, None, reverse};
+    ghost use Rattle.std.specs.Option.{option_to_list};
+    ghost use Rattle.reincarnate.specs.Progress.{EntryState, AreReady};
+    ghost use Rattle.reincarnate.specs.Asking.{asked_of};
+
+    ghost Value = { List (EntryState S) };
+
+    ghost view = { λ e. reverse e.earlier.items ++ option_to_list e.newest };
+
+    ghost invariant = { λ e. AreReady e.earlier.items × (asked_of e.newest ≡ None) };
+}
+
+impl<S: Service> Entries<S> {
+    pub(crate) fn begin(
+        newest: Option<FetchedEntry<S>>,
+        earlier: Vec<FetchedEntry<S>>,
+    ) -> Entries<S>
+        requires earlier { AreReady earlier.items }
+        requires newest { asked_of newest ≡ None }
+        ensures { result ≡ reverse earlier.items ++ option_to_list newest }
+    {
+        Entries { newest, earlier }
+    }
+
+    /// The next entry in the log's order.
+    #[tactic(auto, using(crate::proofs::Ready::last_is_ready, crate::proofs::Ready::others_are_ready, crate::proofs::Ready::newest_is_ready, crate::proofs::Ready::first_in_order))]
+    fn pop(&mut self) -> Option<FetchedEntry<S>>
+        ensures order { self.old ≡ option_to_list result ++ self.new }
+        ensures end { IfNone result (self.old ≡ []) }
+        ensures ready { IfSome result (λ e. lacks e ≡ lack.Nothing) }
+    {
+        match self.earlier.pop() {
+            Some(entry) => Some(entry),
+            None => self.newest.take(),
+        }
+    }
+
+    /// The next entry whose connection hasn't ended, in the log's order, or None at the end.
+    pub fn next(&mut self) -> Option<Replayed<S>>
+        ensures value { result ≡ next_live self.old }
+        ensures rest { self.new ≡ behind_next self.old }
+        ensures law { (fresh : S) (fetched : List Fetched) → StandsWhole (machine fresh S.after) fetched self.old → NextIs (machine fresh S.after) (live_from fetched) result self.new }
+    {
+        self.take_next()
+    }
+
+    fn take_next(&mut self) -> Option<Replayed<S>>
+        ensures value { result ≡ next_live self.old }
+        ensures rest { self.new ≡ behind_next self.old }
+    {
+        while let Some(entry) = self.pop() {
+            if !entry.is_done() {
+                return Some(entry.into_replayed());
+            }
+        }
+        None
+    }
+}

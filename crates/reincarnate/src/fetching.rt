@@ -1,0 +1,319 @@
+//! The restart while it asks for the log's entries.
+
+ghost use Rattle.std.specs.Prelude.{◌≡◌, ◌⊎◌, ◌<◌, ◌≤◌, ◌^◌, true, false, length, option_map, find, OnOk, IfOk, IfNone, IfSome, MatchOption, None, List, ◌++◌, reverse, if◌then◌else◌};
+ghost use Rattle.std.specs.List.{AllByRecursion};
+ghost use Rattle.std.specs.Option.{option_to_list};
+ghost use Rattle.seq_arith.specs.MessageGrammar.{lens_in};
+ghost use Rattle.server_trait.specs.Service.{machine};
+ghost use Rattle.ft_io.specs.Key.{key_eq};
+ghost use Rattle.ft_model.specs.Restart.{Fetched, wanted, question};
+ghost use Rattle.logger_wire.specs.Value.{body_of, message_of, IsSendable};
+ghost use Rattle.logger_store.specs.Stored.{head_value};
+ghost use Rattle.reincarnate.specs.Progress.{AreReady, IsSegmentSize};
+ghost use Rattle.reincarnate.specs.Asking.{begun_fetching, entries_of, asked_of, asked_entry, asked, entry_known, head_fits, with_head, with_newest, part_on, lens_on, answered, heard};
+ghost use Rattle.reincarnate.specs.Standing.{StandsFetching, StandsWhole, AnswerLeads, fetched_then, held_of};
+
+use crate::entries::Entries;
+use crate::fetched_entry::FetchedEntry;
+use ft_io::{Key, NoMemory};
+use logger_store::EntryHead;
+use logger_wire::{Body, Msg};
+use server_trait::Service;
+use std::alloc::Global;
+use std::marker::Model;
+
+/// A restart that asks for the log's entries, one after another, and replays the reads of each as soon as they are whole. Contracts see, of
+/// each entry, the head, the counts of what is fetched, and the service with what it still holds.
+#[derive(Drop)]
+pub struct Fetching<S: Service> {
+    boot: u64,
+    kind: u8,
+    count: u16,
+    newest: Option<FetchedEntry<S>>,
+    // Those before it, the newest first.
+    earlier: Vec<FetchedEntry<S>>,
+}
+
+impl<S: Service> Model for Fetching<S> {
+    ghost use Rattle.std.specs.Prelude.{◌≡◌, ◌≤◌};
+    ghost use Rattle.std.specs.List.{AllByRecursion};
+    ghost use Rattle.reincarnate.specs.Asking.{FetchingState};
+    ghost use Rattle.reincarnate.specs.Progress.{AreReady};
+
+    ghost Value = { FetchingState S };
+
+    ghost view = { λ f. record { boot = f.boot; kind = f.kind; count = f.count; newest = f.newest; earlier = f.earlier.items } };
+
+    ghost invariant = { λ f. (1 ≤ f.boot) × (f.count ≤ 64) × AreReady f.earlier.items };
+}
+
+impl<S: Service> Fetching<S> {
+    pub(crate) fn begin(alloc: Global, boot: u64, kind: u8, count: u16) -> Fetching<S>
+        requires boot { 1 ≤ boot }
+        requires count { count ≤ 64 }
+        ensures { result ≡ begun_fetching boot kind count }
+    {
+        Fetching {
+            boot,
+            kind,
+            count,
+            newest: None,
+            earlier: Vec::new(alloc),
+        }
+    }
+
+    /// What is asked of the newest entry.
+    fn question_of_newest(&self) -> Option<Body<'_>>
+        ensures { option_map body_of result ≡ asked_of self.now.newest }
+    {
+        match &self.newest {
+            Some(entry) => entry.question(),
+            None => None,
+        }
+    }
+
+    /// How many entries have come.
+    fn fetched(&self) -> usize
+        ensures { result ≡ length (entries_of self.now) }
+    {
+        self.earlier.len() + usize::from(self.newest.is_some())
+    }
+
+    fn question_for_next(&self) -> Option<Body<'_>>
+        ensures { option_map body_of result ≡ asked_entry self.now }
+    {
+        let index = self.fetched();
+        if index < usize::from(self.count) {
+            return Some(Body::ListMsg {
+                index: index as u16,
+            });
+        }
+        None
+    }
+
+    fn asked(&self) -> Option<Body<'_>>
+        ensures { option_map body_of result ≡ asked self.now }
+    {
+        match self.question_of_newest() {
+            Some(body) => Some(body),
+            None => self.question_for_next(),
+        }
+    }
+
+    /// What is asked now, or None where nothing is missing.
+    pub fn question(&self) -> Option<Msg<'_>>
+        ensures value { option_map message_of result ≡ option_map (λ body. record { boot = self.now.boot; body = body }) (asked self.now) }
+        ensures law { (fetched : List Fetched) → StandsFetching (machine (S.started self.now.kind) S.after) fetched self.now → option_map message_of result ≡ option_map (λ body. record { boot = self.now.boot; body = body }) (option_map question (wanted self.now.count fetched)) }
+        ensures end { IfNone result (asked self.now ≡ None) }
+    {
+        self.ask()
+    }
+
+    fn ask(&self) -> Option<Msg<'_>>
+        ensures end { IfNone result (asked self.now ≡ None) }
+        ensures value { option_map message_of result ≡ option_map (λ body. record { boot = self.now.boot; body = body }) (asked self.now) }
+    {
+        match self.asked() {
+            Some(body) => Some(Msg {
+                boot: self.boot,
+                body,
+            }),
+            None => None,
+        }
+    }
+
+    /// The head of the entry of a key, or None where none of it has come.
+    pub fn known(&self, key: Key) -> Option<EntryHead>
+        ensures value { option_map head_value result ≡ option_map (λ e. e.head) (entry_known key self.now) }
+        ensures law { (fetched : List Fetched) → StandsFetching (machine (S.started self.now.kind) S.after) fetched self.now → option_map head_value result ≡ option_map (λ f. f.head) (find (λ f. key_eq f.head.key key) fetched) }
+    {
+        self.head_of(key)
+    }
+
+    fn head_of(&self, key: Key) -> Option<EntryHead>
+        ensures { option_map head_value result ≡ option_map (λ e. e.head) (entry_known key self.now) }
+    {
+        match &self.newest {
+            Some(entry) if entry.has_key(key) => Some(entry.head()),
+            _ => head_among(&self.earlier, key),
+        }
+    }
+
+    /// The bytes of the newest entry that are fetched and not replayed: at most 3,071 while one of its reads isn't replayed or its length is
+    /// missing.
+    pub fn held(&self) -> usize
+        ensures value { result ≡ held_of self.now.newest }
+        ensures few { IfSome self.now.newest (λ e. (0 < length e.waiting) ⊎ (e.cuts.count < e.head.reads) → result ≤ 3071) }
+    {
+        match &self.newest {
+            Some(entry) => entry.held(),
+            None => 0,
+        }
+    }
+
+    /// Takes an answer, if it fits the question. After `NoMemory` it may only be dropped.
+    pub fn on_answer(&mut self, alloc: Global, m: &Msg<'_>) -> Result<bool, NoMemory>
+        requires { IsSendable m.now }
+        ensures value { IfOk result (λ fits. MatchOption (heard S.started S.after (message_of m.now) self.old) ((fits ≡ false) × (self.new ≡ self.old)) (λ s. (fits ≡ true) × (self.new ≡ s))) }
+        ensures law { IfOk result (λ fits. (fetched : List Fetched) → StandsFetching (machine (S.started self.old.kind) S.after) fetched self.old → AnswerLeads (machine (S.started self.old.kind) S.after) (fetched_then self.old.boot self.old.count (message_of m.now) fetched) fits self.old self.new) }
+    {
+        self.hear(alloc, m)
+    }
+
+    fn hear(&mut self, alloc: Global, m: &Msg<'_>) -> Result<bool, NoMemory>
+        requires { IsSendable m.now }
+        ensures value { IfOk result (λ fits. MatchOption (heard S.started S.after (message_of m.now) self.old) ((fits ≡ false) × (self.new ≡ self.old)) (λ s. (fits ≡ true) × (self.new ≡ s))) }
+    {
+        if m.boot != self.boot {
+            return Ok(false);
+        }
+        self.on_body(alloc, m)
+    }
+
+    #[tactic(auto, using(crate::proofs::Sendable::head_in_range, crate::proofs::Sendable::mss_in_range, crate::proofs::Sendable::part_in_range, crate::proofs::Sendable::lens_in_range))]
+    fn on_body(&mut self, alloc: Global, m: &Msg<'_>) -> Result<bool, NoMemory>
+        requires sendable { IsSendable m.now }
+        ensures value { IfOk result (λ fits. MatchOption (answered S.started S.after self.old (body_of m.now.body)) ((fits ≡ false) × (self.new ≡ self.old)) (λ s. (fits ≡ true) × (self.new ≡ s))) }
+    {
+        match m.body {
+            Body::EntryMsg {
+                index,
+                key,
+                cisn,
+                sisn,
+                mss,
+                length,
+                fin,
+                done,
+                reads,
+                acked,
+            } => self.on_head(
+                alloc,
+                index,
+                EntryHead {
+                    key,
+                    cisn,
+                    sisn,
+                    mss,
+                    length,
+                    fin,
+                    done,
+                    reads,
+                    acked,
+                },
+            ),
+            Body::PartMsg { key, offset, bytes } => self.on_part(key, offset, bytes),
+            Body::LensMsg { key, first, lens } => self.on_lens(key, first, lens),
+            _ => Ok(false),
+        }
+    }
+
+    /// The head of an entry.
+    #[tactic(auto, using(crate::proofs::Ready::fits_asked))]
+    fn on_head(&mut self, alloc: Global, index: u16, head: EntryHead) -> Result<bool, NoMemory>
+        requires stream { head.length ≤ 2 ^ 24 }
+        requires segments { IsSegmentSize head.mss }
+        ensures fits { IfOk result (λ fits. fits ≡ head_fits index head.key self.old) }
+        ensures state { IfOk result (λ fits. self.new ≡ (if fits then with_head (S.started self.old.kind) (head_value head) self.old else self.old)) }
+    {
+        if !self.head_fits(index, head.key) {
+            return Ok(false);
+        }
+        set_aside(&mut self.newest, &mut self.earlier)?;
+        self.newest = Some(FetchedEntry::begin(alloc, self.kind, head));
+        Ok(true)
+    }
+
+    fn head_fits(&self, index: u16, key: Key) -> bool
+        ensures { result ≡ head_fits index key self.now }
+    {
+        self.question_of_newest().is_none()
+            && index < self.count
+            && usize::from(index) == self.fetched()
+            && self.head_of(key).is_none()
+    }
+
+    /// Bytes of the newest entry.
+    fn on_part(&mut self, key: Key, offset: u32, bytes: &[u8]) -> Result<bool, NoMemory>
+        requires { length bytes.now ≤ 1024 }
+        ensures { IfOk result (λ fits. MatchOption (part_on S.after key offset bytes.now self.old.newest) ((fits ≡ false) × (self.new ≡ self.old)) (λ e. (fits ≡ true) × (self.new ≡ with_newest self.old e))) }
+    {
+        match self.newest.take() {
+            Some(entry) if entry.part_fits(key, offset, bytes.len()) => {
+                self.newest = Some(entry.with_bytes(bytes)?);
+                Ok(true)
+            }
+            kept => {
+                self.newest = kept;
+                Ok(false)
+            }
+        }
+    }
+
+    /// Lengths of the newest entry's reads, of two bytes each.
+    fn on_lens(&mut self, key: Key, first: u32, lens: &[u8]) -> Result<bool, NoMemory>
+        requires { AllByRecursion (λ n. n ≤ 2048) (lens_in lens.now) }
+        ensures { IfOk result (λ fits. MatchOption (lens_on S.after key first (lens_in lens.now) self.old.newest) ((fits ≡ false) × (self.new ≡ self.old)) (λ e. (fits ≡ true) × (self.new ≡ with_newest self.old e))) }
+    {
+        let Some(entry) = self.newest.take() else {
+            return Ok(false);
+        };
+        match entry.cuts_with(key, first, lens) {
+            Some(cuts) => {
+                self.newest = Some(entry.with_lengths(cuts, lens)?);
+                Ok(true)
+            }
+            None => {
+                self.newest = Some(entry);
+                Ok(false)
+            }
+        }
+    }
+
+    /// All that was fetched.
+    pub fn finish(self) -> Entries<S>
+        requires { asked self ≡ None }
+        ensures value { result ≡ reverse self.earlier ++ option_to_list self.newest }
+        ensures law { (fetched : List Fetched) → StandsFetching (machine (S.started self.kind) S.after) fetched self → StandsWhole (machine (S.started self.kind) S.after) (reverse fetched) result }
+    {
+        let Fetching {
+            boot: _,
+            kind: _,
+            count: _,
+            newest,
+            earlier,
+        } = self;
+        Entries::begin(newest, earlier)
+    }
+}
+
+/// Puts the newest entry, of which nothing is missing, before the others.
+#[tactic(auto, using(crate::proofs::Ready::newest_is_ready))]
+fn set_aside<S: Service>(
+    newest: &mut Option<FetchedEntry<S>>,
+    earlier: &mut Vec<FetchedEntry<S>>,
+) -> Result<(), NoMemory>
+    requires asked { asked_of newest.old ≡ None }
+    requires ready { AreReady earlier.old.items }
+    ensures items { OnOk result (earlier.new.items ≡ option_to_list newest.old ++ earlier.old.items) }
+    ensures ready { AreReady earlier.new.items }
+{
+    let Some(entry) = newest.take() else {
+        return Ok(());
+    };
+    earlier.insert(0, entry)?;
+    Ok(())
+}
+
+/// The head of the first of these entries that has this key.
+#[tactic(auto, using(crate::proofs::Finding::found_here, crate::proofs::Finding::passed_here, crate::proofs::Finding::none_here))]
+fn head_among<S: Service>(entries: &[FetchedEntry<S>], key: Key) -> Option<EntryHead>
+    ensures { option_map head_value result ≡ option_map (λ e. e.head) (find (λ e. key_eq e.head.key key) entries.now) }
+{
+    for entry in entries {
+        if entry.has_key(key) {
+            return Some(entry.head());
+        }
+    }
+    None
+}

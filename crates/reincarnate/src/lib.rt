@@ -1,0 +1,24 @@
+//! The restart of a server, in steps that are types: it asks the logger what is logged, replays each connection's reads through a fresh
+//! service, and puts a fresh TCP where the log ends. Each step consumes the one before it, so none can be skipped. Of a connection's input
+//! no more is held than is still needed.
+#![tactic(auto)]
+
+pub use asked::Asked;
+pub use entries::Entries;
+pub use fetching::Fetching;
+pub use lost::{LostIn, Stage};
+pub use replayed::Replayed;
+pub use spliced::Spliced;
+
+mod asked;
+mod cuts;
+mod entries;
+mod fetched_entry;
+mod fetching;
+mod held;
+mod lack;
+mod lost;
+mod replay;
+mod replayed;
+mod spliced;
+mod splicing;

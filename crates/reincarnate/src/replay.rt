@@ -1,0 +1,160 @@
+//! A service that is fed again what the log keeps.
+
+ghost use Rattle.std.specs.Prelude.{◌≡◌, ℕ, ◌^◌, ◌-◌, ◌+◌, ◌≤◌, List, [], ◌++◌, length, take, drop, true, false, OnOk};
+ghost use Rattle.north_wrap.specs.NorthState.{resumed_north};
+ghost use Rattle.reincarnate.specs.Cutting.{HaveBytes};
+ghost use Rattle.reincarnate.specs.Replaying.{served_on, fed_on};
+
+use crate::cuts::Cuts;
+use crate::held::Held;
+use ft_io::NoMemory;
+use north_wrap::North;
+use server_trait::{Next, Service};
+use std::alloc::Global;
+use std::marker::Model;
+
+/// The bytes of a stream.
+const STREAM: u32 = 16_777_216;
+
+/// A service that has replayed the fetched reads so far. It holds the bytes that aren't replayed, and of the output what lies behind the
+/// client's acknowledgement.
+#[derive(Drop)]
+pub(crate) struct Replay<S: Service> {
+    service: S,
+    closed: bool,
+    made: u32,
+    acked: u32,
+    output: Vec<u8>,
+    // The output of one chunk, before it is known how much of it is needed.
+    fresh: Vec<u8>,
+    held: Held,
+}
+
+impl<S: Service> Model for Replay<S> {
+    ghost use Rattle.std.specs.Prelude.{◌≤◌, ◌^◌};
+    ghost use Rattle.reincarnate.specs.Replaying.{ReplayState};
+
+    ghost Value = { ReplayState S };
+
+    ghost view = { λ r. record { service = r.service; closed = r.closed; made = r.made; acked = r.acked; pending = r.output.items; held = r.held } };
+
+    ghost invariant = { λ r. r.made ≤ 2 ^ 24 };
+}
+
+impl<S: Service> Replay<S> {
+    /// Before the first read, of a connection whose client has acknowledged so many units of output.
+    pub(crate) fn new(alloc: Global, kind: u8, acked: u32) -> Replay<S>
+        ensures { result ≡ record { service = S.started kind; closed = false; made = 0; acked = acked; pending = []; held = [] } }
+    {
+        Replay {
+            service: S::fresh(alloc, kind),
+            closed: false,
+            made: 0,
+            acked,
+            output: Vec::new(alloc),
+            fresh: Vec::new(alloc),
+            held: Held::new(alloc),
+        }
+    }
+
+    /// The fetched bytes that aren't replayed.
+    pub(crate) fn held(&self) -> usize
+        ensures { result ≡ length self.now.held }
+    {
+        self.held.len()
+    }
+
+    /// The output behind the client's acknowledgement.
+    pub(crate) fn pending(&self) -> &[u8]
+        ensures { result.now ≡ self.now.pending }
+    {
+        &self.output
+    }
+
+    /// The bytes of all output.
+    pub(crate) fn made(&self) -> u32
+        ensures value { result ≡ self.now.made }
+        ensures most { result ≤ 2 ^ 24 }
+    {
+        self.made
+    }
+
+    /// A north wrapper that goes on from these reads.
+    pub(crate) fn into_north(self, alloc: Global, cuts: Cuts) -> North<S>
+        requires have { HaveBytes cuts }
+        requires within { cuts.sum + length self.held ≤ 2 ^ 24 }
+        ensures { result ≡ resumed_north self.service self.held self.pending cuts.count cuts.sum self.made cuts.ended self.closed }
+    {
+        let Replay {
+            service,
+            closed,
+            made,
+            acked: _,
+            output,
+            fresh: _,
+            held,
+        } = self;
+        North::resumed(
+            alloc,
+            service,
+            held.into_vec(),
+            output,
+            cuts.count,
+            cuts.sum,
+            made,
+            cuts.ended,
+            closed,
+        )
+    }
+
+    /// Holds fetched bytes.
+    pub(crate) fn hold(&mut self, bytes: &[u8]) -> Result<(), NoMemory>
+        ensures { OnOk result (self.new ≡ record self.old { held = self.old.held ++ bytes.now }) }
+    {
+        self.held.push(bytes)
+    }
+
+    /// Replays a read of this length.
+    #[tactic(auto, unfolding(crate::specs::Replaying::fed_on))]
+    pub(crate) fn feed(&mut self, size: usize) -> Result<(), NoMemory>
+        requires short { size ≤ 2048 }
+        requires there { size ≤ length self.old.held }
+        ensures { OnOk result (self.new ≡ fed_on S.after size self.old) }
+    {
+        if !self.closed {
+            self.serve(size)?;
+        }
+        self.held.skip(size);
+        Ok(())
+    }
+
+    /// The service takes the next chunk.
+    fn serve(&mut self, size: usize) -> Result<(), NoMemory>
+        requires short { size ≤ 2048 }
+        requires there { size ≤ length self.old.held }
+        ensures state { OnOk result (self.new ≡ served_on self.old (S.after self.old.service (take size self.old.held))) }
+        ensures held { self.new.held ≡ self.old.held }
+    {
+        self.fresh.clear();
+        let next = self.service.take(self.held.front(size), &mut self.fresh)?;
+        let made = self.fresh.len() as u32;
+        if STREAM - self.made < made {
+            self.closed = true;
+            return Ok(());
+        }
+        let known = self.acked.saturating_sub(self.made);
+        keep(&mut self.output, &self.fresh, known)?;
+        self.made += made;
+        self.closed = next == Next::Close;
+        Ok(())
+    }
+}
+
+/// Keeps the output of a chunk from where the client's acknowledgement ends, so many bytes on.
+fn keep(output: &mut Vec<u8>, fresh: &[u8], known: u32) -> Result<(), NoMemory>
+    ensures { OnOk result (output.new.items ≡ output.old.items ++ drop known fresh.now) }
+{
+    let known = (known as usize).min(fresh.len());
+    output.extend_from_slice(&fresh[known..])?;
+    Ok(())
+}

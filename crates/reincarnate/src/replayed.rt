@@ -1,0 +1,134 @@
+//! A connection whose service stands where the log ends.
+
+ghost use Rattle.std.specs.Prelude.{◌≡◌, ◌+◌, ◌^◌, ◌<◌, ◌≤◌, length, min, IfOk, IfErr};
+ghost use Rattle.logger_wire.specs.Value.{is_set};
+ghost use Rattle.server_trait.specs.Service.{machine};
+ghost use Rattle.ft_model.specs.Log.{Entry};
+ghost use Rattle.ft_model.specs.Restart.{IsSound};
+ghost use Rattle.south_wrap.specs.SouthState.{resumed_south};
+ghost use Rattle.reincarnate.specs.Standing.{IsReplayed};
+ghost use Rattle.reincarnate.specs.Joining.{spliced_from, Fits, IsSpliced};
+ghost use Rattle.reincarnate.specs.Cutting.{HaveBytes};
+ghost use Rattle.logger_store.specs.Stored.{head_value};
+ghost use Rattle.reincarnate.specs.Progress.{IsSegmentSize};
+
+use crate::cuts::Cuts;
+use crate::lost::{LostIn, Stage};
+use crate::replay::Replay;
+use crate::spliced::Spliced;
+use crate::splicing::spliced_endpoint;
+use ft_io::Addr;
+use logger_store::EntryHead;
+use seq_arith::Seq;
+use server_trait::Service;
+use south_wrap::South;
+use std::alloc::Global;
+use std::marker::Model;
+
+/// An entry of the log whose reads are all replayed.
+#[derive(Drop)]
+pub struct Replayed<S: Service> {
+    head: EntryHead,
+    cuts: Cuts,
+    replay: Replay<S>,
+}
+
+impl<S: Service> Model for Replayed<S> {
+    ghost use Rattle.std.specs.Prelude.{◌+◌, ◌^◌, ◌≤◌, length};
+    ghost use Rattle.reincarnate.specs.Cutting.{HaveBytes};
+    ghost use Rattle.logger_store.specs.Stored.{head_value};
+    ghost use Rattle.reincarnate.specs.Progress.{ReplayedState, IsSegmentSize};
+
+    ghost Value = { ReplayedState S };
+
+    ghost view = { λ r. record { head = head_value r.head; cuts = r.cuts; replay = r.replay } };
+
+    ghost invariant = { λ r. (r.head.length ≤ 2 ^ 24) × IsSegmentSize r.head.mss × HaveBytes r.cuts × (r.cuts.sum + length r.replay.held ≤ 2 ^ 24) };
+}
+
+impl<S: Service> Replayed<S> {
+    pub(crate) fn new(head: EntryHead, cuts: Cuts, replay: Replay<S>) -> Replayed<S>
+        requires stream { head.length ≤ 2 ^ 24 }
+        requires segments { IsSegmentSize head.mss }
+        requires have { HaveBytes cuts }
+        requires within { cuts.sum + length replay.held ≤ 2 ^ 24 }
+        ensures { result ≡ record { head = head_value head; cuts = cuts; replay = replay } }
+    {
+        Replayed { head, cuts, replay }
+    }
+
+    /// What the log says of the connection.
+    pub fn head(&self) -> EntryHead
+        ensures { head_value result ≡ self.now.head }
+    {
+        self.head
+    }
+
+    /// The output that the client hasn't acknowledged.
+    pub fn pending(&self) -> &[u8]
+        ensures { result.now ≡ self.now.replay.pending }
+    {
+        self.replay.pending()
+    }
+
+    /// Puts a fresh TCP with the initial number `isn` between the wrappers, where the entry ends.
+    pub fn splice(
+        self,
+        alloc: Global,
+        boot: u64,
+        local: Addr,
+        isn: Seq,
+    ) -> Result<Spliced<S>, LostIn>
+        requires { 1 ≤ boot }
+        ensures value { IfOk result (λ s. s ≡ spliced_from boot local isn.0 self) }
+        ensures lost { IfErr result (λ e. e.stage ≡ Stage.Replayed) }
+        ensures law { IfOk result (λ s. (fresh : S) (e : Entry) → IsReplayed (machine fresh S.after) e self → IsSound (machine fresh S.after) e → IsSpliced (machine fresh S.after) e isn.0 s) }
+    {
+        self.join(alloc, boot, local, isn)
+    }
+
+    fn join(self, alloc: Global, boot: u64, local: Addr, isn: Seq) -> Result<Spliced<S>, LostIn>
+        ensures value { IfOk result (λ s. s ≡ spliced_from boot local isn.0 self) }
+        ensures lost { IfErr result (λ e. e.stage ≡ Stage.Replayed) }
+        ensures fits { Fits self isn.0 }
+    {
+        let Replayed { head, cuts, replay } = self;
+        let south = south_behind(&head, cuts, replay.made(), isn);
+        let endpoint = match spliced_endpoint(alloc, &head, local, isn) {
+            Ok(endpoint) => endpoint,
+            Err(_) => {
+                return Err(LostIn {
+                    stage: Stage::Replayed,
+                });
+            }
+        };
+        Ok(Spliced {
+            boot,
+            key: head.key,
+            local,
+            south,
+            endpoint,
+            north: replay.into_north(alloc, cuts),
+        })
+    }
+}
+
+/// A south wrapper that goes on where the entry ends, of whose output so many bytes were made.
+fn south_behind(head: &EntryHead, cuts: Cuts, made: u32, isn: Seq) -> South
+    requires stream { head.now.length ≤ 2 ^ 24 }
+    requires made { made ≤ 2 ^ 24 }
+    requires read { cuts.sum ≤ 2 ^ 24 }
+    ensures numbers { (head.now.sisn < 2 ^ 32) × (isn.0 < 2 ^ 32) }
+    ensures value { result ≡ record (resumed_south head.now.cisn head.now.sisn head.now.length (is_set head.now.fin) (min head.now.acked made) isn.0) { read = cuts.sum } }
+{
+    let mut south = South::resumed(
+        Seq(head.cisn),
+        Seq(head.sisn),
+        head.length,
+        head.fin == 1,
+        head.acked.min(made),
+        isn,
+    );
+    south.read_to(cuts.sum);
+    south
+}

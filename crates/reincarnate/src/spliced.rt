@@ -1,0 +1,69 @@
+//! A connection that stands where its entry of the log ends.
+
+ghost use Rattle.std.specs.Prelude.{◌≡◌};
+
+use ft_io::{Addr, Key};
+use north_wrap::North;
+use server_trait::Service;
+use south_wrap::South;
+use std::marker::Model;
+use tcp_endpoint::Endpoint;
+
+/// The parts of a connection at the end of a restart: both wrappers, with a TCP between them that has never seen the client.
+#[derive(Drop)]
+pub struct Spliced<S: Service> {
+    pub(crate) boot: u64,
+    pub(crate) key: Key,
+    pub(crate) local: Addr,
+    pub(crate) south: South,
+    pub(crate) endpoint: Endpoint,
+    pub(crate) north: North<S>,
+}
+
+impl<S: Service> Model for Spliced<S> {
+    ghost use Rattle.reincarnate.specs.Joining.{SplicedState};
+
+    ghost Value = { SplicedState S };
+
+    ghost view = { λ s. record { boot = s.boot; key = s.key; local = s.local; south = s.south; endpoint = s.endpoint; north = s.north } };
+}
+
+impl<S: Service> Spliced<S> {
+    /// The boot number of the server.
+    pub fn boot(&self) -> u64
+        ensures { result ≡ self.now.boot }
+    {
+        self.boot
+    }
+
+    pub fn key(&self) -> Key
+        ensures { result ≡ self.now.key }
+    {
+        self.key
+    }
+
+    /// The server's address.
+    pub fn local(&self) -> Addr
+        ensures { result ≡ self.now.local }
+    {
+        self.local
+    }
+
+    pub fn south(&self) -> &South
+        ensures { result.now ≡ self.now.south }
+    {
+        &self.south
+    }
+
+    pub fn endpoint(&self) -> &Endpoint
+        ensures { result.now ≡ self.now.endpoint }
+    {
+        &self.endpoint
+    }
+
+    pub fn north(&self) -> &North<S>
+        ensures { result.now ≡ self.now.north }
+    {
+        &self.north
+    }
+}

@@ -1,0 +1,123 @@
+//! A fresh TCP is brought to where the log ends by segments of the client that are forged to it. What it answers is discarded.
+
+ghost use Rattle.std.specs.Prelude.{◌≡◌, ◌≤◌, ◌-◌, ◌+◌, ◌^◌, [], Some, None, IfOk};
+ghost use Rattle.seq_arith.specs.Number.{number_at};
+ghost use Rattle.segment_codec.specs.Value.{said};
+ghost use Rattle.ft_model.specs.News.News.{Comes};
+ghost use Rattle.logger_wire.specs.Value.{is_set};
+ghost use Rattle.tcp_endpoint.specs.Sending.{IsShort};
+ghost use Rattle.tcp_endpoint.specs.Tcb.{listening};
+ghost use Rattle.endpoint_laws.specs.Turn.{turned};
+ghost use Rattle.connection_laws.specs.Splicing.{forged as forged_lem, forged_syn, forged_ack, forged_fin, connected as connected_lem, spliced};
+ghost use Rattle.reincarnate.specs.Progress.{IsSegmentSize};
+
+use ft_io::{Addr, Key, NoMemory};
+use logger_store::EntryHead;
+use segment_codec::{Head, PacketRef};
+use seq_arith::{ACK, FIN, SYN, Seq};
+use std::alloc::Global;
+use tcp_endpoint::{Endpoint, Outbox};
+
+/// The bytes of a stream.
+const STREAM: u32 = 16_777_216;
+
+/// The head of a segment of the client, with window 0.
+fn forged(key: Key, local: Addr, seq: Seq, ack: Seq, flags: u8, mss: Option<u16>) -> Head
+    ensures { record { head = said result; payload = [] } ≡ forged_lem key local seq.0 ack.0 flags mss }
+{
+    Head {
+        src: key.ip,
+        dst: local.ip,
+        sport: key.port,
+        dport: local.port,
+        seq,
+        ack,
+        flags,
+        window: 0,
+        mss,
+    }
+}
+
+/// The number of an offset in the stream of this initial number.
+fn number_of(isn: Seq, offset: u32) -> Seq
+    ensures { result.0 ≡ number_at isn.0 offset }
+{
+    isn.add(1).add(offset)
+}
+
+/// The endpoint takes a segment without text in a turn of its own.
+fn forge(endpoint: &mut Endpoint, head: Head, out: &mut Outbox)
+    requires { out.old ≡ [] }
+    ensures state { IsShort endpoint.old.sending → endpoint.new ≡ turned (Comes (record { head = said head; payload = [] })) [] endpoint.old }
+    ensures out { out.new ≡ [] }
+{
+    endpoint.on_packet(PacketRef { head, payload: &[] });
+    endpoint.flush(out);
+    out.clear();
+}
+
+/// An endpoint that is connected behind the entry's bytes: its SYN has the number that they lead to.
+#[tactic(auto, using(crate::proofs::Forging::listen_short, crate::proofs::Forging::syn_short), unfolding(connection_laws::specs::Splicing::connected))]
+fn connected(
+    alloc: Global,
+    head: &EntryHead,
+    local: Addr,
+    isn: Seq,
+    out: &mut Outbox,
+) -> Result<Endpoint, NoMemory>
+    requires stream { head.now.length ≤ 2 ^ 24 }
+    requires out { out.old ≡ [] }
+    ensures state { IfOk result (λ e. e ≡ connected_lem head.now.key local head.now.cisn head.now.length head.now.mss isn.0) }
+    ensures out { out.new ≡ [] }
+{
+    let cisn = Seq(head.cisn);
+    let mut endpoint = Endpoint::listen(alloc, local, isn, STREAM - head.length)?;
+    let syn = forged(
+        head.key,
+        local,
+        cisn.add(head.length),
+        Seq(0),
+        SYN,
+        Some(head.mss),
+    );
+    forge(&mut endpoint, syn, out);
+    let ack = forged(
+        head.key,
+        local,
+        number_of(cisn, head.length),
+        number_of(isn, 0),
+        ACK,
+        None,
+    );
+    forge(&mut endpoint, ack, out);
+    Ok(endpoint)
+}
+
+/// An endpoint that stands where the entry ends, its FIN included where one is logged.
+#[tactic(auto, using(crate::proofs::Forging::connected_short))]
+pub(crate) fn spliced_endpoint(
+    alloc: Global,
+    head: &EntryHead,
+    local: Addr,
+    isn: Seq,
+) -> Result<Endpoint, NoMemory>
+    requires stream { head.now.length ≤ 2 ^ 24 }
+    requires segments { IsSegmentSize head.now.mss }
+    ensures { IfOk result (λ e. e ≡ spliced head.now.key local head.now.cisn head.now.length head.now.mss isn.0 (is_set head.now.fin)) }
+{
+    let mut out = Outbox::new(alloc)?;
+    let mut endpoint = connected(alloc, head, local, isn, &mut out)?;
+    if head.fin != 1 {
+        return Ok(endpoint);
+    }
+    let fin = forged(
+        head.key,
+        local,
+        number_of(Seq(head.cisn), head.length),
+        number_of(isn, 0),
+        FIN | ACK,
+        None,
+    );
+    forge(&mut endpoint, fin, &mut out);
+    Ok(endpoint)
+}
