@@ -1,12 +1,12 @@
 -- What the store keeps, in the plain records of messages and log, the ranges in which it keeps its numbers, and which messages want memory.
-use Rattle.std.specs.Prelude.{ℕ, Bool, true, false, not, List, [], length, sum, ◌≡◌, ◌==◌, ◌≤◌, ◌+◌, ◌-◌, ◌^◌, ◌&&◌, ◌||◌, nat_le, nat_lt, Option, Some, None, option_map}
+use Rattle.std.specs.Prelude.{ℕ, Bool, true, false, not, List, [], length, sum, ◌≡◌, ◌==◌, ◌≤◌, ◌+◌, ◌-◌, ◌^◌, ◌&&◌, ◌||◌, nat_le, nat_lt, Option, Some, None, option_map, IsOk, ◌⊎◌}
 use Rattle.std.specs.List.{list_any, list_all}
 use Rattle.std.specs.Option.{option_map_or}
 use Rattle.ft_io.specs.Key.{key_eq}
 use Rattle.seq_arith.specs.Message as said
 use Rattle.seq_arith.specs.Message.{Message, Body}
 use Rattle.seq_arith.specs.Message.Body.{OpenMsg, DataMsg, ReadMsg}
-use Rattle.seq_arith.specs.MessageGrammar.{spelling, flag}
+use Rattle.seq_arith.specs.MessageGrammar.{spelling, reading, flag}
 use Rattle.ft_model.specs.Log.{Log, Entry, with_bytes, is_next_read, entry_of}
 use Rattle.logger_wire.specs.Value.{is_set}
 use Rattle.logger_store.specs.Pages.{room_after, ends_with}
@@ -50,6 +50,10 @@ pub record AreRead (bytes : ℕ) (lengths : List ℕ) : Type 0 where
 abbrev pub answer_bytes : Option Message → List ℕ
 answer_bytes (Some message) = spelling message
 answer_bytes None = []
+
+-- no bytes, or those of a message
+abbrev pub IsAnswer : List ℕ → Type 0
+IsAnswer bytes = (bytes ≡ []) ⊎ IsOk (reading bytes)
 
 -- What wants memory of an entry: bytes that its last page doesn't take, and a length other than the last one
 abbrev pub adds_page : said.Part → Entry → Bool

@@ -2,6 +2,7 @@
 
 ghost use Rattle.std.specs.Prelude.{[], ◌≡◌};
 ghost use Rattle.seq_arith.specs.MessageGrammar.{spelling};
+ghost use Rattle.logger_store.specs.Stored.{IsAnswer};
 ghost use Rattle.logger_wire.specs.Value.{message_of, IsSendable};
 
 use logger_wire::{Msg, write_msg};
@@ -16,12 +17,13 @@ pub struct MsgOut {
 
 impl Model for MsgOut {
     ghost use Rattle.std.specs.Prelude.{ℕ, ◌≤◌, List, take};
+    ghost use Rattle.logger_store.specs.Stored.{IsAnswer};
 
     ghost Value = { List ℕ };
 
     ghost view = { λ out. take out.len out.bytes };
 
-    ghost invariant = { λ out. out.len ≤ 2048 };
+    ghost invariant = { λ out. (out.len ≤ 2048) × IsAnswer (take out.len out.bytes) };
 }
 
 impl MsgOut {
@@ -37,7 +39,9 @@ impl MsgOut {
 
     /// The message's bytes, or none.
     pub fn bytes(&self) -> &[u8]
-        ensures { result.now ≡ self.now }
+        ensures value { result.now ≡ self.now }
+        // What is not empty is read again.
+        ensures readable { IsAnswer result.now }
     {
         &self.bytes[..self.len]
     }
