@@ -1,5 +1,5 @@
 -- Every call of a live client keeps the client machine beside it.
-use Rattle.std.proofs.Common.{◌≡◌, ◌⊎◌, inl, inr, ℕ, ◌≤◌, ◌+◌, ◌^◌, Bool, true, false, Option, None, Some, List, [], length, drop, drop-drop, refl, sym, ap, subst, arith, ◌∙◌}
+use Rattle.std.proofs.Common.{◌≡◌, ◌⊎◌, inl, inr, ℕ, ◌≤◌, ◌+◌, ◌^◌, Bool, true, false, Option, None, Some, List, [], length, length-drop, drop, drop-drop, min, refl, sym, ap, subst, arith, ◌∙◌}
 use Rattle.std.specs.Prelude.{◌<◌, ◌==◌, ◌&&◌, Result, Ok, Err, if◌then◌else◌}
 use Rattle.std.proofs.lemmas.Bool.{false≢true}
 use Rattle.seq_arith.specs.Packet.{Segment}
@@ -7,10 +7,11 @@ use Rattle.seq_arith.specs.declared.BadPacket.{BadPacket}
 use Rattle.segment_codec.specs.declared.Head.{Head}
 use Rattle.tcp_endpoint.specs.declared.states.StateName.TheVariants.{Closed}
 use Rattle.tcp_endpoint.specs.States.{has_begun, after_close}
+use Rattle.tcp_endpoint.specs.Receiving.{Receiving, read_out}
 use Rattle.tcp_endpoint.specs.Sending.{IsShort}
 use Rattle.tcp_endpoint.specs.Tcb.{Tcb}
 use Rattle.tcp_endpoint.specs.Turning.{closing}
-use Rattle.tcp_endpoint.specs.Leaving.{answer_segments}
+use Rattle.tcp_endpoint.specs.Leaving.{answer_segments, with_probe, with_text_sent, with_fin_out, after_full, announced, settled, flushed}
 use Rattle.ft_model.specs.Client as machine
 use Rattle.ft_model.specs.Client.{Client, is_ended}
 use Rattle.endpoint_laws.proofs.EndingLaw.{holds_if}
@@ -19,7 +20,7 @@ use Rattle.ft_model.specs.declared.phase.Phase.TheVariants as phases
 use Rattle.peer_client.specs.declared.live.ClientEnd.{ClientEnd}
 use Rattle.peer_client.specs.declared.live.ClientEnd.TheVariants as ends
 use Rattle.peer_client.specs.Live.{LiveState, is_of, met, hearing, ticked, unread, handed, given_up, supplied, closes, before_flush, sent_by, turned}
-use Rattle.peer_client.specs.Standing.{AreMoves, IsSame, AnswersBy, Waits, Stands, HasHeard, IsReset, IsBetween, IsDue, AcksNear, AckFits, Moves, outcome_of, is_reset, receiving, handed_out}
+use Rattle.peer_client.specs.Standing.{AreMoves, IsSame, AnswersBy, Waits, Stands, Hears, HasHeard, IsReset, IsBetween, IsDue, AcksNear, AckFits, Moves, outcome_of, is_reset, receiving, handed_out}
 use Rattle.peer_client.proofs.Named.{over_at, acked_at}
 use Rattle.peer_client.proofs.Arrives.{few_sent}
 use Rattle.peer_client.proofs.TurnEnds.{ready, turn_ends, closed_leaves, follows_before}
@@ -75,10 +76,33 @@ ended_outcome c unreset through =
     ap (λ b. if b then Some ends.Reset else (if is_ended c.phase && c.acknowledged == length c.script + 1 then Some ends.Closed else None)) unreset
     ∙ ap (λ b. if b then Some ends.Closed else None) through
 
+-- what is left stays where the turn ends
+read_heard : (r : Receiving) (c : Client) (n : ℕ) → n ≤ length r.unread → HasHeard r c → HasHeard (read_out r n) c
+read_heard r c n few h = record {
+  count = omega (arith, h.count, length-drop n r.unread, few);
+  rest = sym (drop-drop n r.read c.accepted) ∙ ap (drop n) h.rest;
+}
+
+turned_heard : (l : LiveState) (c : Client) → HasHeard l.tcb.receiving c → HasHeard (turned l).tcb.receiving c
+unfolding flushed settled announced after_full with_fin_out with_text_sent with_probe
+turned_heard l c h =
+    let m : LiveState = supplied (given_up l) in
+    holds_if (λ (t : Tcb). HasHeard t.receiving c) (closes m) (closing m.tcb) m.tcb
+    (λ k. read_heard l.tcb.receiving c (min l.seen (length l.tcb.receiving.unread)) (omega arith) h)
+    (λ k. read_heard l.tcb.receiving c (min l.seen (length l.tcb.receiving.unread)) (omega arith) h)
+
+heard_from : (r : Receiving) (c : Client) → Hears r c → HasHeard r c
+heard_from r c h = record { count = h.count; rest = h.rest }
+
 stands_ends : (l : LiveState) (c : Client) → Stands l c → (begun : Bool) → has_begun (before_flush l).tcb.name ≡ begun → Moves (turned l) (sent_by l) c
 stands_ends l c h true begun =
     let t = turn_ends l c h begun in
-    record { later = t.later; moves = t.moves; goes_on = λ none. inr t.standing }
+    record {
+      later = t.later;
+      moves = t.moves;
+      heard = heard_from (turned l).tcb.receiving t.later t.standing.stands.agrees.hears;
+      goes_on = λ none. inr t.standing;
+    }
 stands_ends l c h false begun =
     let u : Tcb = (before_flush l).tcb in
     let r = ready l c h in
@@ -89,6 +113,7 @@ stands_ends l c h false begun =
     record {
       later = c;
       moves = subst (λ (xs : List Segment). AreMoves c xs c) (sym (closed_leaves l c h begun)) refl;
+      heard = turned_heard l c (heard_from l.tcb.receiving c h.agrees.hears);
       goes_on = λ none. absurd (false≢true (ap is_none (sym outcome ∙ none)));
     }
 
@@ -103,13 +128,19 @@ reset_ends l c h =
     record {
       later = c;
       moves = subst (λ (xs : List Segment). AreMoves c xs c) (sym nothing) refl;
+      heard = turned_heard l c h.heard;
       goes_on = λ none. absurd (false≢true (ap is_none (sym h.outcome ∙ none)));
     }
 
 pub flush_moves : (l : LiveState) (c : Client) → IsDue l c → Moves (turned l) (sent_by l) c
 flush_moves l c (inl h) =
     let o = waits_end l c h in
-    record { later = o.later; moves = o.moves; goes_on = λ none. inl o.waiting }
+    record {
+      later = o.later;
+      moves = o.moves;
+      heard = heard_from (turned l).tcb.receiving o.later o.waiting.waits.agrees.hears;
+      goes_on = λ none. inl o.waiting;
+    }
 flush_moves l c (inr (inl h)) = stands_ends l c h (has_begun (before_flush l).tcb.name) refl
 flush_moves l c (inr (inr h)) = reset_ends l c h
 
@@ -119,10 +150,11 @@ heard_of l c (inl h) = record { count = h.agrees.hears.count; rest = h.agrees.he
 heard_of l c (inr (inl h)) = record { count = h.agrees.hears.count; rest = h.agrees.hears.rest }
 heard_of l c (inr (inr h)) = h.heard
 
+pub unread_heard : (l : LiveState) (c : Client) → HasHeard l.tcb.receiving c → unread l ≡ drop (handed_out l) c.accepted
+unread_heard l c h = ap (drop l.seen) (sym h.rest) ∙ drop-drop l.seen l.tcb.receiving.read c.accepted
+
 pub unread_is : (l : LiveState) (c : Client) → IsDue l c → unread l ≡ drop (handed_out l) c.accepted
-unread_is l c h =
-    let k = heard_of l c h in
-    ap (drop l.seen) (sym k.rest) ∙ drop-drop l.seen l.tcb.receiving.read c.accepted
+unread_is l c h = unread_heard l c (heard_of l c h)
 
 same_seen : (l : LiveState) (c : Client) (n : ℕ) → IsSame l c → IsSame (record l { seen = n }) c
 same_seen l c n h = record { kind = h.kind; ip = h.ip; port = h.port; server = h.server; script = h.script; isn = h.isn; local = h.local; remote = h.remote }

@@ -181,10 +181,12 @@ abbrev pub receiving : LiveState → Client → Result Segment BadPacket → Cli
 receiving l c (Ok segment) = if is_of l.local l.server segment then received c segment else c
 receiving l c (Err bad) = c
 
--- at the end of a turn: the segments that leave are moves, and where the connection goes on the machine stands beside it as before
+-- at the end of a turn: the segments that leave are moves, what is left to be handed out stays, and where the connection goes on the machine
+-- stands beside it as before
 pub record Moves (after : LiveState) (segments : List Segment) (c : Client) : Type 0 where
   pub later : Client
   pub moves : AreMoves c segments later
+  pub heard : HasHeard after.tcb.receiving later
   pub goes_on : after.outcome ≡ None → IsBetween after later
 
 -- how many bytes were handed out

@@ -8,7 +8,7 @@ ghost use Rattle.tcp_endpoint.specs.Sending.{IsShort};
 ghost use Rattle.tcp_endpoint.specs.States.{has_begun as begun_lem};
 ghost use Rattle.tcp_endpoint.specs.Turning.{after_read};
 ghost use Rattle.peer_client.specs.Live.{new_live, is_of, end_of, first_end, met, heard, ticked, unread, handed, given_up, supplied, closes as closes_lem, shut as shut_lem, before_flush, sent_by, turned};
-ghost use Rattle.peer_client.specs.Standing.{IsBetween, IsDue, AcksNear, AckFits, receiving, Moves, handed_out, outcome_of};
+ghost use Rattle.peer_client.specs.Standing.{IsBetween, IsDue, AcksNear, AckFits, receiving, Moves, HasHeard, handed_out, outcome_of};
 ghost use Rattle.seq_arith.specs.PacketGrammar.{reading};
 ghost use Rattle.ft_model.specs.Client.{Client, new_client};
 ghost use Rattle.ft_model.specs.Client.ClientKind.{Live};
@@ -181,6 +181,7 @@ impl LiveClient {
         ensures state { self.new ≡ handed self.old result }
         // These are the bytes that the client machine has accepted, in order, behind those that were handed out before.
         ensures accepted { (c : Client) → IsDue self.old c → unread self.old ≡ drop (handed_out self.old) c.accepted }
+        ensures rest { (c : Client) → HasHeard self.old.tcb.receiving c → unread self.old ≡ drop (handed_out self.old) c.accepted }
         ensures due { (c : Client) → IsDue self.old c → IsDue self.new c }
         ensures between { (c : Client) → IsBetween self.old c → IsBetween self.new c }
     {
