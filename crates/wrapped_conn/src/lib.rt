@@ -11,5 +11,7 @@ mod leaving;
 mod numbers;
 mod stage;
 mod telling;
+#[cfg(test)]
+mod tests;
 mod turn;
 mod turn_out;
