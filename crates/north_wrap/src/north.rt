@@ -342,6 +342,13 @@ impl<S: Service> North<S> {
         self.run.made()
     }
 
+    /// How many reads were made, the fetched ones included.
+    pub fn count(&self) -> u32
+        ensures { result ≡ self.now.count }
+    {
+        self.count
+    }
+
     /// The bytes of all reads.
     pub fn read(&self) -> u32
         ensures { result ≡ self.now.read }
