@@ -3,10 +3,12 @@
 #![tactic(auto)]
 
 pub use conn::Conn;
+pub use inside::Inside;
 pub use stage::ConnStage;
 pub use turn_out::TurnOut;
 
 mod conn;
+mod inside;
 mod leaving;
 mod numbers;
 mod stage;

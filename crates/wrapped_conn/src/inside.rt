@@ -1,0 +1,47 @@
+//! The numbers of a connection, to be looked at from outside.
+
+ghost use Rattle.std.specs.Prelude.{◌≡◌};
+ghost use Rattle.wrapped_conn.specs.Numbers.{units_taken, una_units, sent_units, logged_units};
+ghost use Rattle.wrapped_conn.specs.Sound.{IsSound};
+
+use crate::conn::Conn;
+use server_trait::Service;
+
+/// The outer number less the inner one, and the numbers of a connection's point. Units count bytes, and one more for a FIN.
+#[derive(Clone, Copy, Debug, PartialEq, Eq)]
+pub struct Inside {
+    pub delta: u32,
+    /// The client's units that are taken, and those that are known to be logged.
+    pub taken: u32,
+    pub answered: u32,
+    /// The bytes of all reads, and how many reads these are.
+    pub read: u32,
+    pub reads: u32,
+    /// The units of output that the client has acknowledged, and those that are sent.
+    pub una: u32,
+    pub sent: u32,
+}
+
+impl<S: Service> Conn<S> {
+    /// Its numbers, by what its parts tell.
+    pub fn inside(&self) -> Inside
+        requires { IsSound self.now }
+        ensures delta { result.delta ≡ self.now.south.delta }
+        ensures taken { result.taken ≡ units_taken self.now }
+        ensures answered { result.answered ≡ logged_units self.now }
+        ensures read { result.read ≡ self.now.north.read }
+        ensures reads { result.reads ≡ self.now.north.count }
+        ensures una { result.una ≡ una_units self.now }
+        ensures sent { result.sent ≡ sent_units self.now }
+    {
+        Inside {
+            delta: self.south.delta(),
+            taken: self.taken_units(),
+            answered: self.logged(),
+            read: self.north.read(),
+            reads: self.north.count(),
+            una: self.una(),
+            sent: self.sent(),
+        }
+    }
+}
