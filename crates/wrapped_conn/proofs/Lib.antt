@@ -14,3 +14,13 @@ pub mod Sendable
 pub mod Copied
 pub mod Onward
 pub mod Taking
+pub mod Locals
+pub mod Ended
+pub mod NumbersAt
+pub mod Owing
+pub mod Copies
+pub mod Resetting
+pub mod Receiving
+pub mod Hearing
+pub mod Ticking
+pub mod Joining

@@ -7,3 +7,4 @@ pub mod Leaving
 pub mod Telling
 pub mod Turning
 pub mod Sound
+pub mod Standing

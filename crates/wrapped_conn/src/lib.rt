@@ -9,6 +9,7 @@ pub use turn_out::TurnOut;
 
 mod conn;
 mod inside;
+pub mod laws;
 mod leaving;
 mod numbers;
 mod stage;

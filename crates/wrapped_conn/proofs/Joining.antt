@@ -1,0 +1,186 @@
+-- How a connection begins: by its client's SYN, or at the point of its entry.
+use Rattle.std.proofs.Common.{◌≡◌, ℕ, ◌<◌, ◌≤◌, ◌+◌, ◌-◌, ◌%◌, ◌^◌, Bool, true, false, Some, List, [], length, min, refl, sym, ap, subst, arith, ◌∙◌}
+use Rattle.std.specs.Prelude.{nat_lt, pos, negsuc, if◌then◌else◌}
+use Rattle.ft_io.specs.declared.Addr.{Addr}
+use Rattle.ft_io.specs.declared.Key.{Key}
+use Rattle.seq_arith.specs.Message.{Numbers}
+use Rattle.seq_arith.specs.Number.{number_at, distance, offset_of}
+use Rattle.seq_arith.specs.Offset.{one_if}
+use Rattle.seq_arith.specs.Packet.{Segment}
+use Rattle.server_trait.specs.Service.{Machine, reference}
+use Rattle.ft_model.specs.Copy.{from_start}
+use Rattle.ft_model.specs.Log.{Entry}
+use Rattle.ft_model.specs.News.News.{Begins}
+use Rattle.ft_model.specs.Opening.{point_opened}
+use Rattle.ft_model.specs.Point.{Point}
+use Rattle.ft_model.specs.Restart.{point_of, resumed_at}
+use Rattle.north_wrap.specs.declared.read_record.ReadRecord.{ReadRecord}
+use Rattle.north_wrap.specs.NorthState.{NorthState, lengths_of, fresh_north, Turns as NorthTurns}
+use Rattle.north_wrap.specs.Standing.{HasReplayed}
+use Rattle.north_wrap.proofs.Offline.{begins_here}
+use Rattle.south_wrap.specs.SouthState.{first_south}
+use Rattle.south_wrap.specs.Standing.{south_at}
+use Rattle.tcp_endpoint.specs.Arrival.{received, in_listen, begun}
+use Rattle.tcp_endpoint.specs.Tcb.{Tcb, listening}
+use Rattle.tcp_endpoint.specs.Turning.{acked_number}
+use Rattle.connection_laws.specs.Beginning.{MayOpen, opened_syn, listens_with}
+use Rattle.connection_laws.specs.Splicing.{GoesOnFrom, delta_from, spliced, connected}
+use Rattle.connection_laws.specs.Standing.{PartsStand, PartsTurn}
+use Rattle.connection_laws.specs.Telling.{PartsTell}
+use Rattle.connection_laws.proofs.Spliced.{splices_parts}
+use Rattle.connection_laws.proofs.Starting.{starts_together}
+use Rattle.connection_laws.proofs.Telling.{parts_tell}
+use Rattle.wrapped_conn.specs.ConnState.{ConnState}
+use Rattle.wrapped_conn.specs.Beginning.{joined_conn, syn, first_conn}
+use Rattle.wrapped_conn.specs.Calls.{tcp_reader, tcp_writer}
+use Rattle.wrapped_conn.specs.Numbers.{has_fin, una_units}
+use Rattle.wrapped_conn.specs.Turning.{Starts, new_reads, tcp_used}
+use Rattle.wrapped_conn.specs.Sound.{IsSound}
+use Rattle.wrapped_conn.specs.Standing.{Keeps, StandsBefore, Leads}
+use Rattle.wrapped_conn.proofs.Locals.{received_local, flushed_local}
+use Rattle.wrapped_conn.proofs.NumbersAt.{has_fin_is, logged_at}
+use Rattle.wrapped_conn.proofs.Hearing.{begins_with}
+
+-- a fresh service stands at the opened point
+fresh_replayed : {S : Type 0} (service : Machine S) (numbers : Numbers) → HasReplayed service (point_opened numbers) 0 (fresh_north service.fresh)
+unfolding reference
+fresh_replayed service numbers = record {
+  run = record { service = refl; closed = refl; made = refl; pending = refl; within = omega arith };
+  rest = refl;
+  last = (refl, refl);
+  reads = refl;
+  answered = refl;
+  read = refl;
+  count = refl;
+  ended = refl;
+  enough = omega arith;
+  fetched = omega arith;
+  shut = refl;
+}
+
+-- the SYN, in the words of its law
+seq_fits : (cisn : ℕ) → cisn < 2 ^ 32 → cisn ≡ (cisn + 0) % 2 ^ 32
+seq_fits cisn h = omega (arith, h)
+
+syn_is : (local : Addr) (numbers : Numbers) → numbers.cisn < 2 ^ 32 → syn numbers.key local numbers.cisn numbers.mss ≡ opened_syn local numbers
+syn_is local numbers h = λ j. record {
+  head = record {
+    src = numbers.key.ip;
+    dst = local.ip;
+    sport = numbers.key.port;
+    dport = local.port;
+    seq = seq_fits numbers.cisn h j;
+    ack = 0;
+    flags = 2;
+    window = 0;
+    mss = Some numbers.mss;
+  };
+  payload = [];
+}
+
+-- nothing is acknowledged yet
+unacked : (key : Key) (local : Addr) (cisn sisn mss : ℕ) → acked_number (received (listening local sisn (2 ^ 24)) (syn key local cisn mss)) ≡ sisn
+unfolding received in_listen begun listening
+unacked key local cisn sisn mss = refl
+
+none_before : (sisn : ℕ) → sisn < 2 ^ 32 → from_start (offset_of sisn ((sisn + 0) % 2 ^ 32)) ≡ 0
+unfolding offset_of
+none_before sisn fits =
+    let d : distance ((sisn + 0) % 2 ^ 32) ((sisn + 1) % 2 ^ 32) ≡ 2 ^ 32 - 1 = omega (arith, fits) in
+    λ j. from_start (if nat_lt (d j) (2 ^ 31) then pos (d j) else negsuc (2 ^ 32 - 1 - d j))
+
+-- the connection with the SYN, out of its parts
+abbrev new_conn : {S : Type 0} → (boot : ℕ) → Addr → Numbers → S → ConnState S
+new_conn boot local numbers service =
+    joined_conn boot numbers.key local (first_south numbers.cisn numbers.sisn) (received (listening local numbers.sisn (2 ^ 24)) (syn numbers.key local numbers.cisn numbers.mss)) (fresh_north service)
+
+new_una : {S : Type 0} (boot : ℕ) (local : Addr) (numbers : Numbers) (service : S) → numbers.sisn < 2 ^ 32 → una_units (new_conn boot local numbers service) ≡ 0
+new_una boot local numbers service fits =
+    (λ j. min (from_start (offset_of numbers.sisn ((unacked numbers.key local numbers.cisn numbers.sisn numbers.mss j + 0) % 2 ^ 32))) (2 ^ 24 + 1))
+    ∙ (λ j. min (none_before numbers.sisn fits j) (2 ^ 24 + 1))
+
+nothing_fetched : (cisn f : ℕ) → distance (number_at cisn 0) ((cisn + 1) % 2 ^ 32) - f ≡ 0
+nothing_fetched cisn f = omega arith
+
+new_keeps : {S : Type 0} (boot : ℕ) (local : Addr) (numbers : Numbers) (service : S) → Keeps (point_opened numbers) (new_conn boot local numbers service)
+new_keeps boot local numbers service = record {
+  key = refl;
+  south = refl;
+  fetched = nothing_fetched numbers.cisn (one_if (has_fin (new_conn boot local numbers service).endpoint.name));
+  end_ticks = refl;
+  four = omega arith;
+  reset = refl;
+  unanswered = refl;
+}
+
+listening_local : (local : Addr) (iss limit : ℕ) → (listening local iss limit).local ≡ local
+unfolding listening
+listening_local local iss limit = refl
+
+pub new_starts : {S : Type 0} (service : Machine S) (boot : ℕ) (local : Addr) (numbers : Numbers) (new : ConnState S) (out messages : List (List ℕ)) → MayOpen numbers → IsSound new
+    → Starts service.after (first_conn boot numbers.key local numbers.cisn numbers.sisn numbers.mss service.fresh) new out messages
+    → Leads service local boot Begins (point_opened numbers) new out messages
+unfolding first_conn
+new_starts service boot local numbers new out messages may sound k =
+    let c : ConnState _ = new_conn boot local numbers service.fresh in
+    let p : Point = point_opened numbers in
+    let reads : List ReadRecord = new_reads c new in
+    let t : Tcb = tcp_used c reads in
+    let una : una_units c ≡ 0 = new_una boot local numbers service.fresh may.sisn in
+    let turns : NorthTurns service.after tcp_reader tcp_writer 0 c.north (received (listens_with local numbers) (opened_syn local numbers)) reads new.north t =
+    subst (λ (s : Segment). NorthTurns service.after tcp_reader tcp_writer 0 c.north (received (listens_with local numbers) s) reads new.north t) (syn_is local numbers may.cisn)
+    (subst (λ n. NorthTurns service.after tcp_reader tcp_writer n c.north c.endpoint reads new.north t) una k.north) in
+    let turn : PartsTurn service local boot 0 numbers.sisn 0 Begins p (lengths_of reads) new.north t =
+    starts_together service boot local numbers c.north new.north reads t may (begins_here service p 0 c.north (fresh_replayed service numbers)) refl turns sound.parts.made in
+    begins_with service 0 numbers.sisn p c new out messages (new_keeps boot local numbers service.fresh)
+    (received_local (listening local numbers.sisn (2 ^ 24)) (syn numbers.key local numbers.cisn numbers.mss) ∙ listening_local local numbers.sisn (2 ^ 24)) refl sound.parts.made turn k
+
+-- at the entry
+either : (b : Bool) (x y : Tcb) (a : Addr) → x.local ≡ a → y.local ≡ a → (if b then x else y).local ≡ a
+either true x y a p q = p
+either false x y a p q = q
+
+spliced_local : (key : Key) (local : Addr) (cisn fetched mss i : ℕ) (fin : Bool) → (spliced key local cisn fetched mss i fin).local ≡ local
+unfolding connected
+spliced_local key local cisn fetched mss i fin =
+    let begun_is = flushed_local _ ∙ received_local _ _ ∙ (flushed_local _ ∙ received_local (listening local i (2 ^ 24 - fetched)) _ ∙ listening_local local i (2 ^ 24 - fetched)) in
+    either fin _ _ local (flushed_local _ ∙ received_local _ _ ∙ begun_is) begun_is
+
+less_fin : (cisn length fin name_fin : ℕ) → distance (number_at cisn (length + fin)) ((cisn + 1) % 2 ^ 32) ≡ length + fin → name_fin ≡ fin
+    → distance (number_at cisn (length + fin)) ((cisn + 1) % 2 ^ 32) - name_fin ≡ length
+less_fin cisn length fin name_fin logged same = (λ j. logged j - same j) ∙ back length fin
+  where
+    back : (a b : ℕ) → a + b - b ≡ a
+    back a b = omega arith
+
+few_units : (length : ℕ) (fin : Bool) → length ≤ 2 ^ 24 → length + one_if fin ≤ 2 ^ 24 + 1
+few_units length true h = omega (arith, h)
+few_units length false h = omega (arith, h)
+
+pub joins_at_entry : {S : Type 0} (service : Machine S) (boot : ℕ) (local : Addr) (e : Entry) (i : ℕ) (n : NorthState S) → GoesOnFrom service e i
+    → HasReplayed service (point_of service e) (resumed_at service e) n
+    → StandsBefore service (joined_conn boot e.key local (south_at (delta_from service e i) (point_of service e)) (spliced e.key local e.cisn (length e.bytes) e.mss i e.fin) n) (point_of service e)
+joins_at_entry service boot local e i n goes replayed =
+    let p : Point = point_of service e in
+    let t : Tcb = spliced e.key local e.cisn (length e.bytes) e.mss i e.fin in
+    let u : ℕ = resumed_at service e in
+    let parts : PartsStand service u i (delta_from service e i) u p n t = splices_parts service local e i n goes replayed in
+    let tell : PartsTell service (delta_from service e i) p n t = parts_tell service u i (delta_from service e i) u p n t parts in
+    let fin : has_fin t.name ≡ e.fin = has_fin_is t.name ∙ sym tell.fin in
+    record {
+      keeps = record {
+        key = refl;
+        south = refl;
+        fetched = less_fin e.cisn (length e.bytes) (one_if e.fin) (one_if (has_fin t.name)) (logged_at e.cisn (length e.bytes + one_if e.fin) (few_units (length e.bytes) e.fin goes.short)) (ap one_if fin);
+        end_ticks = refl;
+        four = omega arith;
+        reset = refl;
+        unanswered = refl;
+      };
+      u = u;
+      i = i;
+      given = u;
+      parts = parts;
+      local = spliced_local e.key local e.cisn (length e.bytes) e.mss i e.fin;
+      counted = refl;
+    }

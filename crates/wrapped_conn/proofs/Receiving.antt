@@ -1,0 +1,236 @@
+-- A segment's turn.
+use Rattle.std.proofs.Common.{◌≡◌, ℕ, ◌≤◌, ◌+◌, ◌^◌, Bool, true, false, not, List, [], ◌∷◌, length, max, refl, sym, ap, subst, arith, ◌∙◌}
+use Rattle.std.specs.Prelude.{◌==◌, ◌&&◌, ◌||◌, nat_lt, pos, if◌then◌else◌}
+use Rattle.std.specs.Bool.{MatchBool}
+use Rattle.seq_arith.specs.Arrival.{int_eq}
+use Rattle.seq_arith.specs.Offset.{first_of}
+use Rattle.seq_arith.specs.Packet.{Segment, has_rst}
+use Rattle.seq_arith.specs.Message.Body.{DoneMsg}
+use Rattle.server_trait.specs.Service.{Machine}
+use Rattle.ft_model.specs.Answered.{answered_after}
+use Rattle.ft_model.specs.Copy.{copies as copies_by_law}
+use Rattle.ft_model.specs.Ending.{reset_after, dones as dones_by_law}
+use Rattle.ft_model.specs.News.{News}
+use Rattle.ft_model.specs.News.News.{Comes, Begins}
+use Rattle.ft_model.specs.Owed.{is_owed as is_owed_by_law, owes as owes_by_law}
+use Rattle.ft_model.specs.Point.{Point, taken_units, announced_edge, is_over}
+use Rattle.ft_model.specs.Sending.{acknowledged_after}
+use Rattle.north_wrap.specs.declared.read_record.ReadRecord.{ReadRecord}
+use Rattle.north_wrap.specs.NorthState.{lengths_of, Turns as NorthTurns}
+use Rattle.south_wrap.specs.SouthState.{SouthState}
+use Rattle.south_wrap.specs.Patching.{repeats_syn, inward}
+use Rattle.south_wrap.specs.Standing.{south_at}
+use Rattle.tcp_endpoint.specs.Arrival.{received}
+use Rattle.tcp_endpoint.specs.Leaving.{leaving, flushed, packets}
+use Rattle.tcp_endpoint.specs.States.{is_closed}
+use Rattle.tcp_endpoint.specs.Tcb.{Tcb}
+use Rattle.endpoint_laws.specs.Turn as endpoint
+use Rattle.connection_laws.specs.Passing.{news_inside}
+use Rattle.connection_laws.specs.Turning.{NewsFit}
+use Rattle.connection_laws.specs.Standing.{PartsTurn, adds}
+use Rattle.connection_laws.specs.Telling.{PartsTell, NewsTell}
+use Rattle.connection_laws.proofs.Telling.{parts_tell, news_tell}
+use Rattle.connection_laws.proofs.Together.{turns_together}
+use Rattle.endpoint_laws.proofs.EndingLaw.{flushed_name}
+use Rattle.wrapped_conn.specs.ConnState.{ConnState}
+use Rattle.wrapped_conn.specs.Calls.{tcp_reader, tcp_writer}
+use Rattle.wrapped_conn.specs.Numbers.{una_units, resets, owes}
+use Rattle.wrapped_conn.specs.Arriving.{arrived, reached, noted, before_segment}
+use Rattle.wrapped_conn.specs.Leaving.{is_owed, leaves, turn_ended}
+use Rattle.wrapped_conn.specs.Telling.{copies, spelled}
+use Rattle.wrapped_conn.specs.Turning.{GoesOn, Rests, TellsDone, Receives, served, tcp_used, new_reads}
+use Rattle.wrapped_conn.specs.Sound.{IsSound}
+use Rattle.wrapped_conn.specs.Standing.{Keeps, StandsLive, StandsReset, Stands, Leads}
+use Rattle.wrapped_conn.proofs.Locals.{received_local}
+use Rattle.wrapped_conn.proofs.Ended.{HasNews, carries_on}
+use Rattle.wrapped_conn.proofs.NumbersAt.{NumbersAt, numbers_at, has_fin_is, una_is, news_una_is, logged_is}
+use Rattle.wrapped_conn.proofs.Owing.{owed_same, owes_is}
+use Rattle.wrapped_conn.proofs.Copies.{copies_is}
+use Rattle.wrapped_conn.proofs.Resetting.{reset_point, resets_on, dones_are, still_unanswered}
+
+pub by_cases : {X : Type 0} (b : Bool) → (b ≡ true → X) → (b ≡ false → X) → X
+by_cases true p q = p refl
+by_cases false p q = q refl
+
+-- TCP once the segment has come
+abbrev tcp_reached : {S : Type 0} → Segment → Point → ConnState S → Tcb
+tcp_reached segment p c = endpoint.arrived (news_inside c.south.delta p (Comes segment)) c.endpoint
+
+reached_by : {S : Type 0} (b : Bool) (s : SouthState) (segment : Segment) (c : ConnState S)
+    → (if b then c else record c { endpoint = received c.endpoint (inward s segment) }) ≡ record c { endpoint = endpoint.arrived (if b then Begins else Comes (inward s segment)) c.endpoint }
+reached_by true s segment c = refl
+reached_by false s segment c = refl
+
+reached_is : {S : Type 0} (segment : Segment) (p : Point) (c : ConnState S) → c.south ≡ south_at c.south.delta p → reached segment c ≡ record c { endpoint = tcp_reached segment p c }
+reached_is segment p c south =
+    reached_by (repeats_syn c.south segment) c.south segment c
+    ∙ (λ j. record c { endpoint = endpoint.arrived (if repeats_syn (south j) segment then Begins else Comes (inward (south j) segment)) c.endpoint })
+
+arrived_local : (b : Bool) (segment : Segment) (e : Tcb) → (endpoint.arrived (if b then Begins else Comes segment) e).local ≡ e.local
+arrived_local true segment e = refl
+arrived_local false segment e = received_local e segment
+
+reset_is : {S : Type 0} (service : Machine S) (p : Point) (c : ConnState S) (segment : Segment) → NumbersAt service p c → c.south.cisn ≡ p.cisn → p.reset ≡ false → reset_after (Comes segment) p ≡ resets c segment
+unfolding reset_after
+reset_is service p c segment n cisn unreset =
+    (λ j. unreset j || (has_rst segment && int_eq (first_of p.cisn segment) (pos (taken_units p))))
+    ∙ sym (λ j. has_rst segment && int_eq (first_of (cisn j) segment) (pos (n.units j)))
+
+-- where the segment has come
+abbrev come : {S : Type 0} → Segment → Point → ConnState S → ConnState S
+come segment p c = noted (record c { endpoint = tcp_reached segment p c })
+
+has_come : {S : Type 0} (service : Machine S) (p : Point) (c : ConnState S) (segment : Segment) → Keeps p c → StandsLive service p c → p.reset ≡ false
+    → NewsTell c.south.delta (Comes segment) p c.north (tcp_reached segment p c) → c.north.run.made ≤ 2 ^ 24 → HasNews (Comes segment) p (come segment p c)
+unfolding answered_after
+has_come service p c segment keeps live unreset tell made =
+    let m : Tcb = tcp_reached segment p c in
+    let there : ConnState _ = record c { endpoint = m } in
+    record {
+      key = keeps.key;
+      south = λ j. record (keeps.south j) {
+        taken = ((λ k. max (keeps.fetched k) c.north.read + length m.receiving.unread) ∙ sym tell.taken) j;
+        fin = (has_fin_is m.name ∙ sym tell.fin) j;
+        una = news_una_is (Comes segment) p there tell (ap (λ (s : SouthState). s.sisn) keeps.south) made j;
+      };
+      fetched = keeps.fetched;
+      end_ticks = keeps.end_ticks;
+      four = keeps.four;
+      reset = keeps.reset ∙ unreset;
+      unanswered = keeps.unanswered;
+      local = arrived_local (repeats_syn (south_at c.south.delta p) segment) (inward (south_at c.south.delta p) segment) c.endpoint ∙ live.local;
+    }
+
+same_answered : (a b : ℕ) → b ≡ a → nat_lt a b ≡ false
+same_answered a b h = grind (arith, h)
+
+pub off_differs : (a b : ℕ) → a ≡ b → not (a == b) ≡ false
+off_differs a b h = grind (arith, h)
+
+-- what the connection adds is what the law adds
+owed_is : {S : Type 0} (service : Machine S) (p q : Point) (t : Tcb) (c new : ConnState S) (segment : Segment) → NumbersAt service p c → NumbersAt service q new → c.south.cisn ≡ p.cisn
+    → new.endpoint.name ≡ t.name → q.answered ≡ p.answered → (is_closed t.name ≡ true → (p.counted ≡ true) × (taken_units q ≡ taken_units p))
+    → is_owed (before_segment c segment) new ≡ adds service (Comes segment) p q t
+unfolding is_owed_by_law
+owed_is service p q t c new segment n m cisn name answered closed =
+    (λ j. (n.over j && not (has_rst segment)) || (is_closed (name j) && (owes c segment || not (n.edge j == m.edge j))))
+    ∙ owed_same (is_over service p && not (has_rst segment)) (owes c segment) (owes_by_law p segment) (not (announced_edge p == announced_edge q)) (is_closed t.name) (nat_lt p.answered q.answered)
+    (not (taken_units p == taken_units q)) (same_answered p.answered q.answered answered) (λ h. off_differs (taken_units p) (taken_units q) (sym (closed h).1)) (λ h. owes_is service p c segment n cisn (closed h).0)
+
+-- a segment that doesn't reset it
+live_turn : {S : Type 0} (service : Machine S) (p : Point) (c new : ConnState S) (segment : Segment) (out messages : List (List ℕ)) → IsSound c → IsSound new → Keeps p c → StandsLive service p c
+    → p.reset ≡ false → reset_after (Comes segment) p ≡ false → NewsFit p (Comes segment)
+    → GoesOn service.after (before_segment c segment) (repeats_syn c.south segment) (copies (una_units c) segment (come segment p c)) (come segment p c) new out messages
+    → Leads service c.local c.boot (Comes segment) p new out messages
+unfolding answered_after
+live_turn service p c new segment out messages sound sound_new keeps live unreset off fits k =
+    let news : News = Comes segment in
+    let there : ConnState _ = come segment p c in
+    let reads : List ReadRecord = new_reads there new in
+    let t : Tcb = tcp_used there reads in
+    let stand = live.parts.stand in
+    let told_before : PartsTell service c.south.delta p c.north c.endpoint = parts_tell service live.u live.i c.south.delta live.given p c.north c.endpoint stand in
+    let told : NewsTell c.south.delta news p c.north (tcp_reached segment p c) = news_tell service live.u live.i c.south.delta live.given news p c.north c.endpoint stand fits off in
+    let made : c.north.run.made ≤ 2 ^ 24 = sound.parts.made in
+    let sisn : c.south.sisn ≡ p.sisn = ap (λ (s : SouthState). s.sisn) keeps.south in
+    let cisn : c.south.cisn ≡ p.cisn = ap (λ (s : SouthState). s.cisn) keeps.south in
+    let h : HasNews news p there = has_come service p c segment keeps live unreset told made in
+    let una : una_units there ≡ acknowledged_after news p = news_una_is news p (record c { endpoint = tcp_reached segment p c }) told sisn made in
+    let turns : NorthTurns service.after tcp_reader tcp_writer (acknowledged_after news p) c.north (tcp_reached segment p c) reads new.north t =
+    subst (λ n. NorthTurns service.after tcp_reader tcp_writer n c.north (tcp_reached segment p c) reads new.north t) una k.north in
+    let turn : PartsTurn service c.endpoint.local c.boot live.u live.i c.south.delta news p (lengths_of reads) new.north t =
+    turns_together service c.boot live.u live.i c.south.delta live.given news p c.north new.north reads c.endpoint t stand fits tt off turns sound_new.parts.made in
+    let here : PartsTurn service c.local c.boot live.u live.i c.south.delta news p (lengths_of reads) new.north t =
+    subst (λ a. PartsTurn service a c.boot live.u live.i c.south.delta news p (lengths_of reads) new.north t) live.local turn in
+    let q : Point = here.after in
+    let numbers : NumbersAt service p c = numbers_at service c.south.delta p c told_before keeps.fetched stand.north.read in
+    let answered : q.answered ≡ p.answered = here.goes.answered in
+    let key : there.key ≡ q.key = keeps.key ∙ sym here.goes.same.key in
+    let copy : copies (una_units c) segment there ≡ copies_by_law news p q =
+    copies_is (una_units c) segment p q there (cisn ∙ sym here.goes.same.cisn) (ap (λ (s : SouthState). s.answered) keeps.south ∙ sym answered)
+    (ap (λ (s : SouthState). s.taken) h.south ∙ ap length (sym here.goes.taken)) (ap (λ (s : SouthState). s.fin) h.south ∙ sym here.goes.fin) key
+    (una_is service p c told_before sisn made) (una ∙ sym here.goes.una) (logged_is c sound.answered ∙ ap (λ (s : SouthState). s.answered) keeps.south ∙ sym answered)
+    (ap (λ (s : SouthState). s.taken) h.south ∙ ap length (sym here.goes.taken)) in
+    let owed : PartsTell service c.south.delta q new.north (flushed t) → is_owed (before_segment c segment) (turn_ended (served new.north reads there)) ≡ adds service news p q t = λ tell.
+    owed_is service p q t c (turn_ended (served new.north reads there)) segment numbers
+    (numbers_at service c.south.delta q (turn_ended (served new.north reads there)) tell (keeps.fetched ∙ sym here.goes.same.fetched) here.rest.stand.north.read) cisn (flushed_name t) answered here.closed in
+    let goes_out = subst (λ (n : ConnState _). out ≡ packets (leaves (before_segment c segment) (repeats_syn c.south segment) n (leaving t))) k.state k.goes_out in
+    let leads : Leads service c.local c.boot news p (turn_ended (served new.north reads there)) out messages =
+    carries_on service live.u live.i news p there new.north reads (before_segment c segment) (repeats_syn c.south segment) (copies (una_units c) segment there) out messages h refl off sound_new.parts.made here
+    there.north.reads k.north.told owed (λ j. repeats_syn (keeps.south j) segment) copy goes_out k.told in
+    subst (λ n. Leads service c.local c.boot news p n out messages) (sym k.state) leads
+
+-- one that resets it
+reset_turn : {S : Type 0} (service : Machine S) (p : Point) (c new : ConnState S) (segment : Segment) (out messages : List (List ℕ)) → Keeps p c → StandsLive service p c → p.reset ≡ false
+    → reset_after (Comes segment) p ≡ true → TellsDone (record c { reset = true }) new out messages → Leads service c.local c.boot (Comes segment) p new out messages
+unfolding answered_after dones_by_law
+reset_turn service p c new segment out messages keeps live unreset resets k =
+    resets_on service c.local c.boot live.given (Comes segment) p c.north new out messages resets live.parts.stand.north (ap (λ (n : ConnState _). n.north) k.state)
+    (subst (Keeps (reset_point (Comes segment) p)) (sym k.state)
+    (record {
+      key = keeps.key;
+      south = keeps.south;
+      fetched = keeps.fetched;
+      end_ticks = keeps.end_ticks;
+      four = keeps.four;
+      reset = refl;
+      unanswered = still_unanswered c.stage keeps.unanswered;
+    }))
+    k.goes_out
+    (k.told ∙ ap (spelled c.boot) (dones_are (record c { reset = true }) keeps.unanswered ∙ (λ j. DoneMsg (keeps.key j) ∷ []) ∙ sym (λ j. if (true && not (unreset j)) || (false && (true || p.end_ticks == 4)) then DoneMsg p.key ∷ [] else [])))
+
+-- and one that comes after that
+rests_turn : {S : Type 0} (service : Machine S) (p : Point) (c new : ConnState S) (segment : Segment) (out messages : List (List ℕ)) → Keeps p c → StandsReset service p c → p.reset ≡ true
+    → Rests c new out messages → Leads service c.local c.boot (Comes segment) p new out messages
+unfolding answered_after reset_after dones_by_law
+rests_turn service p c new segment out messages keeps stands is_reset k =
+    resets_on service c.local c.boot stands.given (Comes segment) p c.north new out messages (λ j. is_reset j || (has_rst segment && int_eq (first_of p.cisn segment) (pos (taken_units p)))) stands.north
+    (ap (λ (n : ConnState _). n.north) k.state)
+    (subst (Keeps (reset_point (Comes segment) p)) (sym k.state)
+    (record {
+      key = keeps.key;
+      south = keeps.south;
+      fetched = keeps.fetched;
+      end_ticks = keeps.end_ticks;
+      four = keeps.four;
+      reset = keeps.reset ∙ is_reset;
+      unanswered = keeps.unanswered;
+    }))
+    k.goes_out
+    (k.told ∙ ap (spelled c.boot) (sym (λ j. if (true && not (is_reset j)) || (false && (true || p.end_ticks == 4)) then DoneMsg p.key ∷ [] else [])))
+
+pub parts_live : {S : Type 0} (service : Machine S) (c : ConnState S) (p : Point) → Stands service c p → p.reset ≡ false → StandsLive service p c
+parts_live service c p st off = subst (λ b. MatchBool b (StandsReset service p c) (StandsLive service p c)) off st.parts
+
+pub parts_reset : {S : Type 0} (service : Machine S) (c : ConnState S) (p : Point) → Stands service c p → p.reset ≡ true → StandsReset service p c
+parts_reset service c p st on = subst (λ b. MatchBool b (StandsReset service p c) (StandsLive service p c)) on st.parts
+
+come_is : {S : Type 0} (segment : Segment) (p : Point) (c : ConnState S) → c.south ≡ south_at c.south.delta p → arrived segment c ≡ come segment p c
+unfolding arrived
+come_is segment p c south = ap (λ x. noted x) (reached_is segment p c south)
+
+pub receives : {S : Type 0} (service : Machine S) (p : Point) (c new : ConnState S) (segment : Segment) (out messages : List (List ℕ)) → IsSound c → IsSound new → Stands service c p
+    → NewsFit p (Comes segment) → Receives service.after segment c new out messages → Leads service c.local c.boot (Comes segment) p new out messages
+receives service p c new segment out messages sound sound_new st fits r =
+    let keeps = st.keeps in
+    by_cases c.reset
+    (λ on. let off_p : p.reset ≡ true = sym keeps.reset ∙ on in rests_turn service p c new segment out messages keeps (parts_reset service c p st off_p) off_p
+    (subst (λ b. MatchBool b (Rests c new out messages)
+    (MatchBool (resets c segment) (TellsDone (record c { reset = true }) new out messages)
+    (GoesOn service.after (before_segment c segment) (repeats_syn c.south segment) (copies (una_units c) segment (arrived segment c)) (arrived segment c) new out messages))) on r))
+    (λ off. let unreset : p.reset ≡ false = sym keeps.reset ∙ off in
+    let live : StandsLive service p c = parts_live service c p st unreset in
+    let tell : PartsTell service c.south.delta p c.north c.endpoint = parts_tell service live.u live.i c.south.delta live.given p c.north c.endpoint live.parts.stand in
+    let numbers : NumbersAt service p c = numbers_at service c.south.delta p c tell keeps.fetched live.parts.stand.north.read in
+    let same : reset_after (Comes segment) p ≡ resets c segment = reset_is service p c segment numbers (ap (λ (s : SouthState). s.cisn) keeps.south) unreset in
+    let later = subst (λ b. MatchBool b (Rests c new out messages)
+    (MatchBool (resets c segment) (TellsDone (record c { reset = true }) new out messages)
+    (GoesOn service.after (before_segment c segment) (repeats_syn c.south segment) (copies (una_units c) segment (arrived segment c)) (arrived segment c) new out messages))) off r in
+    by_cases (resets c segment)
+    (λ on. reset_turn service p c new segment out messages keeps live unreset (same ∙ on)
+    (subst (λ b. MatchBool b (TellsDone (record c { reset = true }) new out messages)
+    (GoesOn service.after (before_segment c segment) (repeats_syn c.south segment) (copies (una_units c) segment (arrived segment c)) (arrived segment c) new out messages)) on later))
+    (λ none. live_turn service p c new segment out messages sound sound_new keeps live unreset (same ∙ none) fits
+    (subst (λ x. GoesOn service.after (before_segment c segment) (repeats_syn c.south segment) (copies (una_units c) segment x) x new out messages) (come_is segment p c keeps.south)
+    (subst (λ b. MatchBool b (TellsDone (record c { reset = true }) new out messages)
+    (GoesOn service.after (before_segment c segment) (repeats_syn c.south segment) (copies (una_units c) segment (arrived segment c)) (arrived segment c) new out messages)) none later))))

@@ -1,0 +1,70 @@
+//! What a turn of a connection is: a lawful one of the server's model, with the packets that the model says, byte for byte.
+
+ghost use Rattle.std.specs.Prelude.{◌≡◌, ℕ, List, length};
+ghost use Rattle.ft_io.specs.declared.Addr.{Addr};
+ghost use Rattle.ft_io.specs.declared.Key.{Key};
+ghost use Rattle.seq_arith.specs.Message.{Numbers};
+ghost use Rattle.seq_arith.specs.Packet.{Segment};
+ghost use Rattle.server_trait.specs.Service.{machine};
+ghost use Rattle.ft_model.specs.Log.{Entry};
+ghost use Rattle.ft_model.specs.News.News.{Comes, Logged, Ticks, Begins};
+ghost use Rattle.ft_model.specs.Opening.{point_opened};
+ghost use Rattle.ft_model.specs.Point.{Point};
+ghost use Rattle.ft_model.specs.Restart.{point_of, resumed_at};
+ghost use Rattle.logger_wire.specs.declared.Body.TheVariants.{StableMsg, ReadsMsg};
+ghost use Rattle.logger_wire.specs.Value.{is_set};
+ghost use Rattle.north_wrap.specs.NorthState.{NorthState};
+ghost use Rattle.north_wrap.specs.Standing.{HasReplayed};
+ghost use Rattle.south_wrap.specs.Standing.{south_at};
+ghost use Rattle.connection_laws.specs.Beginning.{MayOpen};
+ghost use Rattle.connection_laws.specs.Splicing.{GoesOnFrom, delta_from, spliced};
+ghost use Rattle.connection_laws.specs.Turning.{NewsFit};
+ghost use Rattle.wrapped_conn.specs.ConnState.{ConnState};
+ghost use Rattle.wrapped_conn.specs.Beginning.{first_conn, joined_conn};
+ghost use Rattle.wrapped_conn.specs.Sound.{IsSound};
+ghost use Rattle.wrapped_conn.specs.Standing.{Stands, StandsBefore, Leads};
+ghost use Rattle.wrapped_conn.specs.Turning.{Starts, Receives, IsTold, Ticks as TicksOn};
+
+use server_trait::Service;
+
+/// Three parts with which a restart goes on from an entry of the log stand at the point of that entry.
+pub fn joined_connections_stand_at_the_entry<S: Service>()
+    ensures { (fresh : S) (boot : ℕ) (local : Addr) (e : Entry) (i : ℕ) (n : NorthState S) → GoesOnFrom (machine fresh S.after) e i
+        → HasReplayed (machine fresh S.after) (point_of (machine fresh S.after) e) (resumed_at (machine fresh S.after) e) n
+        → StandsBefore (machine fresh S.after)
+        (joined_conn boot e.key local (south_at (delta_from (machine fresh S.after) e i) (point_of (machine fresh S.after) e)) (spliced e.key local e.cisn (length e.bytes) e.mss i e.fin) n)
+        (point_of (machine fresh S.after) e) }
+{}
+
+/// The turn in which a connection becomes live: a new one from the point that its client's SYN opens, and one at the end of a restart from where its
+/// parts stand.
+pub fn connections_start_as_the_law_says<S: Service>()
+    ensures new { (fresh : S) (boot : ℕ) (local : Addr) (numbers : Numbers) (new : ConnState S) (segments messages : List (List ℕ)) → MayOpen numbers → IsSound new
+        → Starts S.after (first_conn boot numbers.key local numbers.cisn numbers.sisn numbers.mss fresh) new segments messages
+        → Leads (machine fresh S.after) local boot Begins (point_opened numbers) new segments messages }
+    ensures joined { (fresh : S) (p : Point) (old new : ConnState S) (segments messages : List (List ℕ)) → IsSound old → IsSound new → StandsBefore (machine fresh S.after) old p
+        → Starts S.after old new segments messages → Leads (machine fresh S.after) old.local old.boot Begins p new segments messages }
+{}
+
+/// A segment's turn, also of one that resets the connection, and of one that comes after that.
+pub fn connections_receive_as_the_law_says<S: Service>()
+    ensures { (fresh : S) (p : Point) (segment : Segment) (old new : ConnState S) (segments messages : List (List ℕ)) → IsSound old → IsSound new → Stands (machine fresh S.after) old p
+        → NewsFit p (Comes segment) → Receives S.after segment old new segments messages
+        → Leads (machine fresh S.after) old.local old.boot (Comes segment) p new segments messages }
+{}
+
+/// The turn of a message that says how much of the connection is logged.
+pub fn connections_hear_as_the_law_says<S: Service>()
+    ensures stable { (fresh : S) (p : Point) (key : Key) (length fin reads : ℕ) (old new : ConnState S) (segments messages : List (List ℕ)) → IsSound old → IsSound new
+        → Stands (machine fresh S.after) old p → IsTold S.after (StableMsg key length fin reads) old new segments messages
+        → Leads (machine fresh S.after) old.local old.boot (Logged (record { key = key; length = length; fin = is_set fin; reads = reads })) p new segments messages }
+    ensures reads { (fresh : S) (p : Point) (key : Key) (length fin reads : ℕ) (old new : ConnState S) (segments messages : List (List ℕ)) → IsSound old → IsSound new
+        → Stands (machine fresh S.after) old p → IsTold S.after (ReadsMsg key length fin reads) old new segments messages
+        → Leads (machine fresh S.after) old.local old.boot (Logged (record { key = key; length = length; fin = is_set fin; reads = reads })) p new segments messages }
+{}
+
+/// A tick's turn.
+pub fn connections_tick_as_the_law_says<S: Service>()
+    ensures { (fresh : S) (p : Point) (old new : ConnState S) (segments messages : List (List ℕ)) → IsSound old → Stands (machine fresh S.after) old p
+        → TicksOn old new segments messages → Leads (machine fresh S.after) old.local old.boot Ticks p new segments messages }
+{}
