@@ -34,7 +34,7 @@ use Rattle.wrapped_conn.specs.Leaving.{is_owed, leaves, turn_ended}
 use Rattle.wrapped_conn.specs.Telling.{spelled}
 use Rattle.wrapped_conn.specs.Turning.{GoesOn, Rests, Hears, Starts, heard, is_news, served, tcp_used, new_reads}
 use Rattle.wrapped_conn.specs.Sound.{IsSound}
-use Rattle.wrapped_conn.specs.Standing.{Keeps, StandsLive, StandsReset, Stands, StandsBefore, Leads}
+use Rattle.wrapped_conn.specs.Standing.{Keeps, TcpTells, StandsLive, StandsReset, Stands, StandsBefore, Leads}
 use Rattle.wrapped_conn.proofs.Ended.{HasNews, carries_on}
 use Rattle.wrapped_conn.proofs.NumbersAt.{NumbersAt, numbers_at, una_is}
 use Rattle.wrapped_conn.proofs.Receiving.{by_cases, off_differs, parts_live, parts_reset}
@@ -105,7 +105,7 @@ live_turn service p c new kept out messages sound sound_new keeps live unreset k
 
 rests_turn : {S : Type 0} (service : Machine S) (p : Point) (c new : ConnState S) (kept : Kept) (out messages : List (List ℕ)) → Keeps p c → StandsReset service p c → p.reset ≡ true
     → Rests (told kept c) new out messages → Leads service c.local c.boot (Logged kept) p new out messages
-unfolding answered_after reset_after dones_by_law
+unfolding answered_after reset_after dones_by_law answered_on
 rests_turn service p c new kept out messages keeps stands is_reset k =
     resets_on service c.local c.boot stands.given (Logged kept) p c.north new out messages is_reset stands.north (ap (λ (n : ConnState _). n.north) k.state)
     (subst (Keeps (reset_point (Logged kept) p)) (sym k.state)
@@ -118,6 +118,7 @@ rests_turn service p c new kept out messages keeps stands is_reset k =
       reset = keeps.reset ∙ is_reset;
       unanswered = keeps.unanswered;
     }))
+    (subst (TcpTells (reset_point (Logged kept) p)) (sym k.state) (record { taken = stands.told.taken; una = stands.told.una; sent = stands.told.sent }))
     k.goes_out
     (k.told ∙ ap (spelled c.boot) (sym (λ j. if (true && not (is_reset j)) || (false && (true || p.end_ticks == 4)) then DoneMsg p.key ∷ [] else [])))
 

@@ -24,3 +24,4 @@ pub mod Receiving
 pub mod Hearing
 pub mod Ticking
 pub mod Joining
+pub mod Lending

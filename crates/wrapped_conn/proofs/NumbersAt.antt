@@ -14,7 +14,8 @@ use Rattle.tcp_endpoint.specs.Turning.{acked_number}
 use Rattle.endpoint_laws.specs.Ending.{has_taken_fin}
 use Rattle.connection_laws.specs.Telling.{PartsTell, NewsTell, units_before, raised_by}
 use Rattle.wrapped_conn.specs.ConnState.{ConnState}
-use Rattle.wrapped_conn.specs.Numbers.{has_fin, is_over, bytes_taken, units_taken, announced, una_units, logged_units}
+use Rattle.wrapped_conn.specs.Standing.{TcpTells}
+use Rattle.wrapped_conn.specs.Numbers.{has_fin, is_over, bytes_taken, units_taken, announced, una_units, logged_units, outer_sent}
 
 pub has_fin_is : (name : StateName) → has_fin name ≡ (has_taken_fin name || is_closed name)
 has_fin_is Closed = refl
@@ -86,3 +87,17 @@ logged_at cisn answered most = omega (arith, most)
 
 pub logged_is : {S : Type 0} (c : ConnState S) → c.south.answered ≤ 2 ^ 24 + 1 → logged_units c ≡ c.south.answered
 logged_is c most = logged_at c.south.cisn c.south.answered most
+
+few_sent : (sent made : ℕ) → sent ≤ made + 1 → made ≤ 2 ^ 24 → sent ≤ 2 ^ 24 + 1
+few_sent sent made a b = omega (arith, a, b)
+
+sent_at : (sisn other sent number : ℕ) → number ≡ number_at sisn sent → other ≡ sisn → sent ≤ 2 ^ 24 + 1 → distance number ((other + 1) % 2 ^ 32) ≡ sent
+sent_at sisn other sent number a b c = omega (arith, a, b, c)
+
+pub tcp_tells : {S : Type 0} (service : Machine S) (p : Point) (c : ConnState S) → PartsTell service c.south.delta p c.north c.endpoint → c.fetched ≡ p.fetched → c.north.read ≡ sum p.lengths
+    → c.south.sisn ≡ p.sisn → c.north.run.made ≤ 2 ^ 24 → TcpTells p c
+tcp_tells service p c tell fetched read sisn made = record {
+  taken = (numbers_at service c.south.delta p c tell fetched read).units;
+  una = una_is service p c tell sisn made;
+  sent = sent_at p.sisn c.south.sisn p.sent (outer_sent c) tell.sent_outside sisn (few_sent p.sent c.north.run.made tell.few made);
+}

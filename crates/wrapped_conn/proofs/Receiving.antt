@@ -40,10 +40,10 @@ use Rattle.wrapped_conn.specs.Leaving.{is_owed, leaves, turn_ended}
 use Rattle.wrapped_conn.specs.Telling.{copies, spelled}
 use Rattle.wrapped_conn.specs.Turning.{GoesOn, Rests, TellsDone, Receives, served, tcp_used, new_reads}
 use Rattle.wrapped_conn.specs.Sound.{IsSound}
-use Rattle.wrapped_conn.specs.Standing.{Keeps, StandsLive, StandsReset, Stands, Leads}
+use Rattle.wrapped_conn.specs.Standing.{Keeps, TcpTells, StandsLive, StandsReset, Stands, Leads}
 use Rattle.wrapped_conn.proofs.Locals.{received_local}
 use Rattle.wrapped_conn.proofs.Ended.{HasNews, carries_on}
-use Rattle.wrapped_conn.proofs.NumbersAt.{NumbersAt, numbers_at, has_fin_is, una_is, news_una_is, logged_is}
+use Rattle.wrapped_conn.proofs.NumbersAt.{NumbersAt, numbers_at, has_fin_is, una_is, news_una_is, tcp_tells, logged_is}
 use Rattle.wrapped_conn.proofs.Owing.{owed_same, owes_is}
 use Rattle.wrapped_conn.proofs.Copies.{copies_is}
 use Rattle.wrapped_conn.proofs.Resetting.{reset_point, resets_on, dones_are, still_unanswered}
@@ -161,10 +161,12 @@ live_turn service p c new segment out messages sound sound_new keeps live unrese
     subst (λ n. Leads service c.local c.boot news p n out messages) (sym k.state) leads
 
 -- one that resets it
-reset_turn : {S : Type 0} (service : Machine S) (p : Point) (c new : ConnState S) (segment : Segment) (out messages : List (List ℕ)) → Keeps p c → StandsLive service p c → p.reset ≡ false
+reset_turn : {S : Type 0} (service : Machine S) (p : Point) (c new : ConnState S) (segment : Segment) (out messages : List (List ℕ)) → IsSound c → Keeps p c → StandsLive service p c → p.reset ≡ false
     → reset_after (Comes segment) p ≡ true → TellsDone (record c { reset = true }) new out messages → Leads service c.local c.boot (Comes segment) p new out messages
 unfolding answered_after dones_by_law
-reset_turn service p c new segment out messages keeps live unreset resets k =
+reset_turn service p c new segment out messages sound keeps live unreset resets k =
+    let tell : PartsTell service c.south.delta p c.north c.endpoint = parts_tell service live.u live.i c.south.delta live.given p c.north c.endpoint live.parts.stand in
+    let told : TcpTells p c = tcp_tells service p c tell keeps.fetched live.parts.stand.north.read (ap (λ (s : SouthState). s.sisn) keeps.south) sound.parts.made in
     resets_on service c.local c.boot live.given (Comes segment) p c.north new out messages resets live.parts.stand.north (ap (λ (n : ConnState _). n.north) k.state)
     (subst (Keeps (reset_point (Comes segment) p)) (sym k.state)
     (record {
@@ -176,6 +178,7 @@ reset_turn service p c new segment out messages keeps live unreset resets k =
       reset = refl;
       unanswered = still_unanswered c.stage keeps.unanswered;
     }))
+    (subst (TcpTells (reset_point (Comes segment) p)) (sym k.state) (record { taken = told.taken; una = told.una; sent = told.sent }))
     k.goes_out
     (k.told ∙ ap (spelled c.boot) (dones_are (record c { reset = true }) keeps.unanswered ∙ (λ j. DoneMsg (keeps.key j) ∷ []) ∙ sym (λ j. if (true && not (unreset j)) || (false && (true || p.end_ticks == 4)) then DoneMsg p.key ∷ [] else [])))
 
@@ -196,6 +199,7 @@ rests_turn service p c new segment out messages keeps stands is_reset k =
       reset = keeps.reset ∙ is_reset;
       unanswered = keeps.unanswered;
     }))
+    (subst (TcpTells (reset_point (Comes segment) p)) (sym k.state) (record { taken = stands.told.taken; una = stands.told.una; sent = stands.told.sent }))
     k.goes_out
     (k.told ∙ ap (spelled c.boot) (sym (λ j. if (true && not (is_reset j)) || (false && (true || p.end_ticks == 4)) then DoneMsg p.key ∷ [] else [])))
 
@@ -227,7 +231,7 @@ receives service p c new segment out messages sound sound_new st fits r =
     (MatchBool (resets c segment) (TellsDone (record c { reset = true }) new out messages)
     (GoesOn service.after (before_segment c segment) (repeats_syn c.south segment) (copies (una_units c) segment (arrived segment c)) (arrived segment c) new out messages))) off r in
     by_cases (resets c segment)
-    (λ on. reset_turn service p c new segment out messages keeps live unreset (same ∙ on)
+    (λ on. reset_turn service p c new segment out messages sound keeps live unreset (same ∙ on)
     (subst (λ b. MatchBool b (TellsDone (record c { reset = true }) new out messages)
     (GoesOn service.after (before_segment c segment) (repeats_syn c.south segment) (copies (una_units c) segment (arrived segment c)) (arrived segment c) new out messages)) on later))
     (λ none. live_turn service p c new segment out messages sound sound_new keeps live unreset (same ∙ none) fits

@@ -19,7 +19,7 @@ use Rattle.wrapped_conn.specs.declared.stage.ConnStage.{ConnStage}
 use Rattle.wrapped_conn.specs.declared.stage.ConnStage.TheVariants.{Done, Ending}
 use Rattle.wrapped_conn.specs.ConnState.{ConnState}
 use Rattle.wrapped_conn.specs.Telling.{spelled, is_done, dones}
-use Rattle.wrapped_conn.specs.Standing.{Keeps, Leads}
+use Rattle.wrapped_conn.specs.Standing.{Keeps, TcpTells, Leads}
 use Rattle.wrapped_conn.proofs.Ended.{spelled_by}
 
 -- the point after a turn in which it is reset, or has been
@@ -27,10 +27,10 @@ abbrev pub reset_point : News → Point → Point
 reset_point news p = record p { answered = answered_after news p; reads_answered = reads_answered_after news p; reset = true }
 
 pub resets_on : {S : Type 0} (service : Machine S) (server : Addr) (boot given : ℕ) (news : News) (p : Point) (n : NorthState S) (new : ConnState S) (out messages : List (List ℕ))
-    → reset_after news p ≡ true → NorthStands service p given n → new.north ≡ heard news n → Keeps (reset_point news p) new
+    → reset_after news p ≡ true → NorthStands service p given n → new.north ≡ heard news n → Keeps (reset_point news p) new → TcpTells (reset_point news p) new
     → out ≡ [] → messages ≡ spelled boot (dones_by_law news p (reset_point news p)) → Leads service server boot news p new out messages
 unfolding packets
-resets_on service server boot given news p n new out messages is_reset north hears keeps silent told =
+resets_on service server boot given news p n new out messages is_reset north hears keeps tells silent told =
     let q : Point = reset_point news p in
     let turn : ResetTurn boot news p q (map (told_by boot) (dones_by_law news p q)) = record { point = refl; packets = refl } in
     let stands : NorthStands service q given (heard news n) = reset_hears service boot news p q given n (map (told_by boot) (dones_by_law news p q)) north turn in
@@ -38,7 +38,7 @@ resets_on service server boot given news p n new out messages is_reset north hea
       after = q;
       sent = map (told_by boot) (dones_by_law news p q);
       goes = subst (λ b. MatchBool b (ResetTurn boot news p q (map (told_by boot) (dones_by_law news p q))) (LiveTurn service server boot news p q (map (told_by boot) (dones_by_law news p q)))) (sym is_reset) turn;
-      stands = record { keeps = keeps; parts = record { given = given; north = subst (NorthStands service q given) (sym hears) stands } };
+      stands = record { keeps = keeps; parts = record { given = given; north = subst (NorthStands service q given) (sym hears) stands; told = tells } };
       spelled = spelled_by boot [] (dones_by_law news p q) (map (told_by boot) (dones_by_law news p q)) out messages refl silent told;
     }
 

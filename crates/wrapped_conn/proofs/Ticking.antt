@@ -33,7 +33,7 @@ use Rattle.wrapped_conn.specs.Leaving.{passed, with_endpoint_flushed}
 use Rattle.wrapped_conn.specs.Telling.{is_done, dones, spelled, with_done}
 use Rattle.wrapped_conn.specs.Turning.{ticked, is_end_tick, counted, TicksLive, TellsDone, Ticks as TicksOn}
 use Rattle.wrapped_conn.specs.Sound.{IsSound}
-use Rattle.wrapped_conn.specs.Standing.{Keeps, StandsLive, StandsReset, Stands, Leads}
+use Rattle.wrapped_conn.specs.Standing.{Keeps, TcpTells, StandsLive, StandsReset, Stands, Leads}
 use Rattle.wrapped_conn.proofs.Locals.{flushed_local}
 use Rattle.wrapped_conn.proofs.Ended.{units_of, few_units, spelled_by}
 use Rattle.wrapped_conn.proofs.NumbersAt.{NumbersAt, numbers_at, logged_is}
@@ -196,6 +196,7 @@ reset_turn service p c new out messages keeps stands is_reset k =
       reset = keeps.reset ∙ is_reset;
       unanswered = still_unanswered c.stage keeps.unanswered;
     }))
+    (subst (TcpTells (reset_point Ticks p)) (sym k.state) (record { taken = stands.told.taken; una = stands.told.una; sent = stands.told.sent }))
     k.goes_out
     (k.told ∙ ap (spelled c.boot) (dones_are c keeps.unanswered ∙ (λ j. DoneMsg (keeps.key j) ∷ []) ∙ sym (λ j. if (true && not (is_reset j)) || (true && (true || p.end_ticks == 4)) then DoneMsg p.key ∷ [] else [])))
 

@@ -1,5 +1,5 @@
 -- Where a connection stands, by its point: its parts, its numbers, and what a turn of it leads to.
-use Rattle.std.specs.Prelude.{◌≡◌, ◌≤◌, ℕ, true, false, List, ◌++◌, map}
+use Rattle.std.specs.Prelude.{◌≡◌, ◌≤◌, ℕ, true, false, List, ◌++◌, length, map}
 use Rattle.std.specs.Bool.{MatchBool}
 use Rattle.ft_io.specs.declared.Addr.{Addr}
 use Rattle.seq_arith.specs.Packet.{Segment}
@@ -11,11 +11,12 @@ use Rattle.ft_model.specs.Connection.{ConnectionTurn}
 use Rattle.ft_model.specs.Network.{Packet}
 use Rattle.ft_model.specs.Network.Packet.{To_client, To_logger}
 use Rattle.ft_model.specs.News.{News}
-use Rattle.ft_model.specs.Point.{Point}
+use Rattle.ft_model.specs.Point.{Point, taken_units, bytes_read}
 use Rattle.north_wrap.specs.Standing.{NorthStands}
 use Rattle.south_wrap.specs.Standing.{south_at}
 use Rattle.connection_laws.specs.Standing.{PartsStand, PartsRest}
 use Rattle.wrapped_conn.specs.ConnState.{ConnState}
+use Rattle.wrapped_conn.specs.Numbers.{units_taken, una_units, sent_units, logged_units}
 use Rattle.wrapped_conn.specs.Telling.{is_done}
 
 -- what a connection keeps beside TCP and north wrapper. The logger hasn't answered that it has ended
@@ -36,10 +37,24 @@ pub record StandsLive {S : Type 0} (service : Machine S) (p : Point) (c : ConnSt
   pub parts : PartsRest service u i c.south.delta given p c.north c.endpoint
   pub local : c.endpoint.local ≡ c.local
 
--- once its client has reset it, TCP plays no part any more
+-- the numbers of the point that its TCP tells ..
+pub record TcpTells {S : Type 0} (p : Point) (c : ConnState S) : Type 0 where
+  pub taken : units_taken c ≡ taken_units p
+  pub una : una_units c ≡ p.una
+  pub sent : sent_units c ≡ p.sent
+
+-- .. and all that can be looked at
+pub record Tells {S : Type 0} (p : Point) (c : ConnState S) : Type 0 where
+  pub tcp : TcpTells p c
+  pub answered : logged_units c ≡ p.answered
+  pub read : c.north.read ≡ bytes_read p
+  pub reads : c.north.count ≡ length p.lengths
+
+-- once its client has reset it, TCP stays as it is, and plays no part any more
 pub record StandsReset {S : Type 0} (service : Machine S) (p : Point) (c : ConnState S) : Type 0 where
   pub given : ℕ
   pub north : NorthStands service p given c.north
+  pub told : TcpTells p c
 
 -- between two turns
 pub record Stands {S : Type 0} (service : Machine S) (c : ConnState S) (p : Point) : Type 0 where

@@ -22,7 +22,7 @@ ghost use Rattle.connection_laws.specs.Turning.{NewsFit};
 ghost use Rattle.wrapped_conn.specs.ConnState.{ConnState};
 ghost use Rattle.wrapped_conn.specs.Beginning.{first_conn, joined_conn};
 ghost use Rattle.wrapped_conn.specs.Sound.{IsSound};
-ghost use Rattle.wrapped_conn.specs.Standing.{Stands, StandsBefore, Leads};
+ghost use Rattle.wrapped_conn.specs.Standing.{Stands, StandsBefore, Leads, Tells};
 ghost use Rattle.wrapped_conn.specs.Turning.{Starts, Receives, IsTold, Ticks as TicksOn};
 
 use server_trait::Service;
@@ -67,4 +67,9 @@ pub fn connections_hear_as_the_law_says<S: Service>()
 pub fn connections_tick_as_the_law_says<S: Service>()
     ensures { (fresh : S) (p : Point) (old new : ConnState S) (segments messages : List (List ℕ)) → IsSound old → Stands (machine fresh S.after) old p
         → TicksOn old new segments messages → Leads (machine fresh S.after) old.local old.boot Ticks p new segments messages }
+{}
+
+/// Between two turns what `inside` lends are the point's numbers, also of a connection that its client has reset.
+pub fn connections_tell_their_point<S: Service>()
+    ensures { (fresh : S) (p : Point) (c : ConnState S) → IsSound c → Stands (machine fresh S.after) c p → Tells p c }
 {}
