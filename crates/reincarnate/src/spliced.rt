@@ -1,6 +1,7 @@
 //! A connection that stands where its entry of the log ends.
 
 ghost use Rattle.std.specs.Prelude.{◌≡◌};
+ghost use Rattle.wrapped_conn.specs.Beginning.{joined_conn};
 
 use ft_io::{Addr, Key};
 use north_wrap::North;
@@ -8,6 +9,7 @@ use server_trait::Service;
 use south_wrap::South;
 use std::marker::Model;
 use tcp_endpoint::Endpoint;
+use wrapped_conn::Conn;
 
 /// The parts of a connection at the end of a restart: both wrappers, with a TCP between them that has never seen the client.
 #[derive(Drop)]
@@ -65,5 +67,20 @@ impl<S: Service> Spliced<S> {
         ensures { result.now ≡ self.now.north }
     {
         &self.north
+    }
+
+    /// The connection, which isn't live yet: `Conn::start` makes it so.
+    pub fn hand_on(self) -> Conn<S>
+        ensures { result ≡ joined_conn self.boot self.key self.local self.south self.endpoint self.north }
+    {
+        let Spliced {
+            boot,
+            key,
+            local,
+            south,
+            endpoint,
+            north,
+        } = self;
+        Conn::joined(boot, key, local, south, endpoint, north)
     }
 }
