@@ -1,20 +1,29 @@
 -- The parts that are spliced stand at the point of the entry.
-use Rattle.std.proofs.Common.{◌≡◌, ℕ, ◌+◌, ◌^◌, ◌%◌, ◌∙◌, min, sum, le_refl, length, drop, refl, ap, sym, subst, arith}
+use Rattle.std.proofs.Common.{◌≡◌, ℕ, Bool, true, false, ◌≤◌, ◌+◌, ◌-◌, ◌^◌, ◌%◌, ◌∙◌, min, sum, le_refl, length, drop, refl, ap, sym, subst, arith, if◌then◌else◌}
 use Rattle.std.proofs.lemmas.List.{drop_min, take_all}
 use Rattle.ft_io.specs.declared.Addr.{Addr}
-use Rattle.seq_arith.specs.Number.{distance}
+use Rattle.ft_io.specs.declared.Key.{Key}
+use Rattle.seq_arith.specs.Number.{distance, number_at}
 use Rattle.seq_arith.specs.Offset.{one_if}
 use Rattle.server_trait.specs.Service.{Machine}
 use Rattle.ft_model.specs.Log.{Entry}
 use Rattle.ft_model.specs.Restart.{point_of, resumed_at, run_of, IsSound}
 use Rattle.south_wrap.specs.Standing.{south_at}
 use Rattle.north_wrap.specs.Standing.{HasReplayed}
-use Rattle.connection_laws.specs.Splicing.{GoesOnFrom, delta_from, spliced}
+use Rattle.tcp_endpoint.specs.Tcb.{Tcb, listening}
+use Rattle.connection_laws.specs.Splicing.{GoesOnFrom, delta_from, connected, spliced}
 use Rattle.connection_laws.specs.Standing.{PartsStand}
 use Rattle.connection_laws.proofs.Spliced.{splices_parts}
+use Rattle.connection_laws.specs.Telling.{PartsTell}
+use Rattle.connection_laws.proofs.Telling.{parts_tell}
+use Rattle.wrapped_conn.specs.Beginning.{joined_conn}
+use Rattle.wrapped_conn.specs.Numbers.{has_fin}
+use Rattle.wrapped_conn.specs.Standing.{StandsBefore}
+use Rattle.wrapped_conn.proofs.Locals.{received_local, flushed_local}
+use Rattle.wrapped_conn.proofs.NumbersAt.{has_fin_is, logged_at}
 use Rattle.reincarnate.specs.Progress.{ReplayedState}
 use Rattle.reincarnate.specs.Standing.{IsReplayed}
-use Rattle.reincarnate.specs.Joining.{goes_on_at, south_from, north_from, spliced_from, Fits, IsSpliced}
+use Rattle.reincarnate.specs.Joining.{SplicedState, goes_on_at, south_from, north_from, spliced_from, Fits, IsSpliced}
 
 goes_on : {S : Type 0} (service : Machine S) (e : Entry) (r : ReplayedState S) (i : ℕ) → Fits r i → IsReplayed service e r → IsSound service e → GoesOnFrom service e i
 goes_on service e r i f re sound =
@@ -75,6 +84,21 @@ south_is service e r i re sound =
       sent = u j;
     }
 
+-- TCP has the server's address
+at_address : (b : Bool) (x y : Tcb) (local : Addr) → x.local ≡ local → y.local ≡ local → (if b then x else y).local ≡ local
+at_address true x y local p q = p
+at_address false x y local p q = q
+
+listening_local : (local : Addr) (i limit : ℕ) → (listening local i limit).local ≡ local
+unfolding listening
+listening_local local i limit = refl
+
+spliced_local : (key : Key) (local : Addr) (cisn fetched mss i : ℕ) (fin : Bool) → (spliced key local cisn fetched mss i fin).local ≡ local
+unfolding connected
+spliced_local key local cisn fetched mss i fin =
+    let connects = flushed_local _ ∙ received_local _ _ ∙ (flushed_local _ ∙ received_local (listening local i (2 ^ 24 - fetched)) _ ∙ listening_local local i (2 ^ 24 - fetched)) in
+    at_address fin _ _ local (flushed_local _ ∙ received_local _ _ ∙ connects) connects
+
 pub splice_stands : {S : Type 0} (service : Machine S) (local : Addr) (boot : ℕ) (e : Entry) (r : ReplayedState S) (i : ℕ) → Fits r i → IsReplayed service e r → IsSound service e
     → IsSpliced service e i (spliced_from boot local i r)
 splice_stands service local boot e r i f re sound =
@@ -82,8 +106,47 @@ splice_stands service local boot e r i f re sound =
     let n = north_from r in
     record {
       key = ap (λ h. h.key) re.head;
+      short = g.short;
+      local = spliced_local r.head.key local r.head.cisn r.head.length r.head.mss i r.head.fin;
       south = south_is service e r i re sound;
       parts = subst (λ t. PartsStand service (resumed_at service e) i (delta_from service e i) (resumed_at service e) (point_of service e) n t)
           (λ j. spliced ((sym re.head) j).key local ((sym re.head) j).cisn ((sym re.head) j).length ((sym re.head) j).mss i ((sym re.head) j).fin)
           (splices_parts service local e i n g (replayed service e r re sound));
+    }
+
+-- a FIN is one of the logged units
+less_fin : (cisn fetched : ℕ) (fin : Bool) → fetched ≤ 2 ^ 24 → distance (number_at cisn (fetched + one_if fin)) ((cisn + 1) % 2 ^ 32) - one_if fin ≡ fetched
+less_fin cisn fetched fin h = (λ j. logged_at cisn (fetched + one_if fin) (few fetched fin h) j - one_if fin) ∙ back fetched (one_if fin)
+  where
+    few : (n : ℕ) (f : Bool) → n ≤ 2 ^ 24 → n + one_if f ≤ 2 ^ 24 + 1
+    few n true h = omega (arith, h)
+    few n false h = omega (arith, h)
+    back : (a b : ℕ) → a + b - b ≡ a
+    back a b = omega arith
+
+pub hands_on : {S : Type 0} (service : Machine S) (e : Entry) (i : ℕ) (s : SplicedState S) → IsSpliced service e i s
+    → StandsBefore service (joined_conn s.boot s.key s.local s.south s.endpoint s.north) (point_of service e)
+hands_on service e i s is =
+    let p = point_of service e in
+    let u : ℕ = resumed_at service e in
+    let d : ℕ = delta_from service e i in
+    let delta : s.south.delta ≡ d = ap (λ x. x.delta) is.south in
+    let tell : PartsTell service d p s.north s.endpoint = parts_tell service u i d u p s.north s.endpoint is.parts in
+    let fin : has_fin s.endpoint.name ≡ e.fin = has_fin_is s.endpoint.name ∙ sym tell.fin in
+    record {
+      keeps = record {
+        key = is.key;
+        south = is.south ∙ sym (ap (λ x. south_at x p) delta);
+        fetched = (λ j. distance (number_at (is.south j).cisn (is.south j).answered) (((is.south j).cisn + 1) % 2 ^ 32) - one_if (fin j)) ∙ less_fin e.cisn (length e.bytes) e.fin is.short;
+        end_ticks = refl;
+        four = omega arith;
+        reset = refl;
+        unanswered = refl;
+      };
+      u = u;
+      i = i;
+      given = u;
+      parts = subst (λ x. PartsStand service u i x u p s.north s.endpoint) (sym delta) is.parts;
+      local = is.local;
+      counted = refl;
     }

@@ -1,5 +1,5 @@
 -- The parts of a connection at the end of a restart, and where they stand: at the point of its entry.
-use Rattle.std.specs.Prelude.{◌≡◌, ℕ, ◌<◌, ◌≤◌, ◌^◌, min}
+use Rattle.std.specs.Prelude.{◌≡◌, ℕ, ◌<◌, ◌≤◌, ◌^◌, length, min}
 use Rattle.ft_io.specs.declared.Addr.{Addr}
 use Rattle.ft_io.specs.declared.Key.{Key}
 use Rattle.server_trait.specs.Service.{Machine}
@@ -43,9 +43,11 @@ spliced_from boot local i r = record {
 }
 
 -- They stand at the entry's point: the wrapper with delta = sisn + u - i modulo 2^32, where u is how much of the output the client has
--- acknowledged, TCP where its next numbers are cisn + 1 + T and i + 1, and the service with the output from u on
+-- acknowledged, TCP where its next numbers are cisn + 1 + T and i + 1, and the service with the output from u on. TCP has the server's address
 pub record IsSpliced {S : Type 0} (service : Machine S) (e : Entry) (i : ℕ) (s : SplicedState S) : Type 0 where
   pub key : s.key ≡ e.key
+  pub short : length e.bytes ≤ 2 ^ 24
+  pub local : s.endpoint.local ≡ s.local
   pub south : s.south ≡ south_at (delta_from service e i) (point_of service e)
   pub parts : PartsStand service (resumed_at service e) i (delta_from service e i) (resumed_at service e) (point_of service e) s.north s.endpoint
 

@@ -1,7 +1,12 @@
 //! A connection that stands where its entry of the log ends.
 
-ghost use Rattle.std.specs.Prelude.{◌≡◌};
+ghost use Rattle.std.specs.Prelude.{◌≡◌, ℕ};
+ghost use Rattle.server_trait.specs.Service.{machine};
+ghost use Rattle.ft_model.specs.Log.{Entry};
+ghost use Rattle.ft_model.specs.Restart.{point_of};
 ghost use Rattle.wrapped_conn.specs.Beginning.{joined_conn};
+ghost use Rattle.wrapped_conn.specs.Standing.{StandsBefore};
+ghost use Rattle.reincarnate.specs.Joining.{IsSpliced};
 
 use ft_io::{Addr, Key};
 use north_wrap::North;
@@ -71,7 +76,8 @@ impl<S: Service> Spliced<S> {
 
     /// The connection, which isn't live yet: `Conn::start` makes it so.
     pub fn hand_on(self) -> Conn<S>
-        ensures { result ≡ joined_conn self.boot self.key self.local self.south self.endpoint self.north }
+        ensures value { result ≡ joined_conn self.boot self.key self.local self.south self.endpoint self.north }
+        ensures law { (fresh : S) (e : Entry) (i : ℕ) → IsSpliced (machine fresh S.after) e i self → StandsBefore (machine fresh S.after) result (point_of (machine fresh S.after) e) }
     {
         let Spliced {
             boot,

@@ -1,0 +1,12 @@
+use Rattle.std.proofs.Common.{sym, subst}
+use Rattle.server_trait.specs.Service.{machine}
+use Rattle.ft_model.specs.Restart.{point_of}
+use Rattle.wrapped_conn.specs.Standing.{StandsBefore}
+use Rattle.reincarnate.specs.Joining.{IsSpliced}
+use Rattle.reincarnate.proofs.Joined.{hands_on}
+use Rattle.reincarnate.proofs.spliced.Spliced.hand_on.Goals as goal
+
+pub returns-clause-law : goal.returns-clause-law
+returns-clause-law g c fresh e i is =
+    subst (λ x. StandsBefore (machine fresh g.S.Service.after) x (point_of (machine fresh g.S.Service.after) e)) (sym c.joined.ensures)
+    (hands_on (machine fresh g.S.Service.after) e i _ (subst (IsSpliced (machine fresh g.S.Service.after) e i) (sym c.self.view_is) is))
