@@ -1,0 +1,49 @@
+#!/usr/bin/env bash
+# Segments a second of connection_bench, in which eight clients one after another, each with a key of its own, have a wrapped connection with a
+# log behind it echo 8 MiB, beside those of endpoint_echo, which echoes the same 64 MiB between two endpoints, in one run: segments of 1,460
+# bytes and of 64. Of each the least processor time of 7 turns, taken in turn. A segment counts once: it is written, handed over, read, and
+# its text echoed or compared. The connection also sends segments without text, and each segment's text passes as a message to the log and is
+# answered, and so does its read. So the two are set beside each other by the segments with text, as many in both; all are told too.
+set -eu
+cd "$(dirname "$0")/.."
+(cd crates/endpoint_echo && rt run -- 1460 1460 >/dev/null 2>&1)
+(cd crates/connection_bench && rt run -- 1460 1460 >/dev/null 2>&1)
+echo_program="$PWD/crates/endpoint_echo/out/endpoint_echo"
+connections="$PWD/crates/connection_bench/out/connection_bench"
+work=$(mktemp -d)
+trap 'rm -rf "$work"' EXIT
+
+# user and system time of one run, in milliseconds
+TIMEFORMAT='%U %S'
+spent() {
+    local user system
+    read -r user system < <({ { time "$@" >"$work/out"; } 2>&1; } | tr -d .)
+    echo $((10#$user + 10#$system))
+}
+
+# how many segments both sides sent in all
+segments() { awk '/segments/ { n += $2 } END { print n }' "$work/out"; }
+
+each=8388608 all=67108864
+printf '%s processors, %s, load %s\n' "$(nproc)" "$(lscpu | sed -n 's/^Model name: *//p')" "$(cut -d' ' -f1 /proc/loadavg)"
+for text in 1460 64; do
+    least_bare=999999 least_wrapped=999999
+    for _ in 1 2 3 4 5 6 7; do
+        a=$(spent "$echo_program" "$all" "$text")
+        bare=$(segments)
+        grep -q "^echoed $all bytes\$" "$work/out" || { echo "not echoed"; exit 1; }
+        b=$(spent "$connections" "$each" "$text")
+        wrapped=$(segments)
+        messages=$(awk '/messages/ { print $2 }' "$work/out")
+        grep -q '^ended 8 connections$' "$work/out" || { echo "not ended"; exit 1; }
+        ((a < least_bare)) && least_bare=$a
+        ((b < least_wrapped)) && least_wrapped=$b
+    done
+    awk -v text="$text" -v count="$((2 * 8 * ((each + text - 1) / text)))" -v a="$least_bare" -v b="$least_wrapped" \
+        -v bare="$bare" -v wrapped="$wrapped" -v messages="$messages" 'BEGIN {
+        printf "%d bytes: %d segments with text in %d ms, %d a second; endpoints alone in %d ms, %d a second; ratio %.3f\n",
+            text, count, b, count / b * 1000, a, count / a * 1000, a / b
+        printf "  in all %d segments, %d a second, and %d messages to the log; endpoints alone %d segments, %d a second\n",
+            wrapped, wrapped / b * 1000, messages, bare, bare / a * 1000
+    }'
+done
