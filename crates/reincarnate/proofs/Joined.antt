@@ -121,6 +121,7 @@ less_fin cisn fetched fin h = (λ j. logged_at cisn (fetched + one_if fin) (few 
     few : (n : ℕ) (f : Bool) → n ≤ 2 ^ 24 → n + one_if f ≤ 2 ^ 24 + 1
     few n true h = omega (arith, h)
     few n false h = omega (arith, h)
+
     back : (a b : ℕ) → a + b - b ≡ a
     back a b = omega arith
 
