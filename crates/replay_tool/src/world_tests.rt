@@ -1,11 +1,16 @@
 //! The world by its calls alone, with the echo service: what each step answers, and the limit of packets.
 
+ghost use Rattle.std.specs.Prelude.{IfOk};
+ghost use Rattle.ft_model.specs.Playable.{IsPlayable};
+ghost use Rattle.schedule_text.specs.Stage.{IsBuilt};
+
 use ft_io::{Addr, Key};
 use ft_model::grammar::accepted_schedules_can_be_played;
 use ft_model::{Event, EventWhy, Phase, Way};
 use net_schedule::{StepEnd, StepOut, World};
 use sample_servers::Echo;
-use schedule_text::read_schedule;
+use schedule_text::stage::{built_texts_are_spelled, read_schedules_are_built};
+use schedule_text::{Schedule, read_schedule};
 use std::alloc::Global;
 use std::test::Fail;
 
@@ -15,10 +20,20 @@ server 192.0.2.100:7\n\
 client 1 192.0.2.1:40000 1000 hex:68656c6c6f\n\
 ";
 
+/// The schedule that a text spells.
+fn schedule_of(alloc: Global, text: &[u8]) -> Result<Schedule, Fail>
+    ensures playable { IfOk result IsPlayable }
+    ensures built { IfOk result IsBuilt }
+{
+    built_texts_are_spelled();
+    read_schedules_are_built();
+    accepted_schedules_can_be_played();
+    Ok(read_schedule(alloc, text)?)
+}
+
 /// A world before its first event.
 fn start(alloc: Global) -> Result<World<Echo>, Fail> {
-    accepted_schedules_can_be_played();
-    let schedule = read_schedule(alloc, SCHEDULE)?;
+    let schedule = schedule_of(alloc, SCHEDULE)?;
     Ok(World::new(alloc, &schedule)?)
 }
 
