@@ -38,7 +38,7 @@ syn_short key local cisn fetched mss i h =
     bounded_is_short (turned (Comes (forged_syn key local cisn fetched mss)) [] (listening local i limit)) b.between.bounds
 
 -- a service that writes nothing
-idle : Machine ℕ
+abbrev pub idle : Machine ℕ
 idle = machine 0 (λ s chunk. record { next = s; output = []; closed = false })
 
 abbrev logged : Key → (cisn fetched mss : ℕ) → Entry

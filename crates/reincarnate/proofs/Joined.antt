@@ -1,5 +1,6 @@
 -- The parts that are spliced stand at the point of the entry.
-use Rattle.std.proofs.Common.{◌≡◌, ℕ, Bool, true, false, ◌≤◌, ◌+◌, ◌-◌, ◌^◌, ◌%◌, ◌∙◌, min, sum, le_refl, length, drop, refl, ap, sym, subst, arith, if◌then◌else◌}
+use Rattle.std.proofs.Common.{◌≡◌, ℕ, Bool, true, false, ◌≤◌, ◌<◌, ◌+◌, ◌-◌, ◌^◌, ◌%◌, ◌∙◌, min, sum, le_refl, length, drop, refl, ap, sym, subst, arith, if◌then◌else◌}
+use Rattle.std.specs.Prelude.{◌&&◌, nat_lt}
 use Rattle.std.proofs.lemmas.List.{drop_min, take_all}
 use Rattle.ft_io.specs.declared.Addr.{Addr}
 use Rattle.ft_io.specs.declared.Key.{Key}
@@ -21,9 +22,9 @@ use Rattle.wrapped_conn.specs.Numbers.{has_fin}
 use Rattle.wrapped_conn.specs.Standing.{StandsBefore}
 use Rattle.wrapped_conn.proofs.Locals.{received_local, flushed_local}
 use Rattle.wrapped_conn.proofs.NumbersAt.{has_fin_is, logged_at}
-use Rattle.reincarnate.specs.Progress.{ReplayedState}
+use Rattle.reincarnate.specs.Progress.{ReplayedState, IsSegmentSize}
 use Rattle.reincarnate.specs.Standing.{IsReplayed}
-use Rattle.reincarnate.specs.Joining.{SplicedState, goes_on_at, south_from, north_from, spliced_from, Fits, IsSpliced}
+use Rattle.reincarnate.specs.Joining.{SplicedState, goes_on_at, has_end, south_from, north_from, spliced_from, Fits, IsSpliced}
 
 goes_on : {S : Type 0} (service : Machine S) (e : Entry) (r : ReplayedState S) (i : ℕ) → Fits r i → IsReplayed service e r → IsSound service e → GoesOnFrom service e i
 goes_on service e r i f re sound =
@@ -43,6 +44,14 @@ goes_on service e r i f re sound =
 
 goes_on_is : {S : Type 0} (service : Machine S) (e : Entry) (r : ReplayedState S) → IsReplayed service e r → IsSound service e → goes_on_at r ≡ resumed_at service e
 goes_on_is service e r re sound = let run = re.run sound.output in λ j. min (re.head j).acked (run.made j)
+
+-- a sound entry has room for its FIN
+room_for : (fin : Bool) (n : ℕ) → (fin ≡ true → n < 2 ^ 24) → (fin && nat_lt n (2 ^ 24)) ≡ fin
+room_for false n h = refl
+room_for true n h = let few = h refl in grind (arith, few)
+
+has_end_is : {S : Type 0} (service : Machine S) (e : Entry) (r : ReplayedState S) → IsReplayed service e r → IsSound service e → has_end r.head ≡ e.fin
+has_end_is service e r re sound = ap has_end re.head ∙ room_for e.fin (length e.bytes) sound.fin
 
 replayed : {S : Type 0} (service : Machine S) (e : Entry) (r : ReplayedState S) → IsReplayed service e r → IsSound service e
     → HasReplayed service (point_of service e) (resumed_at service e) (north_from r)
@@ -71,14 +80,15 @@ replayed service e r re sound =
 south_is : {S : Type 0} (service : Machine S) (e : Entry) (r : ReplayedState S) (i : ℕ) → IsReplayed service e r → IsSound service e
     → south_from i r ≡ south_at (delta_from service e i) (point_of service e)
 south_is service e r i re sound =
-    let u = goes_on_is service e r re sound in λ j. record {
+    let u = goes_on_is service e r re sound in
+    let ends = has_end_is service e r re sound in λ j. record {
       cisn = (re.head j).cisn;
       sisn = (re.head j).sisn;
       delta = distance (((re.head j).sisn + u j) % 2 ^ 32) i;
       fetched = (re.head j).length;
       taken = (re.head j).length;
-      fin = (re.head j).fin;
-      answered = (re.head j).length + one_if (re.head j).fin;
+      fin = ends j;
+      answered = (re.head j).length + one_if (ends j);
       read = (re.cuts j).sum;
       una = u j;
       sent = u j;
@@ -107,15 +117,16 @@ splice_stands service local boot e r i f re sound =
     record {
       key = ap (λ h. h.key) re.head;
       short = g.short;
-      local = spliced_local r.head.key local r.head.cisn r.head.length r.head.mss i r.head.fin;
+      segments = subst IsSegmentSize (ap (λ h. h.mss) re.head) f.segments;
+      local = spliced_local r.head.key local r.head.cisn r.head.length r.head.mss i (has_end r.head);
       south = south_is service e r i re sound;
       parts = subst (λ t. PartsStand service (resumed_at service e) i (delta_from service e i) (resumed_at service e) (point_of service e) n t)
-          (λ j. spliced ((sym re.head) j).key local ((sym re.head) j).cisn ((sym re.head) j).length ((sym re.head) j).mss i ((sym re.head) j).fin)
+          (λ j. spliced ((sym re.head) j).key local ((sym re.head) j).cisn ((sym re.head) j).length ((sym re.head) j).mss i (sym (has_end_is service e r re sound) j))
           (splices_parts service local e i n g (replayed service e r re sound));
     }
 
 -- a FIN is one of the logged units
-less_fin : (cisn fetched : ℕ) (fin : Bool) → fetched ≤ 2 ^ 24 → distance (number_at cisn (fetched + one_if fin)) ((cisn + 1) % 2 ^ 32) - one_if fin ≡ fetched
+pub less_fin : (cisn fetched : ℕ) (fin : Bool) → fetched ≤ 2 ^ 24 → distance (number_at cisn (fetched + one_if fin)) ((cisn + 1) % 2 ^ 32) - one_if fin ≡ fetched
 less_fin cisn fetched fin h = (λ j. logged_at cisn (fetched + one_if fin) (few fetched fin h) j - one_if fin) ∙ back fetched (one_if fin)
   where
     few : (n : ℕ) (f : Bool) → n ≤ 2 ^ 24 → n + one_if f ≤ 2 ^ 24 + 1

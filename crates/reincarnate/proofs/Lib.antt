@@ -11,3 +11,4 @@ pub mod EntriesLaw
 pub mod Outcomes
 pub mod Forging
 pub mod Joined
+pub mod Startable

@@ -131,7 +131,7 @@ pub part_within : {S : Type 0} (e : EntryState S) (key : Key) (offset count : �
 part_within e key offset count fits =
     let last = last_of_four (asks_bytes (lacks e)) (key_eq key e.head.key) (offset == e.bytes) (nat_le (e.bytes + count) e.head.length) fits in grind (arith, last)
 
--- where nothing is missing, all reads are replayed
+-- where nothing is missing, all reads are replayed, and the rest is held
 none_left : (ws : List ℕ) (held : ℕ) → IsShort ws held → sum ws ≤ held → sum ws ≡ 0
 none_left [] held next enough = refl
 none_left (w ∷ ws) held next enough = let more = sum_more w ws in absurd (omega (arith, next, enough, more))
@@ -139,8 +139,12 @@ none_left (w ∷ ws) held next enough = let more = sum_more w ws in absurd (omeg
 pub enough_bytes : {S : Type 0} (e : EntryState S) → lacks e ≡ lack.Nothing → e.head.done ≡ false → e.cuts.sum ≤ e.bytes
 enough_bytes e nothing live = grind (arith, nothing, live)
 
-pub whole_within : {S : Type 0} (e : EntryState S) → IsSized e → lacks e ≡ lack.Nothing → e.head.done ≡ false → e.cuts.sum + length e.replay.held ≤ 2 ^ 24
-whole_within e s nothing live =
+pub all_bytes : {S : Type 0} (e : EntryState S) → lacks e ≡ lack.Nothing → e.head.done ≡ false → e.head.length ≤ e.bytes
+all_bytes e nothing live = grind (arith, nothing, live)
+
+pub whole_rest : {S : Type 0} (e : EntryState S) → IsSized e → lacks e ≡ lack.Nothing → e.head.done ≡ false → e.cuts.sum + length e.replay.held ≡ e.head.length
+whole_rest e s nothing live =
     let enough = enough_bytes e nothing live in
+    let all = all_bytes e nothing live in
     let none = none_left e.waiting (length e.replay.held) s.next (omega (arith, enough, s.balance)) in
-    omega (arith, none, s.balance, s.bytes, s.stream)
+    omega (arith, none, s.balance, s.bytes, all)

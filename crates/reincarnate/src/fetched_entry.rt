@@ -211,7 +211,7 @@ impl<S: Service> FetchedEntry<S> {
     }
 
     /// Of which nothing is missing.
-    #[tactic(auto, using(crate::proofs::Sized::whole_within))]
+    #[tactic(auto, using(crate::proofs::Sized::whole_rest))]
     pub(crate) fn into_replayed(self) -> Replayed<S>
         requires whole { lacks self ≡ Lack.Nothing }
         requires live { self.head.done ≡ false }

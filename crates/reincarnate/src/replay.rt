@@ -31,14 +31,14 @@ pub(crate) struct Replay<S: Service> {
 }
 
 impl<S: Service> Model for Replay<S> {
-    ghost use Rattle.std.specs.Prelude.{◌≤◌, ◌^◌};
+    ghost use Rattle.std.specs.Prelude.{◌≤◌, ◌^◌, length};
     ghost use Rattle.reincarnate.specs.Replaying.{ReplayState};
 
     ghost Value = { ReplayState S };
 
     ghost view = { λ r. record { service = r.service; closed = r.closed; made = r.made; acked = r.acked; pending = r.output.items; held = r.held } };
 
-    ghost invariant = { λ r. r.made ≤ 2 ^ 24 };
+    ghost invariant = { λ r. (r.made ≤ 2 ^ 24) × (length r.output.items ≤ r.made) };
 }
 
 impl<S: Service> Replay<S> {
@@ -75,6 +75,7 @@ impl<S: Service> Replay<S> {
     pub(crate) fn made(&self) -> u32
         ensures value { result ≡ self.now.made }
         ensures most { result ≤ 2 ^ 24 }
+        ensures pending { length self.now.pending ≤ result }
     {
         self.made
     }
@@ -143,8 +144,8 @@ impl<S: Service> Replay<S> {
             return Ok(());
         }
         let known = self.acked.saturating_sub(self.made);
-        keep(&mut self.output, &self.fresh, known)?;
         self.made += made;
+        keep(&mut self.output, &self.fresh, known)?;
         self.closed = next == Next::Close;
         Ok(())
     }
@@ -152,7 +153,8 @@ impl<S: Service> Replay<S> {
 
 /// Keeps the output of a chunk from where the client's acknowledgement ends, so many bytes on.
 fn keep(output: &mut Vec<u8>, fresh: &[u8], known: u32) -> Result<(), NoMemory>
-    ensures { OnOk result (output.new.items ≡ output.old.items ++ drop known fresh.now) }
+    ensures items { OnOk result (output.new.items ≡ output.old.items ++ drop known fresh.now) }
+    ensures few { length output.new.items ≤ length output.old.items + length fresh.now }
 {
     let known = (known as usize).min(fresh.len());
     output.extend_from_slice(&fresh[known..])?;

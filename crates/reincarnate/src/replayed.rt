@@ -1,13 +1,12 @@
 //! A connection whose service stands where the log ends.
 
 ghost use Rattle.std.specs.Prelude.{◌≡◌, ◌+◌, ◌^◌, ◌<◌, ◌≤◌, length, min, IfOk, IfErr};
-ghost use Rattle.logger_wire.specs.Value.{is_set};
 ghost use Rattle.server_trait.specs.Service.{machine};
 ghost use Rattle.ft_model.specs.Log.{Entry};
 ghost use Rattle.ft_model.specs.Restart.{IsSound};
 ghost use Rattle.south_wrap.specs.SouthState.{resumed_south};
 ghost use Rattle.reincarnate.specs.Standing.{IsReplayed};
-ghost use Rattle.reincarnate.specs.Joining.{spliced_from, Fits, IsSpliced};
+ghost use Rattle.reincarnate.specs.Joining.{has_end, spliced_from, Fits, IsSpliced};
 ghost use Rattle.reincarnate.specs.Cutting.{HaveBytes};
 ghost use Rattle.logger_store.specs.Stored.{head_value};
 ghost use Rattle.reincarnate.specs.Progress.{IsSegmentSize};
@@ -16,7 +15,7 @@ use crate::cuts::Cuts;
 use crate::lost::{LostIn, Stage};
 use crate::replay::Replay;
 use crate::spliced::Spliced;
-use crate::splicing::spliced_endpoint;
+use crate::splicing::{has_end, spliced_endpoint};
 use ft_io::Addr;
 use logger_store::EntryHead;
 use seq_arith::Seq;
@@ -34,7 +33,7 @@ pub struct Replayed<S: Service> {
 }
 
 impl<S: Service> Model for Replayed<S> {
-    ghost use Rattle.std.specs.Prelude.{◌+◌, ◌^◌, ◌≤◌, length};
+    ghost use Rattle.std.specs.Prelude.{◌≡◌, ◌+◌, ◌^◌, ◌≤◌, length};
     ghost use Rattle.reincarnate.specs.Cutting.{HaveBytes};
     ghost use Rattle.logger_store.specs.Stored.{head_value};
     ghost use Rattle.reincarnate.specs.Progress.{ReplayedState, IsSegmentSize};
@@ -43,7 +42,7 @@ impl<S: Service> Model for Replayed<S> {
 
     ghost view = { λ r. record { head = head_value r.head; cuts = r.cuts; replay = r.replay } };
 
-    ghost invariant = { λ r. (r.head.length ≤ 2 ^ 24) × IsSegmentSize r.head.mss × HaveBytes r.cuts × (r.cuts.sum + length r.replay.held ≤ 2 ^ 24) };
+    ghost invariant = { λ r. (r.head.length ≤ 2 ^ 24) × IsSegmentSize r.head.mss × HaveBytes r.cuts × (r.cuts.sum + length r.replay.held ≡ r.head.length) };
 }
 
 impl<S: Service> Replayed<S> {
@@ -51,7 +50,7 @@ impl<S: Service> Replayed<S> {
         requires stream { head.length ≤ 2 ^ 24 }
         requires segments { IsSegmentSize head.mss }
         requires have { HaveBytes cuts }
-        requires within { cuts.sum + length replay.held ≤ 2 ^ 24 }
+        requires whole { cuts.sum + length replay.held ≡ head.length }
         ensures { result ≡ record { head = head_value head; cuts = cuts; replay = replay } }
     {
         Replayed { head, cuts, replay }
@@ -88,6 +87,7 @@ impl<S: Service> Replayed<S> {
     }
 
     fn join(self, alloc: Global, boot: u64, local: Addr, isn: Seq) -> Result<Spliced<S>, LostIn>
+        requires { 1 ≤ boot }
         ensures value { IfOk result (λ s. s ≡ spliced_from boot local isn.0 self) }
         ensures lost { IfErr result (λ e. e.stage ≡ Stage.Replayed) }
         ensures fits { Fits self isn.0 }
@@ -119,13 +119,13 @@ fn south_behind(head: &EntryHead, cuts: Cuts, made: u32, isn: Seq) -> South
     requires made { made ≤ 2 ^ 24 }
     requires read { cuts.sum ≤ 2 ^ 24 }
     ensures numbers { (head.now.sisn < 2 ^ 32) × (isn.0 < 2 ^ 32) }
-    ensures value { result ≡ record (resumed_south head.now.cisn head.now.sisn head.now.length (is_set head.now.fin) (min head.now.acked made) isn.0) { read = cuts.sum } }
+    ensures value { result ≡ record (resumed_south head.now.cisn head.now.sisn head.now.length (has_end (head_value head.now)) (min head.now.acked made) isn.0) { read = cuts.sum } }
 {
     let mut south = South::resumed(
         Seq(head.cisn),
         Seq(head.sisn),
         head.length,
-        head.fin == 1,
+        has_end(head),
         head.acked.min(made),
         isn,
     );

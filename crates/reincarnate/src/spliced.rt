@@ -4,9 +4,9 @@ ghost use Rattle.std.specs.Prelude.{◌≡◌, ℕ};
 ghost use Rattle.server_trait.specs.Service.{machine};
 ghost use Rattle.ft_model.specs.Log.{Entry};
 ghost use Rattle.ft_model.specs.Restart.{point_of};
-ghost use Rattle.wrapped_conn.specs.Beginning.{joined_conn};
+ghost use Rattle.wrapped_conn.specs.Sound.{IsSound};
 ghost use Rattle.wrapped_conn.specs.Standing.{StandsBefore};
-ghost use Rattle.reincarnate.specs.Joining.{IsSpliced};
+ghost use Rattle.reincarnate.specs.Joining.{conn_of, IsSpliced};
 
 use ft_io::{Addr, Key};
 use north_wrap::North;
@@ -28,11 +28,14 @@ pub struct Spliced<S: Service> {
 }
 
 impl<S: Service> Model for Spliced<S> {
-    ghost use Rattle.reincarnate.specs.Joining.{SplicedState};
+    ghost use Rattle.wrapped_conn.specs.Sound.{IsSound};
+    ghost use Rattle.reincarnate.specs.Joining.{SplicedState, conn_of};
 
     ghost Value = { SplicedState S };
 
     ghost view = { λ s. record { boot = s.boot; key = s.key; local = s.local; south = s.south; endpoint = s.endpoint; north = s.north } };
+
+    ghost invariant = { λ s. IsSound (conn_of {S = S} (record { boot = s.boot; key = s.key; local = s.local; south = s.south; endpoint = s.endpoint; north = s.north })) };
 }
 
 impl<S: Service> Spliced<S> {
@@ -76,7 +79,8 @@ impl<S: Service> Spliced<S> {
 
     /// The connection, which isn't live yet: `Conn::start` makes it so.
     pub fn hand_on(self) -> Conn<S>
-        ensures value { result ≡ joined_conn self.boot self.key self.local self.south self.endpoint self.north }
+        ensures value { result ≡ conn_of self }
+        ensures sound { IsSound result }
         ensures law { (fresh : S) (e : Entry) (i : ℕ) → IsSpliced (machine fresh S.after) e i self → StandsBefore (machine fresh S.after) result (point_of (machine fresh S.after) e) }
     {
         let Spliced {

@@ -4,12 +4,13 @@ ghost use Rattle.std.specs.Prelude.{◌≡◌, ◌≤◌, ◌-◌, ◌+◌, ◌^
 ghost use Rattle.seq_arith.specs.Number.{number_at};
 ghost use Rattle.segment_codec.specs.Value.{said};
 ghost use Rattle.ft_model.specs.News.News.{Comes};
-ghost use Rattle.logger_wire.specs.Value.{is_set};
+ghost use Rattle.logger_store.specs.Stored.{head_value};
 ghost use Rattle.tcp_endpoint.specs.Sending.{IsShort};
 ghost use Rattle.tcp_endpoint.specs.Tcb.{listening};
 ghost use Rattle.endpoint_laws.specs.Turn.{turned};
 ghost use Rattle.connection_laws.specs.Splicing.{forged as forged_lem, forged_syn, forged_ack, forged_fin, connected as connected_lem, spliced};
 ghost use Rattle.reincarnate.specs.Progress.{IsSegmentSize};
+ghost use Rattle.reincarnate.specs.Joining.{has_end};
 
 use ft_io::{Addr, Key, NoMemory};
 use logger_store::EntryHead;
@@ -20,6 +21,13 @@ use tcp_endpoint::{Endpoint, Outbox};
 
 /// The bytes of a stream.
 const STREAM: u32 = 16_777_216;
+
+/// Whether a FIN is logged for which the stream has room.
+pub(crate) fn has_end(head: &EntryHead) -> bool
+    ensures { result ≡ has_end (head_value head.now) }
+{
+    head.fin == 1 && head.length < STREAM
+}
 
 /// The head of a segment of the client, with window 0.
 fn forged(key: Key, local: Addr, seq: Seq, ack: Seq, flags: u8, mss: Option<u16>) -> Head
@@ -103,11 +111,11 @@ pub(crate) fn spliced_endpoint(
 ) -> Result<Endpoint, NoMemory>
     requires stream { head.now.length ≤ 2 ^ 24 }
     requires segments { IsSegmentSize head.now.mss }
-    ensures { IfOk result (λ e. e ≡ spliced head.now.key local head.now.cisn head.now.length head.now.mss isn.0 (is_set head.now.fin)) }
+    ensures { IfOk result (λ e. e ≡ spliced head.now.key local head.now.cisn head.now.length head.now.mss isn.0 (has_end (head_value head.now))) }
 {
     let mut out = Outbox::new(alloc)?;
     let mut endpoint = connected(alloc, head, local, isn, &mut out)?;
-    if head.fin != 1 {
+    if !has_end(head) {
         return Ok(endpoint);
     }
     let fin = forged(

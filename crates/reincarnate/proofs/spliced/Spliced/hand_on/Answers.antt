@@ -1,10 +1,14 @@
 use Rattle.std.proofs.Common.{sym, subst}
 use Rattle.server_trait.specs.Service.{machine}
 use Rattle.ft_model.specs.Restart.{point_of}
+use Rattle.wrapped_conn.specs.Sound.{IsSound}
 use Rattle.wrapped_conn.specs.Standing.{StandsBefore}
 use Rattle.reincarnate.specs.Joining.{IsSpliced}
 use Rattle.reincarnate.proofs.Joined.{hands_on}
 use Rattle.reincarnate.proofs.spliced.Spliced.hand_on.Goals as goal
+
+pub returns-clause-sound : goal.returns-clause-sound
+returns-clause-sound g c = subst IsSound (sym c.joined.ensures) c.self.invariant
 
 pub returns-clause-law : goal.returns-clause-law
 returns-clause-law g c fresh e i is =
