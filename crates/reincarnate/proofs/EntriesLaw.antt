@@ -5,10 +5,12 @@ use Rattle.std.specs.Option.{option_to_list}
 use Rattle.server_trait.specs.Service.{Machine, reference}
 use Rattle.ft_model.specs.Restart.{Fetched, is_whole, entry_in}
 use Rattle.ft_model.proofs.Services.{sum_more}
+use Rattle.reincarnate.specs.declared.entries.Restored.{Restored}
+use Rattle.reincarnate.specs.declared.entries.Restored.TheVariants as restored
 use Rattle.reincarnate.specs.Replaying.{RunsTo}
 use Rattle.reincarnate.specs.Progress.{EntryState, ReplayedState, replayed_state, next_live, behind_next, IsShort}
 use Rattle.reincarnate.specs.Asking.{FetchingState, entries_of, asked_of, asked}
-use Rattle.reincarnate.specs.Standing.{StandsFor, StandFor, StandsFetching, StandsWhole, AreWhole, IsReplayed, NextIs, live_from}
+use Rattle.reincarnate.specs.Standing.{StandsFor, StandFor, StandsFetching, StandsWhole, AreWhole, IsReplayed, NextIs, live_from, first_restored, RestoredIs, FirstIs}
 use Rattle.reincarnate.proofs.Sized.{sum_both}
 use Rattle.reincarnate.proofs.Ready.{asked_nothing, newest_is_ready}
 use Rattle.reincarnate.proofs.EntryLaw.{lacks_is, nothing_lacks}
@@ -105,3 +107,19 @@ pub next_stands : {S : Type 0} (service : Machine S) (fs : List Fetched) (es res
     → NextIs service (live_from fs) next rest
 next_stands service fs es rest next st is left =
     subst (λ x. NextIs service (live_from fs) x rest) (sym is) (subst (NextIs service (live_from fs) (next_live es)) (sym left) (next_is service fs es st.entries st.whole))
+
+restored_by : {S : Type 0} (service : Machine S) (f : Fetched) (e : EntryState S) (c : Bool) → e.head.done ≡ c → StandsFor service f e → is_whole f ≡ true
+    → RestoredIs service f (if c then restored.Ended e.head.key else restored.Live (replayed_state e))
+restored_by service f e true is st whole = (ap (λ h. h.done) (sym st.head) ∙ is, ap (λ h. h.key) st.head)
+restored_by service f e false is st whole = let live = ap (λ h. h.done) (sym st.head) ∙ is in (live, replayed_is service f e st whole live)
+
+first_is : {S : Type 0} (service : Machine S) (fs : List Fetched) (es : List (EntryState S)) → StandFor service fs es → AreWhole fs → FirstIs service fs (first_restored es) (drop 1 es)
+first_is service [] [] st whole = (refl, refl)
+first_is service [] (e ∷ es) st whole = absurd st
+first_is service (f ∷ fs) [] st whole = absurd st
+first_is service (f ∷ fs) (e ∷ es) st whole = (restored_by service f e e.head.done refl st.0 whole.0, record { entries = st.1; whole = whole.1 })
+
+pub first_stands : {S : Type 0} (service : Machine S) (fs : List Fetched) (es rest : List (EntryState S)) (next : Option (Restored S)) → StandsWhole service fs es → next ≡ first_restored es
+    → rest ≡ drop 1 es → FirstIs service fs next rest
+first_stands service fs es rest next st is left =
+    subst (λ x. FirstIs service fs x rest) (sym is) (subst (FirstIs service fs (first_restored es)) (sym left) (first_is service fs es st.entries st.whole))

@@ -12,3 +12,4 @@ pub mod Outcomes
 pub mod Forging
 pub mod Joined
 pub mod Startable
+pub mod Questions

@@ -1,12 +1,18 @@
 -- A restart while it asks: what is asked for next, what answers it, and what is known then.
-use Rattle.std.specs.Prelude.{ℕ, ◌==◌, Bool, ◌&&◌, is_none, nat_lt, Option, Some, None, List, [], ◌++◌, length, find, option_map, if◌then◌else◌}
+use Rattle.std.specs.Prelude.{ℕ, ◌≤◌, ◌<◌, ◌^◌, ◌==◌, Bool, ◌&&◌, is_none, nat_lt, Option, Some, None, List, [], ◌++◌, length, find, option_map, if◌then◌else◌}
 use Rattle.std.specs.Option.{option_to_list}
 use Rattle.ft_io.specs.declared.Key.{Key}
 use Rattle.ft_io.specs.Key.{key_eq}
 use Rattle.seq_arith.specs.Message.{EntryHead, Body, Message}
 use Rattle.seq_arith.specs.Message.Body.{ListMsg, EntryMsg, PartMsg, LensMsg}
+use Rattle.logger_wire.specs.declared.Body as wire
+use Rattle.logger_wire.specs.Value.{IsSendable}
 use Rattle.server_trait.specs.Service.{Served}
 use Rattle.reincarnate.specs.Progress.{EntryState, begun_entry, lacks, asked_for, part_fits, with_bytes, cuts_with, with_lengths}
+
+-- a question that a server of any boot number may send
+abbrev pub IsAskable : wire.Body → Type 0
+IsAskable body = (boot : ℕ) → 1 ≤ boot → boot < 2 ^ 64 → IsSendable (record { boot = boot; body = body })
 
 pub record FetchingState (S : Type 0) : Type 0 where
   pub boot : ℕ

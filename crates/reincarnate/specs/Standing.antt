@@ -7,7 +7,9 @@ use Rattle.ft_model.specs.Log.{Entry, head_of}
 use Rattle.ft_model.specs.Restart.{Fetched, wanted, fetched_after, is_whole, entry_in, run_of}
 use Rattle.reincarnate.specs.Cutting.{cuts_of}
 use Rattle.reincarnate.specs.Replaying.{ReplayState, RunsTo}
-use Rattle.reincarnate.specs.Progress.{EntryState, ReplayedState, IsShort}
+use Rattle.reincarnate.specs.declared.entries.Restored.{Restored}
+use Rattle.reincarnate.specs.declared.entries.Restored.TheVariants as restored
+use Rattle.reincarnate.specs.Progress.{EntryState, ReplayedState, replayed_state, IsShort}
 use Rattle.reincarnate.specs.Asking.{FetchingState, entries_of}
 
 -- Of the fetched lengths all but those that wait are replayed. What is held are the bytes behind these reads; and the service stands where
@@ -82,3 +84,20 @@ live_from (f ∷ fetched) = if f.head.done then live_from fetched else f ∷ fet
 abbrev pub NextIs : {S : Type 0} → Machine S → List Fetched → Option (ReplayedState S) → List (EntryState S) → Type 0
 NextIs service [] next rest = (next ≡ None) × (rest ≡ [])
 NextIs service (f ∷ fetched) next rest = MatchOption next ⊥ (IsReplayed service (entry_in f)) × StandsWhole service fetched rest
+
+-- the first entry at the end of a restart: a key whose connection has ended, or one that is restored
+abbrev pub restored_of : {S : Type 0} → EntryState S → Restored S
+restored_of e = if e.head.done then restored.Ended e.head.key else restored.Live (replayed_state e)
+
+abbrev pub first_restored : {S : Type 0} → List (EntryState S) → Option (Restored S)
+first_restored [] = None
+first_restored (e ∷ entries) = Some (restored_of e)
+
+abbrev pub RestoredIs : {S : Type 0} → Machine S → Fetched → Restored S → Type 0
+RestoredIs service f (restored.Ended key) = (f.head.done ≡ true) × (key ≡ f.head.key)
+RestoredIs service f (restored.Live r) = (f.head.done ≡ false) × IsReplayed service (entry_in f) r
+
+-- it is the first that was fetched
+abbrev pub FirstIs : {S : Type 0} → Machine S → List Fetched → Option (Restored S) → List (EntryState S) → Type 0
+FirstIs service [] next rest = (next ≡ None) × (rest ≡ [])
+FirstIs service (f ∷ fetched) next rest = MatchOption next ⊥ (RestoredIs service f) × StandsWhole service fetched rest

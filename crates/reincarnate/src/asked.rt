@@ -2,13 +2,14 @@
 
 ghost use Rattle.std.specs.Prelude.{◌≡◌, ◌≤◌, [], Ok, IfOk};
 ghost use Rattle.seq_arith.specs.Message.Body.{HelloMsg};
-ghost use Rattle.logger_wire.specs.Value.{message_of};
+ghost use Rattle.logger_wire.specs.Value.{message_of, IsSendable};
 ghost use Rattle.reincarnate.specs.Asking.{begun_fetching};
 ghost use Rattle.reincarnate.specs.Standing.{StandsFetching};
 ghost use Rattle.server_trait.specs.Service.{machine};
 
 use crate::fetching::Fetching;
 use crate::lost::LostIn;
+use crate::ranges::fit_boot;
 use logger_wire::{Body, Msg};
 use server_trait::Service;
 use std::alloc::Global;
@@ -41,8 +42,10 @@ impl Asked {
 
     /// What is asked: Hello.
     pub fn question(&self) -> Msg<'_>
-        ensures { message_of result ≡ record { boot = self.now; body = HelloMsg } }
+        ensures value { message_of result ≡ record { boot = self.now; body = HelloMsg } }
+        ensures sendable { IsSendable result }
     {
+        fit_boot(self.boot);
         Msg {
             boot: self.boot,
             body: Body::HelloMsg,

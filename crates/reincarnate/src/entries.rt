@@ -1,18 +1,28 @@
 //! The entries of the log, all of which are fetched.
 
-ghost use Rattle.std.specs.Prelude.{◌≡◌, ◌++◌, [], List, IfSome, IfNone, None, reverse};
+ghost use Rattle.std.specs.Prelude.{◌≡◌, ◌++◌, ◌+◌, [], List, length, IfSome, IfNone, None, drop, reverse};
 ghost use Rattle.std.specs.Option.{option_to_list};
 ghost use Rattle.reincarnate.specs.declared.lack.Lack.TheVariants as lack;
 ghost use Rattle.reincarnate.specs.Progress.{lacks, next_live, behind_next, AreReady};
 ghost use Rattle.reincarnate.specs.Asking.{asked_of};
-ghost use Rattle.reincarnate.specs.Standing.{StandsWhole, NextIs, live_from};
+ghost use Rattle.reincarnate.specs.Standing.{StandsWhole, NextIs, live_from, first_restored, FirstIs};
 ghost use Rattle.server_trait.specs.Service.{machine};
 ghost use Rattle.ft_model.specs.Restart.{Fetched};
 
 use crate::fetched_entry::FetchedEntry;
 use crate::replayed::Replayed;
+use ft_io::Key;
 use server_trait::Service;
 use std::marker::Model;
+
+/// An entry of the log at the end of a restart.
+#[derive(Drop)]
+pub enum Restored<S: Service> {
+    /// Its connection has ended. This is the connection's key.
+    Ended(Key),
+    /// Its connection's reads are replayed.
+    Live(Replayed<S>),
+}
 
 /// The entries that are still to be restored. Contracts see them in the log's order.
 #[derive(Drop)]
@@ -58,6 +68,30 @@ impl<S: Service> Entries<S> {
             Some(entry) => Some(entry),
             None => self.newest.take(),
         }
+    }
+
+    /// The next entry in the log's order, or None at the end.
+    pub fn advance(&mut self) -> Option<Restored<S>>
+        ensures value { result ≡ first_restored self.old }
+        ensures rest { self.new ≡ drop 1 self.old }
+        ensures end { IfNone result (self.old ≡ []) }
+        ensures shorter { IfSome result (λ _. length self.old ≡ length self.new + 1) }
+        ensures law { (fresh : S) (fetched : List Fetched) → StandsWhole (machine fresh S.after) fetched self.old → FirstIs (machine fresh S.after) fetched result self.new }
+    {
+        self.take_first()
+    }
+
+    fn take_first(&mut self) -> Option<Restored<S>>
+        ensures value { result ≡ first_restored self.old }
+        ensures rest { self.new ≡ drop 1 self.old }
+        ensures end { IfNone result (self.old ≡ []) }
+        ensures shorter { IfSome result (λ _. length self.old ≡ length self.new + 1) }
+    {
+        let entry = self.pop()?;
+        if entry.is_done() {
+            return Some(Restored::Ended(entry.head().key));
+        }
+        Some(Restored::Live(entry.into_replayed()))
     }
 
     /// The next entry whose connection hasn't ended, in the log's order, or None at the end.

@@ -7,10 +7,12 @@ ghost use Rattle.logger_wire.specs.Value.{body_of};
 ghost use Rattle.ft_io.specs.Key.{key_eq};
 ghost use Rattle.reincarnate.specs.Cutting.{HaveBytes};
 ghost use Rattle.logger_store.specs.Stored.{head_value};
+ghost use Rattle.reincarnate.specs.Asking.{IsAskable};
 ghost use Rattle.reincarnate.specs.Progress.{begun_entry, lacks, asked_for, asks_bytes, asks_lengths, part_fits, lengths_fit, with_bytes, cuts_with, with_lengths, first_whole, replayed_from, replayed_state, IsSegmentSize};
 
 use crate::cuts::Cuts;
 use crate::lack::Lack;
+use crate::ranges::fit_key;
 use crate::replay::Replay;
 use crate::replayed::Replayed;
 use ft_io::{Key, NoMemory};
@@ -91,8 +93,10 @@ impl<S: Service> FetchedEntry<S> {
 
     /// The question for it, if anything is missing.
     pub(crate) fn question(&self) -> Option<Body<'_>>
-        ensures { option_map body_of result ≡ asked_for (lacks self.now) self.now }
+        ensures value { option_map body_of result ≡ asked_for (lacks self.now) self.now }
+        ensures sendable { IfSome result (λ body. IsAskable body) }
     {
+        fit_key(self.head.key);
         match self.lacks() {
             Lack::Bytes => Some(Body::BytesMsg {
                 key: self.head.key,

@@ -10,11 +10,12 @@ ghost use Rattle.ft_model.specs.Restart.{Fetched, wanted, question};
 ghost use Rattle.logger_wire.specs.Value.{body_of, message_of, IsSendable};
 ghost use Rattle.logger_store.specs.Stored.{head_value};
 ghost use Rattle.reincarnate.specs.Progress.{AreReady, IsSegmentSize};
-ghost use Rattle.reincarnate.specs.Asking.{begun_fetching, entries_of, asked_of, asked_entry, asked, entry_known, head_fits, with_head, with_newest, part_on, lens_on, answered, heard};
+ghost use Rattle.reincarnate.specs.Asking.{IsAskable, begun_fetching, entries_of, asked_of, asked_entry, asked, entry_known, head_fits, with_head, with_newest, part_on, lens_on, answered, heard};
 ghost use Rattle.reincarnate.specs.Standing.{StandsFetching, StandsWhole, AnswerLeads, fetched_then, held_of};
 
 use crate::entries::Entries;
 use crate::fetched_entry::FetchedEntry;
+use crate::ranges::fit_boot;
 use ft_io::{Key, NoMemory};
 use logger_store::EntryHead;
 use logger_wire::{Body, Msg};
@@ -64,7 +65,8 @@ impl<S: Service> Fetching<S> {
 
     /// What is asked of the newest entry.
     fn question_of_newest(&self) -> Option<Body<'_>>
-        ensures { option_map body_of result ≡ asked_of self.now.newest }
+        ensures value { option_map body_of result ≡ asked_of self.now.newest }
+        ensures sendable { IfSome result (λ body. IsAskable body) }
     {
         match &self.newest {
             Some(entry) => entry.question(),
@@ -80,7 +82,8 @@ impl<S: Service> Fetching<S> {
     }
 
     fn question_for_next(&self) -> Option<Body<'_>>
-        ensures { option_map body_of result ≡ asked_entry self.now }
+        ensures value { option_map body_of result ≡ asked_entry self.now }
+        ensures sendable { IfSome result (λ body. IsAskable body) }
     {
         let index = self.fetched();
         if index < usize::from(self.count) {
@@ -92,7 +95,8 @@ impl<S: Service> Fetching<S> {
     }
 
     fn asked(&self) -> Option<Body<'_>>
-        ensures { option_map body_of result ≡ asked self.now }
+        ensures value { option_map body_of result ≡ asked self.now }
+        ensures sendable { IfSome result (λ body. IsAskable body) }
     {
         match self.question_of_newest() {
             Some(body) => Some(body),
@@ -105,14 +109,17 @@ impl<S: Service> Fetching<S> {
         ensures value { option_map message_of result ≡ option_map (λ body. record { boot = self.now.boot; body = body }) (asked self.now) }
         ensures law { (fetched : List Fetched) → StandsFetching (machine (S.started self.now.kind) S.after) fetched self.now → option_map message_of result ≡ option_map (λ body. record { boot = self.now.boot; body = body }) (option_map question (wanted self.now.count fetched)) }
         ensures end { IfNone result (asked self.now ≡ None) }
+        ensures sendable { IfSome result (λ m. IsSendable m) }
     {
         self.ask()
     }
 
     fn ask(&self) -> Option<Msg<'_>>
+        ensures sendable { IfSome result (λ m. IsSendable m) }
         ensures end { IfNone result (asked self.now ≡ None) }
         ensures value { option_map message_of result ≡ option_map (λ body. record { boot = self.now.boot; body = body }) (asked self.now) }
     {
+        fit_boot(self.boot);
         match self.asked() {
             Some(body) => Some(Msg {
                 boot: self.boot,

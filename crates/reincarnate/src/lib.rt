@@ -4,7 +4,7 @@
 #![tactic(auto)]
 
 pub use asked::Asked;
-pub use entries::Entries;
+pub use entries::{Entries, Restored};
 pub use fetching::Fetching;
 pub use lost::{LostIn, Stage};
 pub use replayed::Replayed;
@@ -18,6 +18,7 @@ mod fetching;
 mod held;
 mod lack;
 mod lost;
+mod ranges;
 mod replay;
 mod replayed;
 mod spliced;

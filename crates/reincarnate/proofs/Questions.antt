@@ -1,0 +1,69 @@
+-- What a restart asks may be sent.
+use Rattle.std.proofs.Common.{◌≡◌, ℕ, ◌<◌, ◌≤◌, ◌+◌, ◌^◌, Bool, true, false, ◌&&◌, nat_le, refl, arith}
+use Rattle.std.proofs.lemmas.Bool.{and_from, le-leb}
+use Rattle.ft_io.specs.declared.Key.{Key}
+use Rattle.seq_arith.specs.MessageGrammar.{is_sound, has_length}
+use Rattle.ft_model.specs.Offset.{one_if}
+use Rattle.logger_wire.specs.declared.Body.TheVariants as body
+use Rattle.reincarnate.specs.Asking.{IsAskable}
+use Rattle.wrapped_conn.proofs.Sendable.{FitsKey}
+
+pub hello_askable : IsAskable body.HelloMsg
+unfolding is_sound has_length
+hello_askable boot live fits = record {
+  flags = refl;
+  lens = refl;
+  spellable = record {
+    boot = omega (arith, fits);
+    numbers = tt;
+    sound = and_from (nat_le 1 boot && true) true (and_from (nat_le 1 boot) true (le-leb 1 boot live) refl) refl;
+    size = refl;
+  };
+}
+
+pub list_askable : (index : ℕ) → index ≤ 63 → IsAskable (body.ListMsg index)
+unfolding is_sound has_length
+list_askable index few boot live fits = record {
+  flags = refl;
+  lens = refl;
+  spellable = record {
+    boot = omega (arith, fits);
+    numbers = (omega (arith, few), tt);
+    sound = and_from (nat_le 1 boot && (nat_le index 63 && true)) true
+        (and_from (nat_le 1 boot) _ (le-leb 1 boot live) (and_from _ _ (le-leb index 63 few) refl)) refl;
+    size = refl;
+  };
+}
+
+pub bytes_askable : (key : Key) (offset : ℕ) → FitsKey key → offset ≤ 2 ^ 24 → IsAskable (body.BytesMsg key offset)
+unfolding is_sound has_length
+bytes_askable key offset k within boot live fits = record {
+  flags = refl;
+  lens = refl;
+  spellable = record {
+    boot = omega (arith, fits);
+    numbers = (omega (arith, k.ip), (omega (arith, k.port), (omega (arith, within), tt)));
+    sound = and_from (nat_le 1 boot && (nat_le (offset + 0) (2 ^ 24) && true)) true
+        (and_from (nat_le 1 boot) _ (le-leb 1 boot live) (and_from _ _ (le-leb (offset + 0) (2 ^ 24) (omega (arith, within))) refl)) refl;
+    size = refl;
+  };
+}
+
+-- only the closing read has no bytes
+pub few_reads : (count sum len : ℕ) (ended : Bool) → count ≤ sum + one_if ended → sum ≤ len → len ≤ 2 ^ 24 → count ≤ 2 ^ 24 + 1
+few_reads count sum len true have within short = omega (arith, have, within, short)
+few_reads count sum len false have within short = omega (arith, have, within, short)
+
+pub cuts_askable : (key : Key) (first : ℕ) → FitsKey key → first ≤ 2 ^ 24 + 1 → IsAskable (body.CutsMsg key first)
+unfolding is_sound has_length
+cuts_askable key first k few boot live fits = record {
+  flags = refl;
+  lens = refl;
+  spellable = record {
+    boot = omega (arith, fits);
+    numbers = (omega (arith, k.ip), (omega (arith, k.port), (omega (arith, few), tt)));
+    sound = and_from (nat_le 1 boot && (nat_le first (2 ^ 24 + 1) && true)) true
+        (and_from (nat_le 1 boot) _ (le-leb 1 boot live) (and_from _ _ (le-leb first (2 ^ 24 + 1) few) refl)) refl;
+    size = refl;
+  };
+}
