@@ -82,39 +82,63 @@ fn hostile(alloc: Global, bytes: &[u8], out: &mut String) -> Result<(), NoMemory
     Ok(())
 }
 
-/// All of them, as text.
-pub(crate) fn play_all(alloc: Global) -> Result<String, NoMemory> {
-    let mut out = String::new(alloc);
-    let long = vec![in alloc; b'a'; 2_500]?;
+/// Connections whose client goes on sending.
+fn open_cases(alloc: Global, long: &[u8], out: &mut String) -> Result<(), NoMemory> {
     one(
         alloc,
         "streaming_questions",
         METER,
-        logged(&long, 0, &[2_048, 452], 5),
-        &mut out,
+        logged(long, 0, &[2_048, 452], 5),
+        out,
     )?;
     one(
         alloc,
         "crash_after_logged",
         ECHO,
         logged(b"hello", 0, &[5], 0),
-        &mut out,
+        out,
     )?;
     one(
         alloc,
         "cuts_and_swallowing",
         METER,
         logged(b"abc", 0, &[2, 1], 2),
-        &mut out,
+        out,
     )?;
+    one(alloc, "nothing", ECHO, logged(b"", 0, &[], 0), out)
+}
+
+/// Connections whose client has sent its FIN: the server's FIN is acknowledged, isn't, or isn't due before the rest is read.
+fn ending_cases(alloc: Global, out: &mut String) -> Result<(), NoMemory> {
     one(
         alloc,
         "acknowledged_fin",
         ECHO,
         logged(b"", 1, &[0], 1),
-        &mut out,
+        out,
     )?;
-    one(alloc, "nothing", ECHO, logged(b"", 0, &[], 0), &mut out)?;
+    one(
+        alloc,
+        "fin_not_acknowledged",
+        ECHO,
+        logged(b"hello", 1, &[5, 0], 2),
+        out,
+    )?;
+    one(
+        alloc,
+        "fin_behind_the_rest",
+        METER,
+        logged(b"hello", 1, &[2], 0),
+        out,
+    )
+}
+
+/// All of them, as text.
+pub(crate) fn play_all(alloc: Global) -> Result<String, NoMemory> {
+    let mut out = String::new(alloc);
+    let long = vec![in alloc; b'a'; 2_500]?;
+    open_cases(alloc, &long, &mut out)?;
+    ending_cases(alloc, &mut out)?;
     many(alloc, &mut out)?;
     hostile(alloc, &long, &mut out)?;
     Ok(out)
