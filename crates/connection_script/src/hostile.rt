@@ -1,0 +1,163 @@
+//! Hostile datagrams from a seed: half of them are any bytes, and the others packets with right sums, half of which lie near the connection's
+//! numbers.
+
+ghost use Rattle.std.specs.Prelude.{◌≤◌};
+
+use crate::dice::Dice;
+use crate::peers::{CISN, CLIENT, SERVER, SISN, take_packet};
+use crate::rules::{Kept, Rule, check, clients_byte};
+use crate::situations::{Situation, arranged, log_all};
+use ft_io::NoMemory;
+use segment_codec::{Head, read_packet, write_packet};
+use seq_arith::{ACK, FIN, RST, Seq, has};
+use std::alloc::Global;
+use wrapped_conn::{Inside, TurnOut};
+
+const SEED: u64 = 1;
+
+/// So many connections meet so many datagrams each.
+const CONNECTIONS: u32 = 200;
+
+const DATAGRAMS: u32 = 50;
+
+/// What came of all datagrams.
+#[derive(Clone, Copy)]
+pub(crate) struct Tally {
+    pub(crate) datagrams: u32,
+    pub(crate) packets: u32,
+    /// Whether any segment left.
+    pub(crate) answers: bool,
+    pub(crate) broken: Option<Rule>,
+}
+
+impl Tally {
+    fn count(&mut self, is_packet: bool) {
+        self.datagrams = self.datagrams.saturating_add(1);
+        self.packets = self.packets.saturating_add(u32::from(is_packet));
+    }
+
+    fn note(&mut self, kept: Kept, out: &TurnOut) {
+        self.answers = self.answers || !out.segments().is_empty();
+        if let Err(rule) = kept {
+            self.broken = self.broken.or(Some(rule));
+        }
+    }
+}
+
+/// Fills a datagram of 0 to 100 bytes with anything, and answers its length.
+fn anything(dice: &mut Dice, out: &mut [u8; 1_500]) -> usize
+    ensures { result ≤ 1500 }
+{
+    let len = dice.roll(101) as usize;
+    for byte in out[..len].iter_mut() {
+        *byte = dice.byte();
+    }
+    len
+}
+
+fn flags(dice: &mut Dice) -> u8 {
+    match dice.roll(6) {
+        0 | 1 => dice.byte(),
+        2 => FIN | ACK,
+        3 => RST,
+        _ => ACK,
+    }
+}
+
+/// Writes a packet of the client with these numbers, whose text is the client's at its place, and answers its length.
+fn packet(dice: &mut Dice, seq: Seq, ack: Seq, out: &mut [u8; 1_500]) -> usize
+    ensures { result ≤ 1500 }
+{
+    let head = Head {
+        src: CLIENT.ip,
+        dst: SERVER.ip,
+        sport: CLIENT.port,
+        dport: SERVER.port,
+        seq,
+        ack,
+        flags: flags(dice),
+        window: dice.roll(65_536) as u16,
+        mss: None,
+    };
+    let mut place = seq.minus(CISN.add(1));
+    let mut text = [0u8; 60];
+    for byte in text.iter_mut() {
+        *byte = clients_byte(place);
+        place = place.wrapping_add(1);
+    }
+    let len = dice.roll(61) as usize;
+    write_packet(&head, &text[..len], out)
+}
+
+/// Every second datagram is a packet, and every second of these is near to the connection's numbers.
+fn datagram(dice: &mut Dice, number: u32, inside: Inside, out: &mut [u8; 1_500]) -> usize
+    ensures { result ≤ 1500 }
+{
+    match number % 4 {
+        1 => {
+            let (seq, ack) = (dice.anywhere(), dice.anywhere());
+            packet(dice, seq, ack, out)
+        }
+        3 => {
+            let seq = dice.near(CISN.add(1).add(inside.taken));
+            let ack = dice.near(SISN.add(1).add(inside.sent));
+            packet(dice, seq, ack, out)
+        }
+        _ => anything(dice, out),
+    }
+}
+
+/// Whether a datagram is a packet, and one that resets a connection with these numbers (RFC 5961, 3.2).
+fn kind_of(bytes: &[u8], inside: Inside) -> (bool, bool) {
+    match read_packet(bytes) {
+        Ok(packet) => {
+            let next = CISN.add(1).add(inside.taken);
+            (true, has(packet.head.flags, RST) && packet.head.seq == next)
+        }
+        Err(_) => (false, false),
+    }
+}
+
+/// One connection meets its datagrams. At every fifth, all that it has taken and read is logged then.
+fn attack_one(
+    alloc: Global,
+    situation: Situation,
+    dice: &mut Dice,
+    out: &mut TurnOut,
+    tally: &mut Tally,
+) -> Result<(), NoMemory> {
+    let mut conn = arranged(alloc, situation, out)?;
+    let mut is_reset = situation == Situation::Reset;
+    let mut bytes = [0u8; 1_500];
+    for i in 0..DATAGRAMS {
+        let before = conn.inside();
+        let len = datagram(dice, i, before, &mut bytes);
+        let (is_packet, resets) = kind_of(&bytes[..len], before);
+        is_reset = is_reset || resets;
+        take_packet(alloc, &mut conn, &mut bytes[..len], out)?;
+        tally.count(is_packet);
+        tally.note(check(before, is_reset, is_packet, &conn, out), out);
+        if i % 5 == 4 {
+            let before = conn.inside();
+            log_all(alloc, &mut conn, out)?;
+            tally.note(check(before, is_reset, true, &conn, out), out);
+        }
+    }
+    Ok(())
+}
+
+/// Hands all datagrams to connections in this situation, one after another.
+pub(crate) fn attack(alloc: Global, situation: Situation) -> Result<Tally, NoMemory> {
+    let mut dice = Dice::new(SEED);
+    let mut out = TurnOut::new(alloc)?;
+    let mut tally = Tally {
+        datagrams: 0,
+        packets: 0,
+        answers: false,
+        broken: None,
+    };
+    for _ in 0..CONNECTIONS {
+        attack_one(alloc, situation, &mut dice, &mut out, &mut tally)?;
+    }
+    Ok(tally)
+}

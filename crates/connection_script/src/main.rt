@@ -1,0 +1,108 @@
+//! `connection_script`: plays the first path, brings connections into each of their situations and hands hostile datagrams to them there, and
+//! fills the stream of one. It prints a line for each finding. Statuses: 0, 1 where a rule is broken, 3 without memory.
+#![tactic(auto)]
+
+use ft_io::NoMemory;
+use hostile::{Tally, attack};
+use meter::{Filled, fill_all};
+use path::{letters, play_path};
+use segment_codec::Head;
+use situations::{SITUATIONS, Situation, arranged};
+use std::alloc::Global;
+use std::io;
+use std::process::ExitCode;
+use tcp_endpoint::StateName;
+use wrapped_conn::{ConnStage, TurnOut};
+
+mod dice;
+mod hostile;
+mod meter;
+mod path;
+mod peers;
+mod rules;
+mod situations;
+
+/// The state of a connection's TCP in a situation, and its stage.
+fn standing(alloc: Global, situation: Situation) -> Result<(StateName, ConnStage), NoMemory> {
+    let mut out = TurnOut::new(alloc)?;
+    let conn = arranged(alloc, situation, &mut out)?;
+    Ok((conn.endpoint().state().name, conn.stage()))
+}
+
+fn tell_attack(rt: &impl Print, situation: Situation, tally: Tally) -> io::Result<()> {
+    let Tally {
+        datagrams,
+        packets,
+        answers,
+        broken,
+    } = tally;
+    println!(rt; "{situation:?}: {datagrams} datagrams, {packets} of them packets")?;
+    let answered = if answers { "segments" } else { "no segment" };
+    match broken {
+        Some(rule) => println!(rt; "{situation:?}: {answered} left, {rule:?} is broken"),
+        None => println!(rt; "{situation:?}: {answered} left, no rule is broken"),
+    }
+}
+
+/// The attack in one situation. Whether all rules are kept.
+fn play<R: Print + AllocGlobal>(
+    rt: &R,
+    situation: Situation,
+) -> io::Result<Result<bool, NoMemory>> {
+    let Ok((name, stage)) = standing(rt.alloc(), situation) else {
+        return Ok(Err(NoMemory));
+    };
+    println!(rt; "{situation:?}: {name:?}, {stage:?}")?;
+    let Ok(tally) = attack(rt.alloc(), situation) else {
+        return Ok(Err(NoMemory));
+    };
+    tell_attack(rt, situation, tally)?;
+    Ok(Ok(tally.broken.is_none()))
+}
+
+fn tell_segment(rt: &impl Print, what: &str, head: Option<Head>) -> io::Result<()> {
+    match head {
+        Some(head) => {
+            let (seq, ack) = (head.seq.0, head.ack.0);
+            let (flags, window) = (letters(head.flags), head.window);
+            println!(rt; "{what}: {flags} seq {seq} ack {ack} window {window}")
+        }
+        None => println!(rt; "{what}: no segment"),
+    }
+}
+
+fn tell_filled(rt: &impl Print, filled: Filled) -> io::Result<()> {
+    let inside = filled.inside;
+    let (taken, answered) = (inside.taken, inside.answered);
+    println!(rt; "full stream: taken {taken} answered {answered}")?;
+    let (read, reads) = (inside.read, inside.reads);
+    println!(rt; "full stream: read {read} in {reads} reads")?;
+    let (una, sent) = (inside.una, inside.sent);
+    println!(rt; "full stream: una {una} sent {sent}")?;
+    tell_segment(rt, "all is logged", filled.full)?;
+    tell_segment(rt, "one byte more", filled.beyond)
+}
+
+fn without_memory(rt: &impl Eprint) -> io::Result<ExitCode> {
+    eprintln!(rt; "connection_script: no memory")?;
+    Ok(ExitCode::from(3))
+}
+
+fn main(rt: HostRuntime) -> io::Result<ExitCode> {
+    let Ok(path) = play_path(rt.alloc()) else {
+        return without_memory(&rt);
+    };
+    print!(rt; "{path}")?;
+    let mut whole = true;
+    for situation in SITUATIONS {
+        let Ok(kept) = play(&rt, situation)? else {
+            return without_memory(&rt);
+        };
+        whole = whole && kept;
+    }
+    let Ok(filled) = fill_all(rt.alloc()) else {
+        return without_memory(&rt);
+    };
+    tell_filled(&rt, filled)?;
+    Ok(ExitCode::from(u8::from(!whole)))
+}

@@ -1,0 +1,80 @@
+//! A client fills its stream: 2^24 bytes in segments of 1,460, of which each is logged as it comes.
+
+ghost use Rattle.std.specs.Prelude.{◌≤◌, length, OnOk};
+ghost use Rattle.wrapped_conn.specs.Sound.{IsSound};
+
+use crate::peers::{Answer, Logged, begin, hear, say};
+use ft_io::NoMemory;
+use sample_servers::AnyService;
+use segment_codec::{Head, read_packet};
+use seq_arith::ACK;
+use std::alloc::Global;
+use wrapped_conn::{Conn, Inside, TurnOut};
+
+/// The whole segments, and the bytes of the last one.
+const SEGMENTS: u32 = 11_491;
+
+const LAST: usize = 356;
+
+/// What stands at the end: the numbers, and the last segments of the turn in which all is logged and of that of one byte more.
+#[derive(Clone, Copy)]
+pub(crate) struct Filled {
+    pub(crate) inside: Inside,
+    pub(crate) full: Option<Head>,
+    pub(crate) beyond: Option<Head>,
+}
+
+/// The head of a turn's first segment.
+fn first_segment(out: &TurnOut) -> Option<Head> {
+    if out.segments().is_empty() {
+        return None;
+    }
+    Some(read_packet(out.segments().packet(0)).ok()?.head)
+}
+
+/// The segment with this number, from 0, and what is logged then. The head of the segment that acknowledges it.
+fn fill(
+    alloc: Global,
+    conn: &mut Conn<AnyService>,
+    number: u32,
+    text: &[u8],
+    out: &mut TurnOut,
+) -> Result<Option<Head>, NoMemory>
+    requires sound { IsSound conn.old }
+    requires short { length text.now ≤ 1460 }
+    ensures { OnOk result (IsSound conn.new) }
+{
+    say(alloc, conn, ACK, text, out)?;
+    let length = conn.inside().taken;
+    let logged = Logged {
+        length,
+        fin: false,
+        reads: number,
+    };
+    hear(alloc, conn, Answer::Stable, logged, out)?;
+    let acknowledged = first_segment(out);
+    let read = Logged {
+        length,
+        fin: false,
+        reads: number.wrapping_add(1),
+    };
+    hear(alloc, conn, Answer::Reads, read, out)?;
+    Ok(acknowledged)
+}
+
+/// The whole stream comes, and a byte more.
+pub(crate) fn fill_all(alloc: Global) -> Result<Filled, NoMemory> {
+    let text = [120u8; 1_460];
+    let mut out = TurnOut::new(alloc)?;
+    let mut conn = begin(alloc, 4, &mut out)?;
+    for number in 0..SEGMENTS {
+        let _acknowledged = fill(alloc, &mut conn, number, &text[..], &mut out)?;
+    }
+    let full = fill(alloc, &mut conn, SEGMENTS, &text[..LAST], &mut out)?;
+    say(alloc, &mut conn, ACK, b"x", &mut out)?;
+    Ok(Filled {
+        inside: conn.inside(),
+        full,
+        beyond: first_segment(&out),
+    })
+}

@@ -1,0 +1,158 @@
+//! A connection, with the client and the logger that it talks to.
+
+ghost use Rattle.std.specs.Prelude.{◌≤◌, length, IfOk, OnOk};
+ghost use Rattle.wrapped_conn.specs.Sound.{IsSound};
+
+use ft_io::{Addr, Key, NoMemory};
+use logger_wire::read_msg;
+use sample_servers::AnyService;
+use segment_codec::{Head, read_packet, write_packet};
+use seq_arith::{Seq, Sum16};
+use std::alloc::Global;
+use tcp_endpoint::StateName;
+use wrapped_conn::{Conn, TurnOut};
+
+pub(crate) const SERVER: Addr = Addr {
+    ip: 0xC000_0264,
+    port: 7,
+};
+
+pub(crate) const CLIENT: Key = Key {
+    ip: 0xC000_0201,
+    port: 40_000,
+};
+
+/// The initial numbers of the client and of the server.
+pub(crate) const CISN: Seq = Seq(1_000);
+
+pub(crate) const SISN: Seq = Seq(5_000);
+
+/// What of a connection is logged: the client's bytes, whether its FIN is, and how many reads.
+#[derive(Clone, Copy)]
+pub(crate) struct Logged {
+    pub(crate) length: u32,
+    pub(crate) fin: bool,
+    pub(crate) reads: u32,
+}
+
+/// The kinds of the logger's answers to a Data and to a Read.
+#[derive(Clone, Copy, PartialEq, Eq)]
+pub(crate) enum Answer {
+    Stable,
+    Reads,
+}
+
+/// A connection with a service of this kind, which has sent its SYN-ACK.
+pub(crate) fn begin(
+    alloc: Global,
+    kind: u8,
+    out: &mut TurnOut,
+) -> Result<Conn<AnyService>, NoMemory>
+    ensures { IfOk result (λ c. IsSound c) }
+{
+    out.clear();
+    let mut conn = Conn::first(alloc, 1, CLIENT, SERVER, CISN, SISN, 536, kind)?;
+    conn.start(alloc, out)?;
+    Ok(conn)
+}
+
+/// A datagram comes from the client. Nothing is done where it is no packet.
+pub(crate) fn take_packet(
+    alloc: Global,
+    conn: &mut Conn<AnyService>,
+    packet: &mut [u8],
+    out: &mut TurnOut,
+) -> Result<(), NoMemory>
+    requires { IsSound conn.old }
+    ensures { OnOk result (IsSound conn.new) }
+{
+    out.clear();
+    if read_packet(packet).is_err() {
+        return Ok(());
+    }
+    conn.on_packet(alloc, packet, out)
+}
+
+/// The client's next segment: it begins behind all that is taken, and acknowledges all that is sent.
+pub(crate) fn say(
+    alloc: Global,
+    conn: &mut Conn<AnyService>,
+    flags: u8,
+    text: &[u8],
+    out: &mut TurnOut,
+) -> Result<(), NoMemory>
+    requires sound { IsSound conn.old }
+    requires short { length text.now ≤ 1460 }
+    ensures { OnOk result (IsSound conn.new) }
+{
+    let inside = conn.inside();
+    let head = Head {
+        src: CLIENT.ip,
+        dst: SERVER.ip,
+        sport: CLIENT.port,
+        dport: SERVER.port,
+        seq: CISN.add(1).add(inside.taken),
+        ack: SISN.add(1).add(inside.sent),
+        flags,
+        window: 65_535,
+        mss: None,
+    };
+    let mut packet = [0u8; 1_500];
+    let len = write_packet(&head, text, &mut packet);
+    take_packet(alloc, conn, &mut packet[..len], out)
+}
+
+/// A message that tells what is logged.
+fn message(answer: Answer, logged: Logged) -> [u8; 31] {
+    let kind = if answer == Answer::Stable { 12 } else { 14 };
+    let mut bytes = [0u8; 31];
+    bytes[..16].copy_from_slice(&[0x46, 0x54, 1, kind, 0, 31, 0, 0, 0, 0, 0, 0, 0, 0, 0, 1]);
+    bytes[16..20].copy_from_slice(&CLIENT.ip.to_be_bytes());
+    bytes[20..22].copy_from_slice(&CLIENT.port.to_be_bytes());
+    bytes[22..26].copy_from_slice(&logged.length.to_be_bytes());
+    bytes[26] = u8::from(logged.fin);
+    bytes[27..31].copy_from_slice(&logged.reads.to_be_bytes());
+    let mut sum = Sum16::new();
+    sum.take(&bytes[..]);
+    bytes[6..8].copy_from_slice(&sum.check().to_be_bytes());
+    bytes
+}
+
+/// The logger tells what is logged.
+pub(crate) fn hear(
+    alloc: Global,
+    conn: &mut Conn<AnyService>,
+    answer: Answer,
+    logged: Logged,
+    out: &mut TurnOut,
+) -> Result<(), NoMemory>
+    requires { IsSound conn.old }
+    ensures { OnOk result (IsSound conn.new) }
+{
+    out.clear();
+    let bytes = message(answer, logged);
+    match read_msg(&bytes[..]) {
+        Ok(m) => conn.on_msg(alloc, &m, out),
+        Err(_) => Ok(()),
+    }
+}
+
+/// All that a connection has taken and read.
+pub(crate) fn all_of(conn: &Conn<AnyService>) -> Logged
+    requires { IsSound conn.now }
+{
+    let fin = matches!(
+        conn.endpoint().state().name,
+        StateName::CloseWait
+            | StateName::Closing
+            | StateName::LastAck
+            | StateName::TimeWait
+            | StateName::Closed
+    );
+    let inside = conn.inside();
+    Logged {
+        length: inside.taken.saturating_sub(u32::from(fin)),
+        fin,
+        reads: inside.reads,
+    }
+}

@@ -1,0 +1,137 @@
+//! What must hold of a connection whatever comes to it.
+
+ghost use Rattle.wrapped_conn.specs.Sound.{IsSound};
+
+use crate::peers::{CISN, CLIENT, SERVER, SISN};
+use logger_wire::{Body, read_msg};
+use sample_servers::AnyService;
+use segment_codec::read_packet;
+use seq_arith::{RST, has};
+use wrapped_conn::{Conn, ConnStage, Inside, TurnOut};
+
+/// A rule that a hostile datagram broke.
+#[derive(Clone, Copy, Debug, PartialEq, Eq)]
+pub(crate) enum Rule {
+    /// Bytes that are no packet change nothing, and nothing is sent.
+    Silence,
+    /// Counts never fall, and no more is acknowledged than is sent.
+    Numbers,
+    /// Each segment that leaves is a packet from the server to the client, without RST.
+    Packet,
+    /// It acknowledges no more than is logged.
+    Ack,
+    /// Its text is the client's at that place.
+    Text,
+    /// Each message is a Data with text that was taken, a Read, or a Done of a connection that has ended.
+    Message,
+    /// A connection that is reset sends no segment, and its numbers stay.
+    Reset,
+}
+
+pub(crate) type Kept = Result<(), Rule>;
+
+fn keep(holds: bool, rule: Rule) -> Kept {
+    if holds { Ok(()) } else { Err(rule) }
+}
+
+/// The client's byte at a place of its stream.
+pub(crate) fn clients_byte(place: u32) -> u8 {
+    97 + (place % 26) as u8
+}
+
+fn is_clients(bytes: &[u8], from: u32) -> bool {
+    let mut place = from;
+    for byte in bytes {
+        if *byte != clients_byte(place) {
+            return false;
+        }
+        place = place.wrapping_add(1);
+    }
+    true
+}
+
+/// The rules on a segment.
+fn check_segment(bytes: &[u8], after: Inside) -> Kept {
+    let packet = read_packet(bytes).map_err(|_| Rule::Packet)?;
+    let head = packet.head;
+    keep(
+        head.src == SERVER.ip && head.sport == SERVER.port,
+        Rule::Packet,
+    )?;
+    keep(
+        head.dst == CLIENT.ip && head.dport == CLIENT.port && !has(head.flags, RST),
+        Rule::Packet,
+    )?;
+    keep(head.ack.minus(CISN.add(1)) <= after.answered, Rule::Ack)?;
+    keep(
+        is_clients(packet.payload, head.seq.minus(SISN.add(1))),
+        Rule::Text,
+    )
+}
+
+/// The rules on a message.
+fn check_message(bytes: &[u8], after: Inside, has_ended: bool) -> Kept {
+    let message = read_msg(bytes).map_err(|_| Rule::Message)?;
+    let holds = match message.body {
+        Body::DataMsg {
+            offset,
+            acked,
+            bytes,
+            ..
+        } => {
+            let place = usize::try_from(offset).unwrap_or(0);
+            let taken = usize::try_from(after.taken).unwrap_or(0);
+            place <= taken
+                && bytes.len() <= taken - place
+                && acked == after.una
+                && is_clients(bytes, offset)
+        }
+        Body::ReadMsg { index, .. } => index < after.reads,
+        Body::DoneMsg { .. } => has_ended,
+        _ => false,
+    };
+    keep(holds && message.boot == 1, Rule::Message)
+}
+
+fn check_leaving(after: Inside, has_ended: bool, out: &TurnOut) -> Kept {
+    for i in 0..out.segments().len() {
+        check_segment(out.segments().packet(i), after)?;
+    }
+    for i in 0..out.messages() {
+        check_message(out.message(i), after, has_ended)?;
+    }
+    Ok(())
+}
+
+fn never_fall(before: Inside, after: Inside) -> bool {
+    before.delta == after.delta
+        && before.taken <= after.taken
+        && before.answered <= after.answered
+        && before.read <= after.read
+        && before.reads <= after.reads
+        && before.una <= after.una
+        && before.sent <= after.sent
+        && after.una <= after.sent
+        && after.read <= after.taken
+}
+
+/// The rules on a turn, before which a connection's numbers were these. It may be reset by then, and the datagram may be no packet.
+pub(crate) fn check(
+    before: Inside,
+    is_reset: bool,
+    is_packet: bool,
+    conn: &Conn<AnyService>,
+    out: &TurnOut,
+) -> Kept
+    requires { IsSound conn.now }
+{
+    let after = conn.inside();
+    let is_silent = out.segments().is_empty() && out.messages() == 0;
+    keep(is_packet || (is_silent && after == before), Rule::Silence)?;
+    keep(never_fall(before, after), Rule::Numbers)?;
+    keep(
+        !is_reset || (out.segments().is_empty() && after.taken == before.taken),
+        Rule::Reset,
+    )?;
+    check_leaving(after, conn.stage() != ConnStage::Live, out)
+}
