@@ -1,0 +1,45 @@
+#!/usr/bin/env bash
+# The restart, by restart_bench: an entry whose output is all acknowledged is fetched from a log by messages as bytes, replayed and spliced. Echo, with
+# 15,000,000 bytes in reads of 2,048, and Meter, with 1 MiB in reads of 1 byte: the bytes of input and the messages, questions and answers together, a
+# second. Of each the least processor time of 5 runs with 40 restarts, less that of 5 runs that only fill the log, taken in turn. Then the most memory
+# that a run with one restart holds, less what a run without it holds: the largest difference of three.
+set -eu
+cd "$(dirname "$0")/.."
+(cd crates/restart_bench && rt run -- echo 1000 1 1 >/dev/null 2>&1)
+ours="$PWD/crates/restart_bench/out/restart_bench"
+work=$(mktemp -d)
+trap 'rm -rf "$work"' EXIT
+
+# user and system time of one run, in milliseconds
+TIMEFORMAT='%U %S'
+spent() {
+    local user system
+    read -r user system < <({ { time "$@" >"$work/out"; } 2>&1; } | tr -d .)
+    echo $((10#$user + 10#$system))
+}
+
+held() { command time -f %M "$ours" "$@" 2>&1 >/dev/null; }
+
+rounds=40
+printf '%s processors, %s, load %s\n' "$(nproc)" "$(lscpu | sed -n 's/^Model name: *//p')" "$(cut -d' ' -f1 /proc/loadavg)"
+while read -r service bytes size; do
+    with=999999 without=999999
+    for _ in 1 2 3 4 5; do
+        a=$(spent "$ours" "$service" "$bytes" "$size" 0)
+        b=$(spent "$ours" "$service" "$bytes" "$size" "$rounds")
+        ((a < without)) && without=$a
+        ((b < with)) && with=$b
+    done
+    more=-999999
+    for _ in 1 2 3; do
+        c=$(($(held "$service" "$bytes" "$size" 1) - $(held "$service" "$bytes" "$size" 0)))
+        ((c > more)) && more=$c
+    done
+    awk -v service="$service" -v bytes="$bytes" -v size="$size" -v n="$(cut -d' ' -f1 "$work/out")" -v rounds="$rounds" -v ms="$((with - without))" -v more="$more" 'BEGIN {
+        printf "%s, %d bytes in reads of %d: %d restarts in %d ms, %.1f MB a second, %d messages a second, %d KiB more held\n",
+            service, bytes, size, rounds, ms, rounds * bytes / ms / 1000, 2 * n / ms * 1000, more
+    }'
+done <<'END'
+echo 15000000 2048
+meter 1048576 1
+END
