@@ -1,9 +1,10 @@
 //! The last lines of a report: how the clients and the log stand, and how many events there were.
 
-ghost use Rattle.std.specs.Prelude.{◌≡◌, ◌++◌, ◌∷◌, codes, OnOk, OnErr};
-ghost use Rattle.ft_model.specs.Texts.{phase_text};
+ghost use Rattle.std.specs.Prelude.{◌≡◌, ◌++◌, ◌∷◌, [], codes, decimal, OnOk, OnErr};
+ghost use Rattle.ft_model.specs.Texts.{spaced, bit_text, list_text, phase_text};
 ghost use Rattle.ft_model.specs.Report.{phase_line, entry_line, end_line};
 
+use crate::line_out::LineOut;
 use crate::line_text::{put_address, put_bit, put_field, put_hex, put_list, put_number, put_word};
 use ft_io::{Key, NoMemory};
 use ft_model::Phase;
@@ -26,7 +27,6 @@ pub struct LogLine<'a> {
 }
 
 /// Writes how client `n` stands: its phase, and what it has accepted of the server. Without memory `out` stays as it was.
-#[tactic(auto, using(crate::proofs::LineLemmas::line_rules), unfolding(ft_model::specs::Report::phase_line))]
 pub fn write_client_line(
     alloc: Global,
     n: u32,
@@ -37,14 +37,22 @@ pub fn write_client_line(
     ensures ok { OnOk result (out.new.items ≡ out.old.items ++ phase_line n phase accepted.now) }
     ensures err { OnErr result (out.new.items ≡ out.old.items) }
 {
-    let mut line = Vec::from_slice(alloc, b"client")?;
-    put_number(u64::from(n), &mut line)?;
-    put_word(phase_word(phase), &mut line)?;
-    put_field(b"accepted", accepted.len() as u64, &mut line)?;
-    put_hex(accepted, &mut line)?;
-    line.push(b'\n')?;
-    out.extend_from_slice(line.as_slice())?;
-    Ok(())
+    let mut line = LineOut::open(alloc, out);
+    let written = put_client(n, phase, accepted, &mut line);
+    line.close(out, written)
+}
+
+#[tactic(auto, using(crate::proofs::LineLemmas::line_rules), unfolding(ft_model::specs::Report::phase_line))]
+fn put_client(n: u32, phase: Phase, accepted: &[u8], line: &mut LineOut) -> Result<(), NoMemory>
+    ensures ok { OnOk result (line.new.words ≡ line.old.words ++ phase_line n phase accepted.now) }
+    ensures before { line.new.before ≡ line.old.before }
+{
+    line.append(b"client")?;
+    put_number(u64::from(n), line)?;
+    put_word(phase_word(phase), line)?;
+    put_field(b" accepted ", accepted.len() as u64, line)?;
+    put_hex(accepted, line)?;
+    line.push(b'\n')
 }
 
 /// The word for a phase.
@@ -62,33 +70,65 @@ fn phase_word(phase: Phase) -> &'static [u8]
 }
 
 /// Writes how a connection stands in the log. Without memory `out` stays as it was.
-#[tactic(auto, using(crate::proofs::LineLemmas::line_rules), unfolding(ft_model::specs::Report::entry_line))]
 pub fn write_log_line(alloc: Global, entry: &LogLine<'_>, out: &mut Vec<u8>) -> Result<(), NoMemory>
     ensures ok { OnOk result (out.new.items ≡ out.old.items ++ entry_line entry.now.key entry.now.length entry.now.fin entry.now.acked entry.now.done entry.now.reads.now) }
     ensures err { OnErr result (out.new.items ≡ out.old.items) }
 {
-    let mut line = Vec::from_slice(alloc, b"log")?;
-    put_address(entry.key.ip, entry.key.port, &mut line)?;
-    put_field(b"length", u64::from(entry.length), &mut line)?;
-    put_bit(b"fin", entry.fin, &mut line)?;
-    put_field(b"acked", u64::from(entry.acked), &mut line)?;
-    put_bit(b"done", entry.done, &mut line)?;
-    put_word(b"reads", &mut line)?;
-    put_list(entry.reads, &mut line)?;
-    line.push(b'\n')?;
-    out.extend_from_slice(line.as_slice())?;
-    Ok(())
+    let mut line = LineOut::open(alloc, out);
+    let written = put_log(entry, &mut line);
+    line.close(out, written)
+}
+
+#[tactic(auto, using(crate::proofs::LineLemmas::line_rules), unfolding(ft_model::specs::Report::entry_line))]
+fn put_log(entry: &LogLine<'_>, line: &mut LineOut) -> Result<(), NoMemory>
+    ensures ok { OnOk result (line.new.words ≡ line.old.words ++ entry_line entry.now.key entry.now.length entry.now.fin entry.now.acked entry.now.done entry.now.reads.now) }
+    ensures before { line.new.before ≡ line.old.before }
+{
+    line.append(b"log")?;
+    put_address(entry.key.ip, entry.key.port, line)?;
+    put_counts(entry, line)?;
+    put_standing(entry, line)?;
+    line.push(b'\n')
+}
+
+/// Whether a connection is over, and the lengths of its reads.
+#[tactic(auto, using(crate::proofs::LineLemmas::line_rules))]
+fn put_standing(entry: &LogLine<'_>, line: &mut LineOut) -> Result<(), NoMemory>
+    ensures ok { OnOk result (line.new.words ≡ line.old.words ++ spaced (codes "done" ∷ bit_text entry.now.done ∷ codes "reads" ∷ list_text entry.now.reads.now ∷ [])) }
+    ensures before { line.new.before ≡ line.old.before }
+{
+    put_bit(b" done ", entry.done, line)?;
+    line.append(b" reads")?;
+    put_list(entry.reads, line)
+}
+
+/// How much of a connection is logged, and how much of its output is acknowledged.
+#[tactic(auto, using(crate::proofs::LineLemmas::line_rules))]
+fn put_counts(entry: &LogLine<'_>, line: &mut LineOut) -> Result<(), NoMemory>
+    ensures ok { OnOk result (line.new.words ≡ line.old.words ++ spaced (codes "length" ∷ decimal entry.now.length ∷ codes "fin" ∷ bit_text entry.now.fin ∷ codes "acked" ∷ decimal entry.now.acked ∷ [])) }
+    ensures before { line.new.before ≡ line.old.before }
+{
+    put_field(b" length ", u64::from(entry.length), line)?;
+    put_bit(b" fin ", entry.fin, line)?;
+    put_field(b" acked ", u64::from(entry.acked), line)
 }
 
 /// Writes the last line, with the number of events. Without memory `out` stays as it was.
-#[tactic(auto, using(crate::proofs::LineLemmas::line_rules), unfolding(ft_model::specs::Report::end_line))]
 pub fn write_end(alloc: Global, n: u32, out: &mut Vec<u8>) -> Result<(), NoMemory>
     ensures ok { OnOk result (out.new.items ≡ out.old.items ++ end_line n) }
     ensures err { OnErr result (out.new.items ≡ out.old.items) }
 {
-    let mut line = Vec::from_slice(alloc, b"end")?;
-    put_number(u64::from(n), &mut line)?;
-    line.push(b'\n')?;
-    out.extend_from_slice(line.as_slice())?;
-    Ok(())
+    let mut line = LineOut::open(alloc, out);
+    let written = put_end(n, &mut line);
+    line.close(out, written)
+}
+
+#[tactic(auto, using(crate::proofs::LineLemmas::line_rules), unfolding(ft_model::specs::Report::end_line))]
+fn put_end(n: u32, line: &mut LineOut) -> Result<(), NoMemory>
+    ensures ok { OnOk result (line.new.words ≡ line.old.words ++ end_line n) }
+    ensures before { line.new.before ≡ line.old.before }
+{
+    line.append(b"end")?;
+    put_number(u64::from(n), line)?;
+    line.push(b'\n')
 }

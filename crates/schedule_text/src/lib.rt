@@ -7,7 +7,7 @@ pub use event_text::write_event;
 pub use ft_model::{ClientLine, ClientLines, Events, Limit, LineWhy, Schedule, Script, Way};
 pub use header_text::write_header;
 pub use packet::{Body, Kept, Message, Numbers, Packet, Part, Segment};
-pub use packet_text::{write_packet_line, write_packet_value};
+pub use packet_text::{is_packet, write_packet_line, write_packet_value};
 pub use read::read_schedule;
 pub use spelling::{read_addr, read_number, read_script, read_service};
 
@@ -17,6 +17,7 @@ mod event_line;
 mod event_text;
 mod header_text;
 mod line;
+mod line_out;
 mod line_text;
 mod message_text;
 mod packet;
@@ -26,6 +27,7 @@ mod packet_text;
 mod read;
 #[cfg(test)]
 mod reading_tests;
+pub mod round_trip;
 mod spelling;
 pub mod stage;
 mod words;

@@ -5,6 +5,7 @@ ghost use Rattle.std.specs.Prelude.{◌≡◌, ◌<◌, ◌≤◌, ◌∷◌, []
 ghost use Rattle.hex.specs.Hex.{encode_lower};
 ghost use Rattle.ft_model.specs.Texts.{or_dash, behind_commas, hex_text, list_text, address_text, letter_if, flag_letters, flags_text, mss_text, bit_text, way_text};
 
+use crate::line_out::LineOut;
 use ft_io::NoMemory;
 use ft_model::Way;
 use itoa::Buffer;
@@ -13,57 +14,68 @@ use itoa::Buffer;
 const HEX_BYTES: usize = 64;
 
 /// A number in decimal, with nothing before it.
-pub(crate) fn put_digits(n: u64, line: &mut Vec<u8>) -> Result<(), NoMemory>
-    ensures { OnOk result (line.new.items ≡ line.old.items ++ decimal n) }
+#[inline]
+#[tactic(auto, using(std::proofs::lemmas::Fmt::decimal_digit))]
+pub(crate) fn put_digits(n: u64, line: &mut LineOut) -> Result<(), NoMemory>
+    ensures ok { OnOk result (line.new.words ≡ line.old.words ++ decimal n) }
+    ensures before { line.new.before ≡ line.old.before }
 {
+    // Many numbers have one digit.
+    if n < 10 {
+        return line.push(b'0' + n as u8);
+    }
     let mut buffer = Buffer::new();
-    line.extend_from_slice(buffer.format(n).as_bytes())?;
-    Ok(())
+    line.append(buffer.format(n).as_bytes())
 }
 
 /// A space and a word.
-pub(crate) fn put_word(word: &[u8], line: &mut Vec<u8>) -> Result<(), NoMemory>
-    ensures { OnOk result (line.new.items ≡ line.old.items ++ 32 ∷ word.now) }
+#[inline]
+pub(crate) fn put_word(word: &[u8], line: &mut LineOut) -> Result<(), NoMemory>
+    ensures ok { OnOk result (line.new.words ≡ line.old.words ++ 32 ∷ word.now) }
+    ensures before { line.new.before ≡ line.old.before }
 {
     line.push(b' ')?;
-    line.extend_from_slice(word)?;
-    Ok(())
+    line.append(word)
 }
 
 /// A space and a number.
-pub(crate) fn put_number(n: u64, line: &mut Vec<u8>) -> Result<(), NoMemory>
-    ensures { OnOk result (line.new.items ≡ line.old.items ++ 32 ∷ decimal n) }
+#[inline]
+pub(crate) fn put_number(n: u64, line: &mut LineOut) -> Result<(), NoMemory>
+    ensures ok { OnOk result (line.new.words ≡ line.old.words ++ 32 ∷ decimal n) }
+    ensures before { line.new.before ≡ line.old.before }
 {
     line.push(b' ')?;
     put_digits(n, line)
 }
 
-/// A field's name and its number, each behind a space.
-pub(crate) fn put_field(name: &[u8], n: u64, line: &mut Vec<u8>) -> Result<(), NoMemory>
-    ensures { OnOk result (line.new.items ≡ line.old.items ++ 32 ∷ (name.now ++ 32 ∷ decimal n)) }
+/// A field's name with its spaces, and its number.
+#[inline]
+pub(crate) fn put_field(name: &[u8], n: u64, line: &mut LineOut) -> Result<(), NoMemory>
+    ensures ok { OnOk result (line.new.words ≡ line.old.words ++ (name.now ++ decimal n)) }
+    ensures before { line.new.before ≡ line.old.before }
 {
-    put_word(name, line)?;
-    put_number(n, line)
+    line.append(name)?;
+    put_digits(n, line)
 }
 
-/// A field's name and 1 or 0, each behind a space.
+/// A field's name with its spaces, and 1 or 0.
+#[inline]
 #[tactic(auto, using(std::proofs::Common::append_assoc), unfolding(ft_model::specs::Texts::bit_text))]
-pub(crate) fn put_bit(name: &[u8], bit: bool, line: &mut Vec<u8>) -> Result<(), NoMemory>
-    ensures { OnOk result (line.new.items ≡ line.old.items ++ 32 ∷ (name.now ++ 32 ∷ bit_text bit)) }
+pub(crate) fn put_bit(name: &[u8], bit: bool, line: &mut LineOut) -> Result<(), NoMemory>
+    ensures ok { OnOk result (line.new.words ≡ line.old.words ++ (name.now ++ bit_text bit)) }
+    ensures before { line.new.before ≡ line.old.before }
 {
-    put_word(name, line)?;
-    if bit {
-        put_word(b"1", line)
-    } else {
-        put_word(b"0", line)
-    }
+    line.append(name)?;
+    line.push(if bit { b'1' } else { b'0' })
 }
 
 /// A dash, where nothing stands behind the first `start` bytes.
+#[inline]
 #[tactic(auto, using(crate::proofs::Dashes::dash_for_none, crate::proofs::Dashes::itself_for_some))]
-pub(crate) fn put_dash(start: usize, line: &mut Vec<u8>) -> Result<(), NoMemory>
-    requires { start ≤ length line.old.items }
-    ensures { OnOk result (line.new.items ≡ take start line.old.items ++ or_dash (drop start line.old.items)) }
+pub(crate) fn put_dash(start: usize, line: &mut LineOut) -> Result<(), NoMemory>
+    requires { start ≤ length line.old.words }
+    ensures ok { OnOk result (line.new.words ≡ take start line.old.words ++ or_dash (drop start line.old.words)) }
+    ensures before { line.new.before ≡ line.old.before }
 {
     if line.len() == start {
         line.push(b'-')?;
@@ -73,8 +85,9 @@ pub(crate) fn put_dash(start: usize, line: &mut Vec<u8>) -> Result<(), NoMemory>
 
 /// A space, and bytes in hexadecimal.
 #[tactic(auto, using(crate::proofs::Dashes::seams), unfolding(ft_model::specs::Texts::hex_text))]
-pub(crate) fn put_hex(bytes: &[u8], line: &mut Vec<u8>) -> Result<(), NoMemory>
-    ensures { OnOk result (line.new.items ≡ line.old.items ++ 32 ∷ hex_text bytes.now) }
+pub(crate) fn put_hex(bytes: &[u8], line: &mut LineOut) -> Result<(), NoMemory>
+    ensures ok { OnOk result (line.new.words ≡ line.old.words ++ 32 ∷ hex_text bytes.now) }
+    ensures before { line.new.before ≡ line.old.before }
 {
     line.push(b' ')?;
     let start = line.len();
@@ -84,8 +97,9 @@ pub(crate) fn put_hex(bytes: &[u8], line: &mut Vec<u8>) -> Result<(), NoMemory>
 
 /// Bytes in hexadecimal, with nothing before them.
 #[tactic(auto, using(crate::proofs::Hex::part_written, crate::proofs::Hex::all_written))]
-pub(crate) fn put_hex_digits(bytes: &[u8], line: &mut Vec<u8>) -> Result<(), NoMemory>
-    ensures { OnOk result (line.new.items ≡ line.old.items ++ encode_lower bytes.now) }
+pub(crate) fn put_hex_digits(bytes: &[u8], line: &mut LineOut) -> Result<(), NoMemory>
+    ensures ok { OnOk result (line.new.words ≡ line.old.words ++ encode_lower bytes.now) }
+    ensures before { line.new.before ≡ line.old.before }
 {
     let mut rest = bytes;
     while !rest.is_empty() {
@@ -95,7 +109,7 @@ pub(crate) fn put_hex_digits(bytes: &[u8], line: &mut Vec<u8>) -> Result<(), NoM
         let Ok(()) = hex::encode_to_slice(part, room) else {
             unreachable!()
         };
-        line.extend_from_slice(room)?;
+        line.append(room)?;
         rest = behind;
     }
     Ok(())
@@ -103,8 +117,9 @@ pub(crate) fn put_hex_digits(bytes: &[u8], line: &mut Vec<u8>) -> Result<(), NoM
 
 /// A space, and numbers joined by commas.
 #[tactic(auto, using(crate::proofs::Lengths::no_numbers, crate::proofs::Lengths::numbers_cons, std::proofs::Common::append_assoc))]
-pub(crate) fn put_list(numbers: &[u16], line: &mut Vec<u8>) -> Result<(), NoMemory>
-    ensures { OnOk result (line.new.items ≡ line.old.items ++ 32 ∷ list_text numbers.now) }
+pub(crate) fn put_list(numbers: &[u16], line: &mut LineOut) -> Result<(), NoMemory>
+    ensures ok { OnOk result (line.new.words ≡ line.old.words ++ 32 ∷ list_text numbers.now) }
+    ensures before { line.new.before ≡ line.old.before }
 {
     let Some((first, others)) = numbers.split_first() else {
         return put_word(b"-", line);
@@ -115,8 +130,9 @@ pub(crate) fn put_list(numbers: &[u16], line: &mut Vec<u8>) -> Result<(), NoMemo
 
 /// Numbers in decimal, each behind a comma.
 #[tactic(auto, using(std::proofs::Common::append_assoc))]
-fn put_others(numbers: &[u16], line: &mut Vec<u8>) -> Result<(), NoMemory>
-    ensures { OnOk result (line.new.items ≡ line.old.items ++ behind_commas numbers.now) }
+fn put_others(numbers: &[u16], line: &mut LineOut) -> Result<(), NoMemory>
+    ensures ok { OnOk result (line.new.words ≡ line.old.words ++ behind_commas numbers.now) }
+    ensures before { line.new.before ≡ line.old.before }
 {
     for number in numbers {
         line.push(b',')?;
@@ -127,8 +143,9 @@ fn put_others(numbers: &[u16], line: &mut Vec<u8>) -> Result<(), NoMemory>
 
 /// A space, and an IPv4 address with a port.
 #[tactic(auto, using(std::proofs::Common::append_assoc), unfolding(ft_model::specs::Texts::address_text))]
-pub(crate) fn put_address(ip: u32, port: u16, line: &mut Vec<u8>) -> Result<(), NoMemory>
-    ensures { OnOk result (line.new.items ≡ line.old.items ++ 32 ∷ address_text ip port) }
+pub(crate) fn put_address(ip: u32, port: u16, line: &mut LineOut) -> Result<(), NoMemory>
+    ensures ok { OnOk result (line.new.words ≡ line.old.words ++ 32 ∷ address_text ip port) }
+    ensures before { line.new.before ≡ line.old.before }
 {
     line.push(b' ')?;
     put_part(ip / 0x100_0000, b'.', line)?;
@@ -139,19 +156,21 @@ pub(crate) fn put_address(ip: u32, port: u16, line: &mut Vec<u8>) -> Result<(), 
 }
 
 /// A number, and a mark behind it.
+#[inline]
 #[tactic(auto, using(std::proofs::Common::append_assoc))]
-fn put_part(n: u32, mark: u8, line: &mut Vec<u8>) -> Result<(), NoMemory>
-    ensures { OnOk result (line.new.items ≡ line.old.items ++ (decimal n ++ mark ∷ [])) }
+fn put_part(n: u32, mark: u8, line: &mut LineOut) -> Result<(), NoMemory>
+    ensures ok { OnOk result (line.new.words ≡ line.old.words ++ (decimal n ++ mark ∷ [])) }
+    ensures before { line.new.before ≡ line.old.before }
 {
     put_digits(u64::from(n), line)?;
-    line.push(mark)?;
-    Ok(())
+    line.push(mark)
 }
 
 /// A space, and the letters of the flags that are set.
 #[tactic(auto, using(crate::proofs::Dashes::seams), unfolding(ft_model::specs::Texts::flags_text))]
-pub(crate) fn put_flags(flags: u8, line: &mut Vec<u8>) -> Result<(), NoMemory>
-    ensures { OnOk result (line.new.items ≡ line.old.items ++ 32 ∷ flags_text flags) }
+pub(crate) fn put_flags(flags: u8, line: &mut LineOut) -> Result<(), NoMemory>
+    ensures ok { OnOk result (line.new.words ≡ line.old.words ++ 32 ∷ flags_text flags) }
+    ensures before { line.new.before ≡ line.old.before }
 {
     line.push(b' ')?;
     let start = line.len();
@@ -161,8 +180,9 @@ pub(crate) fn put_flags(flags: u8, line: &mut Vec<u8>) -> Result<(), NoMemory>
 
 /// The letters of the flags that are set.
 #[tactic(auto, using(std::proofs::Common::append_assoc))]
-fn put_letters(flags: u8, line: &mut Vec<u8>) -> Result<(), NoMemory>
-    ensures { OnOk result (line.new.items ≡ line.old.items ++ flag_letters flags) }
+fn put_letters(flags: u8, line: &mut LineOut) -> Result<(), NoMemory>
+    ensures ok { OnOk result (line.new.words ≡ line.old.words ++ flag_letters flags) }
+    ensures before { line.new.before ≡ line.old.before }
 {
     put_letter(flags, 0x80, b'C', line)?;
     put_letter(flags, 0x40, b'E', line)?;
@@ -175,9 +195,11 @@ fn put_letters(flags: u8, line: &mut Vec<u8>) -> Result<(), NoMemory>
 }
 
 /// A flag's letter, where the flag is set.
-fn put_letter(flags: u8, flag: u8, letter: u8, line: &mut Vec<u8>) -> Result<(), NoMemory>
+#[inline]
+fn put_letter(flags: u8, flag: u8, letter: u8, line: &mut LineOut) -> Result<(), NoMemory>
     requires { 0 < flag }
-    ensures { OnOk result (line.new.items ≡ line.old.items ++ letter_if flag (letter ∷ []) flags) }
+    ensures ok { OnOk result (line.new.words ≡ line.old.words ++ letter_if flag (letter ∷ []) flags) }
+    ensures before { line.new.before ≡ line.old.before }
 {
     if flags / flag % 2 == 1 {
         line.push(letter)?;
@@ -186,29 +208,29 @@ fn put_letter(flags: u8, flag: u8, letter: u8, line: &mut Vec<u8>) -> Result<(),
 }
 
 /// The name of the MSS option and its value, each behind a space.
+#[inline]
 #[tactic(auto, using(std::proofs::Common::append_assoc), unfolding(ft_model::specs::Texts::mss_text))]
-pub(crate) fn put_mss(mss: Option<u16>, line: &mut Vec<u8>) -> Result<(), NoMemory>
-    ensures { OnOk result (line.new.items ≡ line.old.items ++ 32 ∷ (codes "mss" ++ 32 ∷ mss_text mss)) }
+pub(crate) fn put_mss(mss: Option<u16>, line: &mut LineOut) -> Result<(), NoMemory>
+    ensures ok { OnOk result (line.new.words ≡ line.old.words ++ 32 ∷ (codes "mss" ++ 32 ∷ mss_text mss)) }
+    ensures before { line.new.before ≡ line.old.before }
 {
     match mss {
-        None => {
-            put_word(b"mss", line)?;
-            put_word(b"-", line)
-        }
-        Some(mss) => put_field(b"mss", u64::from(mss), line),
+        None => line.append(b" mss -"),
+        Some(mss) => put_field(b" mss ", u64::from(mss), line),
     }
 }
 
 /// A space, and a packet's way.
+#[inline]
 #[tactic(auto, using(std::proofs::Common::append_assoc), unfolding(ft_model::specs::Texts::way_text))]
-pub(crate) fn put_way(way: Way, line: &mut Vec<u8>) -> Result<(), NoMemory>
-    ensures { OnOk result (line.new.items ≡ line.old.items ++ 32 ∷ way_text way) }
+pub(crate) fn put_way(way: Way, line: &mut LineOut) -> Result<(), NoMemory>
+    ensures ok { OnOk result (line.new.words ≡ line.old.words ++ 32 ∷ way_text way) }
+    ensures before { line.new.before ≡ line.old.before }
 {
     match way {
         Way::ClientToServer(n) => {
             put_number(u64::from(n), line)?;
-            line.extend_from_slice(b">S")?;
-            Ok(())
+            line.append(b">S")
         }
         Way::ServerToClient(n) => {
             put_word(b"S>", line)?;

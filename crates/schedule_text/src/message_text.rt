@@ -7,17 +7,19 @@ ghost use Rattle.ft_model.specs.Texts.{spaced, key_text, bit_text, hex_text, lis
 ghost use Rattle.ft_model.specs.Report.{key_words, numbers_words, kept_words, part_words, read_words, field_words, name_of, message_words};
 ghost use Rattle.logger_wire.specs.Value.{is_set, body_of, message_of};
 
+use crate::line_out::LineOut;
 use crate::line_text::{put_address, put_bit, put_dash, put_digits, put_field, put_hex, put_word};
 use ft_io::{Key, NoMemory};
 use logger_wire::{Body, Msg};
 
 /// A message: its name, its boot number, then the fields of its body.
 #[tactic(auto, using(crate::proofs::LineLemmas::line_rules), unfolding(ft_model::specs::Report::message_words))]
-pub(crate) fn put_message(msg: &Msg<'_>, line: &mut Vec<u8>) -> Result<(), NoMemory>
-    ensures { OnOk result (line.new.items ≡ line.old.items ++ spaced (message_words (message_of msg.now))) }
+pub(crate) fn put_message(msg: &Msg<'_>, line: &mut LineOut) -> Result<(), NoMemory>
+    ensures ok { OnOk result (line.new.words ≡ line.old.words ++ spaced (message_words (message_of msg.now))) }
+    ensures before { line.new.before ≡ line.old.before }
 {
     put_word(name(&msg.body), line)?;
-    put_field(b"boot", msg.boot, line)?;
+    put_field(b" boot ", msg.boot, line)?;
     put_fields(&msg.body, line)
 }
 
@@ -49,13 +51,14 @@ fn name(body: &Body<'_>) -> &'static [u8]
 
 /// The fields of a body.
 #[tactic(auto, using(crate::proofs::LineLemmas::line_rules))]
-fn put_fields(body: &Body<'_>, line: &mut Vec<u8>) -> Result<(), NoMemory>
-    ensures { OnOk result (line.new.items ≡ line.old.items ++ spaced (field_words (body_of body.now))) }
+fn put_fields(body: &Body<'_>, line: &mut LineOut) -> Result<(), NoMemory>
+    ensures ok { OnOk result (line.new.words ≡ line.old.words ++ spaced (field_words (body_of body.now))) }
+    ensures before { line.new.before ≡ line.old.before }
 {
     match *body {
         Body::HelloMsg => Ok(()),
-        Body::SummaryMsg { count } => put_field(b"count", u64::from(count), line),
-        Body::ListMsg { index } => put_field(b"index", u64::from(index), line),
+        Body::SummaryMsg { count } => put_field(b" count ", u64::from(count), line),
+        Body::ListMsg { index } => put_field(b" index ", u64::from(index), line),
         Body::EntryMsg {
             index,
             key,
@@ -68,14 +71,14 @@ fn put_fields(body: &Body<'_>, line: &mut Vec<u8>) -> Result<(), NoMemory>
             reads,
             acked,
         } => {
-            put_field(b"index", u64::from(index), line)?;
+            put_field(b" index ", u64::from(index), line)?;
             put_numbers(key, cisn, sisn, mss, line)?;
-            put_field(b"length", u64::from(length), line)?;
+            put_field(b" length ", u64::from(length), line)?;
             put_standing(fin, done, reads, acked, line)
         }
-        Body::BytesMsg { key, offset } => put_place(key, b"offset", offset, line),
+        Body::BytesMsg { key, offset } => put_place(key, b" offset ", offset, line),
         Body::PartMsg { key, offset, bytes } => put_part(key, offset, bytes, line),
-        Body::CutsMsg { key, first } => put_place(key, b"first", first, line),
+        Body::CutsMsg { key, first } => put_place(key, b" first ", first, line),
         Body::LensMsg { key, first, lens } => put_lens(key, first, lens, line),
         Body::OpenMsg {
             key,
@@ -112,23 +115,25 @@ fn put_fields(body: &Body<'_>, line: &mut Vec<u8>) -> Result<(), NoMemory>
         Body::DoneMsg { key } | Body::EndedMsg { key } | Body::FullMsg { key } => put_key(
             key, line,
         ),
-        Body::StaleMsg { newer } => put_field(b"newer", newer, line),
+        Body::StaleMsg { newer } => put_field(b" newer ", newer, line),
     }
 }
 
 /// A connection's key.
 #[tactic(auto, using(crate::proofs::LineLemmas::line_rules))]
-fn put_key(key: Key, line: &mut Vec<u8>) -> Result<(), NoMemory>
-    ensures { OnOk result (line.new.items ≡ line.old.items ++ spaced (key_words key)) }
+fn put_key(key: Key, line: &mut LineOut) -> Result<(), NoMemory>
+    ensures ok { OnOk result (line.new.words ≡ line.old.words ++ spaced (key_words key)) }
+    ensures before { line.new.before ≡ line.old.before }
 {
-    put_word(b"key", line)?;
+    line.append(b" key")?;
     put_address(key.ip, key.port, line)
 }
 
 /// A key, and a place in what is logged of it.
 #[tactic(auto, using(crate::proofs::LineLemmas::line_rules))]
-fn put_place(key: Key, name: &[u8], place: u32, line: &mut Vec<u8>) -> Result<(), NoMemory>
-    ensures { OnOk result (line.new.items ≡ line.old.items ++ (spaced (key_words key) ++ 32 ∷ (name.now ++ 32 ∷ decimal place))) }
+fn put_place(key: Key, name: &[u8], place: u32, line: &mut LineOut) -> Result<(), NoMemory>
+    ensures ok { OnOk result (line.new.words ≡ line.old.words ++ (spaced (key_words key) ++ (name.now ++ decimal place))) }
+    ensures before { line.new.before ≡ line.old.before }
 {
     put_key(key, line)?;
     put_field(name, u64::from(place), line)
@@ -136,24 +141,26 @@ fn put_place(key: Key, name: &[u8], place: u32, line: &mut Vec<u8>) -> Result<()
 
 /// The numbers of a connection.
 #[tactic(auto, using(crate::proofs::LineLemmas::line_rules))]
-fn put_numbers(key: Key, cisn: u32, sisn: u32, mss: u16, line: &mut Vec<u8>) -> Result<(), NoMemory>
-    ensures { OnOk result (line.new.items ≡ line.old.items ++ spaced (numbers_words (record { key = key; cisn = cisn; sisn = sisn; mss = mss }))) }
+fn put_numbers(key: Key, cisn: u32, sisn: u32, mss: u16, line: &mut LineOut) -> Result<(), NoMemory>
+    ensures ok { OnOk result (line.new.words ≡ line.old.words ++ spaced (numbers_words (record { key = key; cisn = cisn; sisn = sisn; mss = mss }))) }
+    ensures before { line.new.before ≡ line.old.before }
 {
     put_key(key, line)?;
-    put_field(b"cisn", u64::from(cisn), line)?;
-    put_field(b"sisn", u64::from(sisn), line)?;
-    put_field(b"mss", u64::from(mss), line)
+    put_field(b" cisn ", u64::from(cisn), line)?;
+    put_field(b" sisn ", u64::from(sisn), line)?;
+    put_field(b" mss ", u64::from(mss), line)
 }
 
 /// How much of a connection is logged.
 #[tactic(auto, using(crate::proofs::LineLemmas::line_rules))]
-fn put_kept(key: Key, length: u32, fin: u8, reads: u32, line: &mut Vec<u8>) -> Result<(), NoMemory>
-    ensures { OnOk result (line.new.items ≡ line.old.items ++ spaced (kept_words (record { key = key; length = length; fin = is_set fin; reads = reads }))) }
+fn put_kept(key: Key, length: u32, fin: u8, reads: u32, line: &mut LineOut) -> Result<(), NoMemory>
+    ensures ok { OnOk result (line.new.words ≡ line.old.words ++ spaced (kept_words (record { key = key; length = length; fin = is_set fin; reads = reads }))) }
+    ensures before { line.new.before ≡ line.old.before }
 {
     put_key(key, line)?;
-    put_field(b"length", u64::from(length), line)?;
-    put_bit(b"fin", fin == 1, line)?;
-    put_field(b"reads", u64::from(reads), line)
+    put_field(b" length ", u64::from(length), line)?;
+    put_bit(b" fin ", fin == 1, line)?;
+    put_field(b" reads ", u64::from(reads), line)
 }
 
 /// How a logged connection stands, behind how many bytes it has.
@@ -163,23 +170,25 @@ fn put_standing(
     done: u8,
     reads: u32,
     acked: u32,
-    line: &mut Vec<u8>,
+    line: &mut LineOut,
 ) -> Result<(), NoMemory>
-    ensures { OnOk result (line.new.items ≡ line.old.items ++ spaced (codes "fin" ∷ bit_text (is_set fin) ∷ codes "done" ∷ bit_text (is_set done) ∷ codes "reads" ∷ decimal reads ∷ codes "acked" ∷ decimal acked ∷ [])) }
+    ensures ok { OnOk result (line.new.words ≡ line.old.words ++ spaced (codes "fin" ∷ bit_text (is_set fin) ∷ codes "done" ∷ bit_text (is_set done) ∷ codes "reads" ∷ decimal reads ∷ codes "acked" ∷ decimal acked ∷ [])) }
+    ensures before { line.new.before ≡ line.old.before }
 {
-    put_bit(b"fin", fin == 1, line)?;
-    put_bit(b"done", done == 1, line)?;
-    put_field(b"reads", u64::from(reads), line)?;
-    put_field(b"acked", u64::from(acked), line)
+    put_bit(b" fin ", fin == 1, line)?;
+    put_bit(b" done ", done == 1, line)?;
+    put_field(b" reads ", u64::from(reads), line)?;
+    put_field(b" acked ", u64::from(acked), line)
 }
 
 /// Logged bytes.
 #[tactic(auto, using(crate::proofs::LineLemmas::line_rules))]
-fn put_part(key: Key, offset: u32, bytes: &[u8], line: &mut Vec<u8>) -> Result<(), NoMemory>
-    ensures { OnOk result (line.new.items ≡ line.old.items ++ spaced (codes "key" ∷ key_text key ∷ codes "offset" ∷ decimal offset ∷ codes "bytes" ∷ hex_text bytes.now ∷ [])) }
+fn put_part(key: Key, offset: u32, bytes: &[u8], line: &mut LineOut) -> Result<(), NoMemory>
+    ensures ok { OnOk result (line.new.words ≡ line.old.words ++ spaced (codes "key" ∷ key_text key ∷ codes "offset" ∷ decimal offset ∷ codes "bytes" ∷ hex_text bytes.now ∷ [])) }
+    ensures before { line.new.before ≡ line.old.before }
 {
-    put_place(key, b"offset", offset, line)?;
-    put_word(b"bytes", line)?;
+    put_place(key, b" offset ", offset, line)?;
+    line.append(b" bytes")?;
     put_hex(bytes, line)
 }
 
@@ -191,40 +200,44 @@ fn put_data(
     acked: u32,
     fin: u8,
     bytes: &[u8],
-    line: &mut Vec<u8>,
+    line: &mut LineOut,
 ) -> Result<(), NoMemory>
-    ensures { OnOk result (line.new.items ≡ line.old.items ++ spaced (part_words (record { key = key; offset = offset; acked = acked; fin = is_set fin; bytes = bytes.now }))) }
+    ensures ok { OnOk result (line.new.words ≡ line.old.words ++ spaced (part_words (record { key = key; offset = offset; acked = acked; fin = is_set fin; bytes = bytes.now }))) }
+    ensures before { line.new.before ≡ line.old.before }
 {
-    put_place(key, b"offset", offset, line)?;
-    put_field(b"acked", u64::from(acked), line)?;
-    put_bit(b"fin", fin == 1, line)?;
-    put_word(b"bytes", line)?;
+    put_place(key, b" offset ", offset, line)?;
+    put_field(b" acked ", u64::from(acked), line)?;
+    put_bit(b" fin ", fin == 1, line)?;
+    line.append(b" bytes")?;
     put_hex(bytes, line)
 }
 
 /// The length of a read.
 #[tactic(auto, using(crate::proofs::LineLemmas::line_rules))]
-fn put_read(key: Key, index: u32, length: u16, line: &mut Vec<u8>) -> Result<(), NoMemory>
-    ensures { OnOk result (line.new.items ≡ line.old.items ++ spaced (read_words key index length)) }
+fn put_read(key: Key, index: u32, length: u16, line: &mut LineOut) -> Result<(), NoMemory>
+    ensures ok { OnOk result (line.new.words ≡ line.old.words ++ spaced (read_words key index length)) }
+    ensures before { line.new.before ≡ line.old.before }
 {
-    put_place(key, b"index", index, line)?;
-    put_field(b"length", u64::from(length), line)
+    put_place(key, b" index ", index, line)?;
+    put_field(b" length ", u64::from(length), line)
 }
 
 /// Logged lengths of reads.
 #[tactic(auto, using(crate::proofs::LineLemmas::line_rules))]
-fn put_lens(key: Key, first: u32, lens: &[u8], line: &mut Vec<u8>) -> Result<(), NoMemory>
-    ensures { OnOk result (line.new.items ≡ line.old.items ++ spaced (codes "key" ∷ key_text key ∷ codes "first" ∷ decimal first ∷ codes "lens" ∷ list_text (lens_in lens.now) ∷ [])) }
+fn put_lens(key: Key, first: u32, lens: &[u8], line: &mut LineOut) -> Result<(), NoMemory>
+    ensures ok { OnOk result (line.new.words ≡ line.old.words ++ spaced (codes "key" ∷ key_text key ∷ codes "first" ∷ decimal first ∷ codes "lens" ∷ list_text (lens_in lens.now) ∷ [])) }
+    ensures before { line.new.before ≡ line.old.before }
 {
-    put_place(key, b"first", first, line)?;
-    put_word(b"lens", line)?;
+    put_place(key, b" first ", first, line)?;
+    line.append(b" lens")?;
     put_lengths(lens, line)
 }
 
 /// A space, and lengths of two bytes each, joined by commas.
 #[tactic(auto, using(crate::proofs::Dashes::seams), unfolding(ft_model::specs::Texts::list_text))]
-fn put_lengths(lens: &[u8], line: &mut Vec<u8>) -> Result<(), NoMemory>
-    ensures { OnOk result (line.new.items ≡ line.old.items ++ 32 ∷ list_text (lens_in lens.now)) }
+fn put_lengths(lens: &[u8], line: &mut LineOut) -> Result<(), NoMemory>
+    ensures ok { OnOk result (line.new.words ≡ line.old.words ++ 32 ∷ list_text (lens_in lens.now)) }
+    ensures before { line.new.before ≡ line.old.before }
 {
     line.push(b' ')?;
     let start = line.len();
@@ -234,8 +247,9 @@ fn put_lengths(lens: &[u8], line: &mut Vec<u8>) -> Result<(), NoMemory>
 
 /// Lengths of two bytes each, joined by commas, with nothing before them.
 #[tactic(auto, using(crate::proofs::Lengths::nothing_joined, ft_model::proofs::ReportParts::joined_behind, std::proofs::Common::append_assoc))]
-fn put_joined(lens: &[u8], line: &mut Vec<u8>) -> Result<(), NoMemory>
-    ensures { OnOk result (line.new.items ≡ line.old.items ++ join_with_byte 44 (map decimal (lens_in lens.now))) }
+fn put_joined(lens: &[u8], line: &mut LineOut) -> Result<(), NoMemory>
+    ensures ok { OnOk result (line.new.words ≡ line.old.words ++ join_with_byte 44 (map decimal (lens_in lens.now))) }
+    ensures before { line.new.before ≡ line.old.before }
 {
     let [high, low, others @ ..] = lens else {
         return Ok(());
@@ -246,8 +260,9 @@ fn put_joined(lens: &[u8], line: &mut Vec<u8>) -> Result<(), NoMemory>
 
 /// Lengths of two bytes each, each behind a comma.
 #[tactic(auto, using(std::proofs::Common::append_assoc))]
-fn put_others(lens: &[u8], line: &mut Vec<u8>) -> Result<(), NoMemory>
-    ensures { OnOk result (line.new.items ≡ line.old.items ++ behind_commas (lens_in lens.now)) }
+fn put_others(lens: &[u8], line: &mut LineOut) -> Result<(), NoMemory>
+    ensures ok { OnOk result (line.new.words ≡ line.old.words ++ behind_commas (lens_in lens.now)) }
+    ensures before { line.new.before ≡ line.old.before }
 {
     let mut rest = lens;
     while let [high, low, behind @ ..] = rest {

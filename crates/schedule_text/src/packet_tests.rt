@@ -1,30 +1,15 @@
 //! Lines of packets as bytes: segments, and a message of each kind. The bytes and the lines were made from the formats by another program.
 
-ghost use Rattle.std.specs.Prelude.{◌≡◌, true, IsSome};
-ghost use Rattle.schedule_text.specs.Bytes.{packet_in};
-
-use crate::write_packet_line;
+use crate::{is_packet, write_packet_line};
 use ft_io::NoMemory;
 use ft_model::Way;
-use logger_wire::read_msg;
-use segment_codec::read_packet;
 use std::alloc::Global;
 use std::test::Fail;
-
-/// Whether the codec of their way accepts the bytes.
-fn is_accepted(way: Way, bytes: &[u8]) -> bool
-    ensures { result ≡ true → IsSome (packet_in way bytes.now) }
-{
-    match way {
-        Way::ClientToServer(_) | Way::ServerToClient(_) => read_packet(bytes).is_ok(),
-        Way::ServerToLogger | Way::LoggerToServer => read_msg(bytes).is_ok(),
-    }
-}
 
 /// The line of packet 7, which says these bytes; nothing where their codec refuses them.
 fn line_of(alloc: Global, way: Way, bytes: &[u8]) -> Result<Vec<u8>, NoMemory> {
     let mut out = Vec::new(alloc);
-    if is_accepted(way, bytes) {
+    if is_packet(way, bytes) {
         write_packet_line(alloc, 7, way, bytes, &mut out)?;
     }
     Ok(out)

@@ -1,28 +1,35 @@
 //! The line of a packet: a segment or a message, with its fields by name.
 
-ghost use Rattle.std.specs.Prelude.{◌≡◌, ◌++◌, ◌∷◌, codes, decimal, [], OnOk, OnErr, IsSome, IfSome};
+ghost use Rattle.std.specs.Prelude.{◌≡◌, ◌++◌, ◌∷◌, ◌↔◌, codes, decimal, [], IsTrue, OnOk, OnErr, IsSome, IfSome};
 ghost use Rattle.seq_arith.specs.Value.{said};
 ghost use Rattle.ft_model.specs.Texts.{spaced, way_text};
 ghost use Rattle.ft_model.specs.Report.{segment_words, content_words, packet_line};
 ghost use Rattle.schedule_text.specs.Bytes.{packet_in};
 ghost use Rattle.schedule_text.specs.Packet.{packet_of};
 
-use crate::line_text::{put_field, put_flags, put_hex, put_mss, put_number, put_way, put_word};
+use crate::line_out::LineOut;
+use crate::line_text::{put_field, put_flags, put_hex, put_mss, put_number, put_way};
 use crate::message_text::put_message;
 use crate::packet::Packet;
 use ft_io::NoMemory;
 use ft_model::Way;
 use logger_wire::read_msg;
-use segment_codec::read_accepted;
+use segment_codec::{read_accepted, read_packet};
 use seq_arith::Head;
 use std::alloc::Global;
 
-/// Bytes of a packet's line that always suffice beside two for each byte of the packet.
-const WORDS: usize = 192;
+/// Whether bytes are a packet of this way: one that the codec of its kind accepts.
+pub fn is_packet(way: Way, bytes: &[u8]) -> bool
+    ensures { IsTrue result ↔ IsSome (packet_in way bytes.now) }
+{
+    match way {
+        Way::ClientToServer(_) | Way::ServerToClient(_) => read_packet(bytes).is_ok(),
+        Way::ServerToLogger | Way::LoggerToServer => read_msg(bytes).is_ok(),
+    }
+}
 
-/// Writes the line of packet `n` of the run: its number, its way and its content. The bytes are a packet of that way: one that the codec
-/// of its kind accepts. Without memory `out` stays as it was.
-#[tactic(auto, using(std::proofs::Common::append_assoc), unfolding(ft_model::specs::Report::packet_line))]
+/// Writes the line of packet `n` of the run: its number, its way and its content. The bytes are a packet of that way. Without memory `out`
+/// stays as it was.
 pub fn write_packet_line(
     alloc: Global,
     n: u32,
@@ -34,16 +41,23 @@ pub fn write_packet_line(
     ensures ok { OnOk result (IfSome (packet_in way bytes.now) (λ packet. out.new.items ≡ out.old.items ++ packet_line n way packet)) }
     ensures err { OnErr result (out.new.items ≡ out.old.items) }
 {
-    let mut line = Vec::with_capacity(alloc, WORDS)?;
-    put_start(n, way, &mut line)?;
-    put_bytes(way, bytes, &mut line)?;
-    line.push(b'\n')?;
-    out.extend_from_slice(line.as_slice())?;
-    Ok(())
+    let mut line = LineOut::open(alloc, out);
+    let written = put_packet_line(n, way, bytes, &mut line);
+    line.close(out, written)
+}
+
+#[tactic(auto, using(std::proofs::Common::append_assoc), unfolding(ft_model::specs::Report::packet_line))]
+fn put_packet_line(n: u32, way: Way, bytes: &[u8], line: &mut LineOut) -> Result<(), NoMemory>
+    requires { IsSome (packet_in way bytes.now) }
+    ensures ok { OnOk result (IfSome (packet_in way bytes.now) (λ packet. line.new.words ≡ line.old.words ++ packet_line n way packet)) }
+    ensures before { line.new.before ≡ line.old.before }
+{
+    put_start(n, way, line)?;
+    put_bytes(way, bytes, line)?;
+    line.push(b'\n')
 }
 
 /// Writes the line of a packet that is kept as a value, likewise.
-#[tactic(auto, using(std::proofs::Common::append_assoc), unfolding(ft_model::specs::Report::packet_line))]
 pub fn write_packet_value(
     alloc: Global,
     n: u32,
@@ -54,29 +68,38 @@ pub fn write_packet_value(
     ensures ok { OnOk result (out.new.items ≡ out.old.items ++ packet_line n way (packet_of packet.now)) }
     ensures err { OnErr result (out.new.items ≡ out.old.items) }
 {
-    let mut line = Vec::with_capacity(alloc, WORDS)?;
-    put_start(n, way, &mut line)?;
-    put_value(packet, &mut line)?;
-    line.push(b'\n')?;
-    out.extend_from_slice(line.as_slice())?;
-    Ok(())
+    let mut line = LineOut::open(alloc, out);
+    let written = put_value_line(n, way, packet, &mut line);
+    line.close(out, written)
+}
+
+#[tactic(auto, using(std::proofs::Common::append_assoc), unfolding(ft_model::specs::Report::packet_line))]
+fn put_value_line(n: u32, way: Way, packet: &Packet, line: &mut LineOut) -> Result<(), NoMemory>
+    ensures ok { OnOk result (line.new.words ≡ line.old.words ++ packet_line n way (packet_of packet.now)) }
+    ensures before { line.new.before ≡ line.old.before }
+{
+    put_start(n, way, line)?;
+    put_value(packet, line)?;
+    line.push(b'\n')
 }
 
 /// What stands before a packet's content.
 #[tactic(auto, using(crate::proofs::LineLemmas::line_rules))]
-fn put_start(n: u32, way: Way, line: &mut Vec<u8>) -> Result<(), NoMemory>
-    ensures { OnOk result (line.new.items ≡ line.old.items ++ (codes "packet" ++ spaced (decimal n ∷ way_text way ∷ []))) }
+fn put_start(n: u32, way: Way, line: &mut LineOut) -> Result<(), NoMemory>
+    ensures ok { OnOk result (line.new.words ≡ line.old.words ++ (codes "packet" ++ spaced (decimal n ∷ way_text way ∷ []))) }
+    ensures before { line.new.before ≡ line.old.before }
 {
-    line.extend_from_slice(b"packet")?;
+    line.append(b"packet")?;
     put_number(u64::from(n), line)?;
     put_way(way, line)
 }
 
 /// The words of the packet that bytes say, each behind a space.
 #[tactic(auto, unfolding(ft_model::specs::Report::content_words))]
-fn put_bytes(way: Way, bytes: &[u8], line: &mut Vec<u8>) -> Result<(), NoMemory>
+fn put_bytes(way: Way, bytes: &[u8], line: &mut LineOut) -> Result<(), NoMemory>
     requires { IsSome (packet_in way bytes.now) }
-    ensures { OnOk result (IfSome (packet_in way bytes.now) (λ packet. line.new.items ≡ line.old.items ++ spaced (content_words packet))) }
+    ensures ok { OnOk result (IfSome (packet_in way bytes.now) (λ packet. line.new.words ≡ line.old.words ++ spaced (content_words packet))) }
+    ensures before { line.new.before ≡ line.old.before }
 {
     match way {
         Way::ClientToServer(_) | Way::ServerToClient(_) => {
@@ -94,8 +117,9 @@ fn put_bytes(way: Way, bytes: &[u8], line: &mut Vec<u8>) -> Result<(), NoMemory>
 
 /// The words of a packet, each behind a space.
 #[tactic(auto, unfolding(ft_model::specs::Report::content_words))]
-fn put_value(packet: &Packet, line: &mut Vec<u8>) -> Result<(), NoMemory>
-    ensures { OnOk result (line.new.items ≡ line.old.items ++ spaced (content_words (packet_of packet.now))) }
+fn put_value(packet: &Packet, line: &mut LineOut) -> Result<(), NoMemory>
+    ensures ok { OnOk result (line.new.words ≡ line.old.words ++ spaced (content_words (packet_of packet.now))) }
+    ensures before { line.new.before ≡ line.old.before }
 {
     match packet {
         Packet::ToServer(segment) | Packet::ToClient(segment) => put_segment(
@@ -112,14 +136,15 @@ fn put_value(packet: &Packet, line: &mut Vec<u8>) -> Result<(), NoMemory>
 
 /// A segment: its flags, then its other fields.
 #[tactic(auto, using(crate::proofs::LineLemmas::line_rules))]
-fn put_segment(head: &Head, payload: &[u8], line: &mut Vec<u8>) -> Result<(), NoMemory>
-    ensures { OnOk result (line.new.items ≡ line.old.items ++ spaced (segment_words (record { head = said head.now; payload = payload.now }))) }
+fn put_segment(head: &Head, payload: &[u8], line: &mut LineOut) -> Result<(), NoMemory>
+    ensures ok { OnOk result (line.new.words ≡ line.old.words ++ spaced (segment_words (record { head = said head.now; payload = payload.now }))) }
+    ensures before { line.new.before ≡ line.old.before }
 {
     put_flags(head.flags, line)?;
-    put_field(b"seq", u64::from(head.seq.0), line)?;
-    put_field(b"ack", u64::from(head.ack.0), line)?;
-    put_field(b"window", u64::from(head.window), line)?;
+    put_field(b" seq ", u64::from(head.seq.0), line)?;
+    put_field(b" ack ", u64::from(head.ack.0), line)?;
+    put_field(b" window ", u64::from(head.window), line)?;
     put_mss(head.mss, line)?;
-    put_word(b"data", line)?;
+    line.append(b" data")?;
     put_hex(payload, line)
 }

@@ -1,6 +1,6 @@
 //! The words of a schedule: numbers, addresses, services and scripts, each read by its spelling alone.
 
-ghost use Rattle.std.specs.Prelude.{◌≡◌, ◌+◌, ◌*◌, ◌<◌, ◌≤◌, ◌^◌, true, length, option_map, IsTrue, IfOk, IfSome};
+ghost use Rattle.std.specs.Prelude.{◌≡◌, ◌+◌, ◌*◌, ◌%◌, ◌<◌, ◌≤◌, ◌^◌, true, length, option_map, IsTrue, IfOk, IfSome};
 ghost use Rattle.std.specs.List.{list_all};
 ghost use Rattle.ft_model.specs.declared.schedule.Script.TheVariants.{Fill};
 ghost use Rattle.std.specs.Char.{digit_value, is_ascii_digit, is_ascii_hexdigit};
@@ -149,18 +149,6 @@ fn is_hex_byte(byte: u8) -> bool
     byte.is_ascii_hexdigit()
 }
 
-fn hex_digit_value(byte: u8) -> u8
-    requires { is_ascii_hexdigit byte ≡ true }
-    ensures value { result ≡ digit_value byte }
-    ensures small { result < 16 }
-{
-    match byte {
-        0..=b'9' => byte - b'0',
-        b':'..=b'F' => byte - 55,
-        _ => byte - 87,
-    }
-}
-
 fn all_hex_digits(digits: &[u8]) -> bool
     ensures { result ≡ list_all is_ascii_hexdigit digits.now }
 {
@@ -172,6 +160,7 @@ fn all_hex_digits(digits: &[u8]) -> bool
 fn is_hex_text(digits: &[u8]) -> bool
     ensures value { result ≡ is_hex digits.now }
     ensures digits { IsTrue result → list_all is_ascii_hexdigit digits.now ≡ true }
+    ensures pairs { IsTrue result → length digits.now % 2 ≡ 0 }
 {
     if !all_hex_digits(digits) {
         return false;
@@ -183,21 +172,14 @@ fn is_hex_text(digits: &[u8]) -> bool
 }
 
 /// The bytes that pairs of hexadecimal digits write.
-#[tactic(auto, using(std::proofs::Common::append_assoc), unfolding(ft_model::specs::Spelling::hex_bytes))]
+#[tactic(auto, using(crate::proofs::Hex::digits_read))]
 fn bytes_of_hex(alloc: Global, digits: &[u8]) -> Result<Vec<u8>, NoMemory>
-    requires { list_all is_ascii_hexdigit digits.now ≡ true }
+    requires digits { list_all is_ascii_hexdigit digits.now ≡ true }
+    requires pairs { length digits.now % 2 ≡ 0 }
     ensures { IfOk result (λ bytes. bytes.items ≡ hex_bytes digits.now) }
 {
-    let mut bytes = Vec::with_capacity(alloc, digits.len() / 2)?;
-    let mut rest = digits;
-    while let Some((high, behind)) = rest.split_first() {
-        let Some((low, behind)) = behind.split_first() else {
-            return Ok(bytes);
-        };
-        bytes.push(16 * hex_digit_value(*high) + hex_digit_value(*low))?;
-        rest = behind;
-    }
-    Ok(bytes)
+    // All are digits, in pairs: so only memory can be wanting.
+    hex::decode(alloc, digits).map_err(|_| NoMemory)
 }
 
 /// Reads a client's script: `-`, `hex:` and pairs of hexadecimal digits, or `fill:` and a number of bytes.

@@ -2,8 +2,8 @@ use Rattle.std.proofs.Common.{rules}
 use Rattle.schedule_text.proofs.Lengths.{joined_more, on_ok, two_first}
 use Rattle.schedule_text.proofs.message_text.put_joined.Goals as goal
 
-pub returns : goal.returns
-returns c =
+pub returns-clause-ok : goal.returns-clause-ok
+returns-clause-ok c =
     on_ok c.put_others.result
-    (λ e. joined_more c.args.lens.now _ _ _ _ _ _ _ (two_first c.args.lens.now (search rules)) c.length_of.ensures c.in_ok-put_digits.ensures e)
-    c.put_others.ensures
+    (λ e. joined_more c.args.lens.now _ _ _ _ _ _ _ (two_first c.args.lens.now (search rules)) c.length_of.ensures c.in_ok-put_digits.ensures.ok e)
+    c.put_others.ensures.ok

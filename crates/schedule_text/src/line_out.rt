@@ -1,0 +1,87 @@
+//! A line on its way to the end of a text. It is written there at once, and cut off again where memory runs out.
+
+ghost use Rattle.std.specs.Prelude.{◌≡◌, ◌∷◌, [], ◌++◌, length, OnOk, OnErr};
+
+use ft_io::NoMemory;
+use std::alloc::Global;
+use std::marker::Model;
+use std::mem;
+
+/// A text, and behind its first `start` bytes what is written of the line.
+#[derive(Drop)]
+pub(crate) struct LineOut {
+    bytes: Vec<u8>,
+    start: usize,
+}
+
+impl Model for LineOut {
+    ghost use Rattle.std.specs.Prelude.{◌≤◌, length, take, drop};
+    ghost use Rattle.schedule_text.specs.Line.{Written};
+
+    ghost Value = { Written };
+
+    ghost view = { λ l. record { before = take l.start l.bytes.items; words = drop l.start l.bytes.items } };
+
+    ghost invariant = { λ l. l.start ≤ length l.bytes.items };
+}
+
+#[tactic(auto, using(crate::proofs::LineLemmas::line_grows))]
+impl LineOut {
+    /// Begins a line at the end of a text, which is taken out of `out` meanwhile.
+    #[inline]
+    pub(crate) fn open(alloc: Global, out: &mut Vec<u8>) -> LineOut
+        ensures before { result.before ≡ out.old.items }
+        ensures words { result.words ≡ [] }
+    {
+        let bytes = mem::replace(out, Vec::new(alloc));
+        let start = bytes.len();
+        LineOut { bytes, start }
+    }
+
+    /// Gives the text back: with the line, or without what there is of it where memory ran out.
+    #[inline]
+    pub(crate) fn close(
+        self,
+        out: &mut Vec<u8>,
+        written: Result<(), NoMemory>,
+    ) -> Result<(), NoMemory>
+        ensures same { result ≡ written }
+        ensures ok { OnOk result (out.new.items ≡ self.before ++ self.words) }
+        ensures err { OnErr result (out.new.items ≡ self.before) }
+    {
+        let LineOut { mut bytes, start } = self;
+        if written.is_err() {
+            bytes.truncate(start);
+        }
+        *out = bytes;
+        written
+    }
+
+    /// How many bytes of the line are written.
+    #[inline]
+    pub(crate) fn len(&self) -> usize
+        ensures { result ≡ length self.now.words }
+    {
+        self.bytes.len() - self.start
+    }
+
+    /// Appends a byte to the line.
+    #[inline]
+    pub(crate) fn push(&mut self, byte: u8) -> Result<(), NoMemory>
+        ensures ok { OnOk result (self.new.words ≡ self.old.words ++ byte ∷ []) }
+        ensures before { self.new.before ≡ self.old.before }
+    {
+        self.bytes.push(byte)?;
+        Ok(())
+    }
+
+    /// Appends bytes to the line.
+    #[inline]
+    pub(crate) fn append(&mut self, bytes: &[u8]) -> Result<(), NoMemory>
+        ensures ok { OnOk result (self.new.words ≡ self.old.words ++ bytes.now) }
+        ensures before { self.new.before ≡ self.old.before }
+    {
+        self.bytes.extend_from_slice(bytes)?;
+        Ok(())
+    }
+}
