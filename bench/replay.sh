@@ -1,6 +1,8 @@
-#!/bin/sh
+#!/usr/bin/env bash
 # Times `ftreplay run` on schedules of 10,000 and 100,000 events, and prints the best of five runs of each, their ratio, and the
 # memory that a run took. One client sends its script byte by byte; each byte is logged, echoed and acknowledged before the next.
+# Then the lines of the larger report, but for its opening and its end, as lines_bench writes them from events and packets as bytes, beside a C
+# loop of fprintf of the same lines (gcc -O2); and the reading of a schedule of 8 MiB. Of each the least processor time of 7 turns.
 set -eu
 cd "$(dirname "$0")/.."
 
@@ -47,3 +49,52 @@ printf '%s processors, %s\n' "$(nproc)" "$(lscpu | sed -n 's/^Model name: *//p')
 { time_schedule 999; time_schedule 9999; } | awk '
     NR == 1 { small = $1; printf "10,000 events: %.1f ms, %d MB\n", $1 / 1000000, $2 / 1000 }
     NR == 2 { printf "100,000 events: %.1f ms, %d MB, %.1f times the smaller\n", $1 / 1000000, $2 / 1000, $1 / small }'
+
+(cd crates/lines_bench && rt run -- write 9 1 >/dev/null 2>&1)
+lines=$PWD/crates/lines_bench/out/lines_bench
+gcc -O2 -Wall -o "$schedules/lines" bench/lines.c
+"$lines" write 9999 1 >"$schedules/ours"
+"$schedules/lines" 9999 1 >"$schedules/theirs"
+sed -n '/^event 11 /,/^client /p' "$schedules/report" | sed '$d' >"$schedules/reported"
+cmp -s "$schedules/ours" "$schedules/reported" || { echo "lines_bench and the report differ"; exit 1; }
+cmp -s "$schedules/ours" "$schedules/theirs" || { echo "the two loops differ"; exit 1; }
+
+# user and system time of one run, in milliseconds
+TIMEFORMAT='%U %S'
+spent() {
+    local user system
+    read -r user system < <({ { time "$@" >/dev/null; } 2>&1; } | tr -d .)
+    echo $((10#$user + 10#$system))
+}
+
+# the least of 7 turns of each of two commands, taken in turn
+least_of_two() {
+    local first=999999 second=999999 a b
+    for _ in 1 2 3 4 5 6 7; do
+        a=$(spent $1)
+        b=$(spent $2)
+        ((a < first)) && first=$a
+        ((b < second)) && second=$b
+    done
+    echo "$first $second"
+}
+
+read -r made written < <(least_of_two "$lines write 9999 0" "$lines write 9999 20")
+read -r none printed < <(least_of_two "$schedules/lines 9999 0" "$schedules/lines 9999 20")
+awk -v n=$((20 * $(wc -l <"$schedules/ours"))) -v a=$((written - made)) -v b=$((printed - none)) 'BEGIN {
+    printf "lines: %d a second, %.0f ns each; fprintf %d a second, %.0f ns each; %.2f times as many\n", n / a * 1000, a / n * 1e6, n / b * 1000, b / n * 1e6, b / a
+}'
+
+# a script of 3,400,000 bytes, then deliveries up to the limit of 100,000 events, then a comment up to the limit of bytes
+awk 'BEGIN {
+    printf "service echo\nserver 192.0.2.100:7\nclient 1 192.0.2.1:40000 1000 hex:"
+    for (i = 0; i < 3400000; i++) printf "%02x", i % 256
+    print ""
+    for (i = 1; i <= 100000; i++) printf "deliver %d\n", i
+    printf "#"
+}' >"$schedules/large"
+awk -v left=$((8388608 - $(wc -c <"$schedules/large"))) 'BEGIN { for (i = 0; i < left; i++) printf "." }' >>"$schedules/large"
+reading() { "$lines" read "$1" <"$schedules/large"; }
+[ "$(reading 1)" = 100000 ] || { echo "the schedule is refused"; exit 1; }
+read -r once often < <(least_of_two "reading 1" "reading 11")
+awk -v a=$((often - once)) 'BEGIN { printf "reading of 8 MiB: %.1f ms, %.0f MB/s\n", a / 10, 83.88608 / a * 1000 }'
