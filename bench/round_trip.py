@@ -39,7 +39,8 @@ def may_happen(rng, packets, script):
 
 def number(rng, digits, most):
     """A number with leading zeros."""
-    return "0" * rng.choice([0, 0, 0, 1, max(0, most - len(digits))]) + digits
+    room = max(0, most - len(digits))
+    return "0" * min(room, rng.choice([0, 0, 0, 1, room])) + digits
 
 
 def spelled(rng, line):
