@@ -21,15 +21,9 @@ mod line_out;
 mod line_text;
 mod message_text;
 mod packet;
-#[cfg(test)]
-mod packet_tests;
 mod packet_text;
 mod read;
-#[cfg(test)]
-mod reading_tests;
 pub mod round_trip;
 mod spelling;
 pub mod stage;
 mod words;
-#[cfg(test)]
-mod writing_tests;

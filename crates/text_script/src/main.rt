@@ -1,0 +1,150 @@
+//! `text_script`: reads the schedules and packets of a script, which comes from standard input, and prints what they say. The lines of a script:
+//!
+//! - `# ..` is printed as it stands;
+//! - `read TEXT` reads a schedule, in which `%XX` stands for a byte. Its head and its events are printed as a report has them, or else why it is refused;
+//! - `many COUNT LINE` reads a schedule of a service and a server, behind which this line stands so often, each with a line feed; printed is how many events it
+//!   has, or why it is refused;
+//! - `script WORD` reads a client's script;
+//! - `packet WAY HEX` prints the line of packet 7, which says these bytes; WAY is `up` or `down`, between client 1 and the server, or `out` or `in`,
+//!   between the server and the logger.
+#![tactic(auto)]
+
+use ft_io::{NoMemory, WriteSink, write_all};
+use hex::FromHexError;
+use percent_encoding::percent_decode;
+use schedule_text::{
+    Schedule, ScheduleEnd, Script, Way, is_packet, read_schedule, read_script, write_event,
+    write_header, write_packet_line,
+};
+use std::alloc::Global;
+use std::io;
+
+const HEAD: &[u8] = b"service echo\nserver 192.0.2.100:7\n";
+
+fn main(rt: HostRuntime) -> io::Result<()> {
+    let mut out = Vec::new(rt.alloc());
+    for line in rt.lines(rt.alloc()) {
+        if play(rt.alloc(), line?.as_str(), &mut out).is_err() {
+            println!(rt; "no memory")?;
+            return Ok(());
+        }
+    }
+    if write_all(&mut WriteSink::new(rt.stdout()), out.as_slice()).is_err() {
+        println!(rt; "a fault")?;
+    }
+    Ok(())
+}
+
+/// Plays a line, and appends what it prints.
+fn play(alloc: Global, line: &str, out: &mut Vec<u8>) -> Result<(), NoMemory> {
+    let (word, rest) = line.split_once(' ').unwrap_or((line, ""));
+    match word.as_bytes() {
+        b"#" => say(line, out),
+        b"read" => read(alloc, rest, out),
+        b"many" => read_many(alloc, rest, out),
+        b"script" => say_script(alloc, rest, out),
+        b"packet" => say_packet(alloc, rest, out),
+        _ => say("no such line", out),
+    }
+}
+
+/// Appends a line.
+fn say(line: &str, out: &mut Vec<u8>) -> Result<(), NoMemory> {
+    out.extend_from_slice(line.as_bytes())?;
+    out.push(b'\n')?;
+    Ok(())
+}
+
+/// Reads a schedule, and says what it spells.
+fn read(alloc: Global, escaped: &str, out: &mut Vec<u8>) -> Result<(), NoMemory> {
+    let mut text = Vec::new(alloc);
+    percent_decode(escaped.as_bytes()).append_to(&mut text)?;
+    match read_schedule(alloc, text.as_slice()) {
+        Ok(schedule) => say_schedule(alloc, &schedule, out),
+        Err(end) => say_end(alloc, end, out),
+    }
+}
+
+/// Says a schedule's head and its events.
+fn say_schedule(alloc: Global, schedule: &Schedule, out: &mut Vec<u8>) -> Result<(), NoMemory> {
+    write_header(alloc, schedule, out)?;
+    for event in schedule.events.as_slice() {
+        write_event(alloc, 1, event, out)?;
+    }
+    Ok(())
+}
+
+/// Says why a text is refused.
+fn say_end(alloc: Global, end: ScheduleEnd, out: &mut Vec<u8>) -> Result<(), NoMemory> {
+    match end {
+        ScheduleEnd::NoMemory => Err(NoMemory),
+        ScheduleEnd::BadLine { line, why } => {
+            let text = format!(in alloc; "line {line}: {why:?}")?;
+            say(text.as_str(), out)
+        }
+        ScheduleEnd::TooLong { what } => {
+            let text = format!(in alloc; "too long: {what:?}")?;
+            say(text.as_str(), out)
+        }
+    }
+}
+
+/// Reads a schedule of many lines, and says how many events it has.
+fn read_many(alloc: Global, rest: &str, out: &mut Vec<u8>) -> Result<(), NoMemory> {
+    let (count, line) = rest.split_once(' ').unwrap_or((rest, ""));
+    let Ok(count) = count.parse::<u32>() else {
+        return say("no count", out);
+    };
+    let text = many(alloc, count, line.as_bytes())?;
+    match read_schedule(alloc, text.as_slice()) {
+        Ok(schedule) => {
+            let count = schedule.events.as_slice().len();
+            let said = format!(in alloc; "{count} events")?;
+            say(said.as_str(), out)
+        }
+        Err(end) => say_end(alloc, end, out),
+    }
+}
+
+/// A head, and behind it a line so often.
+fn many(alloc: Global, count: u32, line: &[u8]) -> Result<Vec<u8>, NoMemory> {
+    let mut text = Vec::from_slice(alloc, HEAD)?;
+    for _ in 0..count {
+        text.extend_from_slice(line)?;
+        text.push(b'\n')?;
+    }
+    Ok(text)
+}
+
+/// Says what a client has to say.
+fn say_script(alloc: Global, word: &str, out: &mut Vec<u8>) -> Result<(), NoMemory> {
+    match read_script(alloc, word.as_bytes())? {
+        Some(Script::Bytes(bytes)) => {
+            let text = hex::encode(alloc, bytes.as_slice())?;
+            say(text.as_str(), out)
+        }
+        Some(Script::Fill { len }) => {
+            let text = format!(in alloc; "{len} letters")?;
+            say(text.as_str(), out)
+        }
+        None => say("no script", out),
+    }
+}
+
+/// Says the line of a packet.
+fn say_packet(alloc: Global, rest: &str, out: &mut Vec<u8>) -> Result<(), NoMemory> {
+    let (way, text) = rest.split_once(' ').unwrap_or((rest, ""));
+    let way = match way.as_bytes() {
+        b"up" => Way::ClientToServer(1),
+        b"down" => Way::ServerToClient(1),
+        b"out" => Way::ServerToLogger,
+        _ => Way::LoggerToServer,
+    };
+    match hex::decode(alloc, text) {
+        Ok(bytes) if is_packet(way, bytes.as_slice()) => {
+            write_packet_line(alloc, 7, way, bytes.as_slice(), out)
+        }
+        Err(FromHexError::OutOfMemory) => Err(NoMemory),
+        _ => say("no packet", out),
+    }
+}
