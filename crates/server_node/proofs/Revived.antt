@@ -1,0 +1,30 @@
+-- A connection that a restart has put together, in its first turn.
+use Rattle.std.proofs.Common.{◌≡◌, ◌≤◌, refl, List}
+use Rattle.server_trait.specs.Service.{Machine}
+use Rattle.ft_model.specs.Log.{Entry}
+use Rattle.ft_model.specs.Point.{Point}
+use Rattle.ft_model.specs.News.News.{Begins as Becomes_live}
+use Rattle.ft_model.specs.Restart.{point_of}
+use Rattle.ft_model.specs.Node.{Node}
+use Rattle.ft_model.specs.Node.Place.{Lives}
+use Rattle.ft_model.specs.Wire.{Wire}
+use Rattle.wrapped_conn.specs.ConnState.{ConnState}
+use Rattle.wrapped_conn.specs.Standing.{StandsBefore}
+use Rattle.server_node.specs.declared.slot.Slot.TheVariants as slot
+use Rattle.server_node.specs.Conn.{Begins, ConnGoes}
+use Rattle.server_node.specs.Reviving.{SlotRevives}
+
+pub live_again : {S : Type 0} (service : Machine S) (node : Node) (e : Entry) (c now : ConnState S) (old new : List Wire) → c.local ≡ node.server → c.boot ≡ node.boot → e.mss ≤ 1460
+    → StandsBefore service c (point_of service e)
+    → ((p : Point) → p.key ≡ e.key → Begins service node.server node.boot c p → ConnGoes service node.server node.boot Becomes_live p now old new)
+    → SlotRevives service node e.key (Lives (point_of service e)) (slot.Live now) old new
+unfolding Begins
+live_again service node e c now old new local boot size before h =
+    let g = h (point_of service e) refl (before, record { local = local; incarnation = boot; size = size }) in record {
+      after = Lives g.after;
+      packets = g.packets;
+      stands = (g.key, g.stands);
+      turn = (g.after, refl, g.turn);
+      wires = g.wires;
+      spelled = g.spelled;
+    }

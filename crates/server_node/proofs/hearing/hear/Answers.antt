@@ -1,0 +1,50 @@
+use Rattle.std.proofs.Common.{Result, Ok, Err, OnOk, ◌==◌, refl, ap}
+use Rattle.server_trait.specs.Service.{machine}
+use Rattle.logger_wire.specs.Value.{body_of, message_of}
+use Rattle.ft_model.specs.Node.Input.{Message_comes}
+use Rattle.ft_model.specs.Serving.{names}
+use Rattle.server_node.specs.Hearing.{logged_in}
+use Rattle.server_node.specs.Identity.{node_of}
+use Rattle.server_node.proofs.Heeded.{message_is, opened_range, others_unheard}
+use Rattle.server_node.proofs.OneKey.{and_false, none_concerned}
+use Rattle.server_node.proofs.hearing.hear.Goals as goal
+
+on_ok : {T E : Type 0} {P Q : Type 0} (r : Result T E) → (P → Q) → OnOk r P → OnOk r Q
+on_ok (Ok x) f p = f p
+on_ok (Err e) f p = tt
+
+pub returns-in-StableMsg-clause-turn : goal.returns-in-StableMsg-clause-turn
+returns-in-StableMsg-clause-turn g c = on_ok c.tell_known.result
+    (λ told stage places boot st. told stage places _ boot (ap (λ b. logged_in (body_of b)) c.in-StableMsg.is) refl st) c.tell_known.ensures.turn
+
+pub returns-in-ReadsMsg-clause-turn : goal.returns-in-ReadsMsg-clause-turn
+returns-in-ReadsMsg-clause-turn g c = on_ok c.tell_known-in-ReadsMsg.result
+    (λ told stage places boot st. told stage places _ boot (ap (λ b. logged_in (body_of b)) c.in-ReadsMsg.is) refl st) c.tell_known-in-ReadsMsg.ensures.turn
+
+pub returns-in-EndedMsg-clause-turn : goal.returns-in-EndedMsg-clause-turn
+returns-in-EndedMsg-clause-turn g c = λ stage places boot st.
+    c.end_known.ensures.turn (machine (g.S.Service.started c.args.who.kind) g.S.Service.after) (node_of c.args.who stage) places (message_of c.args.m.now) c.args.sent.now.items
+    (message_is (message_of c.args.m.now) c.args.who.boot _ boot (ap body_of c.in-EndedMsg.is)) st
+
+pub returns-in-OpenedMsg-clause-turn : goal.returns-in-OpenedMsg-clause-turn
+returns-in-OpenedMsg-clause-turn g c = on_ok c.open_known.result
+    (λ told stage places boot st. told stage places (message_of c.args.m.now) (message_is (message_of c.args.m.now) c.args.who.boot _ boot (ap body_of c.in-OpenedMsg.is)) st) c.open_known.ensures.turn
+
+pub returns-in-FullMsg-clause-turn : goal.returns-in-FullMsg-clause-turn
+returns-in-FullMsg-clause-turn g c = on_ok c.refuse_known.result
+    (λ told stage places boot st. told stage places (message_of c.args.m.now) (message_is (message_of c.args.m.now) c.args.who.boot _ boot (ap body_of c.in-FullMsg.is)) st) c.refuse_known.ensures.turn
+
+pub open_known-requires-clause-least : goal.open_known-requires-clause-least
+open_known-requires-clause-least g c = (opened_range c.args.m.now _ _ _ _ c.requires.sendable c.in-OpenedMsg.is).0
+
+pub open_known-requires-clause-most : goal.open_known-requires-clause-most
+open_known-requires-clause-most g c = (opened_range c.args.m.now _ _ _ _ c.requires.sendable c.in-OpenedMsg.is).1
+
+pub returns-in_default-clause-turn : goal.returns-in_default-clause-turn
+returns-in_default-clause-turn g c = λ stage places boot st.
+    let node = node_of c.args.who stage in
+    let message = message_of c.args.m.now in
+    let other = c.in_default in
+    none_concerned (machine (g.S.Service.started c.args.who.kind) g.S.Service.after) node (Message_comes message) c.args.slots.now.entries places c.args.sent.now.items
+    (λ k. and_false (message.boot == node.boot) (names message.body k)
+    (others_unheard c.args.m.now.body other.not-OpenedMsg other.not-StableMsg other.not-ReadsMsg other.not-EndedMsg other.not-FullMsg k)) st

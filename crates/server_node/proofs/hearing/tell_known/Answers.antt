@@ -1,0 +1,45 @@
+use Rattle.std.proofs.Common.{rules, ◌≡◌, ◌∙◌, sym, ap, subst, Some, None}
+use Rattle.std.specs.Map.{lookup}
+use Rattle.ft_io.specs.Key.{key_eq}
+use Rattle.server_trait.specs.Service.{machine}
+use Rattle.logger_wire.specs.Value.{message_of}
+use Rattle.ft_model.specs.Node.Input.{Message_comes}
+use Rattle.server_node.specs.Identity.{node_of}
+use Rattle.server_node.specs.Slots.{AllSlotsGo, AllSound}
+use Rattle.server_node.proofs.OneKey.{one_goes, none_goes, none_found, all_units}
+use Rattle.server_node.proofs.Heard.{only_its_key, logged_names}
+use Rattle.server_node.proofs.Sound.{sound_found, sound_set}
+use Rattle.server_node.proofs.hearing.tell_known.Goals as goal
+
+pub tell_slot-requires-clause-sound : goal.tell_slot-requires-clause-sound
+tell_slot-requires-clause-sound g c =
+    let found : lookup (key_eq c.args.key) c.args.slots.now.entries ≡ Some c.in-Some.slot.now = search rules in
+    sound_found (key_eq c.args.key) c.args.slots.now.entries c.in-Some.slot.now c.requires.sound found
+
+pub returns-in_ok-tell_slot-clause-turn : goal.returns-in_ok-tell_slot-clause-turn
+returns-in_ok-tell_slot-clause-turn g c = λ stage places kept boot says from st.
+    let service = machine (g.S.Service.started c.args.who.kind) g.S.Service.after in
+    let node = node_of c.args.who stage in
+    let message = message_of c.args.m.now in
+    let found : lookup (key_eq c.args.key) c.args.slots.now.entries ≡ Some c.in-Some.slot.now = search rules in
+    subst (λ es. AllSlotsGo service node (Message_comes message) places es c.args.sent.now.items c.tell_slot.new.sent.items)
+    (sym (c.get_mut.follows.holds c.tell_slot.new.slot).0)
+    (one_goes service node (Message_comes message) c.args.key (only_its_key node message c.args.key (λ k. logged_names message.body kept says k ∙ ap (λ x. key_eq x k) from))
+    (λ place. Unit {0}) c.args.slots.now.entries places c.in-Some.slot.now c.tell_slot.new.slot c.args.sent.now.items c.tell_slot.new.sent.items
+    st c.get_mut.ensures.unique found (all_units places)
+    (λ place u stands. c.in_ok-tell_slot.ensures.turn stage place kept boot says from stands))
+
+pub returns-in_ok-tell_slot-clause-sound : goal.returns-in_ok-tell_slot-clause-sound
+returns-in_ok-tell_slot-clause-sound g c =
+    subst AllSound (sym (c.get_mut.follows.holds c.tell_slot.new.slot).0)
+    (sound_set (key_eq c.args.key) c.args.slots.now.entries c.tell_slot.new.slot c.requires.sound c.in_ok-tell_slot.ensures.sound)
+
+pub returns-in_default-clause-turn : goal.returns-in_default-clause-turn
+returns-in_default-clause-turn g c = λ stage places kept boot says from st.
+    let service = machine (g.S.Service.started c.args.who.kind) g.S.Service.after in
+    let node = node_of c.args.who stage in
+    let message = message_of c.args.m.now in
+    let nothing : lookup (key_eq c.args.key) c.args.slots.now.entries ≡ None = search rules in
+    subst (λ m. AllSlotsGo service node (Message_comes message) places m.entries c.args.sent.now.items c.args.sent.now.items) (sym c.get_mut.follows.holds-at-none)
+    (none_goes service node (Message_comes message) c.args.key (only_its_key node message c.args.key (λ k. logged_names message.body kept says k ∙ ap (λ x. key_eq x k) from))
+    c.args.slots.now.entries places c.args.sent.now.items st (none_found (key_eq c.args.key) c.args.slots.now.entries nothing))

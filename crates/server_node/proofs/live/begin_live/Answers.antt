@@ -1,0 +1,29 @@
+use Rattle.std.proofs.Common.{rules, refl, subst}
+use Rattle.server_trait.specs.Service.{machine}
+use Rattle.ft_model.specs.News.News.{Begins as Becomes_live}
+use Rattle.ft_model.specs.Opening.{point_opened}
+use Rattle.connection_laws.specs.Beginning.{MayOpen}
+use Rattle.wrapped_conn.specs.Turning.{Starts}
+use Rattle.server_node.specs.Conn.{IsSound}
+use Rattle.server_node.specs.Slots.{numbers_of}
+use Rattle.server_node.proofs.Turned.{goes}
+use Rattle.server_node.proofs.Acting.{first_acts}
+use Rattle.server_node.proofs.live.begin_live.Goals as goal
+
+pub returns-clause-turn : goal.returns-clause-turn
+unfolding IsSound
+returns-clause-turn g c =
+    let service = machine (g.S.Service.started c.args.who.kind) g.S.Service.after in
+    let numbers = numbers_of c.args.key c.args.numbers in
+    let may : MayOpen numbers = record { least = c.requires.least; most = c.requires.most; cisn = search rules; sisn = search rules } in
+    let started = subst (λ old. Starts g.S.Service.after old c.start.new.self c.start.new.out.segments c.start.new.out.messages) c.in_ok-conn.ensures.state c.in_ok-start.ensures.turn in
+    goes service c.args.who.local c.args.who.boot Becomes_live (point_opened numbers) c.start.new.self c.args.key c.start.new.out.segments c.start.new.out.messages c.args.sent.now.items c.send_all.new.sent.items refl
+    c.in_ok-send_all.ensures.sent
+    (first_acts service c.args.who.local c.args.who.boot numbers c.start.new.self c.start.new.out.segments c.start.new.out.messages
+    (record {
+      at = (search rules, search rules);
+      up = search rules;
+      client = record { ip = search rules; port = search rules };
+      sent = c.in_ok-send_all.ensures.segments;
+      told = c.in_ok-send_all.ensures.messages;
+    }) may c.in_ok-start.ensures.sound started)

@@ -1,0 +1,25 @@
+use Rattle.std.proofs.Common.{rules, ℕ, ◌<◌, ◌^◌, slice_index, sym, subst}
+use Rattle.server_trait.specs.Service.{machine}
+use Rattle.ft_model.specs.News.News.{Comes}
+use Rattle.ft_model.proofs.Formed.{bytes_of_all}
+use Rattle.wrapped_conn.proofs.Sendable.{FitsKey}
+use Rattle.server_node.specs.Conn.{IsSound}
+use Rattle.server_node.proofs.Turned.{goes, all_ok}
+use Rattle.server_node.proofs.Acting.{segment_acts}
+use Rattle.server_node.proofs.live.give_live.Goals as goal
+
+pub returns-clause-turn : goal.returns-clause-turn
+unfolding IsSound
+returns-clause-turn g c =
+    let service = machine (g.S.Service.started c.args.who.kind) g.S.Service.after in
+    let ip : c.args.who.local.ip < 2 ^ 32 = search rules in
+    let port : c.args.who.local.port < 2 ^ 16 = search rules in
+    let boot : c.args.who.boot < 2 ^ 64 = search rules in
+    let fits : FitsKey c.args.key = record { ip = search rules; port = search rules } in
+    let small : (i : ℕ) → slice_index c.args.packet.now i < 256 = bytes_of_all c.args.packet.now c.fit.ensures in
+    let sound = rw c.in_ok-on_packet.was at c.on_packet.ensures.sound in
+    let told = rw c.in_ok-on_packet.was at c.on_packet.ensures.turn in
+    all_ok c.send_all.result c.send_all.ensures.sent c.send_all.ensures.segments c.send_all.ensures.messages
+    (λ sent segments messages stage p segment reads near key st.
+    goes service c.args.who.local c.args.who.boot (Comes segment) p c.on_packet.new.self c.args.key c.on_packet.new.out.segments c.on_packet.new.out.messages c.args.sent.now.items c.send_all.new.sent.items key sent
+    (segment_acts service c.args.who.local c.args.who.boot p c.args.conn.now c.on_packet.new.self c.args.packet.now segment c.on_packet.new.out.segments c.on_packet.new.out.messages small (record { at = (ip, port); up = boot; client = subst FitsKey (sym key) fits; sent = segments; told = messages }) c.requires.sound sound told reads near st))

@@ -1,0 +1,23 @@
+use Rattle.std.proofs.Common.{rules, ◌<◌, ◌^◌, sym, subst}
+use Rattle.server_trait.specs.Service.{machine}
+use Rattle.ft_model.specs.News.News.{Logged}
+use Rattle.wrapped_conn.proofs.Sendable.{FitsKey}
+use Rattle.server_node.specs.Conn.{IsSound}
+use Rattle.server_node.proofs.Turned.{goes, all_ok}
+use Rattle.server_node.proofs.Acting.{message_acts}
+use Rattle.server_node.proofs.live.tell_live.Goals as goal
+
+pub returns-clause-turn : goal.returns-clause-turn
+unfolding IsSound
+returns-clause-turn g c =
+    let service = machine (g.S.Service.started c.args.who.kind) g.S.Service.after in
+    let ip : c.args.who.local.ip < 2 ^ 32 = search rules in
+    let port : c.args.who.local.port < 2 ^ 16 = search rules in
+    let boot : c.args.who.boot < 2 ^ 64 = search rules in
+    let fits : FitsKey c.args.key = record { ip = search rules; port = search rules } in
+    let sound = rw c.in_ok-on_msg.was at c.on_msg.ensures.sound in
+    let told = rw c.in_ok-on_msg.was at c.on_msg.ensures.turn in
+    all_ok c.send_all.result c.send_all.ensures.sent c.send_all.ensures.segments c.send_all.ensures.messages
+    (λ sent segments messages p kept boot_is says from key st.
+    goes service c.args.who.local c.args.who.boot (Logged kept) p c.on_msg.new.self c.args.key c.on_msg.new.out.segments c.on_msg.new.out.messages c.args.sent.now.items c.send_all.new.sent.items key sent
+    (message_acts service c.args.who.local c.args.who.boot p c.args.conn.now c.on_msg.new.self c.args.m.now.body kept c.on_msg.new.out.segments c.on_msg.new.out.messages (record { at = (ip, port); up = boot; client = subst FitsKey (sym key) fits; sent = segments; told = messages }) c.requires.sound sound says told st))

@@ -1,0 +1,21 @@
+use Rattle.std.proofs.Common.{rules, ◌<◌, ◌^◌, sym, subst}
+use Rattle.server_trait.specs.Service.{machine}
+use Rattle.ft_model.specs.News.News.{Ticks}
+use Rattle.wrapped_conn.proofs.Sendable.{FitsKey}
+use Rattle.server_node.specs.Conn.{IsSound}
+use Rattle.server_node.proofs.Turned.{goes, all_ok}
+use Rattle.server_node.proofs.Acting.{tick_acts}
+use Rattle.server_node.proofs.live.tick_live.Goals as goal
+
+pub returns-clause-turn : goal.returns-clause-turn
+unfolding IsSound
+returns-clause-turn g c =
+    let service = machine (g.S.Service.started c.args.who.kind) g.S.Service.after in
+    let ip : c.args.who.local.ip < 2 ^ 32 = search rules in
+    let port : c.args.who.local.port < 2 ^ 16 = search rules in
+    let boot : c.args.who.boot < 2 ^ 64 = search rules in
+    let fits : FitsKey c.args.key = record { ip = search rules; port = search rules } in
+    all_ok c.send_all.result c.send_all.ensures.sent c.send_all.ensures.segments c.send_all.ensures.messages
+    (λ sent segments messages stage p key st.
+    goes service c.args.who.local c.args.who.boot Ticks p c.on_tick.new.self c.args.key c.on_tick.new.out.segments c.on_tick.new.out.messages c.args.sent.now.items c.send_all.new.sent.items key sent
+    (tick_acts service c.args.who.local c.args.who.boot p c.args.conn.now c.on_tick.new.self c.on_tick.new.out.segments c.on_tick.new.out.messages (record { at = (ip, port); up = boot; client = subst FitsKey (sym key) fits; sent = segments; told = messages }) c.requires c.on_tick.ensures.sound c.on_tick.ensures.turn st))

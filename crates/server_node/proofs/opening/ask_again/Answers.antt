@@ -1,0 +1,63 @@
+use Rattle.std.proofs.Common.{Result, Ok, Err, OnOk, ◌≡◌, ◌∙◌, [], ap, subst, sym, rules, None, Some, true, false, eqb-true}
+use Rattle.std.specs.Map.{lookup}
+use Rattle.ft_io.specs.Key.{key_eq}
+use Rattle.ft_model.specs.Node.Input.{Packet_comes}
+use Rattle.server_node.specs.declared.slot.Slot.TheVariants as slot
+use Rattle.server_node.specs.Hearing.{opening_in}
+use Rattle.server_node.specs.Identity.{node_of}
+use Rattle.server_node.specs.Opening.{ArePut, all_opens}
+use Rattle.server_node.proofs.Asked.{opens_of, opens_one, asked_at_syn, unasked}
+use Rattle.server_node.proofs.OneKey.{both}
+use Rattle.server_node.proofs.Opened.{pending_found}
+use Rattle.server_node.proofs.Opens.{put_none}
+use Rattle.server_node.proofs.Sound.{sound_found}
+use Rattle.server_node.proofs.opening.ask_again.Goals as goal
+
+on_ok : {T E : Type 0} {P Q : Type 0} (r : Result T E) → (P → Q) → OnOk r P → OnOk r Q
+on_ok (Ok x) f p = f p
+on_ok (Err e) f p = tt
+
+pub ask-requires-clause-least : goal.ask-requires-clause-least
+ask-requires-clause-least g c =
+    let es = c.args.slots.now.entries in
+    let found = pending_found (lookup (key_eq c.args.key) es) c.in-Some.opening (sym c.opening_at.ensures.found ∙ c.in-Some.is) in
+    (sound_found (key_eq c.args.key) es (slot.Pending c.in-Some.opening) c.requires.sound found).0
+
+pub ask-requires-clause-most : goal.ask-requires-clause-most
+ask-requires-clause-most g c =
+    let es = c.args.slots.now.entries in
+    let found = pending_found (lookup (key_eq c.args.key) es) c.in-Some.opening (sym c.opening_at.ensures.found ∙ c.in-Some.is) in
+    (sound_found (key_eq c.args.key) es (slot.Pending c.in-Some.opening) c.requires.sound found).1
+
+pub returns-in_default : goal.returns-in_default
+returns-in_default g c = λ stage segment headed from mine.
+    let node = node_of c.args.who stage in
+    let es = c.args.slots.now.entries in
+    let none : opening_in (lookup (key_eq c.args.key) es) ≡ None = search rules in
+    let quiet : all_opens node (Packet_comes segment) es ≡ [] =
+    opens_one node segment es c.opening_at.ensures.unique ∙ (ap (λ k. opens_of node segment k (opening_in (lookup (key_eq k) es))) from ∙ ap (opens_of node segment c.args.key) none) in
+    subst (λ ps. ArePut ps c.args.sent.now.items c.args.sent.now.items) (sym quiet) (put_none c.args.sent.now.items)
+
+pub returns-then-not-repeats : goal.returns-then-not-repeats
+returns-then-not-repeats g c = λ stage segment headed from mine.
+    let node = node_of c.args.who stage in
+    let es = c.args.slots.now.entries in
+    let found : opening_in (lookup (key_eq c.args.key) es) ≡ Some c.in-Some.opening = sym c.opening_at.ensures.found ∙ c.in-Some.is in
+    let other : c.repeats.result ≡ false = search rules in
+    let quiet : all_opens node (Packet_comes segment) es ≡ [] =
+    opens_one node segment es c.opening_at.ensures.unique ∙ (ap (λ k. opens_of node segment k (opening_in (lookup (key_eq k) es))) from
+    ∙ (ap (opens_of node segment c.args.key) found ∙ unasked node segment c.args.key c.in-Some.opening (sym (c.repeats.ensures segment headed) ∙ other))) in
+    subst (λ ps. ArePut ps c.args.sent.now.items c.args.sent.now.items) (sym quiet) (put_none c.args.sent.now.items)
+
+pub returns : goal.returns
+returns g c = on_ok c.ask.result
+    (λ asked stage segment headed from mine.
+    let node = node_of c.args.who stage in
+    let es = c.args.slots.now.entries in
+    let found : opening_in (lookup (key_eq c.args.key) es) ≡ Some c.in-Some.opening = sym c.opening_at.ensures.found ∙ c.in-Some.is in
+    let its : c.repeats.result ≡ true = search rules in
+    let syn = both _ _ (sym (c.repeats.ensures segment headed) ∙ its) in
+    subst (λ ps. ArePut ps c.args.sent.now.items c.ask.new.sent.items)
+    (sym (opens_one node segment es c.opening_at.ensures.unique ∙ (ap (λ k. opens_of node segment k (opening_in (lookup (key_eq k) es))) from
+    ∙ (ap (opens_of node segment c.args.key) found ∙ asked_at_syn node segment c.args.key c.in-Some.opening mine syn.0 from (eqb-true _ _ syn.1)))))
+    asked) c.ask.ensures

@@ -1,0 +1,17 @@
+use Rattle.std.proofs.Common.{Result, Ok, Err, IfOk, refl, sym, subst, [], ap}
+use Rattle.server_node.specs.Restarting.{IsOwn}
+use Rattle.server_node.proofs.Answering.{same_ok}
+use Rattle.server_node.proofs.restarting.begin_fetching.Goals as goal
+
+if_ok : {T E : Type 0} {P Q : T → Type 0} (r : Result T E) → ((x : T) → P x → Q x) → IfOk r P → IfOk r Q
+if_ok (Ok x) f p = f x p
+if_ok (Err e) f p = tt
+
+pub go_on-requires-clause-own : goal.go_on-requires-clause-own
+go_on-requires-clause-own g c = subst (IsOwn c.args.who) (sym (same_ok c.on_summary.result c.in-Ok.fetching _ c.in-Ok.is c.on_summary.ensures.value)) (record { boot = c.new.ensures; kind = refl })
+
+pub returns-clause-turn : goal.returns-clause-turn
+returns-clause-turn g c = if_ok c.go_on.result
+    (λ after h standing.
+    let is = same_ok c.on_summary.result c.in-Ok.fetching _ c.in-Ok.is c.on_summary.ensures.value in
+    h standing c.args.count [] (record { so_many = ap (λ f. f.count) is; distinct = tt; entries = c.in-Ok.ensures.law }) tt) c.go_on.ensures.turn

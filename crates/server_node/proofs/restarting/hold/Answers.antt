@@ -1,0 +1,34 @@
+use Rattle.std.proofs.Common.{rules, tests, ◌≡◌, ◌∙◌, ◌&&◌, not, true, Result, Ok, Err, OnOk, option_map, ap, sym}
+use Rattle.seq_arith.specs.Packet.{has_rst}
+use Rattle.segment_codec.specs.Value.{segment_of}
+use Rattle.logger_store.specs.Stored.{head_value}
+use Rattle.ft_model.specs.Network.{source_of}
+use Rattle.ft_model.specs.Node.{is_for}
+use Rattle.server_node.specs.Identity.{node_of}
+use Rattle.server_node.proofs.Answering.{same_ok, own_stands}
+use Rattle.server_node.proofs.Held.{none_held, one_held}
+use Rattle.server_node.proofs.restarting.hold.Goals as goal
+
+on_ok : {T E : Type 0} {P Q : Type 0} (r : Result T E) → (P → Q) → OnOk r P → OnOk r Q
+on_ok (Ok x) f p = f p
+on_ok (Err e) f p = tt
+
+pub returns-in-Some : goal.returns-in-Some
+returns-in-Some g c = on_ok c.send_bare.result
+    (λ put standing count fetched segment reads st.
+    let is : segment ≡ segment_of c.read_accepted.result = same_ok _ segment (segment_of c.read_accepted.result) reads c.read_accepted.ensures.read in
+    let asks : (is_for c.args.who.local segment && not (has_rst segment)) ≡ true = sym (c.may_be_held.ensures segment (ap (λ s. s.head) is)) ∙ search (rules, tests) in
+    let from : source_of segment ≡ c.sender.result = ap source_of is ∙ sym c.sender.ensures in
+    one_held (node_of c.args.who standing) fetched segment c.sender.result (head_value c.in-Some.entry) _ c.args.sent.now.items c.send_bare.new.sent.items asks from
+    (ap (option_map head_value) (sym c.in-Some.is)
+    ∙ c.live_head.ensures count fetched (own_stands g.S.Service.started g.S.Service.after c.args.who c.args.fetching.now count fetched c.requires.own st)) c.holding.ensures put)
+    c.send_bare.ensures
+
+pub returns-in-None : goal.returns-in-None
+returns-in-None g c = λ standing count fetched segment reads st.
+    let is : segment ≡ segment_of c.read_accepted.result = same_ok _ segment (segment_of c.read_accepted.result) reads c.read_accepted.ensures.read in
+    let asks : (is_for c.args.who.local segment && not (has_rst segment)) ≡ true = sym (c.may_be_held.ensures segment (ap (λ s. s.head) is)) ∙ search (rules, tests) in
+    let from : source_of segment ≡ c.sender.result = ap source_of is ∙ sym c.sender.ensures in
+    none_held (node_of c.args.who standing) fetched segment c.sender.result c.args.sent.now.items asks from
+    (ap (option_map head_value) (sym c.in-None.is)
+    ∙ c.live_head.ensures count fetched (own_stands g.S.Service.started g.S.Service.after c.args.who c.args.fetching.now count fetched c.requires.own st))

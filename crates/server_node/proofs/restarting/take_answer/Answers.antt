@@ -1,0 +1,43 @@
+use Rattle.std.proofs.Common.{rules, tests, ◌≡◌, true, false, Result, Ok, Err, IfOk, sym, subst}
+use Rattle.server_trait.specs.Service.{machine}
+use Rattle.logger_wire.specs.Value.{message_of}
+use Rattle.reincarnate.specs.Standing.{StandsFetching, AnswerLeads, fetched_then}
+use Rattle.server_node.proofs.Answering.{answer_same, still_own}
+use Rattle.server_node.proofs.Resuming.{answers_nothing, answers_on}
+use Rattle.server_node.proofs.restarting.take_answer.Goals as goal
+
+if_ok : {T E : Type 0} {P Q : T → Type 0} (r : Result T E) → ((x : T) → P x → Q x) → IfOk r P → IfOk r Q
+if_ok (Ok x) f p = f x p
+if_ok (Err e) f p = tt
+
+pub returns-then-not-branch-clause-turn : goal.returns-then-not-branch-clause-turn
+returns-then-not-branch-clause-turn g c = λ standing count fetched st sound.
+    let before = subst (λ k. StandsFetching (machine (g.S.Service.started k) g.S.Service.after) fetched c.args.fetching) (sym c.requires.own.kind) st.entries in
+    let leads = subst (λ k. AnswerLeads (machine (g.S.Service.started k) g.S.Service.after) (fetched_then c.args.fetching.boot c.args.fetching.count (message_of c.args.m.now) fetched)
+    c.in_ok-on_answer.field-0 c.args.fetching c.on_answer.new.self) c.requires.own.kind (c.in_ok-on_answer.ensures.law fetched before) in
+    let unfit : c.in_ok-on_answer.field-0 ≡ false = search (rules, tests) in
+    answers_nothing (machine (g.S.Service.started c.args.who.kind) g.S.Service.after) c.args.who standing (message_of c.args.m.now) count fetched c.args.fetching c.on_answer.new.self
+    c.in_ok-on_answer.field-0 c.args.sent.now.items unfit c.requires.own st leads
+
+pub returns-then-not-branch-clause-sound : goal.returns-then-not-branch-clause-sound
+returns-then-not-branch-clause-sound g c =
+    still_own c.args.who c.args.fetching c.on_answer.new.self
+    (answer_same g.S.Service.started g.S.Service.after (message_of c.args.m.now) c.args.fetching c.on_answer.new.self c.in_ok-on_answer.field-0 c.in_ok-on_answer.ensures.value) c.requires.own
+
+pub go_on-requires-clause-own : goal.go_on-requires-clause-own
+go_on-requires-clause-own g c =
+    still_own c.args.who c.args.fetching c.on_answer.new.self
+    (answer_same g.S.Service.started g.S.Service.after (message_of c.args.m.now) c.args.fetching c.on_answer.new.self c.in_ok-on_answer.field-0 c.in_ok-on_answer.ensures.value) c.requires.own
+
+pub returns-clause-turn : goal.returns-clause-turn
+returns-clause-turn g c =
+    let same = answer_same g.S.Service.started g.S.Service.after (message_of c.args.m.now) c.args.fetching c.on_answer.new.self c.in_ok-on_answer.field-0 c.in_ok-on_answer.ensures.value in
+    let fit : c.in_ok-on_answer.field-0 ≡ true = search (rules, tests) in
+    if_ok c.go_on.result
+    (λ after h standing count fetched st sound.
+    let before = subst (λ k. StandsFetching (machine (g.S.Service.started k) g.S.Service.after) fetched c.args.fetching) (sym c.requires.own.kind) st.entries in
+    let leads = subst (λ k. AnswerLeads (machine (g.S.Service.started k) g.S.Service.after) (fetched_then c.args.fetching.boot c.args.fetching.count (message_of c.args.m.now) fetched)
+    c.in_ok-on_answer.field-0 c.args.fetching c.on_answer.new.self) c.requires.own.kind (c.in_ok-on_answer.ensures.law fetched before) in
+    answers_on (machine (g.S.Service.started c.args.who.kind) g.S.Service.after) c.args.who standing (message_of c.args.m.now) count fetched c.args.fetching c.on_answer.new.self
+    c.in_ok-on_answer.field-0 after c.args.sent.now.items c.go_on.new.sent.items fit same c.requires.own st sound leads (λ more stands sounds. h standing count more stands sounds))
+    c.go_on.ensures.turn

@@ -1,0 +1,21 @@
+use Rattle.std.proofs.Common.{◌≡◌, ◌∙◌, ap, sym}
+use Rattle.server_trait.specs.Service.{machine}
+use Rattle.server_node.specs.Identity.{node_of}
+use Rattle.server_node.specs.Conn.{IsSound}
+use Rattle.server_node.proofs.Revived.{live_again}
+use Rattle.server_node.proofs.reviving.revive.Goals as goal
+
+pub start_live-requires : goal.start_live-requires
+unfolding IsSound
+start_live-requires g c = c.hand_on-conn.ensures.sound
+
+pub returns-clause-turn : goal.returns-clause-turn
+returns-clause-turn g c = λ standing e re sound.
+    let fresh = g.S.Service.started c.args.who.kind in
+    let told = rw c.in_ok-start_live.was at c.start_live.ensures.turn in
+    let is = c.in-Ok.ensures.law fresh e re sound in
+    let key : c.head.result.key ≡ e.key = ap (λ h. h.key) c.head.ensures ∙ ap (λ h. h.key) re.head in
+    let local : c.hand_on-conn.result.local ≡ c.args.who.local = ap (λ x. x.local) c.hand_on-conn.ensures.value ∙ ap (λ x. x.local) c.in-Ok.ensures.value in
+    let boot : c.hand_on-conn.result.boot ≡ c.args.who.boot = ap (λ x. x.boot) c.hand_on-conn.ensures.value ∙ ap (λ x. x.boot) c.in-Ok.ensures.value in
+    live_again (machine fresh g.S.Service.after) (node_of c.args.who standing) e c.hand_on-conn.result c.start_live.new.conn c.args.sent.now.items c.start_live.new.sent.items
+    local boot is.segments.1 (c.hand_on-conn.ensures.law fresh e c.args.isn.0 is) (λ p same begins. told p (same ∙ sym key) begins)

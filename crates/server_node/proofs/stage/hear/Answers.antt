@@ -1,0 +1,29 @@
+use Rattle.std.proofs.Common.{rules, ◌≡◌, ◌∙◌, ◌==◌, false, None, subst, sym}
+use Rattle.std.proofs.lemmas.Bool.{ne_eqb}
+use Rattle.server_trait.specs.Service.{machine}
+use Rattle.logger_wire.specs.Value.{message_of}
+use Rattle.ft_model.specs.Node.Input.{Message_comes}
+use Rattle.server_node.specs.Identity.{node_of}
+use Rattle.server_node.specs.Stages.{NodeGoes}
+use Rattle.server_node.proofs.Staged.{others_message}
+use Rattle.server_node.proofs.stage.hear.Goals as goal
+
+pub returns-in-Some-clause-fenced : goal.returns-in-Some-clause-fenced
+returns-in-Some-clause-fenced g c = λ standing. sym (c.newer_in.ensures standing) ∙ c.in-Some.is
+
+pub returns-then-m-who-clause-turn : goal.returns-then-m-who-clause-turn
+returns-then-m-who-clause-turn g c = λ standing sound st.
+    let service = machine (g.S.Service.started c.args.who.kind) g.S.Service.after in
+    let other : (c.args.m.now.boot == c.args.who.boot) ≡ false = ne_eqb c.args.m.now.boot c.args.who.boot c.if-m-who.true in
+    subst (λ xs. NodeGoes service (node_of c.args.who standing) (Message_comes (message_of c.args.m.now)) c.args.who c.args.stage xs) (sym c.requires.empty)
+    (others_message service c.args.who standing c.args.stage (message_of c.args.m.now) other st)
+
+pub returns-clause-turn : goal.returns-clause-turn
+returns-clause-turn g c = λ standing sound st.
+    let none : c.newer_in.result ≡ None = search rules in
+    c.in_ok-on_message.ensures.turn standing c.if-m-who.false (sym (c.newer_in.ensures standing) ∙ none) sound st
+
+pub returns-clause-unfenced : goal.returns-clause-unfenced
+returns-clause-unfenced g c = λ standing.
+    let none : c.newer_in.result ≡ None = search rules in
+    sym (c.newer_in.ensures standing) ∙ none

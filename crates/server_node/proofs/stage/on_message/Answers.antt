@@ -1,0 +1,42 @@
+use Rattle.std.proofs.Common.{Result, Ok, Err, IfOk, subst}
+use Rattle.server_trait.specs.Service.{machine}
+use Rattle.logger_wire.specs.Value.{message_of}
+use Rattle.ft_model.specs.Lawful.{StageTurn}
+use Rattle.ft_model.specs.Node.Stage.{Fetching}
+use Rattle.ft_model.specs.Node.Input.{Message_comes}
+use Rattle.server_node.specs.Identity.{node_of}
+use Rattle.server_node.specs.Reviving.{StageGoes}
+use Rattle.server_node.specs.Serving.{ServingGoes}
+use Rattle.server_node.specs.Stages.{StageStands}
+use Rattle.server_node.proofs.Resuming.{answered_on}
+use Rattle.server_node.proofs.Staged.{serves_on}
+use Rattle.server_node.proofs.stage.on_message.Goals as goal
+
+if_ok : {T E : Type 0} {P Q : T → Type 0} (r : Result T E) → ((x : T) → P x → Q x) → IfOk r P → IfOk r Q
+if_ok (Ok x) f p = f x p
+if_ok (Err e) f p = tt
+
+pub returns-in-Asking-clause-turn : goal.returns-in-Asking-clause-turn
+returns-in-Asking-clause-turn g c =
+    let service = machine (g.S.Service.started c.args.who.kind) g.S.Service.after in
+    if_ok c.on_summary.result
+    (λ after h standing boot unfenced sound st. h standing boot unfenced (subst (λ s. StageStands service (node_of c.args.who standing) s) c.in-Asking.is st)) c.on_summary.ensures.turn
+
+pub returns-in_ok-serve_message-in-Serving-clause-turn : goal.returns-in_ok-serve_message-in-Serving-clause-turn
+returns-in_ok-serve_message-in-Serving-clause-turn g c = λ standing boot unfenced sound st.
+    let service = machine (g.S.Service.started c.args.who.kind) g.S.Service.after in
+    let input = Message_comes (message_of c.args.m.now) in
+    let told = rw c.in_ok-serve_message-in-Serving.was at c.serve_message.ensures.turn in
+    serves_on service c.args.who standing input c.in-Serving.serving c.serve_message.new.serving c.serve_message.new.sent.items unfenced
+    (subst (λ s. StageStands service (node_of c.args.who standing) s) c.in-Serving.is st)
+    (λ opened places is stands. subst (λ xs. ServingGoes service (node_of c.args.who standing) input opened places c.serve_message.new.serving xs c.serve_message.new.sent.items) c.requires.empty
+    (told standing opened places boot stands))
+
+pub returns-in-Fetching-clause-turn : goal.returns-in-Fetching-clause-turn
+returns-in-Fetching-clause-turn g c =
+    let service = machine (g.S.Service.started c.args.who.kind) g.S.Service.after in
+    if_ok c.take_answer.result
+    (λ after h standing boot unfenced sound st. answered_on service c.args.who standing (message_of c.args.m.now) c.in-Fetching.fetching after c.take_answer.new.sent.items unfenced
+    (subst (λ s. StageStands service (node_of c.args.who standing) s) c.in-Fetching.is st) sound
+    (λ count fetched stands sounds. subst (λ xs. StageGoes service c.args.who (StageTurn service (node_of c.args.who standing) (Fetching count fetched) (Message_comes (message_of c.args.m.now)))
+    after xs c.take_answer.new.sent.items) c.requires.empty (h standing count fetched stands sounds))) c.take_answer.ensures.turn

@@ -1,0 +1,35 @@
+use Rattle.std.proofs.Common.{rules, ◌≡◌, ◌∙◌, [], None, Result, Ok, Err, IfOk, subst, sym}
+use Rattle.server_trait.specs.Service.{machine}
+use Rattle.logger_wire.specs.Value.{body_of, message_of}
+use Rattle.ft_model.specs.Lawful.{Fetches, summary_count}
+use Rattle.ft_model.specs.Node.Input.{Message_comes}
+use Rattle.server_node.specs.declared.stage.Stage.TheVariants as stage
+use Rattle.server_node.specs.Identity.{node_of}
+use Rattle.server_node.specs.Reviving.{StageGoes}
+use Rattle.server_node.specs.Stages.{NodeGoes}
+use Rattle.server_node.proofs.Ranged.{count_in_range}
+use Rattle.server_node.proofs.Resuming.{begins_on}
+use Rattle.server_node.proofs.Staged.{unanswered}
+use Rattle.server_node.proofs.stage.on_summary.Goals as goal
+
+if_ok : {T E : Type 0} {P Q : T → Type 0} (r : Result T E) → ((x : T) → P x → Q x) → IfOk r P → IfOk r Q
+if_ok (Ok x) f p = f x p
+if_ok (Err e) f p = tt
+
+pub begin_fetching-requires-clause-few : goal.begin_fetching-requires-clause-few
+begin_fetching-requires-clause-few g c = count_in_range c.args.m.now c.in-Some.count c.requires.sendable (sym c.count_in.ensures ∙ c.in-Some.is)
+
+pub returns-in_default-clause-turn : goal.returns-in_default-clause-turn
+returns-in_default-clause-turn g c = λ standing boot unfenced is.
+    let service = machine (g.S.Service.started c.args.who.kind) g.S.Service.after in
+    let none : summary_count (body_of c.args.m.now.body) ≡ None = search rules in
+    subst (λ xs. NodeGoes service (node_of c.args.who standing) (Message_comes (message_of c.args.m.now)) c.args.who stage.Asking xs) (sym c.requires.empty)
+    (unanswered service c.args.who standing (message_of c.args.m.now) none is unfenced)
+
+pub returns-clause-turn : goal.returns-clause-turn
+returns-clause-turn g c = if_ok c.begin_fetching.result
+    (λ after h standing boot unfenced is.
+    let service = machine (g.S.Service.started c.args.who.kind) g.S.Service.after in
+    begins_on service c.args.who standing (message_of c.args.m.now) c.in-Some.count after c.begin_fetching.new.sent.items boot (sym c.count_in.ensures ∙ c.in-Some.is) is unfenced
+    (subst (λ xs. StageGoes service c.args.who (Fetches service (node_of c.args.who standing) c.in-Some.count []) after xs c.begin_fetching.new.sent.items) c.requires.empty (h standing)))
+    c.begin_fetching.ensures.turn

@@ -1,0 +1,23 @@
+-- What a message tells a connection of its log.
+use Rattle.std.specs.Prelude.{Option, Some, None}
+use Rattle.seq_arith.specs.Message.{Body, Kept}
+use Rattle.seq_arith.specs.Message.Body.{StableMsg, ReadsMsg}
+use Rattle.server_node.specs.declared.slot.Slot.{Slot}
+use Rattle.server_node.specs.declared.slot.Slot.TheVariants as slot
+use Rattle.server_node.specs.declared.slot.Opening.{Opening}
+
+-- how much of a connection is logged
+abbrev pub logged_in : Body → Option Kept
+logged_in (StableMsg kept) = Some kept
+logged_in (ReadsMsg kept) = Some kept
+logged_in _ = None
+
+abbrev pub opening_in : {S : Type 0} → Option (Slot S) → Option Opening
+opening_in (Some (slot.Pending o)) = Some o
+opening_in _ = None
+
+-- a live connection has ended
+abbrev pub ended : {S : Type 0} → Slot S → Slot S
+ended (slot.Live c) = slot.Done
+ended (slot.Pending o) = slot.Pending o
+ended slot.Done = slot.Done

@@ -1,0 +1,13 @@
+-- What comes to the node as bytes, as the law's inputs: what no codec reads is noise.
+use Rattle.seq_arith.specs.PacketGrammar as packets
+use Rattle.seq_arith.specs.MessageGrammar as messages
+use Rattle.ft_model.specs.Node as law
+use Rattle.ft_model.specs.Node.Input.{Tick_comes}
+use Rattle.ft_model.specs.World.{segment_or_noise, message_or_noise}
+use Rattle.server_node.specs.declared.input.Input.{Input}
+use Rattle.server_node.specs.declared.input.Input.TheVariants as input
+
+abbrev pub input_of : Input → law.Input
+input_of (input.Packet bytes) = segment_or_noise (packets.reading bytes.now)
+input_of (input.Message bytes) = message_or_noise (messages.reading bytes.now)
+input_of input.Tick = Tick_comes

@@ -1,0 +1,27 @@
+-- The connection that a node lends of a key.
+use Rattle.std.specs.Prelude.{Option, Some, None}
+use Rattle.ft_io.specs.declared.Key.{Key}
+use Rattle.server_trait.specs.Service.{Machine}
+use Rattle.ft_model.specs.Node.{Node, Place, Stage, place_at}
+use Rattle.ft_model.specs.Node.Place.{Lives}
+use Rattle.ft_model.specs.Node.Stage.{Serving}
+use Rattle.wrapped_conn.specs.ConnState.{ConnState}
+use Rattle.server_node.specs.declared.slot.Slot.{Slot}
+use Rattle.server_node.specs.declared.slot.Slot.TheVariants as slot
+use Rattle.server_node.specs.Conn.{Stands}
+
+abbrev pub conn_in : {S : Type 0} → Option (Slot S) → Option (ConnState S)
+conn_in (Some (slot.Live c)) = Some c
+conn_in _ = None
+
+-- what a node has for a key. While it doesn't serve, nothing is lent
+abbrev pub place_in : Key → Stage → Option Place
+place_in key (Serving opened places) = place_at key places
+place_in key _ = None
+
+-- a connection at its point, exactly where the key's place is live
+abbrev pub IsConnAt : {S : Type 0} → Machine S → Node → Option (ConnState S) → Option Place → Type 0
+IsConnAt service node (Some c) (Some (Lives p)) = Stands service node.server node.boot c p
+IsConnAt service node None (Some (Lives p)) = ⊥
+IsConnAt service node None _ = Unit {0}
+IsConnAt service node (Some c) _ = ⊥

@@ -1,0 +1,13 @@
+pub mod Sending
+pub mod Refusing
+pub mod Conn
+pub mod Hearing
+pub mod Identity
+pub mod Slots
+pub mod Opening
+pub mod Serving
+pub mod Inputs
+pub mod Restarting
+pub mod Stages
+pub mod Reviving
+pub mod Lending

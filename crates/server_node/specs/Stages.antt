@@ -1,0 +1,52 @@
+-- Where a node stands, and its turn by the law.
+use Rattle.std.specs.Prelude.{◌≡◌, ℕ, List, map}
+use Rattle.std.specs.Coded.{Unit-prop}
+use Rattle.std.specs.List.{AllByRecursion, AllByRecursion-prop}
+use Rattle.server_trait.specs.Service.{Machine}
+use Rattle.ft_model.specs.Network.{Packet}
+use Rattle.ft_model.specs.Restart.{Fetched}
+use Rattle.ft_model.specs.Node as law
+use Rattle.ft_model.specs.Node.{Stage as law_stage}
+use Rattle.ft_model.specs.Lawful.{LawfulTurn}
+use Rattle.ft_model.specs.Wire.{Wire, wire_of, HasWire}
+use Rattle.server_node.specs.declared.identity.Identity.{Identity}
+use Rattle.server_node.specs.declared.stage.Stage.{Stage}
+use Rattle.server_node.specs.declared.stage.Stage.TheVariants as stage
+use Rattle.server_node.specs.declared.input.TurnEnd.{TurnEnd}
+use Rattle.server_node.specs.declared.input.TurnEnd.TheVariants as end
+use Rattle.server_node.specs.Identity.{node_of}
+use Rattle.server_node.specs.Restarting.{FetchingStands, IsOwn, IsOwn-prop}
+use Rattle.server_node.specs.Slots.{AllSound, IsSoundSlot, IsSoundSlot-prop}
+use Rattle.server_node.specs.Serving.{ServingStands}
+
+abbrev pub StageStands : {S : Type 0} → Machine S → law.Node → Stage S → Type 0
+StageStands service node stage.Asking = node.stage ≡ law_stage.Asking
+StageStands service node (stage.Fetching f) = (count : ℕ) × (fetched : List Fetched) × (node.stage ≡ law_stage.Fetching count fetched) × FetchingStands service count fetched f
+StageStands service node (stage.Serving s) = (opened : ℕ) × (places : List law.Place) × (node.stage ≡ law_stage.Serving opened places) × ServingStands service node opened places s
+StageStands service node stage.Lost = ⊥
+
+-- the stage's calls may be made, whatever came
+abbrev pub IsSoundStage : {S : Type 0} → Identity → Stage S → Type 0
+IsSoundStage who (stage.Fetching f) = IsOwn who f
+IsSoundStage who (stage.Serving s) = AllSound s.slots.entries
+IsSoundStage who _ = Unit {0}
+
+pub IsSoundStage-prop : {S : Type 0} (who : Identity) (at : Stage S) → IsProp (IsSoundStage who at)
+IsSoundStage-prop who stage.Asking = Unit-prop
+IsSoundStage-prop who (stage.Fetching f) = IsOwn-prop who f
+IsSoundStage-prop who (stage.Serving s) = AllByRecursion-prop (λ e. IsSoundSlot e.1) (λ e. IsSoundSlot-prop e.1) s.slots.entries
+IsSoundStage-prop who stage.Lost = Unit-prop
+
+-- a turn by the law: it stands elsewhere, and the packets of the turn are what it sent, each in its one spelling
+pub record NodeGoes {S : Type 0} (service : Machine S) (node : law.Node) (input : law.Input) (who : Identity) (now : Stage S) (sent : List Wire) : Type 0 where
+  pub after : law.Stage
+  pub packets : List Packet
+  pub stands : StageStands service (node_of who after) now
+  pub turn : LawfulTurn service node input packets (node_of who after)
+  pub wires : sent ≡ map wire_of packets
+  pub spelled : AllByRecursion HasWire packets
+
+-- an end names a larger boot number, or is for want of memory
+abbrev pub IsFence : TurnEnd → (ℕ → Type 0) → Type 0
+IsFence (end.Fenced newer) Holds = Holds newer
+IsFence end.NoMemory Holds = Unit {0}

@@ -1,0 +1,226 @@
+//! What a message of the logger does at the slot of the key that it names.
+
+ghost use Rattle.std.specs.Prelude.{◌≡◌, ◌≤◌, List, Some, OnOk, IfOk, IsSome};
+ghost use Rattle.std.specs.Map.{lookup, set_value, remove_entry, keys_of};
+ghost use Rattle.std.specs.List.{IsDistinct};
+ghost use Rattle.ft_io.specs.Key.{key_eq};
+ghost use Rattle.seq_arith.specs.Message.{Kept, Message};
+ghost use Rattle.seq_arith.specs.Message.Body.{OpenedMsg, EndedMsg, FullMsg};
+ghost use Rattle.server_trait.specs.Service.{Machine, machine};
+ghost use Rattle.logger_wire.specs.Value.{message_of, IsSendable};
+ghost use Rattle.ft_model.specs.Node.{Node, Place, Stage};
+ghost use Rattle.ft_model.specs.Node.Input.{Message_comes};
+ghost use Rattle.ft_model.specs.Wire.{Wire};
+ghost use Rattle.server_node.specs.Hearing.{logged_in, opening_in, ended as ended_lem};
+ghost use Rattle.server_node.specs.Identity.{node_of};
+ghost use Rattle.server_node.specs.Slots.{numbers_of, SlotStands, SlotGoes, IsSoundSlot, AllStand, AllSlotsGo, AllSound};
+
+use crate::identity::Identity;
+use crate::live::{begin_live, tell_live};
+use crate::out_packet::OutPacket;
+use crate::refusal::refuse_full;
+use crate::slot::{Opening, Slot};
+use ft_io::{Key, NoMemory};
+use indexmap::IndexMap;
+use logger_wire::{Body, Msg};
+use seq_arith::Seq;
+use server_trait::Service;
+use std::alloc::Global;
+use wrapped_conn::TurnOut;
+
+fn tell_slot<S: Service>(
+    alloc: Global,
+    who: Identity,
+    key: Key,
+    slot: &mut Slot<S>,
+    m: &Msg<'_>,
+    out: &mut TurnOut,
+    sent: &mut Vec<OutPacket>,
+) -> Result<(), NoMemory>
+    requires sound { IsSoundSlot slot.old }
+    requires sendable { IsSendable m.now }
+    ensures turn { OnOk result ((stage : Stage) (place : Place) (kept : Kept) → m.now.boot ≡ who.boot → logged_in (message_of m.now).body ≡ Some kept → kept.key ≡ key
+        → SlotStands (machine (S.started who.kind) S.after) (node_of who stage) key slot.old place
+        → SlotGoes (machine (S.started who.kind) S.after) (node_of who stage) (Message_comes (message_of m.now)) key place slot.new sent.old.items sent.new.items) }
+    ensures sound { OnOk result (IsSoundSlot slot.new) }
+{
+    match slot {
+        Slot::Live(conn) => tell_live(alloc, who, key, conn, m, out, sent),
+        Slot::Pending(_) | Slot::Done => Ok(()),
+    }
+}
+
+/// How much of a connection is logged.
+pub(crate) fn tell_known<S: Service>(
+    alloc: Global,
+    who: Identity,
+    key: Key,
+    slots: &mut IndexMap<Key, Slot<S>>,
+    m: &Msg<'_>,
+    out: &mut TurnOut,
+    sent: &mut Vec<OutPacket>,
+) -> Result<(), NoMemory>
+    requires sound { AllSound slots.old.entries }
+    requires sendable { IsSendable m.now }
+    ensures turn { OnOk result ((stage : Stage) (places : List Place) (kept : Kept) → m.now.boot ≡ who.boot → logged_in (message_of m.now).body ≡ Some kept → kept.key ≡ key
+        → AllStand (machine (S.started who.kind) S.after) (node_of who stage) slots.old.entries places
+        → AllSlotsGo (machine (S.started who.kind) S.after) (node_of who stage) (Message_comes (message_of m.now)) places slots.new.entries sent.old.items sent.new.items) }
+    ensures sound { OnOk result (AllSound slots.new.entries) }
+{
+    if let Some(slot) = slots.get_mut(&key) {
+        tell_slot(alloc, who, key, slot, m, out, sent)?;
+    }
+    Ok(())
+}
+
+fn end_slot<S: Service>(slot: &mut Slot<S>)
+    ensures { slot.new ≡ ended_lem slot.old }
+{
+    match slot {
+        Slot::Live(_) => *slot = Slot::Done,
+        Slot::Pending(_) | Slot::Done => {}
+    }
+}
+
+/// The end of a connection is logged.
+pub(crate) fn end_known<S: Service>(key: Key, slots: &mut IndexMap<Key, Slot<S>>)
+    requires { AllSound slots.old.entries }
+    ensures turn { (service : Machine S) (node : Node) (places : List Place) (message : Message) (told : List Wire) → message ≡ record { boot = node.boot; body = EndedMsg key }
+        → AllStand service node slots.old.entries places → AllSlotsGo service node (Message_comes message) places slots.new.entries told told }
+    ensures sound { AllSound slots.new.entries }
+{
+    if let Some(slot) = slots.get_mut(&key) {
+        end_slot(slot);
+    }
+}
+
+/// The opening that is pending for a key.
+pub(crate) fn opening_at<S: Service>(key: Key, slots: &IndexMap<Key, Slot<S>>) -> Option<Opening>
+    ensures found { result ≡ opening_in (lookup (key_eq key) slots.now.entries) }
+    ensures unique { IsDistinct key_eq (keys_of slots.now.entries) }
+{
+    let _keys_differ = slots.len();
+    opening_of(slots.get(&key)?)
+}
+
+fn opening_of<S: Service>(slot: &Slot<S>) -> Option<Opening>
+    ensures { result ≡ opening_in (Some slot.now) }
+{
+    match slot {
+        Slot::Pending(opening) => Some(*opening),
+        Slot::Live(_) | Slot::Done => None,
+    }
+}
+
+/// What a key has is replaced.
+fn put_slot<S: Service>(key: Key, slots: &mut IndexMap<Key, Slot<S>>, slot: Slot<S>)
+    requires { IsSome (lookup (key_eq key) slots.old.entries) }
+    ensures { slots.new.entries ≡ set_value (key_eq key) slots.old.entries slot }
+{
+    if let Some(place) = slots.get_mut(&key) {
+        *place = slot;
+    }
+}
+
+/// What a key has is dropped, and the others keep their order.
+fn drop_slot<S: Service>(key: Key, slots: &mut IndexMap<Key, Slot<S>>)
+    ensures { slots.new.entries ≡ remove_entry (key_eq key) slots.old.entries }
+{
+    let _ = slots.shift_remove(&key);
+}
+
+/// The log has an entry for a key, with these numbers: a pending opening with the client's number becomes a connection, one with another
+/// number is dropped.
+pub(crate) fn open_known<S: Service>(
+    alloc: Global,
+    who: Identity,
+    key: Key,
+    numbers: Opening,
+    slots: &mut IndexMap<Key, Slot<S>>,
+    out: &mut TurnOut,
+    sent: &mut Vec<OutPacket>,
+) -> Result<(), NoMemory>
+    requires boot { 1 ≤ who.boot }
+    requires least { 64 ≤ numbers.mss }
+    requires most { numbers.mss ≤ 1460 }
+    requires sound { AllSound slots.old.entries }
+    ensures turn { OnOk result ((stage : Stage) (places : List Place) (message : Message) → message ≡ record { boot = who.boot; body = OpenedMsg (numbers_of key numbers) }
+        → AllStand (machine (S.started who.kind) S.after) (node_of who stage) slots.old.entries places
+        → AllSlotsGo (machine (S.started who.kind) S.after) (node_of who stage) (Message_comes message) places slots.new.entries sent.old.items sent.new.items) }
+    ensures sound { OnOk result (AllSound slots.new.entries) }
+{
+    let Some(opening) = opening_at(key, slots) else {
+        return Ok(());
+    };
+    if opening.cisn.0 != numbers.cisn.0 {
+        drop_slot(key, slots);
+        return Ok(());
+    }
+    let conn = begin_live(alloc, who, key, numbers, out, sent)?;
+    put_slot(key, slots, Slot::Live(conn));
+    Ok(())
+}
+
+/// The log is full: a pending opening is dropped and its SYN refused.
+pub(crate) fn refuse_known<S: Service>(
+    alloc: Global,
+    who: Identity,
+    key: Key,
+    slots: &mut IndexMap<Key, Slot<S>>,
+    sent: &mut Vec<OutPacket>,
+) -> Result<(), NoMemory>
+    requires sound { AllSound slots.old.entries }
+    ensures turn { OnOk result ((stage : Stage) (places : List Place) (message : Message) → message ≡ record { boot = who.boot; body = FullMsg key }
+        → AllStand (machine (S.started who.kind) S.after) (node_of who stage) slots.old.entries places
+        → AllSlotsGo (machine (S.started who.kind) S.after) (node_of who stage) (Message_comes message) places slots.new.entries sent.old.items sent.new.items) }
+    ensures sound { OnOk result (AllSound slots.new.entries) }
+{
+    let Some(opening) = opening_at(key, slots) else {
+        return Ok(());
+    };
+    refuse_full(alloc, who, key, opening, sent)?;
+    drop_slot(key, slots);
+    Ok(())
+}
+
+/// A message of this boot.
+pub(crate) fn hear<S: Service>(
+    alloc: Global,
+    who: Identity,
+    m: &Msg<'_>,
+    slots: &mut IndexMap<Key, Slot<S>>,
+    out: &mut TurnOut,
+    sent: &mut Vec<OutPacket>,
+) -> Result<(), NoMemory>
+    requires boot { 1 ≤ who.boot }
+    requires sendable { IsSendable m.now }
+    requires sound { AllSound slots.old.entries }
+    ensures turn { OnOk result ((stage : Stage) (places : List Place) → m.now.boot ≡ who.boot
+        → AllStand (machine (S.started who.kind) S.after) (node_of who stage) slots.old.entries places
+        → AllSlotsGo (machine (S.started who.kind) S.after) (node_of who stage) (Message_comes (message_of m.now)) places slots.new.entries sent.old.items sent.new.items) }
+    ensures sound { OnOk result (AllSound slots.new.entries) }
+{
+    match m.body {
+        Body::StableMsg { key, .. } => tell_known(alloc, who, key, slots, m, out, sent),
+        Body::ReadsMsg { key, .. } => tell_known(alloc, who, key, slots, m, out, sent),
+        Body::EndedMsg { key } => {
+            end_known(key, slots);
+            Ok(())
+        }
+        Body::OpenedMsg {
+            key,
+            cisn,
+            sisn,
+            mss,
+        } => {
+            let numbers = Opening {
+                cisn: Seq(cisn),
+                sisn: Seq(sisn),
+                mss,
+            };
+            open_known(alloc, who, key, numbers, slots, out, sent)
+        }
+        Body::FullMsg { key } => refuse_known(alloc, who, key, slots, sent),
+        _ => Ok(()),
+    }
+}

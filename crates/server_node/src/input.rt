@@ -1,0 +1,35 @@
+//! What comes to the node, and how its turns end.
+
+ghost use Rattle.std.specs.Prelude.{◌≡◌};
+ghost use Rattle.server_node.specs.declared.input.TurnEnd.TheVariants.{NoMemory};
+
+use ft_io::NoMemory;
+use thiserror::Error;
+
+/// One turn's input.
+#[derive(Clone, Copy, Debug, Drop)]
+pub enum Input<'a> {
+    /// A datagram from the clients' side.
+    Packet(&'a [u8]),
+    /// A datagram from the logger's side.
+    Message(&'a [u8]),
+    Tick,
+}
+
+/// Why a turn ended the node, which may only be dropped then.
+#[derive(Clone, Copy, Debug, PartialEq, Eq, Error)]
+pub enum TurnEnd {
+    #[error("out of memory")]
+    NoMemory,
+    /// A server with this larger boot number has spoken to the logger.
+    #[error("fenced by boot {newer}")]
+    Fenced { newer: u64 },
+}
+
+impl From<NoMemory> for TurnEnd {
+    ghost from_gives = { λ _ e. e ≡ NoMemory };
+
+    fn from(_error: NoMemory) -> TurnEnd {
+        TurnEnd::NoMemory
+    }
+}

@@ -1,0 +1,115 @@
+//! The server of one incarnation.
+
+ghost use Rattle.std.specs.Prelude.{◌≤◌};
+ghost use Rattle.server_node.specs.Stages.{IsSoundStage, IsSoundStage-prop};
+
+use crate::identity::Identity;
+use crate::input::{Input, TurnEnd};
+use crate::out_packet::OutPacket;
+use crate::stage::{Stage, conn_in, go, send_hello};
+use ft_io::{Addr, Key, NoMemory};
+use server_trait::Service;
+use std::alloc::Global;
+use std::mem;
+use wrapped_conn::{Conn, TurnOut};
+
+/// The server of one incarnation: it asks the logger for its log, restarts every connection, and serves.
+#[derive(Drop)]
+pub struct Node<S: Service> {
+    who: Identity,
+    stage: Stage<S>,
+    out: TurnOut,
+    sent: Vec<OutPacket>,
+    ghost booted: { 1 ≤ who.boot },
+    ghost sound: { IsSoundStage who stage } by { IsSoundStage-prop who stage },
+}
+
+impl<S: Service> Node<S> {
+    ghost use Rattle.std.specs.Prelude.{◌≡◌, ◌≤◌, ◌∷◌, [], map, IfOk, IfErr, OnOk, None, Some, ⊤, option_copied};
+    ghost use Rattle.std.specs.Borrow.{sem};
+    ghost use mathlib.Core.Option.{none};
+    ghost use denote.Follow.{follows_so};
+    ghost use Rattle.server_trait.specs.Service.{machine};
+    ghost use Rattle.ft_model.specs.Node.{Stage as Standing, booted};
+    ghost use Rattle.ft_model.specs.Lawful.{IsNearInput, IsSoundInput, hello, fence};
+    ghost use Rattle.ft_model.specs.Wire.{wire_of};
+    ghost use Rattle.server_node.specs.contracts.node.Node.{the_row};
+    ghost use Rattle.server_node.specs.Identity.{node_of};
+    ghost use Rattle.server_node.specs.Inputs.{input_of};
+    ghost use Rattle.server_node.specs.Lending.{IsConnAt, place_in};
+    ghost use Rattle.server_node.specs.Stages.{StageStands, NodeGoes, IsFence};
+
+    /// Boots, with this boot number, the number from which initial numbers are counted, and the kind of the service. It has said Hello then.
+    pub fn boot(
+        alloc: Global,
+        boot: u64,
+        isn: u32,
+        kind: u8,
+        local: Addr,
+    ) -> Result<Node<S>, NoMemory>
+        requires { 1 ≤ boot }
+        ensures stands { IfOk result (λ n. StageStands (machine (S.started kind) S.after) (booted local boot isn) n.stage) }
+        ensures hello { IfOk result (λ n. n.sent.items ≡ map wire_of (hello (booted local boot isn))) }
+        ensures same { IfOk result (λ n. n.who ≡ record { boot = boot; isn = isn; kind = kind; local = local }) }
+    {
+        let who = Identity {
+            boot,
+            isn,
+            kind,
+            local,
+        };
+        let mut sent = Vec::new(alloc);
+        send_hello(alloc, who, &mut sent)?;
+        Ok(Node {
+            who,
+            stage: Stage::Asking,
+            out: TurnOut::new(alloc)?,
+            sent,
+        })
+    }
+
+    /// The connection of a key, while it is live.
+    pub fn conn(&self, key: Key) -> Option<&Conn<S>>
+        ensures { (standing : Standing) → StageStands (machine (S.started self.now.who.kind) S.after) (node_of self.now.who standing) self.now.stage
+            → IsConnAt (machine (S.started self.now.who.kind) S.after) (node_of self.now.who standing) (option_copied result) (place_in key standing) }
+    {
+        conn_in(&self.stage, key)
+    }
+
+    /// What the boot or the last turn sent.
+    pub fn sent(&self) -> &[OutPacket]
+        ensures { result.now ≡ self.now.sent.items }
+    {
+        self.sent.as_slice()
+    }
+
+    /// One turn. A packet to a live connection is taken to be near (as a premise of the law), and a fetched entry to be sound.
+    fn advance(&mut self, alloc: Global, input: Input<'_>) -> Result<(), TurnEnd>
+        ensures turn { OnOk result ((standing : Standing) → IsNearInput (input_of input.entry) standing
+            → IsSoundInput (machine (S.started self.old.who.kind) S.after) (node_of self.old.who standing) (input_of input.entry) standing
+            → StageStands (machine (S.started self.old.who.kind) S.after) (node_of self.old.who standing) self.old.stage
+            → NodeGoes (machine (S.started self.old.who.kind) S.after) (node_of self.old.who standing) (input_of input.entry) self.old.who self.new.stage self.new.sent.items) }
+        ensures unfenced { OnOk result ((standing : Standing) → fence (node_of self.old.who standing) (input_of input.entry) ≡ None) }
+        ensures fenced { IfErr result (λ end. IsFence end (λ newer. (standing : Standing) → fence (node_of self.old.who standing) (input_of input.entry) ≡ Some newer)) }
+        ensures same { self.new.who ≡ self.old.who }
+    {
+        self.sent.clear();
+        let stage = mem::replace(&mut self.stage, Stage::Lost);
+        self.stage = go(alloc, self.who, stage, input, &mut self.out, &mut self.sent)?;
+        Ok(())
+    }
+
+    /// One turn, which lends what it sends. After an error the node may only be dropped.
+    pub fn turn(&mut self, alloc: Global, input: Input<'_>) -> Result<&[OutPacket], TurnEnd>
+        ensures* after { sem 𝓛 (follows_so (the_row S.row S.Service) (the_row S.row S.Service) self.entry.ghost_name none (λ _ _. ⊤) (λ node. IfOk result (λ sent.
+            (node.who ≡ self.old.who) × (node.sent.items ≡ sent.now) × ((standing : Standing) → IsNearInput (input_of input.entry) standing
+            → IsSoundInput (machine (S.started self.old.who.kind) S.after) (node_of self.old.who standing) (input_of input.entry) standing
+            → StageStands (machine (S.started self.old.who.kind) S.after) (node_of self.old.who standing) self.old.stage
+            → NodeGoes (machine (S.started self.old.who.kind) S.after) (node_of self.old.who standing) (input_of input.entry) self.old.who node.stage sent.now)))) }
+        ensures unfenced { OnOk result ((standing : Standing) → fence (node_of self.old.who standing) (input_of input.entry) ≡ None) }
+        ensures fenced { IfErr result (λ end. IsFence end (λ newer. (standing : Standing) → fence (node_of self.old.who standing) (input_of input.entry) ≡ Some newer)) }
+    {
+        self.advance(alloc, input)?;
+        Ok(self.sent.as_slice())
+    }
+}

@@ -1,0 +1,53 @@
+//! A packet that the node sends.
+
+ghost use Rattle.std.specs.Prelude.{◌≡◌, OnOk};
+ghost use Rattle.server_node.specs.Sending.{sent_to, party_of};
+
+use ft_io::{Key, NoMemory};
+use std::alloc::Global;
+use std::marker::Model;
+
+/// To whom a packet goes.
+#[derive(Clone, Copy, Debug, PartialEq, Eq)]
+pub enum To {
+    /// The client at this address and port.
+    Client(Key),
+    Logger,
+}
+
+/// A packet's bytes, with its addressee.
+#[derive(Debug, Drop)]
+pub struct OutPacket {
+    to: To,
+    text: Vec<u8>,
+}
+
+impl Model for OutPacket {
+    ghost use Rattle.ft_model.specs.Wire.{Wire};
+    ghost use Rattle.server_node.specs.Sending.{sent_to};
+
+    ghost Value = { Wire };
+
+    ghost view = { λ p. sent_to p.to p.text.items };
+}
+
+impl OutPacket {
+    pub(crate) fn new(alloc: Global, to: To, bytes: &[u8]) -> Result<OutPacket, NoMemory>
+        ensures { OnOk result (result ≡ Rattle.std.specs.Prelude.Ok (sent_to to bytes.now)) }
+    {
+        let text = Vec::from_slice(alloc, bytes)?;
+        Ok(OutPacket { to, text })
+    }
+
+    pub fn to(&self) -> To
+        ensures { party_of result ≡ self.now.to }
+    {
+        self.to
+    }
+
+    pub fn bytes(&self) -> &[u8]
+        ensures { result.now ≡ self.now.bytes }
+    {
+        self.text.as_slice()
+    }
+}
