@@ -24,3 +24,4 @@ pub mod Written
 pub mod Turned
 pub mod Came
 pub mod Acting
+pub mod LentConn

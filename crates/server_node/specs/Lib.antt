@@ -1,6 +1,7 @@
 pub mod Sending
 pub mod Refusing
 pub mod Conn
+pub mod LentConn
 pub mod Hearing
 pub mod Identity
 pub mod Slots

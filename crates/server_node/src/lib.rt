@@ -8,6 +8,7 @@ pub use out_packet::{OutPacket, To};
 mod hearing;
 mod identity;
 mod input;
+pub mod laws;
 mod live;
 mod node;
 mod opening;

@@ -25,7 +25,7 @@ pub struct Node<S: Service> {
 }
 
 impl<S: Service> Node<S> {
-    ghost use Rattle.std.specs.Prelude.{◌≡◌, ◌≤◌, ◌∷◌, [], map, IfOk, IfErr, OnOk, None, Some, ⊤, option_copied};
+    ghost use Rattle.std.specs.Prelude.{◌≡◌, ◌≤◌, ◌∷◌, [], map, IfOk, IfErr, IfSome, OnOk, None, Some, ⊤, option_copied};
     ghost use Rattle.std.specs.Borrow.{sem};
     ghost use mathlib.Core.Option.{none};
     ghost use denote.Follow.{follows_so};
@@ -33,6 +33,7 @@ impl<S: Service> Node<S> {
     ghost use Rattle.ft_model.specs.Node.{Stage as Standing, booted};
     ghost use Rattle.ft_model.specs.Lawful.{IsNearInput, IsSoundInput, hello, fence};
     ghost use Rattle.ft_model.specs.Wire.{wire_of};
+    ghost use Rattle.wrapped_conn.specs.Sound.{IsSound};
     ghost use Rattle.server_node.specs.contracts.node.Node.{the_row};
     ghost use Rattle.server_node.specs.Identity.{node_of};
     ghost use Rattle.server_node.specs.Inputs.{input_of};
@@ -69,9 +70,11 @@ impl<S: Service> Node<S> {
     }
 
     /// The connection of a key, while it is live.
+    #[tactic(auto, unfolding(crate::specs::Conn::IsSound))]
     pub fn conn(&self, key: Key) -> Option<&Conn<S>>
-        ensures { (standing : Standing) → StageStands (machine (S.started self.now.who.kind) S.after) (node_of self.now.who standing) self.now.stage
+        ensures stands { (standing : Standing) → StageStands (machine (S.started self.now.who.kind) S.after) (node_of self.now.who standing) self.now.stage
             → IsConnAt (machine (S.started self.now.who.kind) S.after) (node_of self.now.who standing) (option_copied result) (place_in key standing) }
+        ensures sound { IfSome result (λ c. IsSound c.now) }
     {
         conn_in(&self.stage, key)
     }

@@ -1,6 +1,6 @@
 //! The slots of a node that serves, in one map, in the order of the log and then of the SYNs.
 
-ghost use Rattle.std.specs.Prelude.{◌≡◌, ◌<◌, ◌∷◌, ◌++◌, [], List, Ok, Some, None, IsOk, OnOk, true, length, slice_get, option_copied, option_map};
+ghost use Rattle.std.specs.Prelude.{◌≡◌, ◌<◌, ◌∷◌, ◌++◌, [], List, Ok, Some, None, IsOk, IfSome, OnOk, true, length, slice_get, option_copied, option_map};
 ghost use Rattle.std.specs.List.{AllByRecursion};
 ghost use Rattle.std.specs.Map.{lookup};
 ghost use Rattle.ft_io.specs.Key.{key_eq};
@@ -11,6 +11,7 @@ ghost use Rattle.ft_model.specs.Network.{source_of};
 ghost use Rattle.ft_model.specs.Lawful.{IsNearTo};
 ghost use Rattle.ft_model.specs.Node.{Node, Place, Stage, is_for, place_at};
 ghost use Rattle.ft_model.specs.Node.Input.{Packet_comes, Tick_comes};
+ghost use Rattle.server_node.specs.Conn.{IsSound};
 ghost use Rattle.server_node.specs.Identity.{node_of};
 ghost use Rattle.server_node.specs.Lending.{IsConnAt};
 ghost use Rattle.server_node.specs.Slots.{AllStand, AllSlotsGo, AllSound, IsSoundSlot};
@@ -78,8 +79,9 @@ pub(crate) fn give_known<S: Service>(
 
 /// The connection of a key, while it is live.
 pub(crate) fn conn_at<S: Service>(slots: &IndexMap<Key, Slot<S>>, key: Key) -> Option<&Conn<S>>
-    ensures { (service : Machine S) (node : Node) (places : List Place) → AllStand service node slots.now.entries places
+    ensures stands { (service : Machine S) (node : Node) (places : List Place) → AllStand service node slots.now.entries places
         → IsConnAt service node (option_copied result) (place_at key places) }
+    ensures sound { AllSound slots.now.entries → IfSome result (λ c. IsSound c.now) }
 {
     live_conn(slots.get(&key)?)
 }

@@ -1,6 +1,6 @@
 //! How far a node is, and what an input does to it.
 
-ghost use Rattle.std.specs.Prelude.{◌≡◌, ◌≤◌, ◌∷◌, [], ℕ, List, Ok, None, Some, IsOk, OnOk, IfOk, IfErr, option_copied};
+ghost use Rattle.std.specs.Prelude.{◌≡◌, ◌≤◌, ◌∷◌, [], ℕ, List, Ok, None, Some, IsOk, IfSome, OnOk, IfOk, IfErr, option_copied};
 ghost use Rattle.std.specs.List.{AllByRecursion};
 ghost use Rattle.seq_arith.specs.Packet.{Segment};
 ghost use Rattle.seq_arith.specs.PacketGrammar.{reading};
@@ -12,6 +12,8 @@ ghost use Rattle.ft_model.specs.Node.{Node, Place, Stage as Standing};
 ghost use Rattle.ft_model.specs.Node.Stage.{Asking};
 ghost use Rattle.ft_model.specs.Node.Input.{Packet_comes, Message_comes, Tick_comes};
 ghost use Rattle.ft_model.specs.Lawful.{IsNearInput, IsNearTo, IsSoundInput, fence, newer_than, summary_count};
+ghost use Rattle.server_node.specs.Conn.{IsSound};
+ghost use Rattle.server_node.specs.declared.identity.Identity.{Identity as Incarnation};
 ghost use Rattle.server_node.specs.Identity.{node_of};
 ghost use Rattle.server_node.specs.Inputs.{input_of};
 ghost use Rattle.server_node.specs.Lending.{IsConnAt, place_in};
@@ -272,7 +274,8 @@ fn copied<'a>(packet: &[u8], room: &'a mut [u8; 1_500]) -> &'a mut [u8]
 
 /// The connection of a key, while it is live.
 pub(crate) fn conn_in<S: Service>(stage: &Stage<S>, key: Key) -> Option<&Conn<S>>
-    ensures { (service : Machine S) (node : Node) → StageStands service node stage.now → IsConnAt service node (option_copied result) (place_in key node.stage) }
+    ensures stands { (service : Machine S) (node : Node) → StageStands service node stage.now → IsConnAt service node (option_copied result) (place_in key node.stage) }
+    ensures sound { (who : Incarnation) → IsSoundStage who stage.now → IfSome result (λ c. IsSound c.now) }
 {
     match stage {
         Stage::Serving(serving) => conn_at(&serving.slots, key),

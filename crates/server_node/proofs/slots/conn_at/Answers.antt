@@ -5,19 +5,27 @@ use Rattle.ft_io.specs.Key.{key_eq}
 use Rattle.ft_model.specs.Node.{place_at}
 use Rattle.server_node.specs.Lending.{conn_in, IsConnAt}
 use Rattle.server_node.proofs.Lent.{conn_looked}
+use Rattle.server_node.proofs.LentConn.{sound_lent}
+use Rattle.server_node.proofs.Sound.{sound_found}
 use Rattle.server_node.proofs.slots.conn_at.Goals as goal
 
-pub returns : goal.returns
-returns g c = λ service node places st.
+pub returns-clause-stands : goal.returns-clause-stands
+returns-clause-stands g c = λ service node places st.
     let es = c.args.slots.now.entries in
     let found : lookup (key_eq c.args.key) es ≡ Some c.in_ok-get.field-0.now = search rules in
     subst (λ r. IsConnAt service node r (place_at c.args.key places)) (sym c.live_conn.ensures)
     (subst (λ f. IsConnAt service node (conn_in f) (place_at c.args.key places)) found (conn_looked service node c.args.key es places st))
 
-pub returns-in_err-get : goal.returns-in_err-get
-returns-in_err-get g c = λ service node places st.
+pub returns-in_err-get-clause-stands : goal.returns-in_err-get-clause-stands
+returns-in_err-get-clause-stands g c = λ service node places st.
     let es = c.args.slots.now.entries in
     let none : lookup (key_eq c.args.key) es ≡ None = search rules in
     let gone : option_copied c.from_residual.result ≡ None = search rules in
     subst (λ r. IsConnAt service node r (place_at c.args.key places)) (sym gone)
     (subst (λ f. IsConnAt service node (conn_in f) (place_at c.args.key places)) none (conn_looked service node c.args.key es places st))
+
+pub returns-clause-sound : goal.returns-clause-sound
+returns-clause-sound g c = λ sound.
+    let es = c.args.slots.now.entries in
+    let found : lookup (key_eq c.args.key) es ≡ Some c.in_ok-get.field-0.now = search rules in
+    sound_lent c.in_ok-get.field-0.now c.live_conn.result (sound_found (key_eq c.args.key) es c.in_ok-get.field-0.now sound found) c.live_conn.ensures
