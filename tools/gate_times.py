@@ -1,0 +1,207 @@
+#!/usr/bin/env python3
+"""Processor minutes of the merge gate, by crate: proof, tests, and edits that must be refused.
+
+    tools/gate_times.py run [--save FILE] [NAME..]    starts `rt ci NAME..` here, and watches it
+    tools/gate_times.py watch PID [--save FILE]       watches an `rt ci` that runs already
+    tools/gate_times.py table FILE                    prints the table of what was saved
+    tools/gate_times.py log FILE                      prints what the log of a run tells: it has no times
+
+The log of `rt ci` has no times, so they are read from /proc while it runs (Linux alone), twice a second: for each process of the prover,
+user and system time, and that of the children it waited for. What a process does after the last look is lost, at most half a second each.
+What was proved by an earlier run is not proved again: for the whole times clear what `rt` keeps, or give `--anew`.
+
+A crate's row has its proof (with the building of its library or program), the proof and building of its tests, and its edits. `chain` is the
+proof of the crate and of the longest way of crates below it: what a run takes at the least, however many processors it has.
+"""
+import argparse
+import collections
+import os
+import re
+import subprocess
+import sys
+import time
+
+TICKS = os.sysconf("SC_CLK_TCK")
+KINDS = ("proof", "tests", "edits")
+# A run of the prover: which crate, what for, how many processor seconds, and when it was first and last seen (seconds of the clock).
+Run = collections.namedtuple("Run", "crate kind seconds first last")
+
+
+def processes():
+    """Every process there is: its parent, its processor seconds with those of children it waited for, and when it began."""
+    found = {}
+    for name in os.listdir("/proc"):
+        if not name.isdigit():
+            continue
+        try:
+            with open(f"/proc/{name}/stat", encoding="utf-8", errors="replace") as file:
+                fields = file.read().rpartition(")")[2].split()
+        except OSError:
+            continue
+        found[int(name)] = (int(fields[1]), sum(map(int, fields[11:15])) / TICKS, int(fields[19]))
+    return found
+
+
+def below(found, root):
+    """The processes that stand anywhere below the root."""
+    children = collections.defaultdict(list)
+    for pid, (parent, _, _) in found.items():
+        children[parent].append(pid)
+    left, reached = [root], []
+    while left:
+        new = children[left.pop()]
+        reached += new
+        left += new
+    return reached
+
+
+def purpose(pid):
+    """The crate and the purpose of a process of the prover, or None of another process."""
+    try:
+        with open(f"/proc/{pid}/cmdline", "rb") as file:
+            words = file.read().decode(errors="replace").split("\0")
+        folder = os.readlink(f"/proc/{pid}/cwd")
+    except OSError:
+        return None
+    if os.path.basename(words[0]) != "rattle" or "--crate-name" not in words:
+        return None
+    crate = words[words.index("--crate-name") + 1]
+    if os.path.basename(folder).startswith("rt-edit-"):
+        return crate, "edits"
+    return crate, "tests" if "--test" in words else "proof"
+
+
+def look(root, runs):
+    """Notes the times of all of the run's provers, as they stand now."""
+    found, now = processes(), time.time()
+    for pid in below(found, root):
+        parent, seconds, began = found[pid]
+        name = (pid, began)
+        known = runs.get(name)
+        what = (known.crate, known.kind) if known else purpose(pid)
+        if what and (parent, found.get(parent, (0, 0, 0))[2]) not in runs:
+            runs[name] = Run(*what, seconds, known.first if known else now, now)
+
+
+def is_running(pid):
+    try:
+        with open(f"/proc/{pid}/stat", encoding="utf-8", errors="replace") as file:
+            return file.read().rpartition(")")[2].split()[0] not in "ZX"
+    except OSError:
+        return False
+
+
+def watch(root, save, ended):
+    runs, saved = {}, 0.0
+    while not ended():
+        look(root, runs)
+        if save and time.time() - saved > 10:
+            write(runs.values(), save)
+            saved = time.time()
+        time.sleep(0.5)
+    if save:
+        write(runs.values(), save)
+    return list(runs.values())
+
+
+def write(runs, path):
+    with open(path + ".new", "w", encoding="utf-8") as file:
+        for run in runs:
+            file.write(f"{run.crate}\t{run.kind}\t{run.seconds:.2f}\t{run.first:.1f}\t{run.last:.1f}\n")
+    os.replace(path + ".new", path)
+
+
+def read(path):
+    with open(path, encoding="utf-8") as file:
+        rows = [line.rstrip("\n").split("\t") for line in file]
+    return [Run(crate, kind, float(seconds), float(first), float(last)) for crate, kind, seconds, first, last in rows]
+
+
+def crates_below():
+    """Each crate of crates.txt with the crates of the repository that it names."""
+    below_of = {}
+    with open("crates.txt", encoding="utf-8") as file:
+        for line in file:
+            head, colon, rest = line.partition("#")[0].partition(":")
+            if colon:
+                below_of[head.split()[0]] = rest.split()
+    return {crate: [name for name in names if name in below_of] for crate, names in below_of.items()}
+
+
+def chains(proof, below_of):
+    """For each crate, the proof seconds of the longest way from it downward, and that way."""
+    longest = {}
+
+    def chain(crate):
+        if crate not in longest:
+            under = max((chain(name) for name in below_of.get(crate, [])), default=(0.0, []))
+            longest[crate] = (under[0] + proof.get(crate, 0.0), under[1] + [crate])
+        return longest[crate]
+
+    return {crate: chain(crate) for crate in below_of}
+
+
+def print_table(runs):
+    spent = collections.defaultdict(float)
+    for run in runs:
+        spent[run.crate, run.kind] += run.seconds
+    crates = {run.crate for run in runs}
+    ways = chains({crate: spent[crate, "proof"] for crate in crates}, crates_below())
+    print("| crate | proof | tests | edits | all | chain |")
+    print("|---|---|---|---|---|---|")
+    for crate in sorted(crates, key=lambda name: -sum(spent[name, kind] for kind in KINDS)):
+        parts = [spent[crate, kind] for kind in KINDS]
+        figures = [f"{part / 60:.1f}" if part else "" for part in parts] + [f"{sum(parts) / 60:.1f}"]
+        print(f"| `{crate}` | {' | '.join(figures)} | {ways.get(crate, (0, 0))[0] / 60:.1f} |")
+    sums = [sum(spent[crate, kind] for crate in crates) for kind in KINDS]
+    print(f"| all | {' | '.join(f'{part / 60:.1f}' for part in sums)} | {sum(sums) / 60:.1f} | |")
+    if ways:
+        seconds, way = max(ways.values())
+        print(f"\nThe longest chain of proofs is {seconds / 60:.1f} processor minutes: {', '.join(way)}.")
+    if runs:
+        print(f"From the first look to the last: {(max(r.last for r in runs) - min(r.first for r in runs)) / 60:.0f} minutes by the clock.")
+
+
+def print_log(path):
+    """What the log of a run tells of each crate: how many functions were proved, and how many edits refused."""
+    functions, edits, proved = collections.Counter(), collections.Counter(), []
+    with open(path, encoding="utf-8", errors="replace") as file:
+        for line in file:
+            if match := re.match(r"fn (\w+)::.*: proved", line):
+                functions[match[1]] += 1
+            elif match := re.match(r"(?:rt: )?must-fail (\w+)/\S+: (?:refused|REFUSED)", line):
+                edits[match[1]] += 1
+            elif match := re.match(r"rt: (\w+) proved", line):
+                proved.append(match[1])
+    print("| crate | functions proved, its tests among them | edits refused |")
+    print("|---|---|---|")
+    for crate in proved:
+        print(f"| `{crate}` | {functions[crate]} | {edits[crate] or ''} |")
+
+
+def main():
+    parser = argparse.ArgumentParser(description=__doc__, formatter_class=argparse.RawDescriptionHelpFormatter)
+    verbs = parser.add_subparsers(dest="verb", required=True)
+    run = verbs.add_parser("run", help="starts `rt ci` and watches it")
+    run.add_argument("--save", metavar="FILE", help="where to keep the measurements")
+    run.add_argument("words", nargs=argparse.REMAINDER, help="words for `rt ci`")
+    by_pid = verbs.add_parser("watch", help="watches an `rt ci` that runs already")
+    by_pid.add_argument("pid", type=int)
+    by_pid.add_argument("--save", metavar="FILE", help="where to keep the measurements")
+    for verb in ("table", "log"):
+        verbs.add_parser(verb).add_argument("file")
+    words = parser.parse_args()
+    if words.verb == "run":
+        gate = subprocess.Popen(["rt", "ci", *words.words])
+        print_table(watch(gate.pid, words.save, lambda: gate.poll() is not None))
+        sys.exit(gate.returncode)
+    elif words.verb == "watch":
+        print_table(watch(words.pid, words.save, lambda: not is_running(words.pid)))
+    elif words.verb == "table":
+        print_table(read(words.file))
+    else:
+        print_log(words.file)
+
+
+if __name__ == "__main__":
+    main()
