@@ -1,0 +1,664 @@
+"""The whole system in plain Python: clients, log, server and world, by the rules and not by the program.
+
+It follows the laws of docs/MODEL.md in stream offsets, with whole streams in memory and no TCP inside: a second way to the same reports, outside the proofs. What
+it makes of a schedule is compared with what `ftreplay` makes of it (tools/seed_model.py), so no line here may be taken from the program. Held segments and congestion
+control are not in it.
+"""
+from collections import namedtuple
+
+LIMIT = 1 << 24  # bytes of a stream, each way
+WINDOW = 65535
+READ = 2048  # bytes of a read
+UNANSWERED = 32  # reads on their way to the log
+OPENINGS = 64  # also the entries of a log
+PACKETS = 200_000  # packets of a run
+
+# The bytes of a message without what follows its fields.
+SIZES = {"Hello": 16, "Summary": 18, "List": 18, "Entry": 48, "Bytes": 26, "Part": 26, "Cuts": 26, "Lens": 26, "Open": 32, "Opened": 32}
+SIZES |= {"Data": 31, "Stable": 31, "Read": 28, "Reads": 31, "Done": 22, "Ended": 22, "Stale": 24, "Full": 22}
+
+Segment = namedtuple("Segment", "flags seq ack window mss text")
+Message = namedtuple("Message", "name boot fields")
+
+
+def number(value):
+    return value % (1 << 32)
+
+
+def gap(value, start):
+    """The signed way from one number to another, modulo 2^32."""
+    return (value - start + (1 << 31)) % (1 << 32) - (1 << 31)
+
+
+def refusal(ack_of, ack=None):
+    """A RST: at a segment's acknowledgement, or at 0 where it acknowledges something itself."""
+    return Segment("R", ack_of, 0, 0, None, b"") if ack is None else Segment("AR", 0, number(ack), 0, None, b"")
+
+
+def size_of(content):
+    """The bytes of a packet or a message."""
+    if isinstance(content, Segment):
+        return 40 + (4 if content.mss is not None else 0) + len(content.text)
+    return SIZES[content.name] + len(content.fields.get("bytes", b"")) + 2 * len(content.fields.get("lens", []))
+
+
+class Service:
+    """One of the four services: what it makes of one chunk after another."""
+
+    def __init__(self, name):
+        self.name, self.closed, self.held, self.count, self.made = name, False, b"", 0, 0
+
+    def take(self, chunk):
+        if self.closed:
+            return b""
+        self.closed = not chunk
+        return getattr(self, self.name)(chunk)
+
+    def echo(self, chunk):
+        return chunk
+
+    def meter(self, chunk):
+        return b"%d\n" % len(chunk) if chunk else b""
+
+    def line(self, chunk):
+        out, held = b"", self.held
+        for byte in chunk:
+            held += bytes([byte])
+            if byte == 10 or len(held) == 1024:
+                out, held = out + self.finish_line(held.removesuffix(b"\n")), b""
+                if self.closed:
+                    return out
+        self.held = held
+        return out if chunk or not held else self.finish_line(held)
+
+    def finish_line(self, line):
+        if line == b"quit":
+            self.closed = True
+            return b"bye\n"
+        self.count = min(self.count + 1, 2**64 - 1)
+        return b"%d %s\n" % (self.count, line)
+
+    def transfer(self, chunk):
+        out, held = b"", self.held + chunk
+        while len(held) >= 4 and not self.closed:
+            asked, held = int.from_bytes(held[:4], "big"), held[4:]
+            self.closed = asked == 0
+            room = min(asked, 2047)
+            out += bytes((self.made + place) % 251 for place in range(room))
+            self.made += room
+        self.held = held
+        return out
+
+
+class Client:
+    """A scripted client: what it may do, and what it takes of what comes."""
+
+    def __init__(self, key, isn, script):
+        self.key, self.isn, self.script = key, isn, script
+        self.phase, self.sisn, self.sent, self.acked, self.edge, self.accepted = "new", 0, 0, 0, 0, bytearray()
+
+    def taken(self):
+        """The units of the server's stream that it has."""
+        return len(self.accepted) + (self.phase == "ended")
+
+    def segment(self, flags, at, window, text=b""):
+        return Segment(flags, number(self.isn + 1 + at), number(self.sisn + 1 + self.taken()), window, None, text)
+
+    def room(self):
+        return min(WINDOW, self.edge - len(self.accepted))
+
+    def refuses(self, move, words):
+        """Why it may not make a move, or None."""
+        phases = {"open": ("new", "opening"), "reset": ("opening", "open", "ended")}.get(move, ("open", "ended"))
+        if self.phase not in phases or move in ("send", "fin") and self.acked > len(self.script):
+            return "state"
+        if move == "send":
+            start, length = words
+            if not (self.acked <= start <= self.sent and 1 <= length <= 1460 and start + length <= len(self.script)):
+                return "range"
+        return "range" if move == "fin" and self.sent < len(self.script) else None
+
+    def make(self, move, words):
+        """The segment of a move that it may make."""
+        if move == "open":
+            self.phase, self.edge = "opening", max(self.edge, words[0])
+            return Segment("S", self.isn, 0, words[0], None, b"")
+        if move == "send":
+            start, length = words
+            self.sent = max(self.sent, start + length)
+            return self.segment("A", start, self.room(), self.script[start : start + length])
+        if move == "fin":
+            self.sent = len(self.script) + 1
+            return self.segment("AF", len(self.script), self.room())
+        if move == "ack":
+            self.edge = max(self.edge, len(self.accepted) + words[0])
+            return self.segment("A", self.sent, words[0])
+        self.phase = "reset"
+        return Segment("R", number(self.isn + 1 + self.sent), 0, 0, None, b"")
+
+    def receive(self, came):
+        if self.phase == "opening":
+            if "A" in came.flags and came.ack == number(self.isn + 1):
+                if "R" in came.flags:
+                    self.phase = "reset"
+                elif "S" in came.flags:
+                    self.phase, self.sisn = "open", came.seq
+        elif self.phase in ("open", "ended"):
+            self.receive_connected(came)
+
+    def receive_connected(self, came):
+        ended = self.phase == "ended"
+        first, upto = gap(came.seq, self.sisn + 1), self.edge + ended
+        if not is_acceptable(first, length_of(came), self.taken(), upto):
+            return
+        if "R" in came.flags:
+            self.phase = "reset" if first == self.taken() else self.phase
+            return
+        acked = gap(came.ack, self.isn + 1)
+        if "S" in came.flags or "A" not in came.flags or acked > self.sent:
+            return
+        self.acked = max(self.acked, acked)
+        if not ended and first <= len(self.accepted):
+            self.accepted += came.text[len(self.accepted) - first :][: self.edge - len(self.accepted)]
+            if "F" in came.flags and first + len(came.text) == len(self.accepted) < self.edge:
+                self.phase = "ended"
+
+
+def length_of(came):
+    """SEG.LEN: a SYN has 1, a RST 0."""
+    if "R" in came.flags:
+        return 0
+    return 1 if "S" in came.flags else len(came.text) + ("F" in came.flags)
+
+
+def is_acceptable(first, length, following, edge):
+    """The four cases of RFC 9293, in offsets."""
+    if length == 0:
+        return following <= first < edge or first == following == edge
+    return following < edge and (following <= first < edge or following <= first + length - 1 < edge)
+
+
+class Entry:
+    """What the log keeps of one connection."""
+
+    def __init__(self, key, cisn, sisn, mss):
+        self.key, self.cisn, self.sisn, self.mss = key, cisn, sisn, mss
+        self.data, self.fin, self.lengths, self.acked, self.done = bytearray(), 0, [], 0, 0
+
+    def keep_data(self, said):
+        self.acked = max(self.acked, said["acked"])
+        if not self.fin and said["offset"] <= len(self.data):
+            self.data += said["bytes"][len(self.data) - said["offset"] :]
+            self.fin = int(said["fin"] and said["offset"] + len(said["bytes"]) == len(self.data))
+
+    def keep_read(self, index, length):
+        total = sum(self.lengths) + length
+        closes = self.fin and total == len(self.data)
+        if index == len(self.lengths) and 0 not in self.lengths and total <= len(self.data) and (length or closes):
+            self.lengths.append(length)
+
+    def counts(self):
+        return {"key": self.key, "length": len(self.data), "fin": self.fin, "reads": len(self.lengths)}
+
+    def told(self, index):
+        said = {"index": index, "key": self.key, "cisn": self.cisn, "sisn": self.sisn, "mss": self.mss, "length": len(self.data)}
+        return {**said, "fin": self.fin, "done": self.done, "reads": len(self.lengths), "acked": self.acked}
+
+
+class Log:
+    """The logger: entries in the order of opening, and the largest boot number that said Hello."""
+
+    def __init__(self):
+        self.boot, self.entries = 0, {}
+
+    def answer(self, asked):
+        """What it answers to a message, or None."""
+        if asked.boot < self.boot:
+            return Message("Stale", asked.boot, {"newer": self.boot})
+        if asked.name == "Hello":
+            self.boot = asked.boot
+            return Message("Summary", asked.boot, {"count": len(self.entries)})
+        if asked.boot > self.boot:
+            return None
+        said = getattr(self, "on_" + asked.name.lower())(asked.fields)
+        return said and Message(said[0], asked.boot, said[1])
+
+    def on_list(self, said):
+        entries = list(self.entries.values())
+        return ("Entry", entries[said["index"]].told(said["index"])) if said["index"] < len(entries) else None
+
+    def on_bytes(self, said):
+        entry, at = self.entries.get(said["key"]), said["offset"]
+        if entry is None or at >= len(entry.data):
+            return None
+        return "Part", {"key": entry.key, "offset": at, "bytes": bytes(entry.data[at : at + 1024])}
+
+    def on_cuts(self, said):
+        entry, first = self.entries.get(said["key"]), said["first"]
+        if entry is None or first >= len(entry.lengths):
+            return None
+        return "Lens", {"key": entry.key, "first": first, "lens": entry.lengths[first : first + 512]}
+
+    def on_open(self, said):
+        if said["key"] not in self.entries:
+            if len(self.entries) == OPENINGS:
+                return "Full", {"key": said["key"]}
+            self.entries[said["key"]] = Entry(said["key"], said["cisn"], said["sisn"], said["mss"])
+        entry = self.entries[said["key"]]
+        return "Opened", {"key": entry.key, "cisn": entry.cisn, "sisn": entry.sisn, "mss": entry.mss}
+
+    def on_data(self, said):
+        entry = self.entries.get(said["key"])
+        return entry and (entry.keep_data(said), ("Stable", entry.counts()))[1]
+
+    def on_read(self, said):
+        entry = self.entries.get(said["key"])
+        return entry and (entry.keep_read(said["index"], said["length"]), ("Reads", entry.counts()))[1]
+
+    def on_done(self, said):
+        entry = self.entries.get(said["key"])
+        if entry is None:
+            return None
+        entry.done = 1
+        return "Ended", {"key": entry.key}
+
+
+class Connection:
+    """A live connection of one incarnation, as its point: what is taken, logged, read, sent and acknowledged, in offsets."""
+
+    def __init__(self, key, cisn, sisn, mss, service):
+        self.key, self.cisn, self.sisn, self.mss = key, cisn, sisn, mss
+        self.service, self.output, self.after_read = Service(service), bytearray(), [(0, False)]
+        self.fetched, self.data, self.fin, self.answered = 0, bytearray(), 0, 0
+        self.lengths, self.consumed, self.reads_answered = [], 0, 0
+        self.una = self.sent = self.edge = self.wl1 = self.wl2 = 0
+        self.counted, self.interval, self.rest = False, 1, 1
+        self.end_ticks, self.reset = 0, False
+
+    @classmethod
+    def of_entry(cls, entry, service):
+        """Where a connection stands that is restarted from what was fetched."""
+        it = cls(entry["key"], entry["cisn"], entry["sisn"], entry["mss"], service)
+        it.data, it.fin, it.fetched, it.answered = entry["data"], entry["fin"], entry["length"], entry["length"] + entry["fin"]
+        for length in entry["lengths"]:
+            it.read(length)
+        it.reads_answered = len(it.lengths)
+        it.una = it.sent = it.edge = it.wl2 = min(entry["acked"], it.released())
+        it.wl1, it.counted = it.fetched, True
+        it.rest = int(it.must_run())
+        return it
+
+    def read(self, length):
+        self.output += self.service.take(bytes(self.data[self.consumed : self.consumed + length]))
+        self.consumed += length
+        self.lengths.append(length)
+        self.after_read.append((len(self.output), self.service.closed))
+
+    def taken(self):
+        return len(self.data) + self.fin
+
+    def right(self):
+        """The right edge that is announced: of the bytes read, and one behind a FIN."""
+        return min(max(self.fetched, self.consumed) + WINDOW, LIMIT) + self.fin
+
+    def released(self):
+        return self.after_read[self.reads_answered][0]
+
+    def target(self):
+        length, closed = self.after_read[self.reads_answered]
+        return length + closed
+
+    def must_run(self):
+        return not self.counted or max(self.sent, self.target()) > self.una
+
+    def is_over(self):
+        length, closed = self.after_read[self.reads_answered]
+        return bool(self.fin) and closed and self.una == length + 1
+
+    def out(self, flags, at, text=b"", mss=None):
+        """A segment: it acknowledges what is both taken and logged."""
+        acked = min(self.taken(), self.answered)
+        return Segment(flags, number(self.sisn + 1 + at), number(self.cisn + 1 + acked), min(WINDOW, self.right() - acked), mss, text)
+
+    def syn_ack(self):
+        return self.out("AS", -1, mss=1460)
+
+    def part(self, start, end):
+        return self.out("A", start, bytes(self.output[start:end]))
+
+    def message(self, name, **said):
+        return name, {"key": self.key, **said}
+
+    def turn(self, kind, came=None):
+        """One turn: `start`, `live` (behind a restart), `segment`, `logged` or `tick`. What leaves, segments and then messages."""
+        if self.reset:
+            return self.turn_reset(kind, came)
+        una, taken, right, answered, was_over = self.una, self.taken(), self.right(), self.answered, self.is_over()
+        segments, owed, copied, silent = [], kind == "live", None, False
+        if kind == "segment":
+            if self.is_repeated_syn(came):
+                segments, owed = [self.syn_ack()], False
+            else:
+                owed, silent, copied = self.arrive(came)
+                owed = owed or was_over and "R" not in came.flags
+                if self.reset:
+                    return [], [self.message("Done")]
+        elif kind == "logged":
+            self.hear(came)
+        elif kind == "start":
+            segments = [self.syn_ack()]
+        made = self.make_reads()
+        expired = kind == "tick" and self.rest == 1
+        if kind == "tick" and self.rest > 1:
+            self.rest -= 1
+        if expired:
+            segments += self.expire()
+        segments += self.send_more()
+        owed = owed or self.answered > answered or (self.taken(), self.right()) != (taken, right)
+        if owed and not segments and not silent:
+            segments = [self.out("A", self.sent)]
+        return segments, self.tell(kind, copied, self.una > una, made)
+
+    def turn_reset(self, kind, came):
+        if kind == "logged":
+            self.hear(came)
+        return [], [self.message("Done")] if kind == "tick" else []
+
+    def is_repeated_syn(self, came):
+        return came.flags == "S" and came.seq == self.cisn and self.taken() == 0 and self.una == 0
+
+    def arrive(self, came):
+        """A segment comes: whether one is owed, whether nothing is to leave, and which part of it the log is to have."""
+        first, length, following, edge = gap(came.seq, self.cisn + 1), length_of(came), self.taken(), self.right()
+        fits = is_acceptable(first, length, following, edge)
+        if "R" in came.flags:
+            self.reset = fits and first == following
+            return fits, False, None
+        if "S" in came.flags:
+            return True, False, None
+        acked = gap(came.ack, self.sisn + 1)
+        if fits and "A" in came.flags and not self.counted and acked < 0:
+            return False, True, self.copy(came, first)
+        if fits and "A" in came.flags:
+            self.take(came, first, acked)
+        owed = not fits or length > 0 or "A" in came.flags and first > following
+        return owed, False, self.copy(came, first)
+
+    def take(self, came, first, acked):
+        """A segment that counts: its text and FIN, its acknowledgement and window."""
+        edge = self.right() - self.fin
+        if not self.fin and first <= len(self.data):
+            self.data += came.text[len(self.data) - first :][: max(0, edge - len(self.data))]
+            self.fin = int("F" in came.flags and first + len(came.text) == len(self.data) < edge)
+        una, lowered = self.una, min(acked, self.sent)
+        window = min(WINDOW, came.window + acked - lowered)
+        if lowered >= una and (not self.counted or self.wl1 < first or self.wl1 == first and self.wl2 <= lowered):
+            self.edge, self.wl1, self.wl2 = lowered + window, first, lowered
+        self.una = max(una, lowered)
+        if self.una > una or not self.counted:
+            self.interval = self.rest = 1
+        self.counted = True
+
+    def copy(self, came, first):
+        """The part of a segment that is taken and not known to be logged: its offset, its bytes, and whether the FIN is with them."""
+        end = first + len(came.text)
+        start, stop = max(first, self.answered), min(end, len(self.data))
+        fin = int("F" in came.flags and self.fin and end == len(self.data) and self.answered <= len(self.data))
+        if start < stop:
+            return start, bytes(self.data[start:stop]), fin
+        return (len(self.data), b"", 1) if fin else None
+
+    def hear(self, came):
+        said = came.fields
+        self.answered = max(self.answered, said["length"] + said["fin"])
+        self.reads_answered = max(self.reads_answered, min(said["reads"], len(self.lengths)))
+
+    def next_length(self):
+        if self.consumed < self.fetched:
+            return min(READ, self.fetched - self.consumed)
+        if self.consumed < len(self.data):
+            return min(READ, len(self.data) - self.consumed)
+        return 0 if self.fin and 0 not in self.lengths else None
+
+    def make_reads(self):
+        made = []
+        while self.next_length() is not None and len(self.lengths) - self.reads_answered < UNANSWERED:
+            output = len(self.output)
+            if output > min(self.released(), self.una + WINDOW) or output > LIMIT - (1 << 20):
+                break
+            made.append(len(self.lengths))
+            self.read(self.next_length())
+        return made
+
+    def expire(self):
+        """The timer is out: the first segment again, or a probe."""
+        self.interval = self.rest = min(64, 2 * self.interval)
+        if not self.counted:
+            return [self.syn_ack()]
+        output = self.released()
+        if self.una < self.sent:
+            if self.una == output:
+                return [self.out("AF", self.una)]
+            length = min(self.mss, min(self.sent, output) - self.una, max(1, self.edge - self.una))
+            return [self.part(self.una, self.una + length)]
+        at, self.sent = self.sent, self.sent + 1
+        return [self.part(at, at + 1) if at < output else self.out("AF", at)]
+
+    def send_more(self):
+        """All that the edge allows and wasn't sent, and the timer as it stands then."""
+        start = self.sent
+        self.sent = max(self.sent, min(self.target(), self.edge)) if self.counted else self.sent
+        end = min(self.sent, self.released())
+        segments = [self.part(at, min(at + self.mss, end)) for at in range(start, end, self.mss)]
+        if self.sent > max(start, self.released()):
+            segments.append(self.out("AF", self.sent - 1))
+        if not self.must_run():
+            self.rest = 0
+        elif self.rest == 0:
+            self.interval = self.rest = 1
+        return segments
+
+    def tell(self, kind, copied, rose, made):
+        """What the log is told: the copy, or that more is acknowledged; the reads; that the connection has ended."""
+        told = []
+        if copied or rose:
+            offset, data, fin = copied or (min(self.answered, len(self.data)), b"", 0)
+            told.append(self.message("Data", offset=offset, acked=self.una, fin=fin, bytes=data))
+        indexes = range(self.reads_answered, len(self.lengths)) if kind == "tick" else made
+        told += [self.message("Read", index=index, length=self.lengths[index]) for index in indexes]
+        if kind == "tick" and self.is_over() and self.answered >= self.taken():
+            self.end_ticks += 1
+        if kind == "tick" and self.end_ticks >= 4:
+            told.append(self.message("Done"))
+        return told
+
+
+class Server:
+    """One incarnation: it asks for the log, restarts what is in it, and serves."""
+
+    def __init__(self, boot, isn, service):
+        self.boot, self.isn, self.service = boot, isn, service
+        self.places, self.openings = {}, 0
+        self.count, self.entries = None, []
+        self.serves, self.question = False, ("Hello", {})
+
+    def next_isn(self):
+        self.openings += 1
+        return number(self.isn + 65536 * (self.openings - 1))
+
+    def asked(self):
+        return [(None, Message(self.question[0], self.boot, self.question[1]))]
+
+    def sent_by(self, place, segments, messages):
+        """The packets of a connection's turn: to its client, then to the log."""
+        return [(place.key, it) for it in segments] + [(None, Message(name, self.boot, said)) for name, said in messages]
+
+    def open_of(self, key, opening):
+        return [(None, Message("Open", self.boot, {"key": key, **opening}))]
+
+    def on_tick(self):
+        if not self.serves:
+            return self.asked()
+        sent = []
+        for place in self.places.values():
+            if isinstance(place, Connection):
+                sent += self.sent_by(place, *place.turn("tick"))
+        for key, place in self.places.items():
+            if isinstance(place, dict):
+                sent += self.open_of(key, place)
+        return sent
+
+    def on_segment(self, key, came):
+        if not self.serves:
+            return self.hold_off(key, came)
+        place = self.places.get(key)
+        if isinstance(place, Connection):
+            return self.sent_by(place, *place.turn("segment", came))
+        if "R" in came.flags:
+            return []
+        if place == "done":
+            behind = came.seq + length_of(came)
+            return [(key, refusal(came.ack) if "A" in came.flags else refusal(0, behind))]
+        if isinstance(place, dict):
+            return self.open_of(key, place) if came.flags == "S" and came.seq == place["cisn"] else []
+        if "A" in came.flags:
+            return [(key, refusal(came.ack))]
+        if "S" not in came.flags or sum(isinstance(it, dict) for it in self.places.values()) == OPENINGS:
+            return []
+        mss = 536 if came.mss is None else min(1460, max(64, came.mss))
+        self.places[key] = {"cisn": came.seq, "sisn": self.next_isn(), "mss": mss}
+        return self.open_of(key, self.places[key])
+
+    def hold_off(self, key, came):
+        """While it fetches, a client whose entry has come hears that its window is closed."""
+        for entry in self.entries:
+            if entry["key"] == key and not entry["done"] and "R" not in came.flags:
+                at, behind = entry["sisn"] + 1 + entry["acked"], entry["cisn"] + 1 + entry["length"] + entry["fin"]
+                return [(key, Segment("A", number(at), number(behind), 0, None, b""))]
+        return []
+
+    def on_message(self, came):
+        if came.boot != self.boot:
+            return []
+        if not self.serves:
+            return self.fetch(came)
+        key = came.fields.get("key")
+        place = self.places.get(key)
+        if isinstance(place, dict) and came.name in ("Opened", "Full"):
+            return self.on_opening(key, place, came)
+        if isinstance(place, Connection) and came.name in ("Stable", "Reads"):
+            return self.sent_by(place, *place.turn("logged", came))
+        if isinstance(place, Connection) and came.name == "Ended":
+            self.places[key] = "done"
+        return []
+
+    def on_opening(self, key, opening, came):
+        said = came.fields
+        if came.name == "Full" or said["cisn"] != opening["cisn"]:
+            del self.places[key]
+            return [(key, refusal(0, opening["cisn"] + 1))] if came.name == "Full" else []
+        place = self.places[key] = Connection(key, said["cisn"], said["sisn"], said["mss"], self.service)
+        return self.sent_by(place, *place.turn("start"))
+
+    def fetch(self, came):
+        """An answer while it fetches; another than to its question changes nothing."""
+        name, asked = self.question
+        said = came.fields
+        if (name, came.name) == ("Hello", "Summary"):
+            self.count = said["count"]
+        elif (name, came.name) == ("List", "Entry") and said["index"] == asked["index"] and said["key"] not in [it["key"] for it in self.entries]:
+            self.entries.append({**said, "data": bytearray(), "lengths": []})
+        elif (name, came.name) == ("Bytes", "Part") and (said["key"], said["offset"]) == (asked["key"], asked["offset"]):
+            self.entries[-1]["data"] += said["bytes"]
+        elif (name, came.name) == ("Cuts", "Lens") and (said["key"], said["first"]) == (asked["key"], asked["first"]):
+            self.entries[-1]["lengths"] += said["lens"]
+        else:
+            return []
+        self.question = self.next_question()
+        return self.asked() if self.question else self.go_live()
+
+    def next_question(self):
+        """Lengths before bytes, but the bytes of the fetched lengths first; then the next entry; None where nothing is missing."""
+        if self.entries and not self.entries[-1]["done"]:
+            entry = self.entries[-1]
+            have, covered = len(entry["data"]), sum(entry["lengths"])
+            if have < covered:
+                return "Bytes", {"key": entry["key"], "offset": have}
+            if len(entry["lengths"]) < entry["reads"]:
+                return "Cuts", {"key": entry["key"], "first": len(entry["lengths"])}
+            if have < entry["length"]:
+                return "Bytes", {"key": entry["key"], "offset": have}
+        return ("List", {"index": len(self.entries)}) if len(self.entries) < self.count else None
+
+    def go_live(self):
+        self.serves, sent = True, []
+        for entry in self.entries:
+            if entry["done"]:
+                self.places[entry["key"]] = "done"
+            else:
+                self.next_isn()
+                place = self.places[entry["key"]] = Connection.of_entry(entry, self.service)
+                sent += self.sent_by(place, *place.turn("live"))
+        return sent
+
+
+class World:
+    """Clients, log, network and server, event by event."""
+
+    def __init__(self, service, server, clients):
+        self.service, self.address, self.clients = service, server, clients
+        self.of_key = {client.key: place for place, client in enumerate(clients, 1)}
+        self.log, self.server, self.packets = Log(), None, []
+        self.boots, self.crashes, self.last_boot = 0, 0, 0
+
+    def refuses(self, verb, words):
+        """Why an event isn't allowed, by the tests in their order, or None."""
+        if verb == "boot":
+            return "up" if self.server else "boot" if words[0] <= self.last_boot else None
+        if verb in ("crash", "tick"):
+            return None if self.server else "down"
+        if verb in ("deliver", "flip"):
+            if not 1 <= words[0] <= len(self.packets):
+                return "packet"
+            return "bit" if verb == "flip" and words[1] >= 8 * size_of(self.packets[words[0] - 1][1]) else None
+        if not 1 <= words[0] <= len(self.clients):
+            return "client"
+        return self.clients[words[0] - 1].refuses(verb, words[1:])
+
+    def step(self, verb, words):
+        """Plays an event that is allowed: the packets that are sent in it, each as a pair of its way and its content."""
+        sent = self.happen(verb, words)
+        self.packets += sent
+        return sent
+
+    def by_server(self, sent):
+        return [(f"S>{self.of_key[key]}" if key else "S>L", content) for key, content in sent]
+
+    def happen(self, verb, words):
+        if verb == "boot":
+            self.server, self.last_boot, self.boots = Server(*words, self.service), words[0], self.boots + 1
+            return self.by_server(self.server.asked())
+        if verb == "crash":
+            self.server, self.crashes = None, self.crashes + 1
+            return []
+        if verb == "flip":
+            return []  # a packet or message with one bit changed has a wrong sum, or is refused before, whoever gets it
+        if verb == "tick":
+            return self.by_server(self.server.on_tick())
+        if verb == "deliver":
+            return self.deliver(*self.packets[words[0] - 1])
+        return [(f"{words[0]}>S", self.clients[words[0] - 1].make(verb, words[1:]))]
+
+    def deliver(self, way, content):
+        sender, receiver = way.split(">")
+        if receiver == "L":
+            answer = self.log.answer(content)
+            return [("L>S", answer)] if answer else []
+        if receiver != "S":
+            self.clients[int(receiver) - 1].receive(content)
+            return []
+        if self.server is None:
+            return []
+        if sender == "L":
+            return self.by_server(self.server.on_message(content))
+        return self.by_server(self.server.on_segment(self.clients[int(sender) - 1].key, content))

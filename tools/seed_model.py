@@ -1,0 +1,215 @@
+#!/usr/bin/env python3
+"""What `ftreplay` must write, by the model in tools/model.py: another way than the program's.
+
+    tools/seed_model.py seed SEED CLIENTS EVENTS      the summary of a schedule that is drawn from a seed
+    tools/seed_model.py schedule SEED CLIENTS EVENTS  that schedule as text, for `ftreplay run`
+    tools/seed_model.py run < SCHEDULE                the report of a schedule, up to its first event that isn't allowed
+    tools/seed_model.py compare PROGRAM [--seeds N] [--events N] [--first SEED] [--through seed|run]
+                                                      plays N seeds with 1 to 16 clients each by both, and compares what comes out
+
+PROGRAM is a built `ftreplay`. `compare` ends with 1 at the first difference, and says which words show it. With `--through run` the program plays each schedule
+as text, and the whole reports are compared.
+"""
+import argparse
+import subprocess
+import sys
+
+from model import LIMIT, PACKETS, Client, Message, World
+
+MULTIPLIER, INCREMENT = 6364136223846793005, 1442695040888963407
+SERVER = "192.0.2.100:7"
+
+
+class Generator:
+    """Draws: each the upper 31 bits of the next state."""
+
+    def __init__(self, seed):
+        self.state = seed
+
+    def draw(self):
+        self.state = (self.state * MULTIPLIER + INCREMENT) % 2**64
+        return self.state >> 33
+
+
+def fill(length):
+    return bytes(97 + place % 26 for place in range(length))
+
+
+def drawn_world(draws, count):
+    clients = [Client(f"192.0.2.{i}:40000", draws.draw(), fill(1000 * i)) for i in range(1, count + 1)]
+    return World("echo", SERVER, clients)
+
+
+def drawn_event(draws, world):
+    """The next event behind the first boot."""
+    kind, which = draws.draw() % 16, 1 + draws.draw() % len(world.clients)
+    client = world.clients[which - 1]
+    if kind <= 8:
+        sent = len(world.packets)
+        return "deliver", [sent - draws.draw() % min(sent, 64)]
+    if kind <= 10 or kind <= 12 and client.phase in ("new", "opening"):
+        return drawn_move(draws, world, which, client)
+    if kind <= 12 and client.phase != "reset":
+        return "ack", [which, 65535]
+    if kind == 15 and world.server:
+        return ("crash" if draws.draw() % 64 == 0 else "tick"), []
+    return tick_or_boot(draws, world)
+
+
+def drawn_move(draws, world, which, client):
+    if client.phase in ("new", "opening"):
+        return "open", [which, 65535]
+    length = len(client.script)
+    if client.phase == "reset" or client.acked > length:
+        return tick_or_boot(draws, world)
+    if client.acked == length:
+        return "fin", [which]
+    sent = min(client.sent, length)
+    start = client.acked if draws.draw() % 2 == 1 or sent == length else sent
+    return "send", [which, start, min(536, length - start)]
+
+
+def tick_or_boot(draws, world):
+    return ("tick", []) if world.server else ("boot", [world.last_boot + 1, draws.draw()])
+
+
+def drawn_run(seed, count, events):
+    """The world behind a drawn schedule, with the events; `None` in its place where the packets pass their limit."""
+    draws, played = Generator(seed), []
+    world = drawn_world(draws, count)
+    for place in range(events):
+        verb, words = drawn_event(draws, world) if place else ("boot", [1, draws.draw()])
+        why = world.refuses(verb, words)
+        if why:
+            sys.exit(f"seed {seed} {count} {events}: event {place + 1}, {verb} {words}, isn't allowed: {why}")
+        sent = world.step(verb, words)
+        if len(world.packets) > PACKETS:
+            return None, played
+        played.append((verb, words, sent))
+    return world, played
+
+
+def header(world, spelled):
+    clients = [f"client {i} {it.key} {it.isn} {spelled[i - 1]}" for i, it in enumerate(world.clients, 1)]
+    return [f"service {world.service}", f"server {world.address}", *clients]
+
+
+def event_words(verb, words):
+    return " ".join([verb, *map(str, words)])
+
+
+def schedule_text(seed, count, events):
+    draws = Generator(seed)
+    lines = header(drawn_world(draws, count), [f"fill:{1000 * i}" for i in range(1, count + 1)])
+    return lines + [event_words(verb, words) for verb, words, _ in drawn_run(seed, count, events)[1]]
+
+
+def summary(seed, count, events):
+    """The lines of a summary, or None at the packet limit."""
+    world, _ = drawn_run(seed, count, events)
+    if world is None:
+        return None
+    first = f"seed {seed} clients {count} events {events} packets {len(world.packets)} boots {world.boots} crashes {world.crashes}"
+    return [first] + [f"client {i} {it.phase} accepted {len(it.accepted)} of {len(it.script)}" for i, it in enumerate(world.clients, 1)]
+
+
+def hexadecimal(data):
+    return data.hex() or "-"
+
+
+def packet_words(content):
+    if isinstance(content, Message):
+        words = [content.name, "boot", str(content.boot)]
+        for name, value in content.fields.items():
+            words += [name, hexadecimal(value) if name == "bytes" else ",".join(map(str, value)) if name == "lens" else str(value)]
+        return " ".join(words)
+    mss = "-" if content.mss is None else content.mss
+    return f"{content.flags} seq {content.seq} ack {content.ack} window {content.window} mss {mss} data {hexadecimal(content.text)}"
+
+
+def closing(world, done):
+    lines = [f"client {i} {it.phase} accepted {len(it.accepted)} {hexadecimal(it.accepted)}" for i, it in enumerate(world.clients, 1)]
+    for entry in world.log.entries.values():
+        reads = ",".join(map(str, entry.lengths)) or "-"
+        lines.append(f"log {entry.key} length {len(entry.data)} fin {entry.fin} acked {entry.acked} done {entry.done} reads {reads}")
+    return [*lines, f"end {done}"]
+
+
+def script_of(word):
+    if word == "-":
+        return b""
+    kind, value = word.split(":")
+    return bytes.fromhex(value) if kind == "hex" else fill(min(int(value), LIMIT))
+
+
+def play(text):
+    """The report of a schedule that is in order, and why it ended early, or None."""
+    lines = [line.split() for line in text.splitlines() if line.strip() and not line.startswith("#")]
+    heads = [words for words in lines if words[0] == "client"]
+    clients = [Client(words[2], int(words[3]), script_of(words[4])) for words in heads]
+    world = World(lines[0][1], lines[1][1], clients)
+    report, number, done = ["ftreplay 1", *header(world, [words[4].lower() for words in heads])], 0, 0
+    for verb, *words in lines[2 + len(heads) :]:
+        words = [int(word) for word in words]
+        why = world.refuses(verb, words)
+        if why:
+            return report + closing(world, done), f"event {done + 1}: {why}"
+        sent = world.step(verb, words)
+        if len(world.packets) > PACKETS:
+            return report, "too long: packets"
+        done += 1
+        report.append(f"event {done} {event_words(verb, words)}")
+        for way, content in sent:
+            number += 1
+            report.append(f"packet {number} {way} {packet_words(content)}")
+    return report + closing(world, done), None
+
+
+def differs(program, seed, count, events, through):
+    """Whether the program writes something else than the model, for one seed."""
+    if through == "seed":
+        wanted = summary(seed, count, events)
+        words, given = ["seed", str(seed), str(count), str(events)], ""
+    else:
+        given = "\n".join(schedule_text(seed, count, events)) + "\n"
+        wanted, words = play(given)[0], ["run"]
+    run = subprocess.run([program, *words], input=given, capture_output=True, text=True, timeout=120, check=False)
+    return run.stdout != "".join(line + "\n" for line in wanted or [])
+
+
+def compare(words):
+    for place in range(words.seeds):
+        seed, count = words.first + place, 1 + place % 16
+        if differs(words.program, seed, count, words.events, words.through):
+            sys.exit(f"they differ at: seed {seed} {count} {words.events}")
+    print(f"{words.seeds} seeds of {words.events} events: all equal")
+
+
+def main():
+    parser = argparse.ArgumentParser(description=__doc__, formatter_class=argparse.RawDescriptionHelpFormatter)
+    verbs = parser.add_subparsers(dest="verb", required=True)
+    for verb in ("seed", "schedule"):
+        drawn = verbs.add_parser(verb)
+        for name in ("seed", "clients", "events"):
+            drawn.add_argument(name, type=int)
+    verbs.add_parser("run")
+    both = verbs.add_parser("compare")
+    both.add_argument("program")
+    both.add_argument("--seeds", type=int, default=1000)
+    both.add_argument("--events", type=int, default=2000)
+    both.add_argument("--first", type=int, default=1)
+    both.add_argument("--through", choices=("seed", "run"), default="seed")
+    words = parser.parse_args()
+    if words.verb == "compare":
+        compare(words)
+    elif words.verb == "run":
+        report, why = play(sys.stdin.read())
+        print("\n".join(report))
+        sys.exit(why)
+    else:
+        lines = (summary if words.verb == "seed" else schedule_text)(words.seed, words.clients, words.events)
+        sys.exit("too long: packets") if lines is None else print("\n".join(lines))
+
+
+if __name__ == "__main__":
+    main()
