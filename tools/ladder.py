@@ -30,7 +30,7 @@ SHOWN = ("count", "index", "offset", "first", "length", "reads", "acked", "newer
 LEGEND = (
     ("segment", "segment of a client or the server"),
     ("message", "message of the server or the log"),
-    ("lost", "lost, or the server is down"),
+    ("lost", "never delivered, or the server is down"),
     ("again", "delivered again"),
 )
 
