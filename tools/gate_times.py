@@ -23,8 +23,9 @@ import time
 
 TICKS = os.sysconf("SC_CLK_TCK")
 KINDS = ("proof", "tests", "edits")
-# A run of the prover: which crate, what for, how many processor seconds, and when it was first and last seen (seconds of the clock).
-Run = collections.namedtuple("Run", "crate kind seconds first last")
+# A run of the prover: which crate, what for, how many processor seconds, when it was first and last seen (seconds of the clock), and the most
+# memory that it held (MB).
+Run = collections.namedtuple("Run", "crate kind seconds first last memory")
 
 
 def processes():
@@ -71,6 +72,15 @@ def purpose(pid):
     return crate, "tests" if "--test" in words else "proof"
 
 
+def most_memory(pid):
+    """The most memory that a process has held so far, in MB."""
+    try:
+        with open(f"/proc/{pid}/status", encoding="utf-8", errors="replace") as file:
+            return max((int(line.split()[1]) // 1024 for line in file if line.startswith("VmHWM")), default=0)
+    except OSError:
+        return 0
+
+
 def look(root, runs):
     """Notes the times of all of the run's provers, as they stand now."""
     found, now = processes(), time.time()
@@ -80,7 +90,8 @@ def look(root, runs):
         known = runs.get(name)
         what = (known.crate, known.kind) if known else purpose(pid)
         if what and (parent, found.get(parent, (0, 0, 0))[2]) not in runs:
-            runs[name] = Run(*what, seconds, known.first if known else now, now)
+            memory = max(most_memory(pid), known.memory if known else 0)
+            runs[name] = Run(*what, seconds, known.first if known else now, now, memory)
 
 
 def is_running(pid):
@@ -107,20 +118,21 @@ def watch(root, save, ended):
 def write(runs, path):
     with open(path + ".new", "w", encoding="utf-8") as file:
         for run in runs:
-            file.write(f"{run.crate}\t{run.kind}\t{run.seconds:.2f}\t{run.first:.1f}\t{run.last:.1f}\n")
+            file.write(f"{run.crate}\t{run.kind}\t{run.seconds:.2f}\t{run.first:.1f}\t{run.last:.1f}\t{run.memory}\n")
     os.replace(path + ".new", path)
 
 
 def read(path):
     with open(path, encoding="utf-8") as file:
         rows = [line.rstrip("\n").split("\t") for line in file]
-    return [Run(crate, kind, float(seconds), float(first), float(last)) for crate, kind, seconds, first, last in rows]
+    return [Run(row[0], row[1], float(row[2]), float(row[3]), float(row[4]), int(row[5])) for row in rows]
 
 
 def crates_below():
     """Each crate of crates.txt with the crates of the repository that it names."""
     below_of = {}
-    with open("crates.txt", encoding="utf-8") as file:
+    top = os.path.dirname(os.path.dirname(os.path.abspath(__file__)))
+    with open(f"{top}/crates.txt", encoding="utf-8") as file:
         for line in file:
             head, colon, rest = line.partition("#")[0].partition(":")
             if colon:
@@ -159,7 +171,9 @@ def print_table(runs):
         seconds, way = max(ways.values())
         print(f"\nThe longest chain of proofs is {seconds / 60:.1f} processor minutes: {', '.join(way)}.")
     if runs:
-        print(f"From the first look to the last: {(max(r.last for r in runs) - min(r.first for r in runs)) / 60:.0f} minutes by the clock.")
+        minutes = (max(run.last for run in runs) - min(run.first for run in runs)) / 60
+        largest = max(runs, key=lambda run: run.memory)
+        print(f"By the clock {minutes:.0f} minutes. The most memory that one process held: {largest.memory} MB ({largest.crate}, {largest.kind}).")
 
 
 def print_log(path):
