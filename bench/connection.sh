@@ -5,27 +5,17 @@
 # its text echoed or compared. The connection also sends segments without text, and each segment's text passes as a message to the log and is
 # answered, and so does its read. So the two are set beside each other by the segments with text, as many in both; all are told too.
 set -eu
-cd "$(dirname "$0")/.."
-(cd crates/endpoint_echo && rt run -- 1460 1460 >/dev/null 2>&1)
-(cd crates/connection_bench && rt run -- 1460 1460 >/dev/null 2>&1)
+. "$(dirname "$0")/common.sh"
+build endpoint_echo 1460 1460
+build connection_bench 1460 1460
 echo_program="$PWD/crates/endpoint_echo/out/endpoint_echo"
 connections="$PWD/crates/connection_bench/out/connection_bench"
-work=$(mktemp -d)
-trap 'rm -rf "$work"' EXIT
-
-# user and system time of one run, in milliseconds
-TIMEFORMAT='%U %S'
-spent() {
-    local user system
-    read -r user system < <({ { time "$@" >"$work/out"; } 2>&1; } | tr -d .)
-    echo $((10#$user + 10#$system))
-}
 
 # how many segments both sides sent in all
 segments() { awk '/segments/ { n += $2 } END { print n }' "$work/out"; }
 
 each=8388608 all=67108864
-printf '%s processors, %s, load %s\n' "$(nproc)" "$(lscpu | sed -n 's/^Model name: *//p')" "$(cut -d' ' -f1 /proc/loadavg)"
+machine
 for text in 1460 64; do
     least_bare=999999 least_wrapped=999999
     for _ in 1 2 3 4 5 6 7; do

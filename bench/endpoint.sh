@@ -3,26 +3,20 @@
 # packet's checks (gcc -O2), in one run: segments of 1,460 bytes beside packets of 1,500 bytes, and of 64 beside 40. Of each the least
 # processor time of 7 turns, taken in turn. A segment counts once: it is written, handed over, read, and its text echoed or compared.
 set -eu
-cd "$(dirname "$0")/.."
-(cd crates/endpoint_echo && rt run -- 1460 1460 >/dev/null 2>&1)
+. "$(dirname "$0")/common.sh"
+build endpoint_echo 1460 1460
 echo_program="$PWD/crates/endpoint_echo/out/endpoint_echo"
-work=$(mktemp -d)
-trap 'rm -rf "$work"' EXIT
 gcc -O2 -Wall -o "$work/packets" bench/packets.c
 
-# user time of one run, in milliseconds
-TIMEFORMAT=%U
-spent() { { time "$@" >"$work/out"; } 2>&1 | tr -d .; }
-
-printf '%s processors, %s, load %s\n' "$(nproc)" "$(lscpu | sed -n 's/^Model name: *//p')" "$(cut -d' ' -f1 /proc/loadavg)"
+machine
 for row in "1460 1500 6000" "64 40 120000"; do
     read -r text bytes rounds <<<"$row"
     least_echo=999999 least_c=999999
     for _ in 1 2 3 4 5 6 7; do
-        a=$((10#$(spent "$echo_program" 67108864 "$text")))
+        a=$(spent_in_user "$echo_program" 67108864 "$text")
         segments=$(awk '/segments/ { n += $2 } END { print n }' "$work/out")
         grep -q '^echoed 67108864 bytes$' "$work/out" || { echo "not echoed"; exit 1; }
-        b=$((10#$(spent "$work/packets" "$bytes" "$rounds")))
+        b=$(spent_in_user "$work/packets" "$bytes" "$rounds")
         ((a < least_echo)) && least_echo=$a
         ((b < least_c)) && least_c=$b
     done

@@ -2,20 +2,10 @@
 # One send and one receive of a datagram on this machine's loopback, through link_bench's UDP socket beside a C loop of sendto and recvfrom
 # (gcc -O2), in one run: for 100 and for 1,400 bytes, the least processor time, of program and system, of 7 turns each, taken in turn.
 set -eu
-cd "$(dirname "$0")/.."
-(cd crates/link_bench && rt run -- 100 1 >/dev/null 2>&1)
+. "$(dirname "$0")/common.sh"
+build link_bench 100 1
 ours="$PWD/crates/link_bench/out/link_bench"
-work=$(mktemp -d)
-trap 'rm -rf "$work"' EXIT
 gcc -O2 -Wall -o "$work/link" bench/link.c
-
-# user and system time of one run, in milliseconds
-TIMEFORMAT='%U %S'
-spent() {
-    local user system
-    read -r user system < <({ { time "$@" >"$work/out"; } 2>&1; } | tr -d .)
-    echo $((10#$user + 10#$system))
-}
 
 rounds=200000
 for bytes in 100 1400; do

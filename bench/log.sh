@@ -4,20 +4,10 @@
 # second, with reads of equal lengths and with reads of 1,459 and 1,461 bytes in turn. Of each the least processor time of 7 turns of 8 rounds, taken in
 # turn. Then the time for the sixteenth MiB beside that for the first, and the most memory that a run holds, less what it holds for an empty entry.
 set -eu
-cd "$(dirname "$0")/.."
-(cd crates/log_bench && rt run -- equal 1000 1 >/dev/null 2>&1)
+. "$(dirname "$0")/common.sh"
+build log_bench equal 1000 1
 ours="$PWD/crates/log_bench/out/log_bench"
-work=$(mktemp -d)
-trap 'rm -rf "$work"' EXIT
 gcc -O2 -Wall -o "$work/log" bench/log.c
-
-# user and system time of one run, in milliseconds
-TIMEFORMAT='%U %S'
-spent() {
-    local user system
-    read -r user system < <({ { time "$@" >"$work/out"; } 2>&1; } | tr -d .)
-    echo $((10#$user + 10#$system))
-}
 
 # the least of 7 turns
 least() {
@@ -30,7 +20,7 @@ least() {
 }
 
 whole=16777216 rounds=8
-printf '%s processors, %s, load %s\n' "$(nproc)" "$(lscpu | sed -n 's/^Model name: *//p')" "$(cut -d' ' -f1 /proc/loadavg)"
+machine
 for reads in equal other; do
     least_ours=999999 least_c=999999
     for _ in 1 2 3 4 5 6 7; do

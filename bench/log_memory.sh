@@ -1,14 +1,14 @@
-#!/bin/sh
+#!/usr/bin/env bash
 # Refuses memory to `log_script` on its cases but the random ones, one allocation a run, each in turn. A line for which memory is refused is played once
 # more, so each run must print what it prints with all memory: the log was as before. Or, while a line is read, it ends with status 1 and std's own error,
 # having printed a front of that.
 set -eu
-cd "$(dirname "$0")/../crates/log_script"
+. "$(dirname "$0")/common.sh"
 
-rt run <stdin >/dev/null 2>&1
+build log_script <crates/log_script/stdin
+cd crates/log_script
 program=$PWD/out/log_script
-folder=$(mktemp -d)
-trap 'rm -rf "$folder"' EXIT
+folder=$work
 gcc -O2 -Wall -shared -fPIC -o "$folder/refuse.so" ../../bench/refuse.c -ldl
 
 # the cases up to the long runs of reads, and those of pages

@@ -1,14 +1,14 @@
-#!/bin/sh
+#!/usr/bin/env bash
 # Refuses memory to `ftreplay run` on the first path, one allocation a run, each in turn. A run may end with status 3 and `ftreplay: no
 # memory`, having written a front of the report; with status 0 and the whole report, where it could do without; or, while the program's
 # words are made, before `replay` is called, with status 1 and std's own error. The refusing malloc is a library that is loaded before libc.
 set -eu
-cd "$(dirname "$0")/../crates/ftreplay"
+. "$(dirname "$0")/common.sh"
 
-rt run -- run <stdin >/dev/null
+build ftreplay run <crates/ftreplay/stdin
+cd crates/ftreplay
 program=$PWD/out/ftreplay
-folder=$(mktemp -d)
-trap 'rm -rf "$folder"' EXIT
+folder=$work
 
 gcc -O2 -Wall -shared -fPIC -o "$folder/refuse.so" ../../bench/refuse.c -ldl
 

@@ -3,27 +3,21 @@
 # read and summed, for 40 and for 1,500 bytes; three fields of a packet set in place, of the same packets; and messages read and written, a
 # Data of 1,460 bytes and the length of a read. Of each the least processor time of 7 turns, taken in turn.
 set -eu
-cd "$(dirname "$0")/.."
-(cd crates/packet_bench && rt run -- 40 1 >/dev/null 2>&1)
-(cd crates/message_bench && rt run -- read data 1 >/dev/null 2>&1)
-work=$(mktemp -d)
-trap 'rm -rf "$work"' EXIT
+. "$(dirname "$0")/common.sh"
+build packet_bench 40 1
+build message_bench read data 1
 gcc -O2 -Wall -o "$work/packets" bench/packets.c
 gcc -O2 -Wall -o "$work/messages" bench/messages.c
-
-# user time of one run, in milliseconds
-TIMEFORMAT=%U
-spent() { { time "$@" >"$work/out"; } 2>&1 | tr -d .; }
 
 # what is timed, our program, the C program, their words, and how many calls they make
 row() {
     local what=$1 ours="$PWD/crates/$2/out/$2" c="$work/$3" words=$4 calls=$5 least_ours=999999 least_c=999999 a b
     for _ in 1 2 3 4 5 6 7; do
         # shellcheck disable=SC2086
-        a=$((10#$(spent "$ours" $words)))
+        a=$(spent_in_user "$ours" $words)
         mv "$work/out" "$work/said"
         # shellcheck disable=SC2086
-        b=$((10#$(spent "$c" $words)))
+        b=$(spent_in_user "$c" $words)
         cmp -s "$work/said" "$work/out" || { echo "the two differ"; exit 1; }
         ((a < least_ours)) && least_ours=$a
         ((b < least_c)) && least_c=$b

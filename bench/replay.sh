@@ -4,13 +4,12 @@
 # Then the lines of the larger report, but for its opening and its end, as lines_bench writes them from events and packets as bytes, beside a C
 # loop of fprintf of the same lines (gcc -O2); and the reading of a schedule of 8 MiB. Of each the least processor time of 7 turns.
 set -eu
-cd "$(dirname "$0")/.."
+. "$(dirname "$0")/common.sh"
 
-(cd crates/ftreplay && rt run -- run <stdin >/dev/null)
+build ftreplay run <crates/ftreplay/stdin
 program=$PWD/crates/ftreplay/out/ftreplay
 
-schedules=$(mktemp -d)
-trap 'rm -rf "$schedules"' EXIT
+schedules=$work out=/dev/null
 
 # Ten events open the connection. A cycle is ten more and sends eleven packets: the byte, a bare segment, Data, Read, Stable, an
 # acknowledgement, Reads, the echo, the client's acknowledgement of it, and Data and Stable for that.
@@ -45,12 +44,12 @@ time_schedule() {
 
 write_schedule 999
 write_schedule 9999
-printf '%s processors, %s\n' "$(nproc)" "$(lscpu | sed -n 's/^Model name: *//p')"
+machine
 { time_schedule 999; time_schedule 9999; } | awk '
     NR == 1 { small = $1; printf "10,000 events: %.1f ms, %d MB\n", $1 / 1000000, $2 / 1000 }
     NR == 2 { printf "100,000 events: %.1f ms, %d MB, %.1f times the smaller\n", $1 / 1000000, $2 / 1000, $1 / small }'
 
-(cd crates/lines_bench && rt run -- write 9 1 >/dev/null 2>&1)
+build lines_bench write 9 1
 lines=$PWD/crates/lines_bench/out/lines_bench
 gcc -O2 -Wall -o "$schedules/lines" bench/lines.c
 "$lines" write 9999 1 >"$schedules/ours"
@@ -58,14 +57,6 @@ gcc -O2 -Wall -o "$schedules/lines" bench/lines.c
 sed -n '/^event 11 /,/^client /p' "$schedules/report" | sed '$d' >"$schedules/reported"
 cmp -s "$schedules/ours" "$schedules/reported" || { echo "lines_bench and the report differ"; exit 1; }
 cmp -s "$schedules/ours" "$schedules/theirs" || { echo "the two loops differ"; exit 1; }
-
-# user and system time of one run, in milliseconds
-TIMEFORMAT='%U %S'
-spent() {
-    local user system
-    read -r user system < <({ { time "$@" >/dev/null; } 2>&1; } | tr -d .)
-    echo $((10#$user + 10#$system))
-}
 
 # the least of 7 turns of each of two commands, taken in turn
 least_of_two() {

@@ -4,24 +4,14 @@
 # second. Of each the least processor time of 5 runs with 40 restarts, less that of 5 runs that only fill the log, taken in turn. Then the most memory
 # that a run with one restart holds, less what a run without it holds: the largest difference of three.
 set -eu
-cd "$(dirname "$0")/.."
-(cd crates/restart_bench && rt run -- echo 1000 1 1 >/dev/null 2>&1)
+. "$(dirname "$0")/common.sh"
+build restart_bench echo 1000 1 1
 ours="$PWD/crates/restart_bench/out/restart_bench"
-work=$(mktemp -d)
-trap 'rm -rf "$work"' EXIT
-
-# user and system time of one run, in milliseconds
-TIMEFORMAT='%U %S'
-spent() {
-    local user system
-    read -r user system < <({ { time "$@" >"$work/out"; } 2>&1; } | tr -d .)
-    echo $((10#$user + 10#$system))
-}
 
 held() { command time -f %M "$ours" "$@" 2>&1 >/dev/null; }
 
 rounds=40
-printf '%s processors, %s, load %s\n' "$(nproc)" "$(lscpu | sed -n 's/^Model name: *//p')" "$(cut -d' ' -f1 /proc/loadavg)"
+machine
 while read -r service bytes size; do
     with=999999 without=999999
     for _ in 1 2 3 4 5; do

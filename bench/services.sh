@@ -1,14 +1,13 @@
-#!/bin/sh
+#!/usr/bin/env bash
 # Times each service on an input made here, and prints how many megabytes of input and of output it takes a second: the best of three
 # runs. Echo, Line and Meter read 256 MiB of lines of 64 bytes, and Transfer reads 1 MiB of requests for 2,047 bytes each.
 set -eu
-cd "$(dirname "$0")/.."
+. "$(dirname "$0")/common.sh"
 
-(cd crates/service_bench && rt run -- echo <stdin >/dev/null)
+build service_bench echo <crates/service_bench/stdin
 program=$PWD/crates/service_bench/out/service_bench
 
-inputs=$(mktemp -d)
-trap 'rm -rf "$inputs"' EXIT
+inputs=$work
 
 yes 'a line of sixty-three bytes, and with its line feed sixty-four.' | head -c 268435456 >"$inputs/lines"
 printf '\000\000\007\377' >"$inputs/requests"
@@ -33,7 +32,7 @@ time_service() {
         'BEGIN { printf "%-8s %6.0f MB/s in %6.0f MB/s out\n", name, read * 1000 / nanoseconds, written * 1000 / nanoseconds }'
 }
 
-printf '%s processors, %s\n' "$(nproc)" "$(lscpu | sed -n 's/^Model name: *//p')"
+machine
 time_service echo "$inputs/lines"
 time_service line "$inputs/lines"
 time_service meter "$inputs/lines"

@@ -11,6 +11,7 @@ PROGRAM is a built `ftreplay`. `compare` ends with 1 at the first difference, an
 as text, and the whole reports are compared.
 """
 import argparse
+import signal
 import subprocess
 import sys
 
@@ -200,6 +201,7 @@ def main():
     both.add_argument("--first", type=int, default=1)
     both.add_argument("--through", choices=("seed", "run"), default="seed")
     words = parser.parse_args()
+    signal.signal(signal.SIGPIPE, signal.SIG_DFL)
     if words.verb == "compare":
         compare(words)
     elif words.verb == "run":
@@ -208,7 +210,9 @@ def main():
         sys.exit(why)
     else:
         lines = (summary if words.verb == "seed" else schedule_text)(words.seed, words.clients, words.events)
-        sys.exit("too long: packets") if lines is None else print("\n".join(lines))
+        if lines is None:
+            sys.exit("too long: packets")
+        print("\n".join(lines))
 
 
 if __name__ == "__main__":
