@@ -1,5 +1,5 @@
-# The beginning that the scripts beside this file share. They source it with `set -eu`; it leads to the top of the repository, and makes a folder $work that goes
-# when the script ends.
+# The beginning that the scripts beside this file share. They source it with `set -eu`; it leads to the top of the repository, and makes a folder
+# $work that goes when the script ends.
 cd "$(dirname "$0")/.."
 work=$(mktemp -d)
 out=$work/out

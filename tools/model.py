@@ -1,8 +1,8 @@
 """The whole system in plain Python: clients, log, server and world, by the rules and not by the program.
 
-It follows the laws of docs/MODEL.md in stream offsets, with whole streams in memory and no TCP inside: a second way to the same reports, outside the proofs. What
-it makes of a schedule is compared with what `ftreplay` makes of it (tools/seed_model.py), so no line here may be taken from the program. Held segments and congestion
-control are not in it.
+It follows the laws of docs/MODEL.md in stream offsets, with whole streams in memory and no TCP inside: a second way to the same reports, outside the
+proofs. What it makes of a schedule is compared with what `ftreplay` makes of it (tools/seed_model.py), so no line here may be taken from the program.
+Held segments and congestion control are not in it.
 """
 from collections import namedtuple
 
