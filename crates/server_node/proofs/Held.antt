@@ -1,5 +1,5 @@
 -- The answer to a client while the log is fetched.
-use Rattle.std.proofs.Common.{◌≡◌, ◌∙◌, Bool, true, false, ◌&&◌, not, sym, ap, subst, List, [], ◌∷◌, map, append-nil, Option, Some, None, option_map, if◌then◌else◌}
+use Rattle.std.proofs.Common.{◌≡◌, ◌∙◌, Bool, true, ◌&&◌, not, sym, ap, subst, List, [], ◌∷◌, map, append-nil, Option, Some, None, option_map, if◌then◌else◌}
 use Rattle.std.specs.Option.{option_to_list}
 use Rattle.ft_io.specs.declared.Key.{Key}
 use Rattle.seq_arith.specs.Message.{EntryHead}

@@ -1,12 +1,12 @@
 -- What a connection that the node lends tells of its point.
-use Rattle.std.proofs.Common.{◌≡◌, ◌∙◌, Option, None, Some, IfSome, ℕ, ◌+◌, ◌-◌, ◌≤◌, ◌%◌, ◌^◌, Bool, true, false, ⊎_elim, refl, sym, ap, subst, arith}
+use Rattle.std.proofs.Common.{◌≡◌, ◌∙◌, Option, None, Some, IfSome, ℕ, ◌+◌, ◌%◌, ◌^◌, Bool, true, false, ⊎_elim, sym, ap, subst}
 use Rattle.std.specs.Bool.{MatchBool}
 use Rattle.std.specs.Borrow.{Bor}
 use Rattle.std.specs.Option.{option_copied}
 use Rattle.ft_model.proofs.Lists.{some_is, none_is_some}
 use Rattle.std.proofs.lemmas.Bool.{false≢true}
 use Rattle.ft_io.specs.declared.Addr.{Addr}
-use Rattle.seq_arith.specs.Number.{number_at, distance}
+use Rattle.seq_arith.specs.Number.{distance}
 use Rattle.server_trait.specs.Service.{Machine}
 use Rattle.ft_model.specs.Point.{Point, made, is_over}
 use Rattle.connection_laws.specs.Closing.{StandsClosed}
@@ -18,7 +18,6 @@ use Rattle.north_wrap.specs.NorthState.{NorthState}
 use Rattle.tcp_endpoint.specs.Tcb.{Tcb}
 use Rattle.wrapped_conn.specs.ConnState.{ConnState}
 use Rattle.wrapped_conn.specs.Sound as sound
-use Rattle.wrapped_conn.specs.Standing as conn
 use Rattle.wrapped_conn.specs.Standing.{StandsLive, StandsReset}
 use Rattle.wrapped_conn.proofs.Lending.{tells}
 use Rattle.wrapped_conn.proofs.Receiving.{parts_live}

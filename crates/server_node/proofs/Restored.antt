@@ -6,6 +6,8 @@ use Rattle.indexmap.specs.IndexMap.{insert_entry}
 use Rattle.ft_io.specs.declared.Key.{Key}
 use Rattle.ft_io.specs.Key.{key_eq}
 use Rattle.server_trait.specs.Service.{Machine}
+use Rattle.std.proofs.lemmas.Bool.{false≢true}
+use Rattle.ft_model.specs.Log.{Entry}
 use Rattle.ft_model.proofs.Lists.{neither, none_is_some}
 use Rattle.ft_model.specs.Node.{Node}
 use Rattle.ft_model.specs.Node.Place.{Lives, Ended}
@@ -22,9 +24,12 @@ use Rattle.server_node.specs.declared.slot.Slot.{Slot}
 use Rattle.server_node.specs.declared.slot.Slot.TheVariants as slot
 use Rattle.server_node.specs.Restarting.{AreDistinct}
 use Rattle.server_node.specs.Reviving.{SlotRevives, AreRestored}
+use Rattle.server_node.specs.Numbered.{IsNumbered, AreNumbered}
+use Rattle.server_node.specs.Lending.{conn_in}
 use Rattle.server_node.specs.Slots.{SlotStands, IsSoundSlot, AllSound}
 use Rattle.server_node.proofs.Admitted.{key_turns, one_stands_more, next_number}
 use Rattle.server_node.proofs.AllSlots.{go_on}
+use Rattle.server_node.proofs.OneKey.{key_is}
 use Rattle.server_node.proofs.Opens.{put_on}
 
 -- a slot more stays sound, wherever it comes to stand
@@ -47,6 +52,35 @@ behind_others key last (e ∷ es) x other none = go (key_eq key e.0) refl (behin
         ap (λ b. cond b (Some e.1) (lookup (key_eq key) (es ++ (last, x) ∷ []))) t
         ∙ rest (sym (ap (λ b. cond b (Some e.1) (lookup (key_eq key) es)) t) ∙ none)
 
+-- one that isn't there yet is found at the end
+found_last : {X : Type 0} (key : Key) (es : List (Key × X)) (x : X) → lookup (key_eq key) es ≡ None → lookup (key_eq key) (es ++ (key, x) ∷ []) ≡ Some x
+found_last key [] x none = ap (λ b. cond b (Some x) None) (key_is key)
+found_last key (e ∷ es) x none = go (key_eq key e.0) refl (found_last key es x)
+  where
+    go : (b : Bool) → key_eq key e.0 ≡ b → (lookup (key_eq key) es ≡ None → lookup (key_eq key) (es ++ (key, x) ∷ []) ≡ Some x) → lookup (key_eq key) ((e ∷ es) ++ (key, x) ∷ []) ≡ Some x
+    go true t rest = none_is_some e.1 (sym none ∙ ap (λ b. cond b (Some e.1) (lookup (key_eq key) es)) t)
+    go false t rest =
+        ap (λ b. cond b (Some e.1) (lookup (key_eq key) (es ++ (key, x) ∷ []))) t
+        ∙ rest (sym (ap (λ b. cond b (Some e.1) (lookup (key_eq key) es)) t) ∙ none)
+
+-- a connection that is found stays so where a slot is added behind
+numbered_on : {S : Type 0} (service : Machine S) (entry : Entry) (i : ℕ) (key last : Key) (es : List (Key × Slot S)) (now : Slot S)
+    → IsNumbered service entry i (conn_in (lookup (key_eq key) es)) → IsNumbered service entry i (conn_in (lookup (key_eq key) (es ++ (last, now) ∷ [])))
+numbered_on service entry i key last [] now n = absurd n
+numbered_on service entry i key last (e ∷ es) now n = go (key_eq key e.0) (numbered_on service entry i key last es now) n
+  where
+    go : (b : Bool) → (IsNumbered service entry i (conn_in (lookup (key_eq key) es)) → IsNumbered service entry i (conn_in (lookup (key_eq key) (es ++ (last, now) ∷ []))))
+        → IsNumbered service entry i (conn_in (cond b (Some e.1) (lookup (key_eq key) es)))
+        → IsNumbered service entry i (conn_in (cond b (Some e.1) (lookup (key_eq key) (es ++ (last, now) ∷ []))))
+    go true rest h = h
+    go false rest h = rest h
+
+all_numbered_on : {S : Type 0} (service : Machine S) (isn : ℕ) (fetched : List Fetched) (last : Key) (es : List (Key × Slot S)) (now : Slot S)
+    → AreNumbered service isn fetched es → AreNumbered service isn fetched (es ++ (last, now) ∷ [])
+all_numbered_on service isn [] last es now n = tt
+all_numbered_on service isn (f ∷ earlier) last es now n =
+    (λ live. numbered_on service (entry_in f) (initial_number isn (restored_count earlier)) f.head.key last es now (n.0 live), all_numbered_on service isn earlier last es now n.1)
+
 module _ {S : Type 0} (service : Machine S) (node : Node) where
   -- before any
   pub restored_none : (now : Serving S) (told : List Wire) → now.next.0 ≡ initial_number node.isn 0 → now.slots.entries ≡ [] → AreRestored service node [] now told told
@@ -55,6 +89,7 @@ module _ {S : Type 0} (service : Machine S) (node : Node) where
     packets = [];
     stands = record { number = number; slots = subst (λ es. Rattle.server_node.specs.Slots.AllStand service node es []) (sym none) tt };
     go = (refl, refl);
+    numbers = tt;
     others = λ key e. ap (lookup (key_eq key)) none;
     wires = sym (append-nil told);
     spelled = tt;
@@ -65,8 +100,9 @@ module _ {S : Type 0} (service : Machine S) (node : Node) where
       → AreRestored service node fetched before old mid → SlotRevives service node f.head.key (restored service f) now mid new
       → after.next.0 ≡ initial_number node.isn (restored_count (f ∷ fetched))
       → (lookup (key_eq f.head.key) before.slots.entries ≡ None → after.slots.entries ≡ before.slots.entries ++ (f.head.key, now) ∷ [])
+      → (f.head.done ≡ false → IsNumbered service (entry_in f) (initial_number node.isn (restored_count fetched)) (conn_in (Some now)))
       → AreRestored service node (f ∷ fetched) after old new
-  restored_more f fetched before after now old mid new fresh r s number added =
+  restored_more f fetched before after now old mid new fresh r s number added numbered =
       let none : lookup (key_eq f.head.key) before.slots.entries ≡ None = r.others f.head.key fresh in
       let is : after.slots.entries ≡ before.slots.entries ++ (f.head.key, now) ∷ [] = added none in
       let all = put_on r.packets s.packets old mid new (record { wires = r.wires; spelled = r.spelled }) (record { wires = s.wires; spelled = s.spelled }) in record {
@@ -78,6 +114,10 @@ module _ {S : Type 0} (service : Machine S) (node : Node) where
               (one_stands_more service node before.slots.entries r.places f.head.key now s.after r.stands.slots s.stands);
         };
         go = go_on service node Tick_comes (Revives service node) (all_restored service fetched) r.places r.packets s.packets (restored service f) s.after r.go s.turn;
+        numbers = subst (AreNumbered service node.isn (f ∷ fetched)) (sym is) (
+          λ live. subst (λ o. IsNumbered service (entry_in f) (initial_number node.isn (restored_count fetched)) (conn_in o)) (sym (found_last f.head.key before.slots.entries now none)) (numbered live),
+          all_numbered_on service node.isn fetched f.head.key before.slots.entries now r.numbers,
+        );
         others = λ key e.
             let parts = neither (key_eq f.head.key key) (is_fetched key fetched) e in
             ap (lookup (key_eq key)) is ∙ behind_others key f.head.key before.slots.entries now (key_turns f.head.key key parts.0) (r.others key parts.1);
@@ -103,19 +143,21 @@ module _ {S : Type 0} (service : Machine S) (node : Node) where
       (record { after = Ended f.head.key; packets = []; stands = refl; turn = (refl, refl); wires = sym (append-nil mid); spelled = tt }))
       (same ∙ (r.stands.number ∙ ap (initial_number node.isn) (sym (counted f fetched true done))))
       (subst (λ k. lookup (key_eq k) before.slots.entries ≡ None → after.slots.entries ≡ before.slots.entries ++ (k, slot.Done) ∷ []) is added)
+      (λ live. absurd (false≢true (sym live ∙ done)))
 
   -- one that isn't is live, and has used up an initial number
   pub live_more : (f : Fetched) (fetched : List Fetched) (key : Key) (before after : Serving S) (now : Slot S) (old mid new : List Wire) → f.head.done ≡ false → key ≡ f.head.key
       → is_fetched f.head.key fetched ≡ false → AreRestored service node fetched before old mid
       → SlotRevives service node f.head.key (Lives (point_of service (entry_in f))) now mid new → after.next.0 ≡ (before.next.0 + 65536) % 2 ^ 32
       → (lookup (key_eq key) before.slots.entries ≡ None → after.slots.entries ≡ before.slots.entries ++ (key, now) ∷ [])
-      → AreRestored service node (f ∷ fetched) after old new
-  live_more f fetched key before after now old mid new live is fresh r s next added =
+      → IsNumbered service (entry_in f) before.next.0 (conn_in (Some now)) → AreRestored service node (f ∷ fetched) after old new
+  live_more f fetched key before after now old mid new live is fresh r s next added numbered =
       let place : restored service f ≡ Lives (point_of service (entry_in f)) = ap (λ b. if b then Ended f.head.key else Lives (point_of service (entry_in f))) live in
       restored_more f fetched before after now old mid new fresh r
       (subst (λ p. SlotRevives service node f.head.key p now mid new) (sym place) s)
       (next ∙ (ap (λ n. (n + 65536) % 2 ^ 32) r.stands.number ∙ (next_number node.isn (restored_count fetched) ∙ ap (initial_number node.isn) (plus_one (restored_count fetched) ∙ sym (counted f fetched false live)))))
       (subst (λ k. lookup (key_eq k) before.slots.entries ≡ None → after.slots.entries ≡ before.slots.entries ++ (k, now) ∷ []) is added)
+      (λ also. subst (λ i. IsNumbered service (entry_in f) i (conn_in (Some now))) r.stands.number numbered)
 
 -- what is true of all is true of one
 distinct_at : (front : List Fetched) (f : Fetched) (fetched : List Fetched) → AreDistinct (front ++ f ∷ fetched) → is_fetched f.head.key fetched ≡ false

@@ -1,5 +1,5 @@
 -- The stage of a restart after its turn, by the law.
-use Rattle.std.proofs.Common.{◌≡◌, ◌∙◌, ℕ, Bool, true, false, true≢false, refl, sym, ap, subst, List, [], ◌++◌, map, append-nil, Option, Some, None, is_some, IfSome, MatchOption, eq-eqb, if◌then◌else◌}
+use Rattle.std.proofs.Common.{◌≡◌, ◌∙◌, ℕ, Bool, true, false, true≢false, refl, sym, ap, subst, List, [], ◌++◌, map, append-nil, Option, Some, None, is_some, unwrap_or, IfSome, MatchOption, eq-eqb, if◌then◌else◌}
 use Rattle.server_trait.specs.Service.{Machine}
 use Rattle.seq_arith.specs.Message.{Message}
 use Rattle.seq_arith.specs.Packet.{Segment}
@@ -17,6 +17,7 @@ use Rattle.server_node.specs.declared.serving.Serving.{Serving}
 use Rattle.server_node.specs.declared.stage.Stage.{Stage}
 use Rattle.server_node.specs.declared.stage.Stage.TheVariants as stage
 use Rattle.server_node.specs.Identity.{node_of}
+use Rattle.server_node.specs.Numbered.{fetched_by}
 use Rattle.server_node.specs.Opening.{ArePut}
 use Rattle.server_node.specs.Restarting.{AreDistinct, FetchingStands, IsOwn}
 use Rattle.server_node.specs.Reviving.{AreRestored, StageGoes}
@@ -32,12 +33,13 @@ module _ {S : Type 0} (service : Machine S) (who : Identity) where
   -- something is missing: it is asked for
   pub waits_on : (standing : law.Stage) (count : ℕ) (fetched : List Fetched) (f : FetchingState S) (old new : List Wire) → FetchingStands service count fetched f
       → is_some (wanted count fetched) ≡ true → ArePut (asked (node_of who standing) (wanted count fetched)) old new
-      → StageGoes service who (Fetches service (node_of who standing) count fetched) (stage.Fetching f) old new
+      → StageGoes service who fetched (Fetches service (node_of who standing) count fetched) (stage.Fetching f) old new
   waits_on standing count fetched f old new st more put = record {
     after = Fetching count fetched;
     packets = asked (node_of who standing) (wanted count fetched);
     stands = (count, fetched, refl, st);
     goes = asks_on (node_of who standing) count fetched (wanted count fetched) more;
+    numbers = tt;
     wires = put.wires;
     spelled = put.spelled;
   }
@@ -45,11 +47,11 @@ module _ {S : Type 0} (service : Machine S) (who : Identity) where
   -- nothing is: all is restored
   pub serves_on : (standing : law.Stage) (count : ℕ) (fetched : List Fetched) (now : Serving S) (old mid new : List Wire) → is_some (wanted count fetched) ≡ false
       → ArePut (asked (node_of who standing) (wanted count fetched)) old mid → AreRestored service (node_of who standing) fetched now mid new
-      → StageGoes service who (Fetches service (node_of who standing) count fetched) (stage.Serving now) old new
+      → StageGoes service who fetched (Fetches service (node_of who standing) count fetched) (stage.Serving now) old new
   serves_on standing count fetched now old mid new nothing put r = go (wanted count fetched) nothing put
     where
       go : (o : Option Wanted) → is_some o ≡ false → ArePut (asked (node_of who standing) o) old mid
-          → StageGoes service who (Continues service (node_of who standing) count fetched o) (stage.Serving now) old new
+          → StageGoes service who fetched (Continues service (node_of who standing) count fetched o) (stage.Serving now) old new
       go (Some w) e p = absurd (true≢false e)
       go None e p = record {
         after = Serves (restored_count fetched) r.places;
@@ -61,6 +63,7 @@ module _ {S : Type 0} (service : Machine S) (who : Identity) where
           record { number = r.stands.number; slots = stand_again service who standing (Serves (restored_count fetched) r.places) now.slots.entries r.places r.stands.slots },
         );
         goes = (r.places, refl, r.go);
+        numbers = r.numbers;
         wires = r.wires ∙ ap (λ ws. ws ++ map Rattle.ft_model.specs.Wire.wire_of r.packets) (p.wires ∙ append-nil old);
         spelled = r.spelled;
       }
@@ -73,18 +76,19 @@ module _ {S : Type 0} (service : Machine S) (who : Identity) where
   -- a message that answers nothing changes nothing
   pub answers_nothing : (standing : law.Stage) (message : Message) (count : ℕ) (fetched : List Fetched) (before after : FetchingState S) (fits : Bool) (told : List Wire) → fits ≡ false
       → IsOwn who before → FetchingStands service count fetched before → AnswerLeads service (restart.fetched_then before.boot before.count message fetched) fits before after
-      → StageGoes service who (StageTurn service (node_of who standing) (Fetching count fetched) (Message_comes message)) (stage.Fetching after) told told
+      → StageGoes service who (fetched_by (node_of who standing) (Fetching count fetched) (Message_comes message)) (StageTurn service (node_of who standing) (Fetching count fetched) (Message_comes message)) (stage.Fetching after) told told
   answers_nothing standing message count fetched before after fits told unfit own st leads =
       go (fetched_then (node_of who standing) message count fetched) (subst (λ o. AnswerLeads service o fits before after) (fetched_same standing message count fetched before own st) leads)
     where
       go : (o : Option (List Fetched)) → AnswerLeads service o fits before after
-          → StageGoes service who (λ next sent. MatchOption o (Rests (Fetching count fetched) next sent) (λ more. Fetches service (node_of who standing) count more next sent)) (stage.Fetching after) told told
+          → StageGoes service who (unwrap_or o []) (λ next sent. MatchOption o (Rests (Fetching count fetched) next sent) (λ more. Fetches service (node_of who standing) count more next sent)) (stage.Fetching after) told told
       go (Some more) (fit, stands) = absurd (true≢false (sym fit ∙ unfit))
       go None (none, is) = record {
         after = Fetching count fetched;
         packets = [];
         stands = (count, fetched, refl, subst (FetchingStands service count fetched) (sym is) st);
         goes = (refl, refl);
+        numbers = tt;
         wires = sym (append-nil told);
         spelled = tt;
       }
@@ -94,22 +98,22 @@ module _ {S : Type 0} (service : Machine S) (who : Identity) where
       (now : Rattle.server_node.specs.declared.stage.Stage.Stage S) (old new : List Wire) → fits ≡ true → IsSame before after → IsOwn who before → FetchingStands service count fetched before
       → IfSome (fetched_then (node_of who standing) message count fetched) (AreSound service)
       → AnswerLeads service (restart.fetched_then before.boot before.count message fetched) fits before after
-      → ((more : List Fetched) → FetchingStands service count more after → AreSound service more → StageGoes service who (Fetches service (node_of who standing) count more) now old new)
-      → StageGoes service who (StageTurn service (node_of who standing) (Fetching count fetched) (Message_comes message)) now old new
+      → ((more : List Fetched) → FetchingStands service count more after → AreSound service more → StageGoes service who more (Fetches service (node_of who standing) count more) now old new)
+      → StageGoes service who (fetched_by (node_of who standing) (Fetching count fetched) (Message_comes message)) (StageTurn service (node_of who standing) (Fetching count fetched) (Message_comes message)) now old new
   answers_on standing message count fetched before after fits now old new fit same own st sound leads goes =
       go (fetched_then (node_of who standing) message count fetched) (then_distinct (node_of who standing) message count fetched st.distinct) sound
       (subst (λ o. AnswerLeads service o fits before after) (fetched_same standing message count fetched before own st) leads)
     where
       go : (o : Option (List Fetched)) → IfSome o AreDistinct → IfSome o (AreSound service) → AnswerLeads service o fits before after
-          → StageGoes service who (λ next sent. MatchOption o (Rests (Fetching count fetched) next sent) (λ more. Fetches service (node_of who standing) count more next sent)) now old new
+          → StageGoes service who (unwrap_or o []) (λ next sent. MatchOption o (Rests (Fetching count fetched) next sent) (λ more. Fetches service (node_of who standing) count more next sent)) now old new
       go None distinct sounds (unfit, is) = absurd (true≢false (sym fit ∙ unfit))
       go (Some more) distinct sounds (taken, stands) =
           let g = goes more (record { so_many = same.so_many ∙ st.so_many; distinct = distinct; entries = stands }) sounds in
-          record { after = g.after; packets = g.packets; stands = g.stands; goes = g.goes; wires = g.wires; spelled = g.spelled }
+          record { after = g.after; packets = g.packets; stands = g.stands; goes = g.goes; numbers = g.numbers; wires = g.wires; spelled = g.spelled }
 
   -- a stage's turn by the law is the node's
   stage_goes : (standing : law.Stage) (input : law.Input) (now : Stage S) (told : List Wire) → is_fenced standing ≡ false → fence (node_of who standing) input ≡ None
-      → StageGoes service who (StageTurn service (node_of who standing) standing input) now [] told → NodeGoes service (node_of who standing) input who now told
+      → StageGoes service who (fetched_by (node_of who standing) standing input) (StageTurn service (node_of who standing) standing input) now [] told → NodeGoes service (node_of who standing) input who now told
   stage_goes standing input now told live unfenced g = record {
     after = g.after;
     packets = g.packets;
@@ -121,30 +125,31 @@ module _ {S : Type 0} (service : Machine S) (who : Identity) where
       live = live;
       stage = subst (λ o. NodeTurn service (node_of who standing) input o g.after g.packets) (sym unfenced) g.goes;
     };
+    numbers = g.numbers;
     wires = g.wires;
     spelled = g.spelled;
   }
 
   -- a Summary begins the restart
   pub begins_on : (standing : law.Stage) (message : Message) (count : ℕ) (now : Stage S) (told : List Wire) → message.boot ≡ who.boot → summary_count message.body ≡ Some count
-      → standing ≡ Asking → fence (node_of who standing) (Message_comes message) ≡ None → StageGoes service who (Fetches service (node_of who standing) count []) now [] told
+      → standing ≡ Asking → fence (node_of who standing) (Message_comes message) ≡ None → StageGoes service who [] (Fetches service (node_of who standing) count []) now [] told
       → NodeGoes service (node_of who standing) (Message_comes message) who now told
   begins_on standing message count now told boot counts is unfenced g =
       stage_goes standing (Message_comes message) now told (ap is_fenced is) unfenced
-      (subst (λ s. StageGoes service who (StageTurn service (node_of who standing) s (Message_comes message)) now [] told) (sym is)
-      (subst (λ o. StageGoes service who (λ after sent. MatchOption o (Rests Asking after sent) (λ n. Fetches service (node_of who standing) n [] after sent)) now [] told)
+      (subst (λ s. StageGoes service who (fetched_by (node_of who standing) s (Message_comes message)) (StageTurn service (node_of who standing) s (Message_comes message)) now [] told) (sym is)
+      (subst (λ o. StageGoes service who [] (λ after sent. MatchOption o (Rests Asking after sent) (λ n. Fetches service (node_of who standing) n [] after sent)) now [] told)
       (sym (ap (λ b. if b then summary_count message.body else None) (eq-eqb message.boot who.boot boot) ∙ counts))
-      (record { after = g.after; packets = g.packets; stands = g.stands; goes = g.goes; wires = g.wires; spelled = g.spelled })))
+      (record { after = g.after; packets = g.packets; stands = g.stands; goes = g.goes; numbers = g.numbers; wires = g.wires; spelled = g.spelled })))
 
   -- an answer leads it on
   pub answered_on : (standing : law.Stage) (message : Message) (f : FetchingState S) (now : Stage S) (told : List Wire) → fence (node_of who standing) (Message_comes message) ≡ None
       → StageStands service (node_of who standing) (stage.Fetching f) → IsSoundInput service (node_of who standing) (Message_comes message) standing
       → ((count : ℕ) (fetched : List Fetched) → FetchingStands service count fetched f → IfSome (fetched_then (node_of who standing) message count fetched) (AreSound service)
-      → StageGoes service who (StageTurn service (node_of who standing) (Fetching count fetched) (Message_comes message)) now [] told)
+      → StageGoes service who (fetched_by (node_of who standing) (Fetching count fetched) (Message_comes message)) (StageTurn service (node_of who standing) (Fetching count fetched) (Message_comes message)) now [] told)
       → NodeGoes service (node_of who standing) (Message_comes message) who now told
   answered_on standing message f now told unfenced (count, fetched, is, st) sound goes =
       stage_goes standing (Message_comes message) now told (ap is_fenced is) unfenced
-      (subst (λ s. StageGoes service who (StageTurn service (node_of who standing) s (Message_comes message)) now [] told) (sym is)
+      (subst (λ s. StageGoes service who (fetched_by (node_of who standing) s (Message_comes message)) (StageTurn service (node_of who standing) s (Message_comes message)) now [] told) (sym is)
       (goes count fetched st (subst (IsSoundInput service (node_of who standing) (Message_comes message)) is sound)))
 
   -- a tick asks again

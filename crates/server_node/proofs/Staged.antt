@@ -25,6 +25,7 @@ use Rattle.server_node.specs.Opening.{ArePut, all_opens}
 use Rattle.server_node.specs.Restarting.{FetchingStands}
 use Rattle.server_node.specs.Serving.{ServingStands, ServingGoes}
 use Rattle.server_node.specs.Slots.{SlotStands, AllStand}
+use Rattle.server_node.specs.Numbered.{AreNumbered, fetched_by}
 use Rattle.server_node.specs.Stages.{StageStands, NodeGoes}
 use Rattle.server_node.proofs.OneKey.{none_concerned}
 use Rattle.server_node.proofs.Opens.{put_none}
@@ -70,6 +71,7 @@ module _ {S : Type 0} (service : Machine S) (who : Identity) where
           stage = subst (λ o. NodeTurn service (node_of who standing) input o after g.packets) (sym unfenced)
               (subst (λ s. StageTurn service (node_of who standing) s input after g.packets) (sym is) (g.later, refl, g.turn));
         };
+        numbers = subst (λ s. AreNumbered service who.isn (fetched_by (node_of who standing) s input) now.slots.entries) (sym is) tt;
         wires = g.wires;
         spelled = g.spelled;
       }
@@ -90,6 +92,7 @@ module _ {S : Type 0} (service : Machine S) (who : Identity) where
       stage = subst (λ o. NodeTurn service (node_of who standing) input o law_stage.Asking packets) (sym unfenced)
           (subst (λ s. StageTurn service (node_of who standing) s input law_stage.Asking packets) (sym is) turn);
     };
+    numbers = tt;
     wires = put.wires;
     spelled = put.spelled;
   }
@@ -112,6 +115,7 @@ module _ {S : Type 0} (service : Machine S) (who : Identity) where
           stage = subst (λ o. NodeTurn service (node_of who standing) input o after packets) (sym unfenced)
               (subst (λ s. StageTurn service (node_of who standing) s input after packets) (sym is) turn);
         };
+        numbers = tt;
         wires = put.wires;
         spelled = put.spelled;
       }

@@ -49,6 +49,11 @@ pub all_ok : {T E : Type 0} {P Q R X : Type 0} (r : Result T E) → OnOk r P →
 all_ok (Ok x) p q r f = f p q r
 all_ok (Err e) p q r f = tt
 
+-- from what holds anyway
+pub at_ok : {T E : Type 0} {P : Type 0} (r : Result T E) → P → OnOk r P
+at_ok (Ok x) p = p
+at_ok (Err e) p = tt
+
 -- what is known of a connection's key, of its server, and of what left: numbers and bytes fit their types
 pub record IsTyped (server : Addr) (boot : ℕ) (key : Key) (segments messages : List (List ℕ)) : Type 0 where
   pub at : FitsAddr server

@@ -1,4 +1,5 @@
 pub mod Sending
+pub mod Outgoing
 pub mod Refusing
 pub mod Conn
 pub mod LentConn
@@ -12,3 +13,4 @@ pub mod Restarting
 pub mod Stages
 pub mod Reviving
 pub mod Lending
+pub mod Numbered

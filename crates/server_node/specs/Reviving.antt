@@ -17,6 +17,7 @@ use Rattle.server_node.specs.declared.serving.Serving.{Serving}
 use Rattle.server_node.specs.declared.slot.Slot.{Slot}
 use Rattle.server_node.specs.declared.stage.Stage.{Stage}
 use Rattle.server_node.specs.Identity.{node_of}
+use Rattle.server_node.specs.Numbered.{AreNumbered, AllNumbered}
 use Rattle.server_node.specs.Slots.{SlotStands}
 use Rattle.server_node.specs.Serving.{ServingStands}
 use Rattle.server_node.specs.Stages.{StageStands}
@@ -36,15 +37,18 @@ pub record AreRestored {S : Type 0} (service : Machine S) (node : Node) (fetched
   pub packets : List Packet
   pub stands : ServingStands service node (restored_count fetched) places now
   pub go : AllGo (Revives service node) (all_restored service fetched) places packets
+  pub numbers : AreNumbered service node.isn fetched now.slots.entries
   pub others : (key : Key) → is_fetched key fetched ≡ false → lookup (key_eq key) now.slots.entries ≡ None
   pub wires : new ≡ old ++ map wire_of packets
   pub spelled : AllByRecursion HasWire packets
 
--- a stage's turn by this law: it stands elsewhere, and the packets of the turn are behind what was sent, each in its one spelling
-pub record StageGoes {S : Type 0} (service : Machine S) (who : Identity) (Goes : law.Stage → List Packet → Type 0) (now : Stage S) (old new : List Wire) : Type 0 where
+-- a stage's turn by this law: it stands elsewhere, having restored these entries if it serves then, and the packets of the turn are behind what
+-- was sent, each in its one spelling
+pub record StageGoes {S : Type 0} (service : Machine S) (who : Identity) (restored : List Fetched) (Goes : law.Stage → List Packet → Type 0) (now : Stage S) (old new : List Wire) : Type 0 where
   pub after : law.Stage
   pub packets : List Packet
   pub stands : StageStands service (node_of who after) now
   pub goes : Goes after packets
+  pub numbers : AllNumbered service who.isn restored now
   pub wires : new ≡ old ++ map wire_of packets
   pub spelled : AllByRecursion HasWire packets

@@ -16,6 +16,7 @@ use Rattle.server_node.specs.declared.input.TurnEnd.{TurnEnd}
 use Rattle.server_node.specs.declared.input.TurnEnd.TheVariants as end
 use Rattle.server_node.specs.Identity.{node_of}
 use Rattle.server_node.specs.Restarting.{FetchingStands, IsOwn, IsOwn-prop}
+use Rattle.server_node.specs.Numbered.{AllNumbered, fetched_by}
 use Rattle.server_node.specs.Slots.{AllSound, IsSoundSlot, IsSoundSlot-prop}
 use Rattle.server_node.specs.Serving.{ServingStands}
 
@@ -37,12 +38,14 @@ IsSoundStage-prop who (stage.Fetching f) = IsOwn-prop who f
 IsSoundStage-prop who (stage.Serving s) = AllByRecursion-prop (λ e. IsSoundSlot e.1) (λ e. IsSoundSlot-prop e.1) s.slots.entries
 IsSoundStage-prop who stage.Lost = Unit-prop
 
--- a turn by the law: it stands elsewhere, and the packets of the turn are what it sent, each in its one spelling
+-- a turn by the law: it stands elsewhere, and the packets of the turn are what it sent, each in its one spelling. Where it ends a restart, the
+-- nth connection that is restored has the nth initial number of this incarnation inside
 pub record NodeGoes {S : Type 0} (service : Machine S) (node : law.Node) (input : law.Input) (who : Identity) (now : Stage S) (sent : List Wire) : Type 0 where
   pub after : law.Stage
   pub packets : List Packet
   pub stands : StageStands service (node_of who after) now
   pub turn : LawfulTurn service node input packets (node_of who after)
+  pub numbers : AllNumbered service node.isn (fetched_by node node.stage input) now
   pub wires : sent ≡ map wire_of packets
   pub spelled : AllByRecursion HasWire packets
 

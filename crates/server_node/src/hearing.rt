@@ -17,7 +17,7 @@ ghost use Rattle.server_node.specs.Slots.{numbers_of, SlotStands, SlotGoes, IsSo
 
 use crate::identity::Identity;
 use crate::live::{begin_live, tell_live};
-use crate::out_packet::OutPacket;
+use crate::outgoing::Outgoing;
 use crate::refusal::refuse_full;
 use crate::slot::{Opening, Slot};
 use ft_io::{Key, NoMemory};
@@ -35,7 +35,7 @@ fn tell_slot<S: Service>(
     slot: &mut Slot<S>,
     m: &Msg<'_>,
     out: &mut TurnOut,
-    sent: &mut Vec<OutPacket>,
+    sent: &mut Outgoing,
 ) -> Result<(), NoMemory>
     requires sound { IsSoundSlot slot.old }
     requires sendable { IsSendable m.now }
@@ -58,7 +58,7 @@ pub(crate) fn tell_known<S: Service>(
     slots: &mut IndexMap<Key, Slot<S>>,
     m: &Msg<'_>,
     out: &mut TurnOut,
-    sent: &mut Vec<OutPacket>,
+    sent: &mut Outgoing,
 ) -> Result<(), NoMemory>
     requires sound { AllSound slots.old.entries }
     requires sendable { IsSendable m.now }
@@ -138,7 +138,7 @@ pub(crate) fn open_known<S: Service>(
     numbers: Opening,
     slots: &mut IndexMap<Key, Slot<S>>,
     out: &mut TurnOut,
-    sent: &mut Vec<OutPacket>,
+    sent: &mut Outgoing,
 ) -> Result<(), NoMemory>
     requires boot { 1 ≤ who.boot }
     requires least { 64 ≤ numbers.mss }
@@ -167,7 +167,7 @@ pub(crate) fn refuse_known<S: Service>(
     who: Identity,
     key: Key,
     slots: &mut IndexMap<Key, Slot<S>>,
-    sent: &mut Vec<OutPacket>,
+    sent: &mut Outgoing,
 ) -> Result<(), NoMemory>
     requires sound { AllSound slots.old.entries }
     ensures turn { OnOk result ((stage : Stage) (places : List Place) (message : Message) → message ≡ record { boot = who.boot; body = FullMsg key }
@@ -190,7 +190,7 @@ pub(crate) fn hear<S: Service>(
     m: &Msg<'_>,
     slots: &mut IndexMap<Key, Slot<S>>,
     out: &mut TurnOut,
-    sent: &mut Vec<OutPacket>,
+    sent: &mut Outgoing,
 ) -> Result<(), NoMemory>
     requires boot { 1 ≤ who.boot }
     requires sendable { IsSendable m.now }

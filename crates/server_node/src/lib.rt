@@ -13,6 +13,7 @@ mod live;
 mod node;
 mod opening;
 mod out_packet;
+mod outgoing;
 mod refusal;
 mod restarting;
 mod reviving;

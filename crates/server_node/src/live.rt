@@ -16,7 +16,7 @@ ghost use Rattle.server_node.specs.Hearing.{logged_in};
 ghost use Rattle.server_node.specs.Slots.{numbers_of};
 
 use crate::identity::Identity;
-use crate::out_packet::OutPacket;
+use crate::outgoing::Outgoing;
 use crate::sent::{fit, send_all};
 use crate::slot::Opening;
 use ft_io::{Key, NoMemory};
@@ -33,7 +33,7 @@ pub(crate) fn begin_live<S: Service>(
     key: Key,
     numbers: Opening,
     out: &mut TurnOut,
-    sent: &mut Vec<OutPacket>,
+    sent: &mut Outgoing,
 ) -> Result<Conn<S>, NoMemory>
     requires boot { 1 ≤ who.boot }
     requires least { 64 ≤ numbers.mss }
@@ -65,11 +65,13 @@ pub(crate) fn start_live<S: Service>(
     key: Key,
     conn: &mut Conn<S>,
     out: &mut TurnOut,
-    sent: &mut Vec<OutPacket>,
+    sent: &mut Outgoing,
 ) -> Result<(), NoMemory>
     requires { IsSound conn.old }
     ensures turn { OnOk result ((p : Point) → p.key ≡ key → Begins (machine (S.started who.kind) S.after) who.local who.boot conn.old p
         → ConnGoes (machine (S.started who.kind) S.after) who.local who.boot Becomes_live p conn.new sent.old.items sent.new.items) }
+    ensures number { OnOk result (conn.new.endpoint.sending.iss ≡ conn.old.endpoint.sending.iss) }
+    ensures delta { OnOk result (conn.new.south.delta ≡ conn.old.south.delta) }
     ensures sound { OnOk result (IsSound conn.new) }
 {
     out.clear();
@@ -85,7 +87,7 @@ pub(crate) fn tick_live<S: Service>(
     key: Key,
     conn: &mut Conn<S>,
     out: &mut TurnOut,
-    sent: &mut Vec<OutPacket>,
+    sent: &mut Outgoing,
 ) -> Result<(), NoMemory>
     requires { IsSound conn.old }
     ensures turn { OnOk result ((stage : Stage) (p : Point) → p.key ≡ key → Stands (machine (S.started who.kind) S.after) who.local who.boot conn.old p
@@ -106,7 +108,7 @@ pub(crate) fn give_live<S: Service>(
     conn: &mut Conn<S>,
     packet: &mut [u8],
     out: &mut TurnOut,
-    sent: &mut Vec<OutPacket>,
+    sent: &mut Outgoing,
 ) -> Result<(), NoMemory>
     requires sound { IsSound conn.old }
     requires accepted { IsOk (reading packet.old) }
@@ -130,7 +132,7 @@ pub(crate) fn tell_live<S: Service>(
     conn: &mut Conn<S>,
     m: &Msg<'_>,
     out: &mut TurnOut,
-    sent: &mut Vec<OutPacket>,
+    sent: &mut Outgoing,
 ) -> Result<(), NoMemory>
     requires sound { IsSound conn.old }
     requires sendable { IsSendable m.now }

@@ -6,6 +6,7 @@ ghost use Rattle.server_node.specs.Stages.{IsSoundStage, IsSoundStage-prop};
 use crate::identity::Identity;
 use crate::input::{Input, TurnEnd};
 use crate::out_packet::OutPacket;
+use crate::outgoing::Outgoing;
 use crate::stage::{Stage, conn_in, go, send_hello};
 use ft_io::{Addr, Key, NoMemory};
 use server_trait::Service;
@@ -19,13 +20,13 @@ pub struct Node<S: Service> {
     who: Identity,
     stage: Stage<S>,
     out: TurnOut,
-    sent: Vec<OutPacket>,
+    sent: Outgoing,
     ghost booted: { 1 ≤ who.boot },
     ghost sound: { IsSoundStage who stage } by { IsSoundStage-prop who stage },
 }
 
 impl<S: Service> Node<S> {
-    ghost use Rattle.std.specs.Prelude.{◌≡◌, ◌≤◌, ◌∷◌, [], map, IfOk, IfErr, IfSome, OnOk, None, Some, ⊤, option_copied};
+    ghost use Rattle.std.specs.Prelude.{◌≡◌, ◌≤◌, ◌∷◌, [], map, IfOk, IfErr, IsErrOf, IfSome, OnOk, None, Some, ⊤, option_copied};
     ghost use Rattle.std.specs.Borrow.{sem};
     ghost use mathlib.Core.Option.{none};
     ghost use denote.Follow.{follows_so};
@@ -59,7 +60,7 @@ impl<S: Service> Node<S> {
             kind,
             local,
         };
-        let mut sent = Vec::new(alloc);
+        let mut sent = Outgoing::new(alloc);
         send_hello(alloc, who, &mut sent)?;
         Ok(Node {
             who,
@@ -69,7 +70,7 @@ impl<S: Service> Node<S> {
         })
     }
 
-    /// The connection of a key, while it is live.
+    /// The connection of a key, while it is live: it stands at the key's point, and what it lends is sound, so that each of its calls may be made.
     #[tactic(auto, unfolding(crate::specs::Conn::IsSound))]
     pub fn conn(&self, key: Key) -> Option<&Conn<S>>
         ensures stands { (standing : Standing) → StageStands (machine (S.started self.now.who.kind) S.after) (node_of self.now.who standing) self.now.stage
@@ -94,6 +95,7 @@ impl<S: Service> Node<S> {
             → NodeGoes (machine (S.started self.old.who.kind) S.after) (node_of self.old.who standing) (input_of input.entry) self.old.who self.new.stage self.new.sent.items) }
         ensures unfenced { OnOk result ((standing : Standing) → fence (node_of self.old.who standing) (input_of input.entry) ≡ None) }
         ensures fenced { IfErr result (λ end. IsFence end (λ newer. (standing : Standing) → fence (node_of self.old.who standing) (input_of input.entry) ≡ Some newer)) }
+        ensures memory { IsErrOf result TurnEnd.NoMemory → (standing : Standing) → fence (node_of self.old.who standing) (input_of input.entry) ≡ None }
         ensures same { self.new.who ≡ self.old.who }
     {
         self.sent.clear();
@@ -102,7 +104,8 @@ impl<S: Service> Node<S> {
         Ok(())
     }
 
-    /// One turn, which lends what it sends. After an error the node may only be dropped.
+    /// One turn, which lends what it sends. After an error the node may only be dropped. A Stale of its boot that names a larger one ends it by
+    /// `Fenced`, also where there is no memory left, and nothing else does.
     pub fn turn(&mut self, alloc: Global, input: Input<'_>) -> Result<&[OutPacket], TurnEnd>
         ensures* after { sem 𝓛 (follows_so (the_row S.row S.Service) (the_row S.row S.Service) self.entry.ghost_name none (λ _ _. ⊤) (λ node. IfOk result (λ sent.
             (node.who ≡ self.old.who) × (node.sent.items ≡ sent.now) × ((standing : Standing) → IsNearInput (input_of input.entry) standing
@@ -111,6 +114,7 @@ impl<S: Service> Node<S> {
             → NodeGoes (machine (S.started self.old.who.kind) S.after) (node_of self.old.who standing) (input_of input.entry) self.old.who node.stage sent.now)))) }
         ensures unfenced { OnOk result ((standing : Standing) → fence (node_of self.old.who standing) (input_of input.entry) ≡ None) }
         ensures fenced { IfErr result (λ end. IsFence end (λ newer. (standing : Standing) → fence (node_of self.old.who standing) (input_of input.entry) ≡ Some newer)) }
+        ensures memory { IsErrOf result TurnEnd.NoMemory → (standing : Standing) → fence (node_of self.old.who standing) (input_of input.entry) ≡ None }
     {
         self.advance(alloc, input)?;
         Ok(self.sent.as_slice())

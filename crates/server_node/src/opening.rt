@@ -18,7 +18,7 @@ ghost use Rattle.server_node.specs.Slots.{numbers_of, AllStand, AllSound, IsSoun
 
 use crate::hearing::opening_at;
 use crate::identity::Identity;
-use crate::out_packet::OutPacket;
+use crate::outgoing::Outgoing;
 use crate::sent::tell;
 use crate::slot::{Opening, Slot};
 use crate::slots::{add_slot, key_at};
@@ -42,7 +42,7 @@ fn ask(
     who: Identity,
     key: Key,
     opening: Opening,
-    sent: &mut Vec<OutPacket>,
+    sent: &mut Outgoing,
 ) -> Result<(), NoMemory>
     requires boot { 1 ≤ who.boot }
     requires least { 64 ≤ opening.mss }
@@ -66,7 +66,7 @@ fn ask_slot<S: Service>(
     who: Identity,
     key: Key,
     slot: &Slot<S>,
-    sent: &mut Vec<OutPacket>,
+    sent: &mut Outgoing,
 ) -> Result<(), NoMemory>
     requires boot { 1 ≤ who.boot }
     requires sound { IsSoundSlot slot.now }
@@ -83,7 +83,7 @@ pub(crate) fn ask_all<S: Service>(
     alloc: Global,
     who: Identity,
     slots: &IndexMap<Key, Slot<S>>,
-    sent: &mut Vec<OutPacket>,
+    sent: &mut Outgoing,
 ) -> Result<(), NoMemory>
     requires boot { 1 ≤ who.boot }
     requires sound { AllSound slots.now.entries }
@@ -116,7 +116,7 @@ pub(crate) fn ask_again<S: Service>(
     key: Key,
     head: &Head,
     slots: &IndexMap<Key, Slot<S>>,
-    sent: &mut Vec<OutPacket>,
+    sent: &mut Outgoing,
 ) -> Result<(), NoMemory>
     requires boot { 1 ≤ who.boot }
     requires sound { AllSound slots.now.entries }
@@ -164,7 +164,7 @@ pub(crate) fn admit<S: Service>(
     head: &Head,
     next: &mut Seq,
     slots: &mut IndexMap<Key, Slot<S>>,
-    sent: &mut Vec<OutPacket>,
+    sent: &mut Outgoing,
 ) -> Result<(), NoMemory>
     requires boot { 1 ≤ who.boot }
     requires sound { AllSound slots.old.entries }

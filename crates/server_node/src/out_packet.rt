@@ -39,6 +39,16 @@ impl OutPacket {
         Ok(OutPacket { to, text })
     }
 
+    /// Another packet takes its place, in the same room where that suffices.
+    pub(crate) fn refill(&mut self, to: To, bytes: &[u8]) -> Result<(), NoMemory>
+        ensures { OnOk result (self.new ≡ sent_to to bytes.now) }
+    {
+        self.text.clear();
+        self.text.extend_from_slice(bytes)?;
+        self.to = to;
+        Ok(())
+    }
+
     pub fn to(&self) -> To
         ensures { party_of result ≡ self.now.to }
     {

@@ -11,8 +11,8 @@ ghost use Rattle.server_node.specs.Refusing.{AreSent};
 ghost use Rattle.server_node.specs.Slots.{numbers_of};
 
 use crate::identity::Identity;
-use crate::out_packet::{OutPacket, To};
-use crate::sent::send;
+use crate::out_packet::To;
+use crate::outgoing::Outgoing;
 use crate::slot::Opening;
 use ft_io::{Key, NoMemory};
 use segment_codec::{Head, PacketRef, read_accepted, write_packet};
@@ -20,11 +20,7 @@ use seq_arith::{ACK, FIN, RST, SYN, Seq, has};
 use std::alloc::Global;
 
 /// Sends a segment without text to the client that its header names.
-pub(crate) fn send_bare(
-    alloc: Global,
-    head: Head,
-    sent: &mut Vec<OutPacket>,
-) -> Result<(), NoMemory>
+pub(crate) fn send_bare(alloc: Global, head: Head, sent: &mut Outgoing) -> Result<(), NoMemory>
     ensures { OnOk result (AreSent (record { head = said head; payload = [] } ∷ []) sent.old.items sent.new.items) }
 {
     let mut text = [0; 1_500];
@@ -33,7 +29,7 @@ pub(crate) fn send_bare(
         ip: head.dst,
         port: head.dport,
     });
-    send(alloc, to, &text[..len], sent)
+    sent.send(alloc, to, &text[..len])
 }
 
 /// The length of a segment in units of its stream: data and FIN, or the SYN alone; none with a RST.
@@ -56,7 +52,7 @@ pub(crate) fn refuse_closed(
     alloc: Global,
     who: Identity,
     packet: &[u8],
-    sent: &mut Vec<OutPacket>,
+    sent: &mut Outgoing,
 ) -> Result<(), NoMemory>
     requires { IsOk (reading packet.now) }
     ensures { OnOk result (IfOk (reading packet.now) (λ segment. AreSent (as_closed who.local segment) sent.old.items sent.new.items)) }
@@ -77,7 +73,7 @@ pub(crate) fn refuse_unknown(
     alloc: Global,
     who: Identity,
     packet: &[u8],
-    sent: &mut Vec<OutPacket>,
+    sent: &mut Outgoing,
 ) -> Result<(), NoMemory>
     requires { IsOk (reading packet.now) }
     ensures { OnOk result (IfOk (reading packet.now) (λ segment. AreSent (as_listen who.local segment) sent.old.items sent.new.items)) }
@@ -95,7 +91,7 @@ pub(crate) fn refuse_full(
     who: Identity,
     key: Key,
     opening: Opening,
-    sent: &mut Vec<OutPacket>,
+    sent: &mut Outgoing,
 ) -> Result<(), NoMemory>
     ensures { OnOk result (AreSent (full_rst who.local (numbers_of key opening) ∷ []) sent.old.items sent.new.items) }
 {

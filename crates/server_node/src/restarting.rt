@@ -14,13 +14,14 @@ ghost use Rattle.ft_model.specs.Node.Stage.{Fetching as Fetches_on};
 ghost use Rattle.ft_model.specs.Node.Input.{Message_comes};
 ghost use Rattle.ft_model.specs.Lawful.{AreSound, Fetches, StageTurn, asked, fetched_then, held};
 ghost use Rattle.server_node.specs.Identity.{node_of};
+ghost use Rattle.server_node.specs.Numbered.{fetched_by};
 ghost use Rattle.server_node.specs.Opening.{ArePut};
 ghost use Rattle.server_node.specs.Restarting.{FetchingStands, IsOwn};
 ghost use Rattle.server_node.specs.Reviving.{StageGoes};
 ghost use Rattle.server_node.specs.Stages.{IsSoundStage};
 
 use crate::identity::Identity;
-use crate::out_packet::OutPacket;
+use crate::outgoing::Outgoing;
 use crate::refusal::send_bare;
 use crate::reviving::restore_all;
 use crate::sent::tell;
@@ -41,11 +42,11 @@ pub(crate) fn begin_fetching<S: Service>(
     who: Identity,
     count: u16,
     out: &mut TurnOut,
-    sent: &mut Vec<OutPacket>,
+    sent: &mut Outgoing,
 ) -> Result<Stage<S>, NoMemory>
     requires boot { 1 ≤ who.boot }
     requires few { count ≤ 64 }
-    ensures turn { IfOk result (λ after. (standing : Standing) → StageGoes (machine (S.started who.kind) S.after) who (Fetches (machine (S.started who.kind) S.after) (node_of who standing) count [])
+    ensures turn { IfOk result (λ after. (standing : Standing) → StageGoes (machine (S.started who.kind) S.after) who [] (Fetches (machine (S.started who.kind) S.after) (node_of who standing) count [])
         after sent.old.items sent.new.items) }
     ensures sound { IfOk result (λ after. IsSoundStage who after) }
 {
@@ -62,14 +63,14 @@ pub(crate) fn take_answer<S: Service>(
     mut fetching: Fetching<S>,
     m: &Msg<'_>,
     out: &mut TurnOut,
-    sent: &mut Vec<OutPacket>,
+    sent: &mut Outgoing,
 ) -> Result<Stage<S>, NoMemory>
     requires boot { 1 ≤ who.boot }
     requires sendable { IsSendable m.now }
     requires own { IsOwn who fetching }
     ensures turn { IfOk result (λ after. (standing : Standing) (count : ℕ) (fetched : List Fetched) → FetchingStands (machine (S.started who.kind) S.after) count fetched fetching
         → IfSome (fetched_then (node_of who standing) (message_of m.now) count fetched) (AreSound (machine (S.started who.kind) S.after))
-        → StageGoes (machine (S.started who.kind) S.after) who
+        → StageGoes (machine (S.started who.kind) S.after) who (fetched_by (node_of who standing) (Fetches_on count fetched) (Message_comes (message_of m.now)))
         (StageTurn (machine (S.started who.kind) S.after) (node_of who standing) (Fetches_on count fetched) (Message_comes (message_of m.now))) after sent.old.items sent.new.items) }
     ensures sound { IfOk result (λ after. IsSoundStage who after) }
 {
@@ -85,13 +86,13 @@ fn go_on<S: Service>(
     who: Identity,
     fetching: Fetching<S>,
     out: &mut TurnOut,
-    sent: &mut Vec<OutPacket>,
+    sent: &mut Outgoing,
 ) -> Result<Stage<S>, NoMemory>
     requires boot { 1 ≤ who.boot }
     requires own { IsOwn who fetching }
     ensures turn { IfOk result (λ after. (standing : Standing) (count : ℕ) (fetched : List Fetched) → FetchingStands (machine (S.started who.kind) S.after) count fetched fetching
         → AreSound (machine (S.started who.kind) S.after) fetched
-        → StageGoes (machine (S.started who.kind) S.after) who (Fetches (machine (S.started who.kind) S.after) (node_of who standing) count fetched) after sent.old.items sent.new.items) }
+        → StageGoes (machine (S.started who.kind) S.after) who fetched (Fetches (machine (S.started who.kind) S.after) (node_of who standing) count fetched) after sent.old.items sent.new.items) }
     ensures sound { IfOk result (λ after. IsSoundStage who after) }
 {
     if ask(alloc, who, &fetching, sent)? {
@@ -106,7 +107,7 @@ pub(crate) fn ask<S: Service>(
     alloc: Global,
     who: Identity,
     fetching: &Fetching<S>,
-    sent: &mut Vec<OutPacket>,
+    sent: &mut Outgoing,
 ) -> Result<bool, NoMemory>
     requires { IsOwn who fetching.now }
     ensures turn { OnOk result ((standing : Standing) (count : ℕ) (fetched : List Fetched) → FetchingStands (machine (S.started who.kind) S.after) count fetched fetching.now
@@ -167,7 +168,7 @@ pub(crate) fn hold<S: Service>(
     who: Identity,
     fetching: &Fetching<S>,
     packet: &[u8],
-    sent: &mut Vec<OutPacket>,
+    sent: &mut Outgoing,
 ) -> Result<(), NoMemory>
     requires own { IsOwn who fetching.now }
     requires accepted { IsOk (reading packet.now) }

@@ -1,6 +1,6 @@
 //! The turn that ends a restart: every entry of the log gets its slot, in the log's order, and those that aren't done become live.
 
-ghost use Rattle.std.specs.Prelude.{◌≡◌, ◌≤◌, ◌∷◌, ◌++◌, [], List, None, false, IfOk, OnOk, reverse};
+ghost use Rattle.std.specs.Prelude.{◌≡◌, ◌≤◌, ◌∷◌, ◌++◌, [], List, None, Some, false, IfOk, OnOk, reverse};
 ghost use Rattle.std.specs.Map.{lookup};
 ghost use Rattle.ft_io.specs.Key.{key_eq};
 ghost use Rattle.server_trait.specs.Service.{machine};
@@ -12,6 +12,8 @@ ghost use Rattle.ft_model.specs.Node.Place.{Lives};
 ghost use Rattle.ft_model.specs.Lawful.{AreSound};
 ghost use Rattle.ft_model.specs.Wire.{Wire};
 ghost use Rattle.server_node.specs.Identity.{node_of};
+ghost use Rattle.server_node.specs.Lending.{conn_in};
+ghost use Rattle.server_node.specs.Numbered.{IsNumbered};
 ghost use Rattle.server_node.specs.Restarting.{AreDistinct};
 ghost use Rattle.server_node.specs.Reviving.{SlotRevives, AreRestored};
 ghost use Rattle.server_node.specs.Slots.{AllSound, IsSoundSlot};
@@ -19,7 +21,7 @@ ghost use Rattle.server_node.specs.Slots.{AllSound, IsSoundSlot};
 use crate::identity::Identity;
 use crate::live::start_live;
 use crate::opening::STRIDE;
-use crate::out_packet::OutPacket;
+use crate::outgoing::Outgoing;
 use crate::serving::Serving;
 use crate::slot::Slot;
 use crate::slots::add_slot;
@@ -37,7 +39,7 @@ pub(crate) fn restore_all<S: Service>(
     who: Identity,
     mut entries: Entries<S>,
     out: &mut TurnOut,
-    sent: &mut Vec<OutPacket>,
+    sent: &mut Outgoing,
 ) -> Result<Serving<S>, NoMemory>
     requires { 1 ≤ who.boot }
     ensures turn { IfOk result (λ serving. (standing : Standing) (fetched : List Fetched) → StandsWhole (machine (S.started who.kind) S.after) (reverse fetched) entries
@@ -62,7 +64,7 @@ fn restore<S: Service>(
     entry: Restored<S>,
     serving: &mut Serving<S>,
     out: &mut TurnOut,
-    sent: &mut Vec<OutPacket>,
+    sent: &mut Outgoing,
 ) -> Result<(), NoMemory>
     requires boot { 1 ≤ who.boot }
     requires sound { AllSound serving.old.slots.entries }
@@ -90,12 +92,14 @@ fn revive<S: Service>(
     isn: Seq,
     replayed: Replayed<S>,
     out: &mut TurnOut,
-    sent: &mut Vec<OutPacket>,
+    sent: &mut Outgoing,
 ) -> Result<Slot<S>, NoMemory>
     requires boot { 1 ≤ who.boot }
     ensures turn { IfOk result (λ slot. (standing : Standing) (e : Entry) → IsReplayed (machine (S.started who.kind) S.after) e replayed
         → IsSoundEntry (machine (S.started who.kind) S.after) e
         → SlotRevives (machine (S.started who.kind) S.after) (node_of who standing) e.key (Lives (point_of (machine (S.started who.kind) S.after) e)) slot sent.old.items sent.new.items) }
+    ensures number { IfOk result (λ slot. (fresh : S) (e : Entry) → IsReplayed (machine fresh S.after) e replayed → IsSoundEntry (machine fresh S.after) e
+        → IsNumbered (machine fresh S.after) e isn.0 (conn_in (Some slot))) }
     ensures sound { IfOk result (λ slot. IsSoundSlot slot) }
 {
     let key = replayed.head().key;

@@ -8,38 +8,22 @@ ghost use Rattle.server_trait.specs.Service.{AreBytes};
 ghost use Rattle.seq_arith.specs.MessageGrammar.{behind_of};
 ghost use Rattle.server_node.specs.Sending.{ArePut, sent_to, wires_of, segment_to, message_to_logger};
 
-use crate::out_packet::{OutPacket, To};
+use crate::out_packet::To;
+use crate::outgoing::Outgoing;
 use ft_io::{Key, NoMemory};
 use logger_wire::{Msg, write_msg};
 use std::alloc::Global;
 use wrapped_conn::TurnOut;
 
-/// Puts a packet behind those that are sent.
-pub(crate) fn send(
-    alloc: Global,
-    to: To,
-    bytes: &[u8],
-    sent: &mut Vec<OutPacket>,
-) -> Result<(), NoMemory>
-    ensures { OnOk result (sent.new.items ≡ sent.old.items ++ sent_to to bytes.now ∷ []) }
-{
-    sent.push(OutPacket::new(alloc, to, bytes)?)?;
-    Ok(())
-}
-
 /// Sends the logger a message without bytes behind its fields.
-pub(crate) fn tell(
-    alloc: Global,
-    message: &Msg<'_>,
-    sent: &mut Vec<OutPacket>,
-) -> Result<(), NoMemory>
+pub(crate) fn tell(alloc: Global, message: &Msg<'_>, sent: &mut Outgoing) -> Result<(), NoMemory>
     requires sendable { IsSendable message.now }
     requires bare { behind_of (body_of message.now.body) ≡ [] }
     ensures { OnOk result (ArePut (To_logger (message_of message.now) ∷ []) sent.old.items sent.new.items) }
 {
     let mut text = [0; 2_048];
     let len = write_msg(message, &mut text);
-    send(alloc, To::Logger, &text[..len], sent)
+    sent.send(alloc, To::Logger, &text[..len])
 }
 
 /// What a proof may know of bytes: each fits its type.
@@ -53,7 +37,7 @@ fn send_segments(
     alloc: Global,
     key: Key,
     out: &TurnOut,
-    sent: &mut Vec<OutPacket>,
+    sent: &mut Outgoing,
 ) -> Result<(), NoMemory>
     ensures sent { OnOk result (sent.new.items ≡ sent.old.items ++ map (segment_to key) out.now.segments) }
     ensures bytes { OnOk result (AllByRecursion AreBytes out.now.segments) }
@@ -62,19 +46,19 @@ fn send_segments(
     for i in 0..segments.len() {
         let packet = segments.packet(i);
         fit(packet);
-        send(alloc, To::Client(key), packet, sent)?;
+        sent.send(alloc, To::Client(key), packet)?;
     }
     Ok(())
 }
 
-fn send_messages(alloc: Global, out: &TurnOut, sent: &mut Vec<OutPacket>) -> Result<(), NoMemory>
+fn send_messages(alloc: Global, out: &TurnOut, sent: &mut Outgoing) -> Result<(), NoMemory>
     ensures sent { OnOk result (sent.new.items ≡ sent.old.items ++ map message_to_logger out.now.messages) }
     ensures bytes { OnOk result (AllByRecursion AreBytes out.now.messages) }
 {
     for i in 0..out.messages() {
         let message = out.message(i);
         fit(message);
-        send(alloc, To::Logger, message, sent)?;
+        sent.send(alloc, To::Logger, message)?;
     }
     Ok(())
 }
@@ -85,7 +69,7 @@ pub(crate) fn send_all(
     alloc: Global,
     key: Key,
     out: &TurnOut,
-    sent: &mut Vec<OutPacket>,
+    sent: &mut Outgoing,
 ) -> Result<(), NoMemory>
     ensures sent { OnOk result (sent.new.items ≡ sent.old.items ++ wires_of key out.now.segments out.now.messages) }
     ensures segments { OnOk result (AllByRecursion AreBytes out.now.segments) }

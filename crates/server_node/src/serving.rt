@@ -20,7 +20,7 @@ ghost use Rattle.server_node.specs.Serving.{ServingStands, ServingGoes};
 use crate::hearing::hear;
 use crate::identity::Identity;
 use crate::opening::{admit, ask_again, ask_all};
-use crate::out_packet::OutPacket;
+use crate::outgoing::Outgoing;
 use crate::refusal::refuse_unknown;
 use crate::slot::Slot;
 use crate::slots::{give_known, tick_all};
@@ -47,7 +47,7 @@ pub(crate) fn serve_tick<S: Service>(
     who: Identity,
     serving: &mut Serving<S>,
     out: &mut TurnOut,
-    sent: &mut Vec<OutPacket>,
+    sent: &mut Outgoing,
 ) -> Result<(), NoMemory>
     requires boot { 1 ≤ who.boot }
     requires sound { AllSound serving.old.slots.entries }
@@ -66,7 +66,7 @@ pub(crate) fn serve_message<S: Service>(
     m: &Msg<'_>,
     serving: &mut Serving<S>,
     out: &mut TurnOut,
-    sent: &mut Vec<OutPacket>,
+    sent: &mut Outgoing,
 ) -> Result<(), NoMemory>
     requires boot { 1 ≤ who.boot }
     requires sendable { IsSendable m.now }
@@ -92,7 +92,7 @@ pub(crate) fn serve_packet<S: Service>(
     packet: &mut [u8],
     serving: &mut Serving<S>,
     out: &mut TurnOut,
-    sent: &mut Vec<OutPacket>,
+    sent: &mut Outgoing,
 ) -> Result<(), NoMemory>
     requires boot { 1 ≤ who.boot }
     requires accepted { IsOk (reading packet.old) }
@@ -123,7 +123,7 @@ fn serve_known<S: Service>(
     packet: &mut [u8],
     serving: &mut Serving<S>,
     out: &mut TurnOut,
-    sent: &mut Vec<OutPacket>,
+    sent: &mut Outgoing,
 ) -> Result<(), NoMemory>
     requires boot { 1 ≤ who.boot }
     requires accepted { IsOk (reading packet.old) }
@@ -147,7 +147,7 @@ fn serve_strange<S: Service>(
     head: &Head,
     packet: &[u8],
     serving: &mut Serving<S>,
-    sent: &mut Vec<OutPacket>,
+    sent: &mut Outgoing,
 ) -> Result<(), NoMemory>
     requires boot { 1 ≤ who.boot }
     requires accepted { IsOk (reading packet.now) }

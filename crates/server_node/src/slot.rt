@@ -14,7 +14,7 @@ ghost use Rattle.server_node.specs.Slots.{SlotStands, SlotGoes, IsSoundSlot};
 
 use crate::identity::Identity;
 use crate::live::{give_live, tick_live};
-use crate::out_packet::OutPacket;
+use crate::outgoing::Outgoing;
 use crate::refusal::refuse_closed;
 use ft_io::{Key, NoMemory};
 use seq_arith::Seq;
@@ -49,7 +49,7 @@ pub(crate) fn tick_slot<S: Service>(
     key: Key,
     slot: &mut Slot<S>,
     out: &mut TurnOut,
-    sent: &mut Vec<OutPacket>,
+    sent: &mut Outgoing,
 ) -> Result<(), NoMemory>
     requires { IsSoundSlot slot.old }
     ensures turn { OnOk result ((stage : Stage) (place : Place) → SlotStands (machine (S.started who.kind) S.after) (node_of who stage) key slot.old place
@@ -70,7 +70,7 @@ pub(crate) fn give_slot<S: Service>(
     slot: &mut Slot<S>,
     packet: &mut [u8],
     out: &mut TurnOut,
-    sent: &mut Vec<OutPacket>,
+    sent: &mut Outgoing,
 ) -> Result<(), NoMemory>
     requires sound { IsSoundSlot slot.old }
     requires accepted { IsOk (reading packet.old) }

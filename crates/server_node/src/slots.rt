@@ -17,7 +17,7 @@ ghost use Rattle.server_node.specs.Lending.{IsConnAt};
 ghost use Rattle.server_node.specs.Slots.{AllStand, AllSlotsGo, AllSound, IsSoundSlot};
 
 use crate::identity::Identity;
-use crate::out_packet::OutPacket;
+use crate::outgoing::Outgoing;
 use crate::slot::{Slot, give_slot, live_conn, tick_slot};
 use ft_io::{Key, NoMemory};
 use indexmap::IndexMap;
@@ -40,7 +40,7 @@ pub(crate) fn tick_all<S: Service>(
     who: Identity,
     slots: &mut IndexMap<Key, Slot<S>>,
     out: &mut TurnOut,
-    sent: &mut Vec<OutPacket>,
+    sent: &mut Outgoing,
 ) -> Result<(), NoMemory>
     requires { AllSound slots.old.entries }
     ensures turn { OnOk result ((stage : Stage) (places : List Place) → AllStand (machine (S.started who.kind) S.after) (node_of who stage) slots.old.entries places
@@ -62,7 +62,7 @@ pub(crate) fn give_known<S: Service>(
     slots: &mut IndexMap<Key, Slot<S>>,
     packet: &mut [u8],
     out: &mut TurnOut,
-    sent: &mut Vec<OutPacket>,
+    sent: &mut Outgoing,
 ) -> Result<(), NoMemory>
     requires sound { AllSound slots.old.entries }
     requires accepted { IsOk (reading packet.old) }

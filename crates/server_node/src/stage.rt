@@ -1,6 +1,6 @@
 //! How far a node is, and what an input does to it.
 
-ghost use Rattle.std.specs.Prelude.{◌≡◌, ◌≤◌, ◌∷◌, [], ℕ, List, Ok, None, Some, IsOk, IfSome, OnOk, IfOk, IfErr, option_copied};
+ghost use Rattle.std.specs.Prelude.{◌≡◌, ◌≤◌, ◌∷◌, [], ℕ, List, Ok, None, Some, IsOk, IfSome, OnOk, IfOk, IfErr, IsErrOf, option_copied};
 ghost use Rattle.std.specs.List.{AllByRecursion};
 ghost use Rattle.seq_arith.specs.Packet.{Segment};
 ghost use Rattle.seq_arith.specs.PacketGrammar.{reading};
@@ -24,7 +24,7 @@ ghost use Rattle.server_node.specs.Stages.{StageStands, IsSoundStage, NodeGoes, 
 
 use crate::identity::Identity;
 use crate::input::{Input, TurnEnd};
-use crate::out_packet::OutPacket;
+use crate::outgoing::Outgoing;
 use crate::restarting::{ask, begin_fetching, hold, take_answer};
 use crate::sent::tell;
 use crate::serving::{Serving, serve_message, serve_packet, serve_tick};
@@ -50,11 +50,7 @@ pub(crate) enum Stage<S: Service> {
 }
 
 /// Asks the logger how many entries it has.
-pub(crate) fn send_hello(
-    alloc: Global,
-    who: Identity,
-    sent: &mut Vec<OutPacket>,
-) -> Result<(), NoMemory>
+pub(crate) fn send_hello(alloc: Global, who: Identity, sent: &mut Outgoing) -> Result<(), NoMemory>
     requires { 1 ≤ who.boot }
     ensures { OnOk result (ArePut (told_by who.boot HelloMsg ∷ []) sent.old.items sent.new.items) }
 {
@@ -70,7 +66,7 @@ fn on_tick<S: Service>(
     who: Identity,
     stage: Stage<S>,
     out: &mut TurnOut,
-    sent: &mut Vec<OutPacket>,
+    sent: &mut Outgoing,
 ) -> Result<Stage<S>, NoMemory>
     requires boot { 1 ≤ who.boot }
     requires sound { IsSoundStage who stage }
@@ -103,7 +99,7 @@ fn on_message<S: Service>(
     stage: Stage<S>,
     m: &Msg<'_>,
     out: &mut TurnOut,
-    sent: &mut Vec<OutPacket>,
+    sent: &mut Outgoing,
 ) -> Result<Stage<S>, NoMemory>
     requires boot { 1 ≤ who.boot }
     requires sendable { IsSendable m.now }
@@ -142,7 +138,7 @@ fn on_summary<S: Service>(
     who: Identity,
     m: &Msg<'_>,
     out: &mut TurnOut,
-    sent: &mut Vec<OutPacket>,
+    sent: &mut Outgoing,
 ) -> Result<Stage<S>, NoMemory>
     requires boot { 1 ≤ who.boot }
     requires sendable { IsSendable m.now }
@@ -184,7 +180,7 @@ fn hear<S: Service>(
     stage: Stage<S>,
     m: &Msg<'_>,
     out: &mut TurnOut,
-    sent: &mut Vec<OutPacket>,
+    sent: &mut Outgoing,
 ) -> Result<Stage<S>, TurnEnd>
     requires boot { 1 ≤ who.boot }
     requires sendable { IsSendable m.now }
@@ -196,6 +192,7 @@ fn hear<S: Service>(
         → NodeGoes (machine (S.started who.kind) S.after) (node_of who standing) (Message_comes (message_of m.now)) who after sent.new.items) }
     ensures unfenced { IfOk result (λ after. (standing : Standing) → fence (node_of who standing) (Message_comes (message_of m.now)) ≡ None) }
     ensures fenced { IfErr result (λ end. IsFence end (λ newer. (standing : Standing) → fence (node_of who standing) (Message_comes (message_of m.now)) ≡ Some newer)) }
+    ensures memory { IsErrOf result TurnEnd.NoMemory → (standing : Standing) → fence (node_of who standing) (Message_comes (message_of m.now)) ≡ None }
     ensures sound { IfOk result (λ after. IsSoundStage who after) }
 {
     if let Some(newer) = newer_in(who, m) {
@@ -214,7 +211,7 @@ fn on_packet<S: Service>(
     stage: Stage<S>,
     packet: &[u8],
     out: &mut TurnOut,
-    sent: &mut Vec<OutPacket>,
+    sent: &mut Outgoing,
 ) -> Result<Stage<S>, NoMemory>
     requires boot { 1 ≤ who.boot }
     requires accepted { IsOk (reading packet.now) }
@@ -246,7 +243,7 @@ fn serve_bytes<S: Service>(
     packet: &[u8],
     serving: &mut Serving<S>,
     out: &mut TurnOut,
-    sent: &mut Vec<OutPacket>,
+    sent: &mut Outgoing,
 ) -> Result<(), NoMemory>
     requires boot { 1 ≤ who.boot }
     requires accepted { IsOk (reading packet.now) }
@@ -290,7 +287,7 @@ pub(crate) fn go<S: Service>(
     stage: Stage<S>,
     input: Input<'_>,
     out: &mut TurnOut,
-    sent: &mut Vec<OutPacket>,
+    sent: &mut Outgoing,
 ) -> Result<Stage<S>, TurnEnd>
     requires boot { 1 ≤ who.boot }
     requires sound { IsSoundStage who stage }
@@ -301,6 +298,7 @@ pub(crate) fn go<S: Service>(
         → NodeGoes (machine (S.started who.kind) S.after) (node_of who standing) (input_of input.entry) who after sent.new.items) }
     ensures unfenced { IfOk result (λ after. (standing : Standing) → fence (node_of who standing) (input_of input.entry) ≡ None) }
     ensures fenced { IfErr result (λ end. IsFence end (λ newer. (standing : Standing) → fence (node_of who standing) (input_of input.entry) ≡ Some newer)) }
+    ensures memory { IsErrOf result TurnEnd.NoMemory → (standing : Standing) → fence (node_of who standing) (input_of input.entry) ≡ None }
     ensures sound { IfOk result (λ after. IsSoundStage who after) }
 {
     match input {

@@ -3,7 +3,8 @@ use Rattle.server_trait.specs.Service.{machine}
 use Rattle.ft_model.specs.News.News.{Begins as Becomes_live}
 use Rattle.wrapped_conn.proofs.Sendable.{FitsKey}
 use Rattle.server_node.specs.Conn.{IsSound}
-use Rattle.server_node.proofs.Turned.{goes, all_ok}
+use Rattle.server_node.proofs.Turned.{goes, all_ok, at_ok}
+use Rattle.server_node.proofs.Revived.{number_kept, delta_kept}
 use Rattle.server_node.proofs.Acting.{start_acts}
 use Rattle.server_node.proofs.live.start_live.Goals as goal
 
@@ -21,3 +22,15 @@ returns-clause-turn g c =
     (λ sent segments messages p key st.
     goes service c.args.who.local c.args.who.boot Becomes_live p c.start.new.self c.args.key c.start.new.out.segments c.start.new.out.messages c.args.sent.now.items c.send_all.new.sent.items key sent
     (start_acts service c.args.who.local c.args.who.boot p c.args.conn.now c.start.new.self c.start.new.out.segments c.start.new.out.messages (record { at = (ip, port); up = boot; client = subst FitsKey (sym key) fits; sent = segments; told = messages }) c.requires sound told st))
+
+pub returns-clause-number : goal.returns-clause-number
+returns-clause-number g c =
+    let service = machine (g.S.Service.started c.args.who.kind) g.S.Service.after in
+    let told = rw c.in_ok-start.was at c.start.ensures.turn in
+    at_ok c.send_all.result (number_kept service c.args.conn.now c.start.new.self c.start.new.out.segments c.start.new.out.messages told)
+
+pub returns-clause-delta : goal.returns-clause-delta
+returns-clause-delta g c =
+    let service = machine (g.S.Service.started c.args.who.kind) g.S.Service.after in
+    let told = rw c.in_ok-start.was at c.start.ensures.turn in
+    at_ok c.send_all.result (delta_kept service c.args.conn.now c.start.new.self c.start.new.out.segments c.start.new.out.messages told)

@@ -27,5 +27,6 @@ returns-in_ok-slot-in-Live-clause-turn g c =
     let here = subst (RestoredIs service f) c.in-Live.is is in
     let key : c.head.result.key ≡ f.head.key = ap (λ h. h.key) c.head.ensures ∙ ap (λ h. h.key) here.1.head in
     live_more service (node_of c.args.who standing) f fetched c.head.result.key c.args.serving.now (record { next = c.add-serving.result; slots = c.add_slot-in-Live.new.slots }) c.in_ok-slot-in-Live.slot
-    first c.args.sent.now.items c.revive.new.sent.items here.0 key fresh r (c.in_ok-slot-in-Live.ensures.turn standing (entry_in f) here.1 (sound here.0)) c.add-serving.ensures added)
+    first c.args.sent.now.items c.revive.new.sent.items here.0 key fresh r (c.in_ok-slot-in-Live.ensures.turn standing (entry_in f) here.1 (sound here.0)) c.add-serving.ensures added
+    (c.in_ok-slot-in-Live.ensures.number (g.S.Service.started c.args.who.kind) (entry_in f) here.1 (sound here.0)))
     c.add_slot-in-Live.ensures.added

@@ -2,7 +2,7 @@ use Rattle.std.proofs.Common.{◌≡◌, ◌∙◌, ap, sym}
 use Rattle.server_trait.specs.Service.{machine}
 use Rattle.server_node.specs.Identity.{node_of}
 use Rattle.server_node.specs.Conn.{IsSound}
-use Rattle.server_node.proofs.Revived.{live_again}
+use Rattle.server_node.proofs.Revived.{live_again, goes_on_under}
 use Rattle.server_node.proofs.reviving.revive.Goals as goal
 
 pub start_live-requires : goal.start_live-requires
@@ -19,3 +19,10 @@ returns-clause-turn g c = λ standing e re sound.
     let boot : c.hand_on-conn.result.boot ≡ c.args.who.boot = ap (λ x. x.boot) c.hand_on-conn.ensures.value ∙ ap (λ x. x.boot) c.in-Ok.ensures.value in
     live_again (machine fresh g.S.Service.after) (node_of c.args.who standing) e c.hand_on-conn.result c.start_live.new.conn c.args.sent.now.items c.start_live.new.sent.items
     local boot is.segments.1 (c.hand_on-conn.ensures.law fresh e c.args.isn.0 is) (λ p same begins. told p (same ∙ sym key) begins)
+
+pub returns-clause-number : goal.returns-clause-number
+returns-clause-number g c = λ fresh e re sound.
+    let number = rw c.in_ok-start_live.was at c.start_live.ensures.number in
+    let delta = rw c.in_ok-start_live.was at c.start_live.ensures.delta in
+    goes_on_under (machine fresh g.S.Service.after) e c.args.isn.0 c.in-Ok.spliced c.hand_on-conn.result c.start_live.new.conn (c.in-Ok.ensures.law fresh e re sound)
+    c.hand_on-conn.ensures.value number delta

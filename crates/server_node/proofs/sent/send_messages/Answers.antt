@@ -7,7 +7,7 @@ use Rattle.server_node.proofs.sent.send_messages.Goals as goal
 
 pub loop-i-preserved : goal.loop-i-preserved
 loop-i-preserved c =
-    let kept : c.send.new.sent.items ≡ c.loop-i.sent.items ++ message_to_logger c.message-message.result.now ∷ [] = search rules in
+    let kept : c.send.new.self.items ≡ c.loop-i.sent.items ++ message_to_logger c.message-message.result.now ∷ [] = search rules in
     let at : slice_get c.args.out.now.messages c.loop-i.i ≡ Some c.message-message.result.now = c.message-message.ensures in (
       kept ∙ (ap (λ xs. xs ++ message_to_logger c.message-message.result.now ∷ []) c.loop-i.invariant.0
           ∙ one_more message_to_logger c.args.out.now.messages c.loop-i.i c.message-message.result.now c.args.sent.now.items at),

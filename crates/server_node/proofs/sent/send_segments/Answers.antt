@@ -7,7 +7,7 @@ use Rattle.server_node.proofs.sent.send_segments.Goals as goal
 
 pub loop-i-preserved : goal.loop-i-preserved
 loop-i-preserved c =
-    let kept : c.send.new.sent.items ≡ c.loop-i.sent.items ++ (segment_to c.args.key) c.packet-packet.result.now ∷ [] = search rules in
+    let kept : c.send.new.self.items ≡ c.loop-i.sent.items ++ (segment_to c.args.key) c.packet-packet.result.now ∷ [] = search rules in
     let at : slice_get c.args.out.now.segments c.loop-i.i ≡ Some c.packet-packet.result.now = (ap (λ xs. slice_get xs c.loop-i.i) (sym c.segments-segments.ensures) ∙ c.packet-packet.ensures) in (
       kept ∙ (ap (λ xs. xs ++ (segment_to c.args.key) c.packet-packet.result.now ∷ []) c.loop-i.invariant.0
           ∙ one_more (segment_to c.args.key) c.args.out.now.segments c.loop-i.i c.packet-packet.result.now c.args.sent.now.items at),

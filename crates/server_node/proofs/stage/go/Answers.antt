@@ -1,4 +1,6 @@
 use Rattle.std.proofs.Common.{◌≡◌, ◌∙◌, None, Some, IfOk, IfErr, ap, subst, sym}
+use Rattle.std.specs.Prelude.{IsErrOf}
+use Rattle.server_node.specs.declared.input.TurnEnd.TheVariants.{NoMemory}
 use Rattle.server_trait.specs.Service.{machine}
 use Rattle.segment_codec.specs.Value as packets
 use Rattle.logger_wire.specs.Value as messages
@@ -37,3 +39,9 @@ returns-in-Err-read_msg-clause-turn g c = λ standing near sound st.
     let noise : input_of c.args.input ≡ Noise_comes = ap input_of c.in-Message.is ∙ ap message_or_noise (sym c.read_msg.ensures.value ∙ ap messages.seen c.in-Err-read_msg.is) in
     subst (λ i. NodeGoes service (node_of c.args.who standing) i c.args.who c.args.stage c.args.sent.now.items) (sym noise)
     (subst (λ xs. NodeGoes service (node_of c.args.who standing) Noise_comes c.args.who c.args.stage xs) (sym c.requires.empty) (noise_rests service c.args.who standing c.args.stage st))
+
+pub returns-in-Ok-read_msg-clause-memory : goal.returns-in-Ok-read_msg-clause-memory
+returns-in-Ok-read_msg-clause-memory g c =
+    let is : input_of c.args.input ≡ Message_comes (messages.message_of c.in-Ok-read_msg.m) =
+    ap input_of c.in-Message.is ∙ ap message_or_noise (sym c.read_msg.ensures.value ∙ ap messages.seen c.in-Ok-read_msg.is) in
+    subst (λ i. IsErrOf c.hear.result NoMemory → (standing : Stage) → fence (node_of c.args.who standing) i ≡ None) (sym is) c.hear.ensures.memory

@@ -27,3 +27,8 @@ pub returns-clause-unfenced : goal.returns-clause-unfenced
 returns-clause-unfenced g c = λ standing.
     let none : c.newer_in.result ≡ None = search rules in
     sym (c.newer_in.ensures standing) ∙ none
+
+pub returns-in_err-on_message-clause-memory : goal.returns-in_err-on_message-clause-memory
+returns-in_err-on_message-clause-memory g c = λ lost standing.
+    let none : c.newer_in.result ≡ None = search rules in
+    sym (c.newer_in.ensures standing) ∙ none

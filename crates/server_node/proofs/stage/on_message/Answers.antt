@@ -5,6 +5,7 @@ use Rattle.ft_model.specs.Lawful.{StageTurn}
 use Rattle.ft_model.specs.Node.Stage.{Fetching}
 use Rattle.ft_model.specs.Node.Input.{Message_comes}
 use Rattle.server_node.specs.Identity.{node_of}
+use Rattle.server_node.specs.Numbered.{fetched_by}
 use Rattle.server_node.specs.Reviving.{StageGoes}
 use Rattle.server_node.specs.Serving.{ServingGoes}
 use Rattle.server_node.specs.Stages.{StageStands}
@@ -38,5 +39,5 @@ returns-in-Fetching-clause-turn g c =
     if_ok c.take_answer.result
     (λ after h standing boot unfenced sound st. answered_on service c.args.who standing (message_of c.args.m.now) c.in-Fetching.fetching after c.take_answer.new.sent.items unfenced
     (subst (λ s. StageStands service (node_of c.args.who standing) s) c.in-Fetching.is st) sound
-    (λ count fetched stands sounds. subst (λ xs. StageGoes service c.args.who (StageTurn service (node_of c.args.who standing) (Fetching count fetched) (Message_comes (message_of c.args.m.now)))
+    (λ count fetched stands sounds. subst (λ xs. StageGoes service c.args.who (fetched_by (node_of c.args.who standing) (Fetching count fetched) (Message_comes (message_of c.args.m.now))) (StageTurn service (node_of c.args.who standing) (Fetching count fetched) (Message_comes (message_of c.args.m.now)))
     after xs c.take_answer.new.sent.items) c.requires.empty (h standing count fetched stands sounds))) c.take_answer.ensures.turn

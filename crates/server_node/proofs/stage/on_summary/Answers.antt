@@ -31,5 +31,5 @@ returns-clause-turn g c = if_ok c.begin_fetching.result
     (λ after h standing boot unfenced is.
     let service = machine (g.S.Service.started c.args.who.kind) g.S.Service.after in
     begins_on service c.args.who standing (message_of c.args.m.now) c.in-Some.count after c.begin_fetching.new.sent.items boot (sym c.count_in.ensures ∙ c.in-Some.is) is unfenced
-    (subst (λ xs. StageGoes service c.args.who (Fetches service (node_of c.args.who standing) c.in-Some.count []) after xs c.begin_fetching.new.sent.items) c.requires.empty (h standing)))
+    (subst (λ xs. StageGoes service c.args.who [] (Fetches service (node_of c.args.who standing) c.in-Some.count []) after xs c.begin_fetching.new.sent.items) c.requires.empty (h standing)))
     c.begin_fetching.ensures.turn

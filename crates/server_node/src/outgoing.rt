@@ -1,0 +1,83 @@
+//! What the node sends in a turn, in rooms that are kept from turn to turn.
+
+ghost use Rattle.std.specs.Prelude.{◌≡◌, ◌+◌, ◌≤◌, ◌++◌, ◌∷◌, [], length, take, OnOk};
+ghost use Rattle.server_node.specs.Sending.{sent_to};
+
+use crate::out_packet::{OutPacket, To};
+use ft_io::NoMemory;
+use std::alloc::Global;
+use std::marker::Model;
+
+/// The packets of a turn, in order. Behind them stand packets of earlier turns, whose rooms are filled again. Contracts see the turn's.
+#[derive(Drop)]
+pub(crate) struct Outgoing {
+    packets: Vec<OutPacket>,
+    /// How many are this turn's.
+    count: usize,
+}
+
+impl Model for Outgoing {
+    ghost use Rattle.std.specs.Prelude.{◌≤◌, length, take};
+    ghost use Rattle.server_node.specs.Outgoing.{Packets};
+
+    ghost Value = { Packets };
+
+    ghost view = { λ o. record { items = take o.count o.packets.items } };
+
+    ghost invariant = { λ o. o.count ≤ length o.packets.items };
+}
+
+impl Outgoing {
+    /// No packet, and no room yet.
+    pub(crate) fn new(alloc: Global) -> Outgoing
+        ensures { result.items ≡ [] }
+    {
+        Outgoing {
+            packets: Vec::new(alloc),
+            count: 0,
+        }
+    }
+
+    /// Takes all packets out, and keeps their rooms.
+    pub(crate) fn clear(&mut self)
+        ensures { self.new.items ≡ [] }
+    {
+        self.count = 0;
+    }
+
+    /// Puts a packet behind the others.
+    pub(crate) fn send(&mut self, alloc: Global, to: To, bytes: &[u8]) -> Result<(), NoMemory>
+        ensures { OnOk result (self.new.items ≡ self.old.items ++ sent_to to bytes.now ∷ []) }
+    {
+        put(alloc, &mut self.packets, self.count, to, bytes)?;
+        self.count += 1;
+        Ok(())
+    }
+
+    pub(crate) fn as_slice(&self) -> &[OutPacket]
+        ensures { result.now ≡ self.now.items }
+    {
+        &self.packets[..self.count]
+    }
+}
+
+/// Puts a packet behind so many others: into the room there, if there is one.
+#[tactic(auto, using(std::proofs::lemmas::List::take_more_set))]
+fn put(
+    alloc: Global,
+    packets: &mut Vec<OutPacket>,
+    count: usize,
+    to: To,
+    bytes: &[u8],
+) -> Result<(), NoMemory>
+    requires { count ≤ length packets.old.items }
+    ensures sent { OnOk result (take (count + 1) packets.new.items ≡ take count packets.old.items ++ sent_to to bytes.now ∷ []) }
+    ensures rooms { OnOk result (count + 1 ≤ length packets.new.items) }
+    ensures kept { count ≤ length packets.new.items }
+{
+    if count < packets.len() {
+        return packets[count].refill(to, bytes);
+    }
+    packets.push(OutPacket::new(alloc, to, bytes)?)?;
+    Ok(())
+}
