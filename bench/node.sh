@@ -1,0 +1,81 @@
+#!/usr/bin/env bash
+# Turns a second of a server with 1, 16 and 64 live connections, by node_bench: clients send segments of 64 and of 1,460 bytes in turn, a log
+# beside the server keeps each, and Echo sends it back; then segments that lie before what is taken, each answered by an acknowledgement alone; then
+# ticks. All is in memory, and packets and messages pass as bytes; what the log and the writing of the clients' packets take is in the figures. A
+# segment makes three turns: its own, and one for each of the log's two answers. The clients offer no segment size, so 1,460 bytes come back in three.
+# Beside each row the plain C checks of as many packets of that size (gcc -O2), in the same run, and how often memory is asked for, by a library
+# that is loaded before libc and tells each call. Of each the least processor time of 5 runs, taken in turn, less that of a run that only opens the
+# connections. Then the memory that a live connection holds, by the most that runs with 64 connections and with one hold.
+set -eu
+cd "$(dirname "$0")/.."
+(cd crates/node_bench && rt run >/dev/null 2>&1)
+program="$PWD/crates/node_bench/out/node_bench"
+work=$(mktemp -d)
+trap 'rm -rf "$work"' EXIT
+gcc -O2 -Wall -o "$work/packets" bench/packets.c
+gcc -O2 -Wall -shared -fPIC -o "$work/refuse.so" bench/refuse.c -ldl
+
+# user and system time of a run, in milliseconds
+TIMEFORMAT='%U %S'
+spent() {
+    local user system
+    read -r user system < <({ { time "$@" >"$work/out"; } 2>&1; } | tr -d .)
+    echo $((10#$user + 10#$system))
+}
+
+# how often a run asks for memory, and how much it holds at most, in KiB
+asked() {
+    REFUSED=0 LD_PRELOAD=$work/refuse.so "$program" "$@" >"$work/out" 3>"$work/calls"
+    wc -c <"$work/calls"
+}
+
+held() { command time -f %M "$program" "$@" 2>&1 >/dev/null; }
+
+least() { echo $(($1 < $2 ? $1 : $2)); }
+
+# what is timed, connections, bytes of text, segments in all, and what the bench must print of them
+row() {
+    local what=$1 clients=$2 size=$3 all=$4 rounds=$(($4 / $2)) whole=999999 opened=999999 c=999999 more turns
+    for _ in 1 2 3 4 5; do
+        whole=$(least "$whole" "$(spent "$program" 1 "$clients" "$size" "$rounds" 0)")
+        [ "$(head -2 "$work/out" | tr '\n' ' ')" = "$5 " ] || { cat "$work/out"; exit 1; }
+        turns=$(awk '/turns/ { print $1 }' "$work/out")
+        opened=$(least "$opened" "$(spent "$program" 1 "$clients" "$size" 0 0)")
+        c=$(least "$c" "$(spent "$work/packets" $((40 + size)) $((all / 64 * 20)))")
+    done
+    more=$(($(asked 1 "$clients" "$size" $((rounds / 5)) 0) - $(asked 1 "$clients" "$size" $((rounds / 10)) 0)))
+    awk -v what="$what" -v clients="$clients" -v n="$all" -v turns="$turns" -v a=$((whole - opened)) -v c="$c" -v more="$more" -v calls="$((rounds / 10 * clients))" 'BEGIN {
+        printf "%d connections, %s: %d turns a second, %.2f us each; %d segments a second; a segment takes %.1f times the C check of one packet, and asks for memory %.3f times\n",
+            clients, what, turns / a * 1000, a / turns * 1000, n / a * 1000, 20 * a / c, more / calls
+    }'
+}
+
+ticks() {
+    local clients=$1 rounds=$2 whole=999999 opened=999999 more
+    for _ in 1 2 3 4 5; do
+        whole=$(least "$whole" "$(spent "$program" 1 "$clients" 64 0 "$rounds")")
+        opened=$(least "$opened" "$(spent "$program" 1 "$clients" 64 0 0)")
+    done
+    more=$(($(asked 1 "$clients" 64 0 200) - $(asked 1 "$clients" 64 0 100)))
+    awk -v clients="$clients" -v n="$rounds" -v a=$((whole - opened)) -v more="$more" 'BEGIN {
+        printf "%d connections: %d ticks a second, %.2f us a connection; a tick asks for memory %.2f times\n", clients, n / a * 1000, a / n / clients * 1000, more / 100
+    }'
+}
+
+printf '%s processors, %s, load %s\n' "$(nproc)" "$(lscpu | sed -n 's/^Model name: *//p')" "$(cut -d' ' -f1 /proc/loadavg)"
+for clients in 1 16 64; do
+    all=102400
+    row "64 bytes" "$clients" 64 $all "$((3 * all)) turns, $((3 * all)) packets to clients $((64 * all)) bytes of text, $((2 * all)) messages to the log"
+done
+for clients in 1 16 64; do
+    all=10240
+    row "1460 bytes" "$clients" 1460 $all "$((3 * all)) turns, $((5 * all)) packets to clients $((1460 * all)) bytes of text, $((2 * all)) messages to the log"
+done
+for clients in 1 16 64; do
+    all=409600
+    row "an acknowledgement alone" "$clients" 0 $all "$all turns, $all packets to clients 0 bytes of text, 0 messages to the log"
+done
+for clients in 1 16 64; do
+    ticks "$clients" $((6400000 / clients))
+done
+awk -v one="$(held 1 1 64 100 0)" -v all="$(held 1 64 64 100 0)" 'BEGIN { printf "%d KiB held with 1 connection, %d with 64: %.1f KiB a connection, its log included\n", one, all, (all - one) / 63 }'
