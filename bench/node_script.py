@@ -1,0 +1,348 @@
+#!/usr/bin/env python3
+"""Writes the script of node_script and what it must print: node_script.py REPORTS FOLDER, into FOLDER/stdin and FOLDER/stdout.
+
+REPORTS is a folder with the reports of the worked runs. Of each the turns of the server are taken, and what the report says that the server sends
+is what must be printed. Packets and messages are spelled here, apart from the repository's codecs. The other cases are set by hand below.
+"""
+import os
+import struct
+import sys
+
+REPORTS = sys.argv[1]
+OUT = sys.argv[2]
+SERVER = (0xC0000264, 7)
+
+def ones(data):
+    if len(data) % 2:
+        data += b"\0"
+    total = sum(struct.unpack(f">{len(data)//2}H", data))
+    while total >> 16:
+        total = (total & 0xFFFF) + (total >> 16)
+    return 0xFFFF - total
+
+def ip_of(text):
+    a, b, c, d = map(int, text.split("."))
+    return a << 24 | b << 16 | c << 8 | d
+
+def key_of(text):
+    ip, port = text.split(":")
+    return (ip_of(ip), int(port))
+
+FLAGS = {"F": 1, "S": 2, "R": 4, "P": 8, "A": 16}
+
+def packet(src, dst, flags, seq, ack, window, mss, data):
+    options = b"" if mss is None else struct.pack(">BBH", 2, 4, mss)
+    bits = sum(FLAGS[f] for f in flags if f != "-")
+    def tcp(check):
+        return struct.pack(">HHIIBBHHH", src[1], dst[1], seq, ack, (20 + len(options)) // 4 << 4, bits, window, check, 0) + options + data
+    pseudo = struct.pack(">IIBBH", src[0], dst[0], 0, 6, len(tcp(0)))
+    body = tcp(ones(pseudo + tcp(0)))
+    def ip(check):
+        return struct.pack(">BBHHHBBHII", 0x45, 0, 20 + len(body), 0, 0x4000, 64, 6, check, src[0], dst[0])
+    return ip(ones(ip(0))) + body
+
+KINDS = "Hello Summary List Entry Bytes Part Cuts Lens Open Opened Data Stable Read Reads Done Ended Stale Full".split()
+
+def message(kind, boot, body=b""):
+    number = KINDS.index(kind) + 1
+    def whole(check):
+        return struct.pack(">BBBBHHQ", 0x46, 0x54, 1, number, 16 + len(body), check, boot) + body
+    return whole(ones(whole(0)))
+
+def key_bytes(key):
+    return struct.pack(">IH", *key)
+
+def hex_bytes(text):
+    return b"" if text == "-" else bytes.fromhex(text)
+
+def fields(words):
+    return dict(zip(words[::2], words[1::2]))
+
+def told(kind, words):
+    """A message by the words behind its kind in a report."""
+    f = fields(words)
+    boot = int(f["boot"])
+    n = lambda name: int(f[name])
+    k = key_bytes(key_of(f["key"])) if "key" in f else b""
+    if kind == "Hello":
+        return message(kind, boot)
+    if kind == "Summary":
+        return message(kind, boot, struct.pack(">H", n("count")))
+    if kind == "List":
+        return message(kind, boot, struct.pack(">H", n("index")))
+    if kind == "Entry":
+        return message(kind, boot, struct.pack(">H", n("index")) + k + struct.pack(
+            ">IIHIBBII", n("cisn"), n("sisn"), n("mss"), n("length"), n("fin"), n("done"), n("reads"), n("acked")))
+    if kind == "Bytes":
+        return message(kind, boot, k + struct.pack(">I", n("offset")))
+    if kind == "Part":
+        return message(kind, boot, k + struct.pack(">I", n("offset")) + hex_bytes(f["bytes"]))
+    if kind == "Cuts":
+        return message(kind, boot, k + struct.pack(">I", n("first")))
+    if kind == "Lens":
+        return message(kind, boot, k + struct.pack(">I", n("first")) + b"".join(struct.pack(">H", int(x)) for x in f["lens"].split(",")))
+    if kind in ("Open", "Opened"):
+        return message(kind, boot, k + struct.pack(">IIH", n("cisn"), n("sisn"), n("mss")))
+    if kind == "Data":
+        return message(kind, boot, k + struct.pack(">IIB", n("offset"), n("acked"), n("fin")) + hex_bytes(f["bytes"]))
+    if kind in ("Stable", "Reads"):
+        return message(kind, boot, k + struct.pack(">IBI", n("length"), n("fin"), n("reads")))
+    if kind == "Read":
+        return message(kind, boot, k + struct.pack(">IH", n("index"), n("length")))
+    if kind in ("Done", "Ended", "Full"):
+        return message(kind, boot, k)
+    if kind == "Stale":
+        return message(kind, boot, struct.pack(">Q", n("newer")))
+    raise ValueError(kind)
+
+def segment(way, words, clients):
+    """A segment by the words behind its way in a report."""
+    flags, f = words[0], fields(words[1:])
+    data = hex_bytes(f["data"])
+    mss = None if f["mss"] == "-" else int(f["mss"])
+    left, right = way.split(">")
+    src = SERVER if left == "S" else clients[left]
+    dst = SERVER if right == "S" else clients[right]
+    return packet(src, dst, flags, int(f["seq"]), int(f["ack"]), int(f["window"]), mss, data)
+
+lines, prints = [], []
+
+def say(line, *answers):
+    """A line of the script, and what it prints."""
+    lines.append(line)
+    prints.extend([line] if line.startswith("#") else answers or ["-"])
+
+def to_client(key, data):
+    return f"client {key[0]} {key[1]} {data.hex()}"
+
+def to_logger(data):
+    return f"logger {data.hex()}"
+
+SERVICES = {"echo": 1, "line": 2, "transfer": 3, "meter": 4}
+
+def play_report(name, title, numbers=()):
+    """The server's turns of a worked run. `numbers` names, behind which events, what `conn` must print."""
+    service, clients, packets, event = None, {}, {}, None
+    say(f"# {title}")
+    turns = []                      # (number of the event, line, answers)
+    path = f"{REPORTS}/{name}.streaming.report"       # a restart asks for an entry's cuts before its bytes
+    for line in open(path if os.path.exists(path) else f"{REPORTS}/{name}.report"):
+        words = line.split()
+        if words[0] == "service":
+            service = SERVICES[words[1]]
+        elif words[0] == "client" and len(words) == 5 and ":" in words[2]:
+            clients[words[1]] = key_of(words[2])
+        elif words[0] == "event":
+            number, what, rest = int(words[1]), words[2], words[3:]
+            if what == "boot":
+                turns.append((number, f"boot {service} {rest[0]} {rest[1]}", []))
+            elif what == "tick":
+                turns.append((number, "tick", []))
+            elif what == "deliver":
+                way, data = packets[int(rest[0])]
+                if way == "L>S":
+                    turns.append((number, f"message {data.hex()}", []))
+                elif way.endswith(">S"):
+                    turns.append((number, f"packet {data.hex()}", []))
+                else:
+                    turns.append((number, None, []))
+            else:
+                turns.append((number, None, []))
+        elif words[0] == "packet":
+            number, way, rest = int(words[1]), words[2], words[3:]
+            is_message = "L" in way
+            data = told(rest[0], rest[1:]) if is_message else segment(way, rest, clients)
+            packets[number] = (way, data)
+            if way == "S>L":
+                turns[-1][2].append(to_logger(data))
+            elif way.startswith("S>"):
+                turns[-1][2].append(to_client(clients[way[2:]], data))
+    numbers = dict(numbers)
+    for number, line, answers in turns:
+        if line:
+            say(line, *answers)
+        for key, text in numbers.get(number, ()):
+            say(conn(key_of(key)), text)
+
+def conn(key):
+    return f"conn {key[0]} {key[1]}"
+
+K = "192.0.2.1:40000"
+
+def numbers(delta, taken, answered, read, reads, una, sent):
+    return f"delta {delta} taken {taken} answered {answered} read {read} reads {reads} una {una} sent {sent}"
+
+play_report("first_path", "the first path", {
+    5: [(K, "none")],
+    7: [(K, numbers(0, 0, 0, 0, 0, 0, 0))],
+    12: [(K, numbers(0, 5, 0, 5, 1, 0, 0))],
+    14: [(K, numbers(0, 5, 5, 5, 1, 0, 0))],
+    16: [(K, numbers(0, 5, 5, 5, 1, 0, 5))],
+}.items())
+play_report("crash_after_logged", "a crash after the bytes and the read are logged", {
+    24: [(K, numbers(4294072296, 5, 5, 5, 1, 0, 0))],
+}.items())
+play_report("client_knows_more", "the client knows more than the restarted server")
+play_report("cuts_and_swallowing", "the cuts are replayed, and what the client has is swallowed", {
+    31: [(K, numbers(4294072298, 3, 3, 3, 2, 2, 2))],
+    34: [(K, numbers(4294072298, 3, 3, 3, 2, 2, 4))],
+}.items())
+play_report("crash_before_syn_ack", "a crash before the SYN-ACK")
+play_report("closing", "both FINs, over a crash")
+play_report("segment_while_restarting", "a segment comes while the server restarts")
+play_report("zero_window", "a zero window is probed")
+play_report("number_wrap", "numbers that wrap")
+
+# ---- by hand -----------------------------------------------------------------------------------------------------------------------------
+
+def client_key(i):
+    return (0xC0000201, 40000 + i)
+
+def syn(key, seq=1000, mss=None, window=65535):
+    return packet(key, SERVER, "S", seq, 0, window, mss, b"")
+
+def text_key(key):
+    return ".".join(str(key[0] >> s & 255) for s in (24, 16, 8, 0)) + f":{key[1]}"
+
+def opening(kind, boot, key, cisn, sisn, mss=536):
+    return told(kind, ["boot", str(boot), "key", text_key(key), "cisn", str(cisn), "sisn", str(sisn), "mss", str(mss)])
+
+def kept(kind, boot, key, length, fin, reads):
+    return told(kind, ["boot", str(boot), "key", text_key(key), "length", str(length), "fin", str(fin), "reads", str(reads)])
+
+def msg(data):
+    return f"message {data.hex()}"
+
+def pkt(data):
+    return f"packet {data.hex()}"
+
+HELLO = message("Hello", 1)
+SUMMARY = message("Summary", 1, struct.pack(">H", 0))
+
+say("# while nothing is fetched: Hello at each tick, and no answer to a client or to another boot")
+say("boot 1 1 5000", to_logger(HELLO))
+say("tick", to_logger(HELLO))
+say(pkt(syn(client_key(0))))
+say(msg(message("Summary", 2, struct.pack(">H", 0))))
+say(msg(kept("Stable", 1, client_key(0), 5, 0, 0)))
+say("tick", to_logger(HELLO))
+say(msg(SUMMARY))
+say("tick")
+
+say("# fencing: a Stale of another boot, or of no larger one, does nothing; one of this boot that names a larger one ends the server")
+say("boot 1 2 5000", to_logger(message("Hello", 2)))
+say(msg(message("Stale", 1, struct.pack(">Q", 2))))
+say(msg(message("Stale", 3, struct.pack(">Q", 4))))
+say("tick", to_logger(message("Hello", 2)))
+say(msg(message("Stale", 2, struct.pack(">Q", 3))), "fenced by 3")
+say("tick", "no server")
+say("boot 1 1 5000", to_logger(HELLO))
+say(msg(SUMMARY))
+say(msg(message("Stale", 1, struct.pack(">Q", 2))), "fenced by 2")
+
+say("# openings: asked for at the SYN, at each SYN again and at each tick; other segments of the client are dropped")
+say("boot 1 1 5000", to_logger(HELLO))
+say(msg(SUMMARY))
+A, B = client_key(0), client_key(1)
+ask_a = to_logger(opening("Open", 1, A, 1000, 5000))
+ask_b = to_logger(opening("Open", 1, B, 7, 5000 + 65536, 64))
+say(pkt(syn(A)), ask_a)
+say(pkt(syn(A)), ask_a)
+say(pkt(syn(A, seq=1001)))
+say(pkt(packet(A, SERVER, "A", 1001, 5001, 65535, None, b"")))
+say(pkt(syn(B, seq=7, mss=1)), ask_b)
+say("tick", ask_a, ask_b)
+say(pkt(packet(A, (0xC0000264, 8), "S", 1000, 0, 65535, None, b"")))
+say(pkt(packet(A, (0xC0000265, 7), "S", 1000, 0, 65535, None, b"")))
+say("# the log knows another number of a client: its opening is dropped, and a new SYN asks with the next number")
+say(msg(opening("Opened", 1, A, 999, 5000)))
+say("tick", ask_b)
+say(pkt(syn(A)), to_logger(opening("Open", 1, A, 1000, 5000 + 2 * 65536)))
+say("# the log is full: the opening is dropped, and its SYN refused")
+say(msg(message("Full", 1, key_bytes(A))), to_client(A, packet(SERVER, A, "AR", 0, 1001, 0, None, b"")))
+say(msg(message("Full", 1, key_bytes(A))))
+say("tick", ask_b)
+say("# the log keeps the numbers of an earlier incarnation: the SYN-ACK has them")
+say(msg(opening("Opened", 1, B, 7, 4000, 64)), to_client(B, packet(SERVER, B, "AS", 4000, 8, 65535, 1460, b"")))
+say(conn(B), numbers(0, 0, 0, 0, 0, 0, 0))
+say("tick", to_client(B, packet(SERVER, B, "AS", 4000, 8, 65535, 1460, b"")))
+say("# a client that isn't known: an acknowledgement is refused, a RST isn't, and what is neither gets nothing")
+C = client_key(2)
+say(pkt(packet(C, SERVER, "A", 77, 99, 65535, None, b"")), to_client(C, packet(SERVER, C, "R", 99, 0, 0, None, b"")))
+say(pkt(packet(C, SERVER, "AR", 77, 99, 65535, None, b"")))
+say(pkt(packet(C, SERVER, "F", 77, 0, 65535, None, b"abc")))
+say(conn(C), "none")
+
+say("# a reset: Done at once and at each tick until it is answered; then the client is as unknown to CLOSED")
+say(pkt(packet(B, SERVER, "A", 8, 4001, 65535, None, b"")))
+say(pkt(packet(B, SERVER, "R", 9, 0, 0, None, b"")), to_client(B, packet(SERVER, B, "A", 4001, 8, 65535, None, b"")))
+done = to_logger(message("Done", 1, key_bytes(B)))
+say(pkt(packet(B, SERVER, "R", 8, 0, 0, None, b"")), done)
+say(pkt(packet(B, SERVER, "A", 8, 4001, 65535, None, b"more")))
+say("tick", done)
+say(msg(message("Ended", 1, key_bytes(A))))
+say("tick", done)
+say(msg(message("Ended", 1, key_bytes(B))))
+say("tick")
+say(conn(B), "none")
+say(pkt(packet(B, SERVER, "A", 8, 4001, 65535, None, b"")), to_client(B, packet(SERVER, B, "R", 4001, 0, 0, None, b"")))
+say(pkt(packet(B, SERVER, "S", 8, 0, 65535, None, b"")), to_client(B, packet(SERVER, B, "AR", 0, 9, 0, None, b"")))
+say(pkt(packet(B, SERVER, "F", 8, 0, 65535, None, b"abc")), to_client(B, packet(SERVER, B, "AR", 0, 12, 0, None, b"")))
+say(pkt(packet(B, SERVER, "R", 8, 0, 65535, None, b"")))
+
+say("# at most 64 openings are pending: one more SYN gets nothing, until one of them is gone")
+say("boot 1 1 5000", to_logger(HELLO))
+say(msg(SUMMARY))
+asks = []
+for i in range(64):
+    ask = to_logger(opening("Open", 1, client_key(i), 1000, (5000 + 65536 * i) % 2**32))
+    asks.append(ask)
+    say(pkt(syn(client_key(i))), ask)
+say(pkt(syn(client_key(64))))
+say("tick", *asks)
+say(msg(message("Full", 1, key_bytes(client_key(3)))), to_client(client_key(3), packet(SERVER, client_key(3), "AR", 0, 1001, 0, None, b"")))
+say(pkt(syn(client_key(64))), to_logger(opening("Open", 1, client_key(64), 1000, 5000 + 65536 * 64)))
+say(pkt(syn(client_key(65))))
+
+say("# a log of 64 entries is fetched, and a 65th client opens: the log is full, and that client alone is refused")
+say("boot 1 2 900000", to_logger(message("Hello", 2)))
+ask = lambda i: to_logger(message("List", 2, struct.pack(">H", i)))
+say(msg(message("Summary", 2, struct.pack(">H", 64))), ask(0))
+say("tick", ask(0))
+def entry(i, done):
+    return msg(told("Entry", f"boot 2 index {i} key {text_key(client_key(i))} cisn 1000 sisn {5000 + i} mss 536 length 0 fin 0 done {done} reads 0 acked 0".split()))
+for i in range(63):
+    say(entry(i, i % 2), ask(i + 1))
+say(entry(63, 1), *[to_client(client_key(i), packet(SERVER, client_key(i), "A", 5001 + i, 1001, 65535, None, b"")) for i in range(0, 63, 2)])
+L = client_key(64)
+say(pkt(syn(L)), to_logger(opening("Open", 2, L, 1000, 900000 + 65536 * 32)))
+say(msg(message("Full", 2, key_bytes(L))), to_client(L, packet(SERVER, L, "AR", 0, 1001, 0, None, b"")))
+say("tick")
+say(pkt(packet(client_key(1), SERVER, "A", 1001, 5002, 65535, None, b"")), to_client(client_key(1), packet(SERVER, client_key(1), "R", 5002, 0, 0, None, b"")))
+say(conn(client_key(2)), numbers((5002 - (900000 + 65536)) % 2**32, 0, 0, 0, 0, 0, 0))
+say(conn(client_key(1)), "none")
+
+say("# hostile datagrams: a server that asks and one that fetches say nothing, and go on as if none had come")
+say("boot 1 1 5000", to_logger(HELLO))
+say("attack 10000 1", "silent")
+say("tick", to_logger(HELLO))
+Z = (0xC0000209, 9)
+say(msg(message("Summary", 1, struct.pack(">H", 1))), to_logger(message("List", 1, struct.pack(">H", 0))))
+say("attack 10000 2", "silent")
+say("tick", to_logger(message("List", 1, struct.pack(">H", 0))))
+say(msg(told("Entry", f"boot 1 index 0 key {text_key(Z)} cisn 1000 sisn 77 mss 536 length 2 fin 0 done 0 reads 0 acked 0".split())),
+    to_logger(message("Bytes", 1, key_bytes(Z) + struct.pack(">I", 0))))
+say("attack 10000 3", "silent")
+say("tick", to_logger(message("Bytes", 1, key_bytes(Z) + struct.pack(">I", 0))))
+say(msg(told("Part", f"boot 1 key {text_key(Z)} offset 0 bytes 6869".split())),
+    to_client(Z, packet(SERVER, Z, "A", 78, 1003, 65535, None, b"")),
+    to_logger(told("Read", f"boot 1 key {text_key(Z)} index 0 length 2".split())))
+say("# and one that serves acknowledges to a live connection what is taken and logged, and resets none")
+say(pkt(syn(A)), to_logger(opening("Open", 1, A, 1000, 5000 + 65536)))
+say(msg(opening("Opened", 1, A, 1000, 5000)), to_client(A, packet(SERVER, A, "AS", 5000, 1001, 65535, 1460, b"")))
+say(pkt(packet(A, SERVER, "A", 1001, 5001, 65535, None, b"")))
+say("attack 10000 4", "wrong 0")
+say(conn(Z), numbers((77 - 5000) % 2**32, 2, 2, 2, 1, 0, 0))
+open(f"{OUT}/stdin", "w").write("\n".join(lines) + "\n")
+open(f"{OUT}/stdout", "w").write("\n".join(prints) + "\n")
+print(len(lines), "lines,", len(prints), "printed")

@@ -1,0 +1,146 @@
+//! Hostile datagrams from a seed: any bytes, and packets and messages with right checksums.
+
+ghost use Rattle.std.specs.Prelude.{◌≡◌, ◌<◌, ◌≤◌, None};
+
+use crate::player::LOCAL;
+use ft_io::{Key, NoMemory};
+use logger_wire::{Body, Msg, write_msg};
+use sample_servers::AnyService;
+use segment_codec::{Head, read_packet, write_packet};
+use seq_arith::{ACK, Generator, RST, Seq, has};
+use server_node::{Input, Node, OutPacket, To};
+use std::alloc::Global;
+
+/// The clients of hostile packets have this address, and four ports from this one on.
+const FROM: Key = Key {
+    ip: 0xC000_0201,
+    port: 40_000,
+};
+
+/// Below a bound.
+fn below(draws: &mut Generator, bound: u32) -> u32
+    requires { 0 < bound }
+    ensures { result < bound }
+{
+    draws.draw() % bound
+}
+
+/// A number near this one, or any.
+fn number(draws: &mut Generator, near: u32) -> Seq {
+    match below(draws, 4) {
+        0 => Seq(draws.draw()),
+        1 => Seq(near).add(below(draws, 70_000)),
+        _ => Seq(near).add(below(draws, 12)),
+    }
+}
+
+/// Of a segment of one of the clients: mostly an acknowledgement, else with any flags.
+fn head(draws: &mut Generator) -> Head
+    ensures { result.mss ≡ None }
+{
+    let any = below(draws, 256) as u8;
+    let flags = if below(draws, 3) == 0 { any } else { ACK };
+    Head {
+        src: FROM.ip,
+        dst: LOCAL.ip,
+        sport: 40_000 + below(draws, 4) as u16,
+        dport: LOCAL.port,
+        seq: number(draws, 1_000),
+        ack: number(draws, 5_000),
+        flags,
+        window: below(draws, 65_536) as u16,
+        mss: None,
+    }
+}
+
+/// Writes a Stale of another incarnation, which would end a server that took it for its own.
+fn write_stale(draws: &mut Generator, out: &mut [u8; 2_048]) -> usize
+    ensures { result ≤ 2048 }
+{
+    let boot = u64::from(below(draws, 1_000)) + 1_000;
+    let body = Body::StaleMsg { newer: boot + 1 };
+    write_msg(&Msg { boot, body }, out).min(2_048)
+}
+
+/// Writes any bytes, at most 100.
+fn write_bytes(draws: &mut Generator, out: &mut [u8; 2_048]) -> usize
+    ensures { result ≤ 2048 }
+{
+    let len = below(draws, 101) as usize;
+    for byte in out[..len].iter_mut() {
+        *byte = below(draws, 256) as u8;
+    }
+    len
+}
+
+/// What came of all datagrams: how many packets the server sent, and how many of them were wrong.
+#[derive(Clone, Copy)]
+pub(crate) struct Tally {
+    pub sent: u64,
+    pub wrong: u64,
+}
+
+/// Whether a packet goes to a client with a live connection, and is a RST or doesn't acknowledge exactly what is taken and logged.
+fn is_wrong(node: &Node<AnyService>, packet: &OutPacket) -> bool {
+    let To::Client(key) = packet.to() else {
+        return false;
+    };
+    let Ok(segment) = read_packet(packet.bytes()) else {
+        return true;
+    };
+    let Some(conn) = node.conn(key) else {
+        return false;
+    };
+    let now = conn.inside();
+    let logged = conn.south().cisn().add(1).add(now.taken.min(now.answered));
+    has(segment.head.flags, RST) || segment.head.ack != logged
+}
+
+/// Adds what the last turn sent.
+fn count(node: &Node<AnyService>, tally: &mut Tally) {
+    for packet in node.sent() {
+        tally.sent = tally.sent.saturating_add(1);
+        if is_wrong(node, packet) {
+            tally.wrong = tally.wrong.saturating_add(1);
+        }
+    }
+}
+
+/// Gives a server so many datagrams that are drawn from this seed: half of them with right checksums, as packets and as messages.
+pub(crate) fn attack(
+    alloc: Global,
+    node: &mut Node<AnyService>,
+    times: u64,
+    seed: u64,
+) -> Result<Tally, NoMemory> {
+    let mut draws = Generator::new(seed);
+    let mut tally = Tally { sent: 0, wrong: 0 };
+    let mut bytes = [0u8; 2_048];
+    let text = [b'?'; 60];
+    for _ in 0..times {
+        let input = match below(&mut draws, 4) {
+            0 => {
+                let size = below(&mut draws, 61) as usize;
+                let len = write_packet(&head(&mut draws), &text[..size], &mut bytes).min(1_500);
+                Input::Packet(&bytes[..len])
+            }
+            1 => {
+                let len = write_stale(&mut draws, &mut bytes);
+                Input::Message(&bytes[..len])
+            }
+            2 => {
+                let len = write_bytes(&mut draws, &mut bytes);
+                Input::Packet(&bytes[..len])
+            }
+            _ => {
+                let len = write_bytes(&mut draws, &mut bytes);
+                Input::Message(&bytes[..len])
+            }
+        };
+        if node.turn(alloc, input).is_err() {
+            return Err(NoMemory);
+        }
+        count(node, &mut tally);
+    }
+    Ok(tally)
+}

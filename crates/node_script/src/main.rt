@@ -1,0 +1,33 @@
+//! `node_script`: plays a script of turns on a server, line by line from standard input, and prints what it sends. The lines:
+//!
+//! - `# ..` is printed as it stands;
+//! - `boot KIND BOOT ISN` boots a server at 192.0.2.100:7 with this service (1 for Echo, 2 for Line, 3 for Transfer, 4 for Meter); the one that was
+//!   up has crashed;
+//! - `packet HEX` and `message HEX` are datagrams from a client and from the logger, and a line of one word, `tick`, is a tick;
+//! - `conn IP PORT` prints the numbers of a client's connection, or `none`; IP is a number;
+//! - `attack COUNT SEED` gives COUNT datagrams that are drawn from SEED, and prints whether the server was silent, and else how many of its segments
+//!   to live connections didn't acknowledge exactly what is taken and logged, or were RSTs.
+//!
+//! A boot and a turn print `client IP PORT HEX` or `logger HEX` for each packet, `-` where there is none, and `fenced by BOOT` where a server
+//! with that boot number has ended this one.
+#![tactic(auto)]
+
+use ft_io::NoMemory;
+use player::Player;
+use std::io;
+
+mod attack;
+mod player;
+
+fn main(rt: HostRuntime) -> io::Result<()> {
+    let Ok(mut player) = Player::new(rt.alloc()) else {
+        return println!(rt; "no memory");
+    };
+    for line in rt.lines(rt.alloc()) {
+        if let Err(NoMemory) = player.play(rt.alloc(), line?.as_str()) {
+            return println!(rt; "no memory");
+        }
+        println!(rt; "{}", player.said())?;
+    }
+    Ok(())
+}

@@ -1,0 +1,152 @@
+//! A server, and what a line of the script makes of it.
+
+use crate::attack::attack;
+use ft_io::{Addr, Key, NoMemory};
+use sample_servers::AnyService;
+use server_node::{Input, Node, OutPacket, To, TurnEnd};
+use std::alloc::Global;
+
+/// The server's address.
+pub(crate) const LOCAL: Addr = Addr {
+    ip: 0xC000_0264,
+    port: 7,
+};
+
+/// A server, and what the last line said.
+#[derive(Drop)]
+pub(crate) struct Player {
+    node: Node<AnyService>,
+    /// Whether no other has fenced it.
+    up: bool,
+    out: String,
+}
+
+impl Player {
+    /// A server of Echo in its first boot, until the script boots another.
+    pub(crate) fn new(alloc: Global) -> Result<Player, NoMemory> {
+        Ok(Player {
+            node: Node::boot(alloc, 1, 0, 1, LOCAL)?,
+            up: true,
+            out: String::new(alloc),
+        })
+    }
+
+    /// What the last line said.
+    pub(crate) fn said(&self) -> &str {
+        self.out.as_str()
+    }
+
+    /// Plays a line.
+    pub(crate) fn play(&mut self, alloc: Global, line: &str) -> Result<(), NoMemory> {
+        self.out.clear();
+        let Some((word, rest)) = line.split_once(' ') else {
+            return self.turn(alloc, Input::Tick);
+        };
+        match word.as_bytes() {
+            b"boot" => self.boot(alloc, numbers(rest)),
+            b"conn" => self.tell_conn(alloc, numbers(rest)),
+            b"attack" => self.attack(alloc, numbers(rest)),
+            b"packet" => self.give(alloc, rest, true),
+            b"message" => self.give(alloc, rest, false),
+            _ => Ok(self.out.push_str(line)?),
+        }
+    }
+
+    fn boot(&mut self, alloc: Global, [kind, boot, isn]: [u64; 3]) -> Result<(), NoMemory> {
+        let kind = (kind % 256) as u8;
+        let isn = (isn % 4_294_967_296) as u32;
+        self.node = Node::boot(alloc, boot.max(1), isn, kind, LOCAL)?;
+        self.up = true;
+        tell(alloc, self.node.sent(), &mut self.out)
+    }
+
+    /// A datagram from a client or from the logger.
+    fn give(&mut self, alloc: Global, digits: &str, is_packet: bool) -> Result<(), NoMemory> {
+        let Ok(bytes) = hex::decode(alloc, digits) else {
+            return Ok(self.out.push_str("no digits")?);
+        };
+        if is_packet {
+            self.turn(alloc, Input::Packet(&bytes))
+        } else {
+            self.turn(alloc, Input::Message(&bytes))
+        }
+    }
+
+    fn turn(&mut self, alloc: Global, input: Input<'_>) -> Result<(), NoMemory> {
+        if !self.up {
+            return Ok(self.out.push_str("no server")?);
+        }
+        match self.node.turn(alloc, input) {
+            Ok(sent) => tell(alloc, sent, &mut self.out),
+            Err(TurnEnd::Fenced { newer }) => {
+                self.up = false;
+                Ok(write!(&mut self.out, "fenced by {newer}")?)
+            }
+            Err(TurnEnd::NoMemory) => Err(NoMemory),
+        }
+    }
+
+    /// The numbers of a client's connection.
+    fn tell_conn(&mut self, _alloc: Global, [ip, port, _]: [u64; 3]) -> Result<(), NoMemory> {
+        let key = Key {
+            ip: (ip % 4_294_967_296) as u32,
+            port: (port % 65_536) as u16,
+        };
+        let Some(conn) = self.node.conn(key) else {
+            return Ok(self.out.push_str("none")?);
+        };
+        let now = conn.inside();
+        write!(
+            &mut self.out,
+            "delta {} taken {} answered {} ",
+            now.delta, now.taken, now.answered
+        )?;
+        write!(
+            &mut self.out,
+            "read {} reads {} una {} sent {}",
+            now.read, now.reads, now.una, now.sent
+        )?;
+        Ok(())
+    }
+
+    fn attack(&mut self, alloc: Global, [count, seed, _]: [u64; 3]) -> Result<(), NoMemory> {
+        let tally = attack(alloc, &mut self.node, count, seed)?;
+        if tally.sent == 0 {
+            self.out.push_str("silent")?;
+        } else {
+            write!(&mut self.out, "wrong {}", tally.wrong)?;
+        }
+        Ok(())
+    }
+}
+
+/// The numbers of a line, up to three; 0 for each that isn't there.
+fn numbers(rest: &str) -> [u64; 3] {
+    let mut all = [0; 3];
+    let mut at = 0;
+    for word in rest.split(' ') {
+        if at < 3 {
+            all[at] = word.parse().unwrap_or(0);
+            at += 1;
+        }
+    }
+    all
+}
+
+/// What is sent, a line a packet.
+fn tell(alloc: Global, sent: &[OutPacket], out: &mut String) -> Result<(), NoMemory> {
+    if sent.is_empty() {
+        out.push_str("-")?;
+    }
+    for i in 0..sent.len() {
+        if 0 < i {
+            out.push_str("\n")?;
+        }
+        match sent[i].to() {
+            To::Client(Key { ip, port }) => write!(out, "client {ip} {port} ")?,
+            To::Logger => out.push_str("logger ")?,
+        }
+        out.push_str(hex::encode(alloc, sent[i].bytes())?.as_str())?;
+    }
+    Ok(())
+}
