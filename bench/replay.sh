@@ -1,6 +1,7 @@
 #!/usr/bin/env bash
 # Times `ftreplay run` on schedules of 10,000 and 100,000 events, and prints the best of five runs of each, their ratio, and the
-# memory that a run took. One client sends its script byte by byte; each byte is logged, echoed and acknowledged before the next.
+# memory that a run took, beside what its packets, schedule and report are: eight clients send their scripts byte by byte, each byte is logged, echoed and acknowledged
+# before the next, and at each 1,000th event the server crashes and restarts from the log (bench/crash_schedule.awk). Then the same with one client and no crash.
 # Then the lines of the larger report, but for its opening and its end, as lines_bench writes them from events and packets as bytes, beside a C
 # loop of fprintf of the same lines (gcc -O2); and the reading of a schedule of 8 MiB. Of each the least processor time of 7 turns.
 set -eu
@@ -44,10 +45,34 @@ time_schedule() {
 
 write_schedule 999
 write_schedule 9999
+for events in 10000 100000; do
+    awk -v events="$events" -f bench/crash_schedule.awk >"$schedules/crash$events"
+done
 machine
-{ time_schedule 999; time_schedule 9999; } | awk '
-    NR == 1 { small = $1; printf "10,000 events: %.1f ms, %d MB\n", $1 / 1000000, $2 / 1000 }
-    NR == 2 { printf "100,000 events: %.1f ms, %d MB, %.1f times the smaller\n", $1 / 1000000, $2 / 1000, $1 / small }'
+compare() {
+    awk '
+        NR == 1 { small = $1; printf "10,000 events: %.1f ms, %d MB\n", $1 / 1000000, $2 / 1000 }
+        NR == 2 { printf "100,000 events: %.1f ms, %d MB, %.1f times the smaller, %.0f events a second\n", $1 / 1000000, $2 / 1000, $1 / small, 1e14 / $1 }'
+}
+echo 'eight clients, with crashes'
+{ time_schedule crash10000; time_schedule crash100000; } | compare
+grep -q '^end ' "$schedules/report" || { echo "the schedule with crashes isn't played to its end"; exit 1; }
+# the bytes of the packets: 40 for a segment and 44 with its option, and the length of each kind of message
+awk '
+    BEGIN {
+        split("Hello 16 Summary 18 List 18 Entry 48 Bytes 26 Cuts 26 Open 32 Opened 32 Stable 31 Read 28 Reads 31 Done 22 Ended 22 Stale 24 Full 22 Part 26 Lens 26 Data 30", kind)
+        for (i = 1; i in kind; i += 2) size[kind[i]] = kind[i + 1]
+    }
+    $1 == "packet" {
+        packets += 1
+        name = $4
+        if (name in size) { bytes += size[name]; if (name == "Data" || name == "Part") bytes += $NF == "-" ? 0 : length($NF) / 2; if (name == "Lens") bytes += 2 * split($NF, lens, ",") }
+        else bytes += 40 + ($12 == "-" ? 0 : 4) + ($NF == "-" ? 0 : length($NF) / 2)
+    }
+    END { printf "%d packets of %.1f MB; 1.2 times that and 64 bytes for each are %.1f MB\n", packets, bytes / 1e6, (1.2 * bytes + 64 * packets) / 1e6 }' "$schedules/report"
+printf 'schedule %s bytes, report %s bytes\n' "$(wc -c <"$schedules/crash100000")" "$(wc -c <"$schedules/report")"
+echo 'one client, without a crash'
+{ time_schedule 999; time_schedule 9999; } | compare
 
 build lines_bench write 9 1
 lines=$PWD/crates/lines_bench/out/lines_bench

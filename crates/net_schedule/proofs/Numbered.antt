@@ -1,9 +1,15 @@
--- A packet by its number, among packets seen as those of the definitions.
-use Rattle.std.proofs.Common.{◌≡◌, sym, ℕ, zero, suc, option_map, List, map, refl}
-use Rattle.std.proofs.lemmas.Option.{slice_get-map}
-use Rattle.ft_model.specs.Network.{Packet, packet_at}
+-- No element has the number 0, nor one past the last.
+use Rattle.std.proofs.Common.{◌≡◌, ℕ, zero, suc, ◌<◌, ◌≤◌, subst, sym, refl, None, List, [], ◌∷◌, length, slice_get, arith}
 use Rattle.net_schedule.specs.AtNumber.{at_number}
 
-pub seen_at : {X : Type 0} (seen : X → Packet) (xs : List X) (n : ℕ) → option_map seen (at_number xs n) ≡ packet_at (map seen xs) n
-seen_at seen xs zero = refl
-seen_at seen xs (suc m) = sym (slice_get-map seen xs m)
+pub none_at : {X : Type 0} (xs : List X) (n : ℕ) → n ≡ 0 → None ≡ at_number xs n
+none_at xs n e = subst (λ k. None ≡ at_number xs k) (sym e) refl
+
+pub past : {X : Type 0} (xs : List X) (m : ℕ) → length xs ≤ m → slice_get xs m ≡ None
+past [] m h = refl
+past (x ∷ xs) zero h = absurd (omega arith)
+past (x ∷ xs) (suc m) h = past xs m (omega arith)
+
+pub none_past : {X : Type 0} (xs : List X) (n : ℕ) → length xs < n → None ≡ at_number xs n
+none_past xs zero h = refl
+none_past xs (suc n) h = sym (past xs n (omega arith))

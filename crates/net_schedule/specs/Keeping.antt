@@ -1,11 +1,21 @@
--- What a message changes in one entry of the log.
-use Rattle.std.specs.Prelude.{if◌then◌else◌}
-use Rattle.ft_io.specs.Key.{key_eq}
-use Rattle.seq_arith.specs.Message.{Body}
-use Rattle.seq_arith.specs.Message.Body.{DataMsg, ReadMsg}
-use Rattle.ft_model.specs.Log.{Entry, with_part, with_read}
+-- What the code's world keeps, as its contracts see it.
+use Rattle.std.specs.Prelude.{option_map}
+use Rattle.server_trait.specs.declared.Service.{Ghosts}
+use Rattle.server_node.specs.declared.node.Node.{Node}
+use Rattle.net_schedule.specs.declared.world.World.{World}
+use Rattle.net_schedule.specs.Standing.{Kept, Server}
 
-abbrev pub kept_in : Body → Entry → Entry
-kept_in (DataMsg part) e = if key_eq e.key part.key then with_part part e else e
-kept_in (ReadMsg key index length) e = if key_eq e.key key then with_read index length e else e
-kept_in _ e = e
+abbrev pub server_of : {State : Type 0} {ghosts : Ghosts State} → Node State ghosts → Server State
+server_of node = record { who = node.who; stage = node.stage }
+
+abbrev pub kept : {State : Type 0} {ghosts : Ghosts State} → World State ghosts → Kept State
+kept w = record {
+  kind = w.kind;
+  server = w.server;
+  keys = w.keys.items;
+  clients = w.clients.items;
+  log = w.log;
+  packets = w.packets;
+  boot = w.boot;
+  node = option_map server_of w.node;
+}

@@ -1,87 +1,87 @@
--- The world of the code and a world of the definitions at which it stands, and what a step does to both.
-use Rattle.std.specs.Prelude.{◌≡◌, ℕ, ◌+◌, ◌<◌, ◌≤◌, Option, None, Some, List, ◌++◌, length, map}
-use Rattle.std.specs.List.{AllByRecursion}
+-- The world of the code, the world of the definitions at which it stands, and what an event does to both.
+use Rattle.std.specs.Prelude.{◌≡◌, ℕ, Option, None, Some, List, ◌++◌, map}
 use Rattle.ft_io.specs.declared.Addr.{Addr}
 use Rattle.ft_io.specs.declared.Key.{Key}
 use Rattle.server_trait.specs.Service.{Machine}
 use Rattle.ft_model.specs.Client.{Client}
 use Rattle.ft_model.specs.Log.{Log}
 use Rattle.ft_model.specs.Network.{Packet}
-use Rattle.ft_model.specs.Network.Packet.{To_server}
-use Rattle.ft_model.specs.Node.{Node}
+use Rattle.ft_model.specs.Node.{Node, Stage}
+use Rattle.ft_model.specs.Wire.{wire_of}
 use Rattle.ft_model.specs.World.{World as Seen, Happens}
 use Rattle.ft_model.specs.Legal.{refusal, IsScripted}
 use Rattle.ft_model.specs.declared.event.Event.{Event}
-use Rattle.net_schedule.specs.Server.{Server, ServerStands, IsOfStage, ClosesAtEnd}
+use Rattle.server_node.specs.Identity.{node_of}
+use Rattle.server_node.specs.Stages.{StageStands}
+use Rattle.server_node.specs.declared.identity.Identity.{Identity}
+use Rattle.server_node.specs.declared.stage.Stage.{Stage as Holds}
+use Rattle.net_schedule.specs.Carried.{Carried, carried}
 use Rattle.net_schedule.specs.declared.end.StepEnd.{StepEnd}
 use Rattle.net_schedule.specs.declared.end.StepEnd.TheVariants.{NoMemory, BadEvent, PacketLimit}
-use Rattle.net_schedule.specs.declared.step_out.StepOut.{StepOut}
 
--- what the code's world keeps, with its packets as those of the definitions
+-- a server that is up: what never changes of it, and what it holds
+pub record Server (State : Type 0) : Type 0 where
+  pub who : Identity
+  pub stage : Holds State
+
+-- what the code's world keeps
 pub record Kept (State : Type 0) : Type 0 where
-  pub kind : ℕ
+  pub kind : ℕ  -- of the service
   pub server : Addr
+  pub keys : List Key  -- of the clients
   pub clients : List Client
   pub log : Log
-  pub packets : List Packet
+  pub packets : Carried
   pub boot : ℕ
   pub node : Option (Server State)
 
+-- the server runs the service of this kind, and stands at an incarnation
+pub record IsAt {State : Type 0} (service : Machine State) (kind : ℕ) (now : Server State) (node : Node) : Type 0 where
+  pub kind_is : now.who.kind ≡ kind
+  pub standing : Stage
+  pub is : node ≡ node_of now.who standing
+  pub stands : StageStands service (node_of now.who standing) now.stage
+
 -- the server is down in both, or it stands at the incarnation that is up
-abbrev pub NodeStands : {State : Type 0} → Machine State → Key → Option (Server State) → Option Node → Type 0
-NodeStands service key None None = Unit {0}
-NodeStands service key (Some s) (Some node) = ServerStands service key s node
-NodeStands service key _ _ = ⊥
+abbrev pub NodeStands : {State : Type 0} → Machine State → ℕ → Option (Server State) → Option Node → Type 0
+NodeStands service kind None None = Unit {0}
+NodeStands service kind (Some now) (Some node) = IsAt service kind now node
+NodeStands service kind _ _ = ⊥
 
--- a packet to the server is one of this stage's: from the one client that there is, to this server, without FIN and RST
-abbrev pub IsSentInStage : Addr → Key → Packet → Type 0
-IsSentInStage server key (To_server segment) = IsOfStage server key segment
-IsSentInStage server key _ = Unit {0}
-
--- a client of this stage is the one that there is
-pub record IsClientOfStage (server : Addr) (key : Key) (client : Client) : Type 0 where
-  pub key_is : client.key ≡ key
-  pub server_is : client.server ≡ server
-
--- The code's world stands at a world of the definitions.
+-- The code's world stands at a world of the definitions: each packet is kept in its one spelling, with its way.
 pub record WorldStands {State : Type 0} (service : Machine State) (w : Kept State) (v : Seen) : Type 0 where
-  pub key : Key
   pub server : w.server ≡ v.server
+  pub keys : w.keys ≡ map (λ c. c.key) v.clients
   pub clients : w.clients ≡ v.clients
   pub log : w.log ≡ v.log
-  pub packets : w.packets ≡ v.packets
+  pub packets : w.packets ≡ carried w.keys (map wire_of v.packets)
   pub boot : w.boot ≡ v.boot
-  pub node : NodeStands service key w.node v.node
-  pub local : (node : Node) → v.node ≡ Some node → node.server ≡ v.server
-  pub sent : AllByRecursion (IsSentInStage v.server key) v.packets
-  pub of_stage : AllByRecursion (IsClientOfStage v.server key) v.clients
-  pub alone : length v.clients ≤ 1
-  pub kinds : (s : Server State) → w.node ≡ Some s → s.kind ≡ w.kind
-  pub closes_at_end : ClosesAtEnd service
+  pub node : NodeStands service w.kind w.node v.node
 
--- An event is allowed and happens, the clients follow the script, and the code's world stands at the world after it.
-pub record Advances {State : Type 0} (service : Machine State) (v : Seen) (event : Event) (w : Kept State) : Type 0 where
+-- The world goes on to one after it, with these packets sent, and the code's world stands there.
+pub record GoesOn {State : Type 0} (service : Machine State) (Goes : List Packet → Seen → Type 0) (v : Seen) (w : Kept State) : Type 0 where
   pub sent : List Packet
   pub world : Seen
-  pub allowed : refusal v event ≡ None
-  pub scripted : IsScripted v event sent world
-  pub happens : Happens service v event sent world
+  pub goes : Goes sent world
   pub stands : WorldStands service w world
   pub grew : world.packets ≡ v.packets ++ sent
-  pub keys : map (λ c. c.key) world.clients ≡ map (λ c. c.key) v.clients
 
--- A step of the world, within the limit of packets: the answer names the packets that were sent in it.
-pub record Steps {State : Type 0} (service : Machine State) (v : Seen) (event : Event) (answer : StepOut) (w : Kept State) : Type 0 where
-  pub goes : Advances service v event w
-  pub first : answer.first ≡ length v.packets + 1
-  pub count : answer.count ≡ length goes.sent
-  pub within : length goes.world.packets ≤ 200000
+-- An event is allowed and happens, and the clients follow the script.
+pub record Advances {State : Type 0} (service : Machine State) (v : Seen) (event : Event) (w : Kept State) : Type 0 where
+  pub happens : GoesOn service (Happens service v event) v w
+  pub allowed : refusal v event ≡ None
+  pub scripted : IsScripted v event happens.sent happens.world
 
--- Where a step isn't done: what is refused is refused by the events' tests, and the packets would pass their limit.
-abbrev pub EndsStep : {State : Type 0} → Machine State → Seen → Event → Kept State → StepEnd → Type 0
-EndsStep service v event w NoMemory = Unit {0}
-EndsStep service v event w (BadEvent why) = refusal v event ≡ Some why
-EndsStep service v event w PacketLimit = (goes : Advances service v event w) × (200000 < length goes.world.packets)
+-- memory ran out
+abbrev pub IsForMemory : StepEnd → Type 0
+IsForMemory NoMemory = Unit {0}
+IsForMemory _ = ⊥
+
+-- an event that isn't done is refused by the events' tests, or memory ran out
+abbrev pub Refuses : Seen → Event → StepEnd → Type 0
+Refuses v event NoMemory = Unit {0}
+Refuses v event (BadEvent why) = refusal v event ≡ Some why
+Refuses v event PacketLimit = ⊥
 
 -- the world may only be dropped, or is as it was before
 abbrev pub KeepsAtRefusal : {State : Type 0} → Kept State → Kept State → StepEnd → Type 0

@@ -5,6 +5,7 @@ ghost use Rattle.net_schedule.specs.declared.end.StepEnd.TheVariants.{NoMemory, 
 
 use ft_io::NoMemory;
 use ft_model::EventWhy;
+use peer_client::Refused;
 use std::alloc::{AllocError, AllocFailed};
 use thiserror::Error;
 
@@ -43,5 +44,13 @@ impl<T: Drop> From<AllocFailed<T>> for StepEnd {
 
     fn from(_error: AllocFailed<T>) -> StepEnd {
         StepEnd::NoMemory
+    }
+}
+
+impl From<Refused> for StepEnd {
+    ghost from_gives = { λ refused e. e ≡ BadEvent refused.why };
+
+    fn from(refused: Refused) -> StepEnd {
+        StepEnd::BadEvent(refused.why)
     }
 }

@@ -1,21 +1,15 @@
-//! The world of a schedule: clients that follow the script, a network that delivers what the schedule names, a logger and a server.
+//! The world of a schedule: clients that follow the script, a network that keeps each packet as bytes and delivers what the schedule names, a
+//! logger, and a server that crashes and restarts.
 #![tactic(auto)]
 
 pub use end::StepEnd;
-pub use plain_entry::PlainEntry;
-pub use plain_log::PlainLog;
-pub use scripted_client::ScriptedClient;
 pub use step_out::StepOut;
 pub use world::World;
 
-mod arrival;
-mod client_move;
-mod connection;
+mod clients;
 mod end;
 pub mod laws;
-mod plain_entry;
-mod plain_log;
-mod plain_server;
-mod scripted_client;
+mod packets;
+mod sending;
 mod step_out;
 mod world;

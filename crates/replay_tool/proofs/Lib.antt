@@ -1,5 +1,5 @@
-pub mod EchoRuns
+pub mod Fronts
 pub mod Following
 pub mod Playing
-pub mod Stopping
+pub mod Ending
 pub mod Settling

@@ -1,161 +1,140 @@
--- What is written of one event more, and of all that a run has played.
-use Rattle.std.proofs.Common.{◌≡◌, ◌∙◌, ℕ, suc, ◌+◌, Option, None, Some, List, [], ◌∷◌, ◌++◌, length, map, refl, sym, ap, subst, Ok, Err, Result, OnOk, IfErr, IsErrAnd, IfSome, take, ◌<◌, arith}
-use Rattle.std.proofs.lemmas.List.{length-append, append_assoc, append-nil, length-take-le}
-use Rattle.std.proofs.Math.ListN.{get_or}
-use Rattle.std.proofs.Math.Seq.{take-suc}
-use Rattle.std.specs.List.{flat_map}
-use Rattle.std.specs.Io.KnownBytes.{Appends}
+-- A run that has played some events of a schedule plays one more, or ends there.
+use Rattle.std.proofs.Common.{◌≡◌, ◌∙◌, ℕ, suc, ◌+◌, ◌≤◌, ◌<◌, Option, None, Some, List, [], ◌∷◌, ◌++◌, length, refl, sym, ap, ap₂, subst, inl, inr, arith, append_assoc, append-nil, length-append}
 use Rattle.sample_servers.specs.AnyService.{any_machine}
 use Rattle.sample_servers.specs.declared.any_service.AnyService.{AnyService}
 use Rattle.ft_model.specs.Client.{Client}
+use Rattle.ft_model.specs.Legal.{start_of, refusal, IsLegalFor}
 use Rattle.ft_model.specs.Network.{Packet}
-use Rattle.ft_model.specs.Schedule.{kind_of, clients_of}
-use Rattle.ft_model.specs.World.{World as Seen, Moment, Joint, world_after, IsStart}
-use Rattle.ft_model.specs.Masked.{Masked}
-use Rattle.ft_model.specs.Legal.{start_of, IsLegalFor}
-use Rattle.ft_model.specs.Report.{header, event_line, packet_lines, packet_count, event_lines, client_lines, log_line, end_line}
+use Rattle.ft_model.specs.Outcome.{packets_sent}
+use Rattle.ft_model.specs.Report.{header, event_line, packet_lines, packet_count, event_lines, report}
+use Rattle.ft_model.specs.Schedule.{clients_of}
+use Rattle.ft_model.specs.World.{Moment, events_of}
 use Rattle.ft_model.specs.declared.event.Event.{Event}
-use Rattle.schedule_text.specs.Stage.{read_built}
+use Rattle.ft_model.specs.declared.event.EventWhy.{EventWhy}
 use Rattle.ft_model.specs.declared.schedule.Schedule.{Schedule}
-use Rattle.net_schedule.specs.Standing.{Kept, WorldStands, Advances, Steps}
+use Rattle.net_schedule.specs.Standing.{Kept, KeepsAtRefusal}
+use Rattle.net_schedule.specs.Sent.{packets_of}
+use Rattle.net_schedule.specs.Stepping.{StandsAfter, Extends, Steps, EndsStep}
+use Rattle.net_schedule.specs.declared.end.StepEnd.{StepEnd}
+use Rattle.net_schedule.specs.declared.end.StepEnd.TheVariants.{NoMemory, BadEvent, PacketLimit}
 use Rattle.net_schedule.specs.declared.step_out.StepOut.{StepOut}
-use Rattle.replay_tool.specs.Played.{PlaysEvent, Reaches, IsPlayed, IsReported}
+use Rattle.replay_tool.specs.Ends.{end_of_step}
+use Rattle.replay_tool.specs.OnItsWay.{IsOnItsWay, Wrote, WroteFront, Holds}
+use Rattle.replay_tool.specs.Played.{IsSafe, IsPlayedTo, lines_so_far, reached, ReportsFront, ReportsToLimit}
+use Rattle.replay_tool.specs.Standing.{IsStanding}
+use Rattle.replay_tool.specs.Playing.{Reaches, StandsAt, StopsPlaying}
+use Rattle.replay_tool.proofs.Fronts.{more_held}
 
--- the lines of packets depend on the clients' keys alone
-abbrev pub KeysTell : Type 0
-KeysTell = (cs ds : List Client) (n : ℕ) (ps : List Packet) → map (λ c. c.key) cs ≡ map (λ c. c.key) ds → packet_lines cs n ps ≡ packet_lines ds n ps
+-- what holds of every legal trace
+abbrev pub AreSafe : Type 0
+AreSafe = (schedule : Schedule) (events : List Event) (trace : List Moment) → IsLegalFor any_machine schedule events trace → packets_sent schedule trace ≤ 200000 → IsSafe schedule trace
 
--- what the headline says of the services
-abbrev pub AlwaysMasked : Type 0
-AlwaysMasked = (kind : ℕ) (start : Seen) (trace : List Moment) → Joint (any_machine kind) start trace → Masked (any_machine kind) start trace
+-- a trace has a moment for each event
+pub as_many_events : (trace : List Moment) → length (events_of trace) ≡ length trace
+as_many_events [] = refl
+as_many_events (moment ∷ earlier) = omega (arith, length-append (events_of earlier) (moment.event ∷ []), as_many_events earlier)
 
--- what is appended twice is appended at once
-pub appends_both : (a b c : Option (List ℕ)) (xs ys : List ℕ) → Appends a b xs → Appends b c ys → Appends a c (xs ++ ys)
-appends_both None b c xs ys p q = tt
-appends_both (Some a) None c xs ys p q = absurd p
-appends_both (Some a) (Some b) None xs ys p q = absurd q
-appends_both (Some a) (Some b) (Some c) xs ys p q = q ∙ (ap (λ l. l ++ ys) p ∙ append_assoc a xs ys)
+-- behind the same events the same event comes last
+last_same : (xs : List Event) (a b : Event) → xs ++ a ∷ [] ≡ xs ++ b ∷ [] → a ≡ b
+last_same [] a b e = cc
+last_same (x ∷ xs) a b e = last_same xs a b cc
 
--- the lines of an event and of the packets that it sent
-pub played : (kind n : ℕ) (v : Seen) (event : Event) (answer : StepOut) (w : Kept AnyService) (old new : Option (List ℕ)) (first lines : List ℕ) → KeysTell → Steps (any_machine kind) v event answer w
-    → w.kind ≡ kind → first ≡ event_line n event
-    → ((before sent : List Packet) → w.packets ≡ before ++ sent → answer.first ≡ length before + 1 → answer.count ≡ length sent → lines ≡ first ++ packet_lines w.clients answer.first sent)
-    → Appends old new lines → PlaysEvent kind n v event w old new
-played kind n v event answer w old new first lines law s same_kind at rest out = record {
-  goes = s.goes;
-  same_kind = same_kind;
-  within = s.within;
-  written = subst (Appends old new)
-      (rest v.packets s.goes.sent (s.goes.stands.packets ∙ s.goes.grew) s.first s.count
-      ∙ (ap (λ l. l ++ packet_lines w.clients answer.first s.goes.sent) at
-      ∙ (ap (λ k. event_line n event ++ packet_lines w.clients k s.goes.sent) s.first
-      ∙ ap (λ l. event_line n event ++ l) (law w.clients v.clients (length v.packets + 1) s.goes.sent (ap (map (λ c. c.key)) s.goes.stands.clients ∙ s.goes.keys)))))
-      out;
+pub last_event : (schedule : Schedule) (events : List Event) (event : Event) (moment : Moment) (trace : List Moment) → IsLegalFor any_machine schedule events trace
+    → IsLegalFor any_machine schedule (events ++ event ∷ []) (moment ∷ trace) → moment.event ≡ event
+last_event schedule events event moment trace before after =
+    last_same events moment.event event (ap (λ es. es ++ moment.event ∷ []) (sym before.events_are) ∙ after.events_are)
+
+-- an event more is played
+abbrev pub more_played : AreSafe → (schedule : Schedule) (others : List Event) (event : Event) (p : IsPlayedTo schedule (event ∷ others)) (moment : Moment)
+    → IsLegalFor any_machine schedule (p.events ++ event ∷ []) (moment ∷ p.trace) → packets_sent schedule (moment ∷ p.trace) ≤ 200000 → IsPlayedTo schedule others
+more_played safe schedule others event p moment legal within = record {
+  events = p.events ++ event ∷ [];
+  trace = moment ∷ p.trace;
+  split = p.split ∙ sym (append_assoc p.events (event ∷ []) others);
+  legal = legal;
+  safe = safe schedule (p.events ++ event ∷ []) (moment ∷ p.trace) legal within;
 }
 
--- a legal trace with one event more
-pub legal_more : (schedule : Schedule) (events : List Event) (event : Event) (w : Kept AnyService) (trace : List Moment) → IsLegalFor any_machine schedule events trace
-    → (goes : Advances (any_machine (kind_of schedule.service)) (world_after (start_of schedule) trace) event w)
-    → IsLegalFor any_machine schedule (events ++ event ∷ []) (record { event = event; sent = goes.sent; world = goes.world } ∷ trace)
-legal_more schedule events event w trace legal goes = record {
-  joint = (legal.joint, goes.happens);
-  events_are = ap (λ es. es ++ event ∷ []) legal.events_are;
-  allowed = (legal.allowed, record { allowed = goes.allowed; scripted = goes.scripted });
-}
-
--- a run that has played some events plays one more
-pub reaches_more : (schedule : Schedule) (events : List Event) (event : Event) (n : ℕ) (w w' : Kept AnyService) (start old new : Option (List ℕ)) → KeysTell → (r : Reaches schedule events w start old) → n ≡ length events + 1
-    → PlaysEvent (kind_of schedule.service) n (world_after (start_of schedule) r.trace) event w' old new → Reaches schedule (events ++ event ∷ []) w' start new
-reaches_more schedule events event n w w' start old new law r at p =
+-- the lines of an event and of its packets, behind those of the events before it
+pub more_lines : (schedule : Schedule) (event : Event) (n first : ℕ) (moment : Moment) (trace : List Moment) → moment.event ≡ event → n ≡ length trace + 1 → first ≡ packet_count trace + 1
+    → lines_so_far schedule trace ++ (event_line n event ++ packet_lines (clients_of schedule.server schedule.clients) first moment.sent) ≡ lines_so_far schedule (moment ∷ trace)
+more_lines schedule event n first moment trace same at from =
     let clients : List Client = clients_of schedule.server schedule.clients in
-    let v : Seen = world_after (start_of schedule) r.trace in
-    let total = length-append events (event ∷ []) in
-    let played_so_far : length r.trace ≡ length events = r.count in
-    let count : suc (length r.trace) ≡ length (events ++ event ∷ []) = omega arith in
-    let number : n ≡ length r.trace + 1 = at ∙ ap (λ k. k + 1) (sym r.count) in
+    append_assoc (header schedule) (event_lines clients trace) (event_line n event ++ packet_lines clients first moment.sent)
+    ∙ (ap (λ e. header schedule ++ (event_lines clients trace ++ (event_line n e ++ packet_lines clients first moment.sent))) (sym same)
+    ∙ (ap (λ k. header schedule ++ (event_lines clients trace ++ (event_line k moment.event ++ packet_lines clients first moment.sent))) at
+    ∙ ap (λ k. header schedule ++ (event_lines clients trace ++ (event_line (length trace + 1) moment.event ++ packet_lines clients k moment.sent))) from))
+
+-- a run plays one more
+pub plays_on : AreSafe → (schedule : Schedule) (others : List Event) (event : Event) (n : ℕ) (w w' : Kept AnyService) (old now : Option (List ℕ)) (held after lines : List ℕ) (answer : StepOut)
+    → (r : Reaches schedule (event ∷ others) w old now held) → n ≡ length r.played.events + 1 → (s : Steps any_machine schedule r.played.events r.played.trace event answer w')
+    → lines ≡ event_line n event ++ packet_lines (clients_of schedule.server schedule.clients) answer.first s.extends.moment.sent → after ≡ held ++ lines
+    → Reaches schedule others w' old now after
+plays_on safe schedule others event n w w' old now held after lines answer r at s are grown =
+    let moment : Moment = s.extends.moment in
+    let trace : List Moment = r.played.trace in
+    let same : moment.event ≡ event = last_event schedule r.played.events event moment trace r.played.legal s.extends.stands.legal in
+    let events : length r.played.events ≡ length trace = ap length (sym r.played.legal.events_are) ∙ as_many_events trace in
+    let number : n ≡ length trace + 1 = at ∙ ap (λ k. k + 1) events in
+    let first : answer.first ≡ packet_count trace + 1 = s.first ∙ ap (λ k. k + 1) r.counted in
+    let text : lines_so_far schedule trace ++ lines ≡ lines_so_far schedule (moment ∷ trace) =
+    ap (λ l. lines_so_far schedule trace ++ l) are ∙ more_lines schedule event n answer.first moment trace same number first in
+    let way : IsOnItsWay old now (held ++ lines) (lines_so_far schedule trace ++ lines) = more_held old now held (lines_so_far schedule trace) lines r.text in
     record {
-      trace = record { event = event; sent = p.goes.sent; world = p.goes.world } ∷ r.trace;
-      legal = legal_more schedule events event w' r.trace r.legal p.goes;
-      within = p.within;
-      stands = p.goes.stands;
-      kind = p.same_kind;
-      count = count;
-      packets = ap length p.goes.grew ∙ (length-append v.packets p.goes.sent ∙ ap (λ k. k + length p.goes.sent) r.packets);
-      keys = p.goes.keys ∙ r.keys;
-      written = subst (Appends start new)
-          (append_assoc (header schedule) (event_lines clients r.trace) (event_line n event ++ packet_lines v.clients (length v.packets + 1) p.goes.sent)
-          ∙ (ap (λ k. header schedule ++ (event_lines clients r.trace ++ (event_line k event ++ packet_lines v.clients (length v.packets + 1) p.goes.sent))) number
-          ∙ (ap (λ k. header schedule ++ (event_lines clients r.trace ++ (event_line (length r.trace + 1) event ++ packet_lines v.clients (k + 1) p.goes.sent))) r.packets
-          ∙ ap (λ l. header schedule ++ (event_lines clients r.trace ++ (event_line (length r.trace + 1) event ++ l))) (law v.clients clients (packet_count r.trace + 1) p.goes.sent r.keys))))
-          (appends_both start old new (header schedule ++ event_lines clients r.trace) (event_line n event ++ packet_lines v.clients (length v.packets + 1) p.goes.sent) r.written p.written);
+      played = more_played safe schedule others event r.played moment s.extends.stands.legal s.within;
+      stands = s.extends.stands;
+      counted = ap length s.extends.grew ∙ length-append (reached schedule trace).packets moment.sent ∙ ap (λ k. k + length moment.sent) r.counted;
+      text = subst (λ l. IsOnItsWay old now l (lines_so_far schedule (moment ∷ trace))) (sym grown) (subst (IsOnItsWay old now (held ++ lines)) text way);
     }
 
--- the first events with the next one
-pub one_played : (events : List Event) (event : Event) (i : ℕ) → i < length events → event ≡ get_or events i event → take i events ++ event ∷ [] ≡ take (i + 1) events
-one_played events event i within same =
-    let one : i + 1 ≡ suc i = omega arith in
-    ap (λ e. take i events ++ e ∷ []) same ∙ (sym (take-suc events i event within) ∙ ap (λ k. take k events) (sym one))
+-- what was written of an event and of its packets
+pub event_played : AreSafe → (schedule : Schedule) (others : List Event) (event : Event) (n : ℕ) (w w' : Kept AnyService) (old now : Option (List ℕ)) (held after none lines : List ℕ) (answer : StepOut)
+    → (r : Reaches schedule (event ∷ others) w old now held) → n ≡ length r.played.events + 1 → Steps any_machine schedule r.played.events r.played.trace event answer w'
+    → ((schedule : Schedule) (events : List Event) (trace : List Moment) (before sent : List Packet) → StandsAfter any_machine schedule events trace w' → packets_of schedule trace ≡ before ++ sent
+    → answer.first ≡ length before + 1 → answer.count ≡ length sent → lines ≡ none ++ (event_line n event ++ packet_lines (clients_of schedule.server schedule.clients) answer.first sent))
+    → none ≡ [] → after ≡ held ++ lines → Reaches schedule others w' old now after
+event_played safe schedule others event n w w' old now held after none lines answer r at s written is_none grown =
+    let moment : Moment = s.extends.moment in
+    let here : List ℕ = event_line n event ++ packet_lines (clients_of schedule.server schedule.clients) answer.first moment.sent in
+    plays_on safe schedule others event n w w' old now held after lines answer r at s
+    (written schedule (r.played.events ++ event ∷ []) (moment ∷ r.played.trace) (packets_of schedule r.played.trace) moment.sent s.extends.stands s.extends.grew s.first s.count ∙ ap (λ l. l ++ here) is_none) grown
 
--- a run that has played the first events of a schedule plays the next one
-pub reaches_next : (schedule : Schedule) (events : List Event) (event : Event) (i : ℕ) (w w' : Kept AnyService) (start old new : Option (List ℕ)) → KeysTell → i < length events → event ≡ get_or events i event
-    → ((v : Seen) → WorldStands (any_machine w.kind) w v → PlaysEvent w.kind (i + 1) v event w' old new) → Reaches schedule (take i events) w start old → Reaches schedule (take (i + 1) events) w' start new
-reaches_next schedule events event i w w' start old new law within same goes r =
-    let first : length (take i events) ≡ i = length-take-le i events (omega arith) in
-    let plays : (v : Seen) → WorldStands (any_machine (kind_of schedule.service)) w v → PlaysEvent (kind_of schedule.service) (i + 1) v event w' old new =
-    subst (λ k. (v : Seen) → WorldStands (any_machine k) w v → PlaysEvent k (i + 1) v event w' old new) r.kind goes in
-    subst (λ es. Reaches schedule es w' start new) (one_played events event i within same)
-    (reaches_more schedule (take i events) event (i + 1) w w' start old new law r (ap (λ k. k + 1) (sym first)) (plays (world_after (start_of schedule) r.trace) r.stands))
+-- the world stands behind the event, and before it
+pub stands_on : (w w' : Kept AnyService) (event : Event) (answer : StepOut) → (i : IsStanding w) → Steps any_machine i.schedule i.events i.trace event answer w' → IsStanding w'
+stands_on w w' event answer i s = record { schedule = i.schedule; events = i.events ++ event ∷ []; trace = s.extends.moment ∷ i.trace; stands = s.extends.stands }
 
--- before the first event only the header is written
-pub reaches_none : (schedule : Schedule) (w : Kept AnyService) (old new : Option (List ℕ)) → IsStart (start_of schedule) → WorldStands (any_machine (kind_of schedule.service)) w (start_of schedule) → w.kind ≡ kind_of schedule.service → Appends old new (header schedule) → Reaches schedule [] w old new
-reaches_none schedule w old new start stands kind written = record {
-  trace = [];
-  legal = record { joint = start; events_are = refl; allowed = tt };
-  stands = stands;
-  kind = kind;
-  count = refl;
-  packets = refl;
-  within = omega arith;
-  keys = refl;
-  written = subst (Appends old new) (sym (append-nil (header schedule))) written;
-}
+pub stands_where : (schedule : Schedule) (others : List Event) (w : Kept AnyService) (old now : Option (List ℕ)) (held : List ℕ) → Reaches schedule others w old now held → IsStanding w
+stands_where schedule others w old now held r = record { schedule = schedule; events = r.played.events; trace = r.played.trace; stands = r.stands }
 
--- with the closing lines the report is whole
-pub closes : (schedule : Schedule) (w : Kept AnyService) (n : ℕ) (old mid new : Option (List ℕ)) → AlwaysMasked → Reaches schedule schedule.events w old mid → n ≡ length schedule.events
-    → Appends mid new (client_lines 1 w.clients ++ (flat_map log_line w.log.entries ++ end_line n)) → IsPlayed schedule old new
-closes schedule w n old mid new mask r at out =
-    let lines : List ℕ = event_lines (clients_of schedule.server schedule.clients) r.trace in
-    let v : Seen = world_after (start_of schedule) r.trace in
-    record {
-      trace = r.trace;
-      legal = r.legal;
-      masked = mask (kind_of schedule.service) (start_of schedule) r.trace r.legal.joint;
-      within = r.within;
-      written = subst (Appends old new)
-          (append_assoc (header schedule) lines (client_lines 1 w.clients ++ (flat_map log_line w.log.entries ++ end_line n))
-          ∙ (ap (λ cs. header schedule ++ (lines ++ (client_lines 1 cs ++ (flat_map log_line w.log.entries ++ end_line n)))) r.stands.clients
-          ∙ (ap (λ l. header schedule ++ (lines ++ (client_lines 1 v.clients ++ (flat_map log_line l.entries ++ end_line n)))) r.stands.log
-          ∙ ap (λ k. header schedule ++ (lines ++ (client_lines 1 v.clients ++ (flat_map log_line v.log.entries ++ end_line k)))) (at ∙ sym r.count))))
-          (appends_both old mid new (header schedule ++ lines) _ r.written out);
-    }
+-- its text goes on to the sink
+pub goes_out : (schedule : Schedule) (others : List Event) (w : Kept AnyService) (old now new : Option (List ℕ)) (held after : List ℕ) → Reaches schedule others w old now held
+    → ((old : Option (List ℕ)) (text : List ℕ) → IsOnItsWay old now held text → IsOnItsWay old new after text) → Reaches schedule others w old new after
+goes_out schedule others w old now new held after r out = record { played = r.played; stands = r.stands; counted = r.counted; text = out old (lines_so_far schedule r.played.trace) r.text }
 
--- what is known where a call ends well
-pub on_ok : {T E A B : Type 0} (r : Result T E) → (A → B) → OnOk r A → OnOk r B
-on_ok (Ok x) f a = f a
-on_ok (Err e) f a = tt
+-- .. or a front of it
+pub goes_out_in_part : (schedule : Schedule) (others : List Event) (w : Kept AnyService) (old now new : Option (List ℕ)) (held : List ℕ) → Reaches schedule others w old now held
+    → ((old : Option (List ℕ)) (text : List ℕ) → IsOnItsWay old now held text → WroteFront old new text) → Wrote old new (ReportsFront schedule)
+goes_out_in_part schedule others w old now new held r out =
+    let f : WroteFront old new (lines_so_far schedule r.played.trace) = out old (lines_so_far schedule r.played.trace) r.text in
+    (f.0, f.1, record { others = others; played = r.played; front = inl f.2 })
 
--- what is known where a call doesn't end well
-pub on_err : {T E : Type 0} {A B : E → Type 0} (r : Result T E) → ((end : E) → A end → B end) → IfErr r A → IfErr r B
-on_err (Ok x) f a = tt
-on_err (Err e) f a = f e a
+-- memory ran out
+pub holds_front : (schedule : Schedule) (others : List Event) (w : Kept AnyService) (old now : Option (List ℕ)) (held : List ℕ) → Reaches schedule others w old now held → Holds old now held (ReportsFront schedule)
+holds_front schedule others w old now held r =
+    (lines_so_far schedule r.played.trace, r.text, record { others = others; played = r.played; front = inl ([], append-nil (lines_so_far schedule r.played.trace)) })
 
--- what is known of an error
-pub if_err : {T E : Type 0} {A B : E → Type 0} (r : Result T E) → IsErrAnd r A → ((end : E) → A end → B end) → IfErr r B
-if_err (Ok x) a f = absurd a
-if_err (Err e) a f = f e a
+holds_to_limit : (schedule : Schedule) (others : List Event) (event : Event) (w w' : Kept AnyService) (old now : Option (List ℕ)) (held : List ℕ) (r : Reaches schedule (event ∷ others) w old now held)
+    → EndsStep any_machine schedule r.played.events r.played.trace event w' PacketLimit → Holds old now held (ReportsToLimit schedule)
+holds_to_limit schedule others event w w' old now held r e =
+    (lines_so_far schedule r.played.trace, r.text, record { event = event; others = others; moment = e.0.moment; played = r.played; legal = e.0.stands.legal; over = e.1; is = refl })
 
--- a whole text that spells a schedule which is played
-pub reports : (left : Option (List ℕ)) (text : List ℕ) (schedule : Schedule) (old new : Option (List ℕ)) → IfSome left (λ whole. text ≡ whole) → read_built text ≡ Ok schedule → IsPlayed schedule old new
-    → IfSome left (λ whole. IsReported whole old new)
-reports None text schedule old new same spelled p = tt
-reports (Some whole) text schedule old new same spelled p = record { schedule = schedule; spelled = ap read_built (sym same) ∙ spelled; played = p }
+-- a step isn't done
+pub step_ends : (schedule : Schedule) (others : List Event) (event : Event) (n : ℕ) (w w' : Kept AnyService) (old now : Option (List ℕ)) (held : List ℕ) (end : StepEnd)
+    → (r : Reaches schedule (event ∷ others) w old now held) → n ≡ length r.played.events + 1 → EndsStep any_machine schedule r.played.events r.played.trace event w' end
+    → KeepsAtRefusal w w' end → StopsPlaying schedule w' old now held (end_of_step end n)
+step_ends schedule others event n w w' old now held NoMemory r at e keeps = holds_front schedule (event ∷ others) w old now held r
+step_ends schedule others event n w w' old now held (BadEvent why) r at e keeps =
+    let back : Reaches schedule (event ∷ others) w' old now held =
+    record { played = r.played; stands = subst (StandsAfter any_machine schedule r.played.events r.played.trace) (sym keeps) r.stands; counted = r.counted; text = r.text } in
+    record { event = event; others = others; reaches = back; number_is = at; refused = e }
+step_ends schedule others event n w w' old now held PacketLimit r at e keeps = holds_to_limit schedule others event w w' old now held r e

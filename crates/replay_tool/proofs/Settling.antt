@@ -1,7 +1,8 @@
 -- The status by the text: what each status says of it, and that the text settles the status.
-use Rattle.std.proofs.Common.{◌≡◌, ◌∙◌, ◌⊎◌, inl, inr, ℕ, Bool, true, false, ◌==◌, ◌||◌, eqb-true, Option, None, Some, List, Ok, Err, refl, sym, ap, subst, IfSome, Result, arith}
+use Rattle.std.proofs.Common.{◌≡◌, ◌∙◌, ◌⊎◌, inl, inr, ℕ, Bool, true, false, ◌==◌, ◌||◌, eqb-true, Option, None, Some, List, Ok, Err, refl, sym, ap, subst, IfSome, Result, append-nil, arith}
+use Rattle.ft_model.specs.Grammar.{read_text}
 use Rattle.ft_model.specs.Grammar.{Refusal as reading}
-use Rattle.schedule_text.specs.Stage.{read_built}
+use Rattle.ft_model.specs.Legal.{IsLegalFor}
 use Rattle.ft_model.specs.Outcome.{IsWhole, IsRefused, IsPastPackets}
 use Rattle.ft_model.specs.declared.event.EventWhy.{EventWhy}
 use Rattle.ft_model.specs.declared.schedule.Schedule.{Schedule}
@@ -9,11 +10,15 @@ use Rattle.ft_model.specs.declared.schedule.LineWhy.{LineWhy}
 use Rattle.ft_model.specs.declared.schedule.Limit.{Limit}
 use Rattle.ft_model.specs.declared.schedule.Limit.TheVariants as limits
 use Rattle.sample_servers.specs.AnyService.{any_machine}
-use Rattle.replay_tool.specs.Ends.{code_of, is_code}
-use Rattle.replay_tool.specs.Causes.{IsInOrder, HasBadLine, HasBadEvent, IsPastLimit, IsSettled}
+use Rattle.replay_tool.specs.Ends.{code_of, is_code, CountsFaults}
+use Rattle.replay_tool.specs.Causes.{IsInOrder, HasBadLine, HasBadEvent, IsPastLimit, IsSettled, IsBadLineTold, IsReportedTill, IsLimitTold, IsWriteFault}
 use Rattle.replay_tool.specs.Causes.IsPastLimit.{by_text, by_packets}
-use Rattle.replay_tool.specs.Played.{IsReported, IsReportedTill}
-use Rattle.replay_tool.specs.Stops.{StopsRun, ReportsTill}
+use Rattle.std.specs.Io.KnownBytes.{Appends, IsAtEnd}
+use Rattle.ft_io.specs.Faults.{Rose}
+use Rattle.replay_tool.specs.ErrText.{told, text_of}
+use Rattle.replay_tool.specs.OnItsWay.{Wrote, WroteFront}
+use Rattle.replay_tool.specs.Played.{Spells, ReportsAll, ReportsTill, ReportsToLimit}
+use Rattle.replay_tool.specs.Runs.{StopsRun, PassesLimit, KeepsOut, IsReadOut}
 use Rattle.replay_tool.specs.declared.status.TooMuch.TheVariants.{Text, Events, Packets}
 use Rattle.replay_tool.specs.declared.status.RunEnd.{RunEnd}
 use Rattle.replay_tool.specs.declared.status.RunEnd.TheVariants.{Usage, NoMemory, ReadFault, WriteFault, BadLine, BadEvent, TooLong}
@@ -42,16 +47,25 @@ only_event NoMemory e f = cc
 only_event ReadFault e f = cc
 only_event WriteFault e f = cc
 
-reported : (text : List ℕ) (number : ℕ) (why : EventWhy) (old new : Option (List ℕ)) → ReportsTill text number why old new → IsReportedTill text old new
-reported text number why old new r = record { schedule = r.schedule; spelled = r.spelled; played = r.plays.till }
+refused_event : (schedule : Schedule) (number : ℕ) (why : EventWhy) (old new : Option (List ℕ)) → Wrote old new (ReportsTill schedule number why) → IsRefused any_machine schedule
+refused_event schedule number why old new w =
+    let r : ReportsTill schedule number why w.0 = w.2 in
+    record { played = r.played.events; event = r.event; others = r.others; why = why; trace = r.played.trace; events = r.played.split; legal = r.played.legal; within = r.played.safe.within; refused = r.refused }
 
-pub bad_event : (text : List ℕ) (old new : Option (List ℕ)) (end : RunEnd) → code_of end ≡ 7 → StopsRun text old new end → IsReportedTill text old new
-bad_event text old new end e s = only_event end e (λ number why is. reported text number why old new (subst (StopsRun text old new) is s))
+past_packets : (schedule : Schedule) (old new : Option (List ℕ)) → Wrote old new (ReportsToLimit schedule) → IsPastPackets any_machine schedule
+past_packets schedule old new w =
+    let r : ReportsToLimit schedule w.0 = w.2 in
+    record { played = r.played.events; event = r.event; others = r.others; moment = r.moment; earlier = r.played.trace; events = r.played.split; legal = r.legal; within = r.played.safe.within; over = r.over }
+
+pub bad_event : (text : List ℕ) (old new : Option (List ℕ)) (end : RunEnd) → code_of end ≡ 7 → StopsRun text old new end → HasBadEvent text
+bad_event text old new end e s = only_event end e (λ number why is.
+    let t : Spells text (λ schedule. Wrote old new (ReportsTill schedule number why)) = subst (StopsRun text old new) is s in
+    record { schedule = t.0; spelled = t.1; refused = refused_event t.0 number why old new t.2 })
 
 pub past_limit : (text : List ℕ) (old new : Option (List ℕ)) (end : RunEnd) → code_of end ≡ 8 → StopsRun text old new end → IsPastLimit text
 past_limit text old new (TooLong Text) e s = by_text limits.Text s
 past_limit text old new (TooLong Events) e s = by_text limits.Events s
-past_limit text old new (TooLong Packets) e s = by_packets s.schedule s.spelled s.past
+past_limit text old new (TooLong Packets) e s = by_packets s.0 s.1 (past_packets s.0 old new s.2)
 past_limit text old new (BadLine line why) e s = cc
 past_limit text old new (BadEvent number why) e s = cc
 past_limit text old new Usage e s = cc
@@ -130,11 +144,95 @@ write_of (BadEvent number why) e = cc
 write_of (TooLong what) e = cc
 
 -- a status that reports in full, or up to a refused event
-pub in_order : (text : List ℕ) (old new : Option (List ℕ)) → IsReported text old new → IsInOrder text
-in_order text old new r = record { schedule = r.schedule; spelled = r.spelled; whole = record { trace = r.played.trace; legal = r.played.legal; within = r.played.within } }
+pub in_order : (text : List ℕ) (old new : Option (List ℕ)) → Spells text (λ schedule. Wrote old new (ReportsAll schedule)) → IsInOrder text
+in_order text old new r = record { schedule = r.0; spelled = r.1; whole = in_whole r.0 r.2.0 r.2.2 }
+  where
+    in_whole : (schedule : Schedule) (written : List ℕ) → ReportsAll schedule written → IsWhole any_machine schedule
+    in_whole schedule written a = record { trace = a.played.trace; legal = subst (λ es. IsLegalFor any_machine schedule es a.played.trace) (sym (a.played.split ∙ append-nil a.played.events)) a.played.legal; within = a.played.safe.within }
 
-pub bad_event_of : (text : List ℕ) (old new : Option (List ℕ)) → IsReportedTill text old new → HasBadEvent text
-bad_event_of text old new r = record { schedule = r.schedule; spelled = r.spelled; refused = r.played.refused }
+-- what is told of an end, with a status
+abbrev pub IsTold : (code : ℕ) (end : RunEnd) (before after : ℕ) (old new : Option (List ℕ)) → Type 0
+IsTold code end before after old new = ((code ≡ code_of end) × Appends old new (text_of end)) ⊎ ((code ≡ 5) × Rose before after × WroteFront old new (text_of end))
+
+-- a status other than 5 is that of the end, whose text is told
+pub told_whole : {P : Type 0} (n code : ℕ) (end : RunEnd) (before after : ℕ) (old new : Option (List ℕ)) → (n == 5) ≡ false → IsTold code end before after old new → code ≡ n
+    → (code_of end ≡ n → Appends old new (text_of end) → P) → P
+told_whole n code end before after old new other (inl t) e f = f (sym t.0 ∙ e) t.1
+told_whole n code end before after old new other (inr t) e f =
+    let five : (5 == 5) ≡ false = subst (λ k. (k == 5) ≡ false) (sym e ∙ t.0) other in
+    absurd cc
+
+pub memory_of : (end : RunEnd) → code_of end ≡ 3 → end ≡ NoMemory
+memory_of Usage e = cc
+memory_of NoMemory e = refl
+memory_of ReadFault e = cc
+memory_of WriteFault e = cc
+memory_of (BadLine line why) e = cc
+memory_of (BadEvent number why) e = cc
+memory_of (TooLong what) e = cc
+
+pub line_keeps : {Out : Type 0} (old new : Out) (end : RunEnd) → code_of end ≡ 6 → KeepsOut old new end → new ≡ old
+line_keeps old new (BadLine line why) e k = k
+line_keeps old new Usage e k = cc
+line_keeps old new NoMemory e k = cc
+line_keeps old new ReadFault e k = cc
+line_keeps old new WriteFault e k = cc
+line_keeps old new (BadEvent number why) e k = cc
+line_keeps old new (TooLong what) e k = cc
+
+pub event_read_out : (left : Option (List ℕ)) (end : RunEnd) → code_of end ≡ 7 → IsReadOut left end → IsAtEnd left
+event_read_out left end e r = only_event end e (λ number why is. subst (IsReadOut left) is r)
+
+pub limit_keeps : {Out : Type 0} (old new : Out) (left : Option (List ℕ)) (end : RunEnd) → code_of end ≡ 8 → KeepsOut old new end → IsReadOut left end → (new ≡ old) ⊎ IsAtEnd left
+limit_keeps old new left (TooLong Text) e k r = inl k
+limit_keeps old new left (TooLong Events) e k r = inl k
+limit_keeps old new left (TooLong Packets) e k r = inr r
+limit_keeps old new left (BadLine line why) e k r = cc
+limit_keeps old new left Usage e k r = cc
+limit_keeps old new left NoMemory e k r = cc
+limit_keeps old new left ReadFault e k r = cc
+limit_keeps old new left WriteFault e k r = cc
+limit_keeps old new left (BadEvent number why) e k r = cc
+
+pub line_told : (text : List ℕ) (old new err err' : Option (List ℕ)) (end : RunEnd) → code_of end ≡ 6 → StopsRun text old new end → Appends err err' (text_of end) → IsBadLineTold err err' text
+line_told text old new err err' (BadLine line why) e s t = (record { line = line; why = why; refused = s }, t)
+line_told text old new err err' (BadEvent number why) e s t = cc
+line_told text old new err err' (TooLong what) e s t = cc
+line_told text old new err err' Usage e s t = cc
+line_told text old new err err' NoMemory e s t = cc
+line_told text old new err err' ReadFault e s t = cc
+line_told text old new err err' WriteFault e s t = cc
+
+pub event_told : (text : List ℕ) (old new err err' : Option (List ℕ)) (end : RunEnd) → code_of end ≡ 7 → StopsRun text old new end → Appends err err' (text_of end) → IsReportedTill old new err err' text
+event_told text old new err err' end e s t =
+    only_event end e (λ number why is. (number, why, subst (StopsRun text old new) is s, subst (λ x. Appends err err' (text_of x)) is t))
+
+pub limit_told : (text : List ℕ) (old new err err' : Option (List ℕ)) (end : RunEnd) → code_of end ≡ 8 → StopsRun text old new end → Appends err err' (text_of end) → IsLimitTold old new err err' text
+limit_told text old new err err' (TooLong what) e s t = (what, s, t)
+limit_told text old new err err' (BadLine line why) e s t = cc
+limit_told text old new err err' (BadEvent number why) e s t = cc
+limit_told text old new err err' Usage e s t = cc
+limit_told text old new err err' NoMemory e s t = cc
+limit_told text old new err err' ReadFault e s t = cc
+limit_told text old new err err' WriteFault e s t = cc
+
+failed : (end : RunEnd) (out out' before after : ℕ) (old new : Option (List ℕ)) (untold : Type 0) (code : ℕ) → out' ≡ out → (code_of end == 5) ≡ false → code ≡ 5 → IsTold code end before after old new
+    → IsWriteFault out out' before after untold old new
+failed end out out' before after old new untold code same other e (inl t) =
+    let five : (5 == 5) ≡ false = subst (λ k. (k == 5) ≡ false) (sym t.0 ∙ e) other in
+    absurd cc
+failed end out out' before after old new untold code same other e (inr t) = inr (same, t.1, (end, t.2))
+
+-- a sink failed
+pub write_fault : (code : ℕ) (end : RunEnd) (out out' before after : ℕ) (old new : Option (List ℕ)) (untold : Type 0) → code ≡ 5 → CountsFaults out out' (Err end) → (end ≡ WriteFault → untold × (code ≡ 5))
+    → IsTold code end before after old new → IsWriteFault out out' before after untold old new
+write_fault code WriteFault out out' before after old new untold e counts quiet t = inl (counts, (quiet refl).0)
+write_fault code Usage out out' before after old new untold e counts quiet t = failed Usage out out' before after old new untold code counts refl e t
+write_fault code NoMemory out out' before after old new untold e counts quiet t = failed NoMemory out out' before after old new untold code counts refl e t
+write_fault code ReadFault out out' before after old new untold e counts quiet t = failed ReadFault out out' before after old new untold code counts refl e t
+write_fault code (BadLine line why) out out' before after old new untold e counts quiet t = failed (BadLine line why) out out' before after old new untold code counts refl e t
+write_fault code (BadEvent number why) out out' before after old new untold e counts quiet t = failed (BadEvent number why) out out' before after old new untold code counts refl e t
+write_fault code (TooLong what) out out' before after old new untold e counts quiet t = failed (TooLong what) out out' before after old new untold code counts refl e t
 
 -- where a source tells its text, for each text
 pub of_told : {P : List ℕ → Type 0} (left : Option (List ℕ)) → ((text : List ℕ) → left ≡ Some text → P text) → IfSome left P
@@ -150,7 +248,7 @@ module _
     (refused_or_past : (schedule : Schedule) → IsRefused any_machine schedule → IsPastPackets any_machine schedule → ⊥)
     (text : List ℕ) (code : ℕ) where
   -- a text is read in one way
-  same : (s t : Schedule) → read_built text ≡ Ok s → read_built text ≡ Ok t → s ≡ t
+  same : (s t : Schedule) → read_text text ≡ Ok s → read_text text ≡ Ok t → s ≡ t
   same s t p q =
       let both : Ok s ≡ Ok t = sym p ∙ q in
       cc
@@ -169,7 +267,7 @@ module _
   line_or_event a b = ok_or_err b.schedule (reading.BadLine a.line a.why) (sym b.spelled ∙ a.refused)
 
   line_or_limit : HasBadLine text → IsPastLimit text → ⊥
-  line_or_limit a (by_text what e) = line_or_long a.line a.why what (err_same (reading.BadLine a.line a.why) (reading.TooLong what) (read_built text) a.refused e)
+  line_or_limit a (by_text what e) = line_or_long a.line a.why what (err_same (reading.BadLine a.line a.why) (reading.TooLong what) (read_text text) a.refused e)
   line_or_limit a (by_packets schedule e p) = ok_or_err schedule (reading.BadLine a.line a.why) (sym e ∙ a.refused)
 
   event_or_limit : HasBadEvent text → IsPastLimit text → ⊥
@@ -212,5 +310,5 @@ module _
       settles (ap is_code is ∙ codes_of end) (λ e. usage (usage_of end (sym is ∙ e))) (λ e. read (read_of end (sym is ∙ e))) (λ e. write (write_of end (sym is ∙ e)))
       (λ e. absurd (never_zero end (sym is ∙ e)))
       (λ e. bad_line text old new end (sym is ∙ e) s)
-      (λ e. bad_event_of text old new (bad_event text old new end (sym is ∙ e) s))
+      (λ e. bad_event text old new end (sym is ∙ e) s)
       (λ e. past_limit text old new end (sym is ∙ e) s)

@@ -1,5 +1,6 @@
 -- The ends of the parts of a run as ends of the run.
-use Rattle.std.specs.Prelude.{ℕ, Bool, ◌==◌, ◌&&◌, ◌||◌, nat_le}
+use Rattle.std.specs.Prelude.{◌≡◌, ℕ, Bool, ◌==◌, ◌&&◌, ◌||◌, nat_le, Result, Err}
+use Rattle.ft_io.specs.Faults.{Rose}
 use Rattle.ft_io.specs.declared.reading.ReadEnd.{ReadEnd}
 use Rattle.ft_io.specs.declared.reading.ReadEnd.TheVariants as reads
 use Rattle.ft_model.specs.declared.schedule.Limit.TheVariants as limits
@@ -36,6 +37,11 @@ code_of WriteFault = 5
 code_of (BadLine line why) = 6
 code_of (BadEvent event why) = 7
 code_of (TooLong what) = 8
+
+-- a count of failed calls rises where the sink of the report failed, and stays otherwise
+abbrev pub CountsFaults : (old new : ℕ) → Result (Unit {0}) RunEnd → Type 0
+CountsFaults old new (Err WriteFault) = Rose old new
+CountsFaults old new _ = new ≡ old
 
 -- the statuses of a run
 abbrev pub is_code : ℕ → Bool

@@ -1,5 +1,9 @@
 pub mod Ends
+pub mod ErrText
 pub mod Words
+pub mod OnItsWay
 pub mod Played
+pub mod Standing
+pub mod Playing
+pub mod Runs
 pub mod Causes
-pub mod Stops

@@ -1,60 +1,82 @@
--- What a run of a schedule has done: the events that it played, and what it wrote of them.
-use Rattle.std.specs.Prelude.{◌≡◌, ℕ, ◌+◌, ◌≤◌, Option, Ok, List, ◌++◌, length, map}
-use Rattle.std.specs.Io.KnownBytes.{Appends}
+-- What a run has played of a schedule, and the texts that report it.
+use Rattle.std.specs.Prelude.{◌≡◌, ◌⊎◌, ℕ, ◌+◌, ◌<◌, ◌≤◌, false, Some, IfSome, Ok, List, [], ◌∷◌, ◌++◌, length}
+use Rattle.std.specs.List.{AllByRecursion}
 use Rattle.sample_servers.specs.AnyService.{any_machine}
-use Rattle.sample_servers.specs.declared.any_service.AnyService.{AnyService}
+use Rattle.ft_model.specs.Grammar.{read_text}
+use Rattle.ft_model.specs.Lawful.{is_fenced}
+use Rattle.ft_model.specs.Legal.{start_of, refusal, IsLegalFor}
+use Rattle.ft_model.specs.Masked.{Masked}
+use Rattle.ft_model.specs.Outcome.{packets_sent}
+use Rattle.ft_model.specs.Report.{header, event_lines, report}
+use Rattle.ft_model.specs.Resets.{ResetsNoLogged}
 use Rattle.ft_model.specs.Schedule.{kind_of, clients_of}
 use Rattle.ft_model.specs.World.{World as Seen, Moment, world_after}
-use Rattle.ft_model.specs.Legal.{start_of, IsLegalFor, Legal}
-use Rattle.ft_model.specs.Masked.{Masked}
-use Rattle.ft_model.specs.Outcome.{packets_sent, IsRefused}
-use Rattle.ft_model.specs.Report.{header, event_line, packet_lines, packet_count, event_lines, report}
-use Rattle.schedule_text.specs.Stage.{read_built}
 use Rattle.ft_model.specs.declared.event.Event.{Event}
+use Rattle.ft_model.specs.declared.event.EventWhy.{EventWhy}
 use Rattle.ft_model.specs.declared.schedule.Schedule.{Schedule}
-use Rattle.net_schedule.specs.Standing.{Kept, WorldStands, Advances}
+use Rattle.replay_tool.specs.OnItsWay.{IsFrontOf}
 
--- one event is played by the service of this kind, and its lines are appended to what was written
-pub record PlaysEvent (kind n : ℕ) (v : Seen) (event : Event) (w : Kept AnyService) (old new : Option (List ℕ)) : Type 0 where
-  pub goes : Advances (any_machine kind) v event w
-  pub same_kind : w.kind ≡ kind
-  pub within : length goes.world.packets ≤ 200000
-  pub written : Appends old new (event_line n event ++ packet_lines v.clients (length v.packets + 1) goes.sent)
+-- the world at the end of a trace of a schedule
+abbrev pub reached : Schedule → List Moment → Seen
+reached schedule trace = world_after (start_of schedule) trace
 
--- these first events of a schedule are played: the world stands at the end of a legal trace of them, and header and events are written
-pub record Reaches (schedule : Schedule) (events : List Event) (w : Kept AnyService) (old new : Option (List ℕ)) : Type 0 where
-  pub trace : List Moment
-  pub legal : IsLegalFor any_machine schedule events trace
-  pub stands : WorldStands (any_machine (kind_of schedule.service)) w (world_after (start_of schedule) trace)
-  pub kind : w.kind ≡ kind_of schedule.service
-  pub count : length trace ≡ length events
-  pub packets : packets_sent schedule trace ≡ packet_count trace
-  pub within : packets_sent schedule trace ≤ 200000
-  pub keys : map (λ c. c.key) (world_after (start_of schedule) trace).clients ≡ map (λ c. c.key) (clients_of schedule.server schedule.clients)
-  pub written : Appends old new (header schedule ++ event_lines (clients_of schedule.server schedule.clients) trace)
-
--- a whole schedule is played, with the service that it names, within the limit of packets, crashes can't be seen from outside, and its report is written
-pub record IsPlayed (schedule : Schedule) (old new : Option (List ℕ)) : Type 0 where
-  pub trace : List Moment
-  pub legal : Legal any_machine schedule trace
+-- What holds of each trace that is played: crashes can't be seen from outside, with restarts that are exact; no RST goes to a connection that the log
+-- keeps; no server is fenced; and no more packets are sent than may be.
+pub record IsSafe (schedule : Schedule) (trace : List Moment) : Type 0 where
   pub masked : Masked (any_machine (kind_of schedule.service)) (start_of schedule) trace
+  pub resets : AllByRecursion (ResetsNoLogged (reached schedule trace).log) (reached schedule trace).packets
+  pub fenced : IfSome (reached schedule trace).node (λ node. is_fenced node.stage ≡ false)
   pub within : packets_sent schedule trace ≤ 200000
-  pub written : Appends old new (report schedule trace)
 
--- a schedule is played up to an event that is refused, and the report of what was played is written
-pub record IsPlayedTill (schedule : Schedule) (old new : Option (List ℕ)) : Type 0 where
-  pub refused : IsRefused any_machine schedule
-  pub masked : Masked (any_machine (kind_of schedule.service)) (start_of schedule) refused.trace
-  pub written : Appends old new (report schedule refused.trace)
+-- Played up to here: all events of a schedule but these last ones, by a legal trace, with the service that the schedule names.
+pub record IsPlayedTo (schedule : Schedule) (others : List Event) : Type 0 where
+  pub events : List Event
+  pub trace : List Moment
+  pub split : schedule.events ≡ events ++ others
+  pub legal : IsLegalFor any_machine schedule events trace
+  pub safe : IsSafe schedule trace
 
--- The text spells a schedule that is built, and what was written is the report of a legal and masked trace of it.
-pub record IsReported (text : List ℕ) (old new : Option (List ℕ)) : Type 0 where
-  pub schedule : Schedule
-  pub spelled : read_built text ≡ Ok schedule
-  pub played : IsPlayed schedule old new
+-- the report up to the lines on clients and log
+abbrev pub lines_so_far : Schedule → List Moment → List ℕ
+lines_so_far schedule trace = header schedule ++ event_lines (clients_of schedule.server schedule.clients) trace
 
--- The text spells a schedule that is built, and what was written is the report of a legal and masked trace of its events before the first that is refused.
-pub record IsReportedTill (text : List ℕ) (old new : Option (List ℕ)) : Type 0 where
-  pub schedule : Schedule
-  pub spelled : read_built text ≡ Ok schedule
-  pub played : IsPlayedTill schedule old new
+-- the report of all events
+pub record ReportsAll (schedule : Schedule) (text : List ℕ) : Type 0 where
+  pub played : IsPlayedTo schedule []
+  pub is : text ≡ report schedule played.trace
+
+-- the report of the events before the first that isn't allowed, which has this number, and this cause
+pub record ReportsTill (schedule : Schedule) (number : ℕ) (why : EventWhy) (text : List ℕ) : Type 0 where
+  pub event : Event
+  pub others : List Event
+  pub played : IsPlayedTo schedule (event ∷ others)
+  pub number_is : number ≡ length played.events + 1
+  pub refused : refusal (reached schedule played.trace) event ≡ Some why
+  pub is : text ≡ report schedule played.trace
+
+-- the report of the events before one with which the packets pass their limit. It ends before the lines on clients and log
+pub record ReportsToLimit (schedule : Schedule) (text : List ℕ) : Type 0 where
+  pub event : Event
+  pub others : List Event
+  pub moment : Moment
+  pub played : IsPlayedTo schedule (event ∷ others)
+  pub legal : IsLegalFor any_machine schedule (played.events ++ event ∷ []) (moment ∷ played.trace)
+  pub over : 200000 < packets_sent schedule (moment ∷ played.trace)
+  pub is : text ≡ lines_so_far schedule played.trace
+
+-- the first of these events, if there is one, isn't allowed
+abbrev pub NoneIsAllowed : Seen → List Event → Type 0
+NoneIsAllowed w [] = Unit {0}
+NoneIsAllowed w (event ∷ others) = (why : EventWhy) × (refusal w event ≡ Some why)
+
+-- A front of the report of some first events, all of them allowed. Unless these are all before the first that isn't, it ends before the lines on clients
+-- and log
+pub record ReportsFront (schedule : Schedule) (text : List ℕ) : Type 0 where
+  pub others : List Event
+  pub played : IsPlayedTo schedule others
+  pub front : IsFrontOf text (lines_so_far schedule played.trace)
+      ⊎ (NoneIsAllowed (reached schedule played.trace) others × IsFrontOf text (report schedule played.trace))
+
+-- a text spells a schedule of which this holds
+abbrev pub Spells : List ℕ → (Schedule → Type 0) → Type 0
+Spells text Is = (schedule : Schedule) × (read_text text ≡ Ok schedule) × Is schedule

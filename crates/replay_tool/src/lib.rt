@@ -4,12 +4,11 @@
 pub use status::Status;
 pub use top::replay;
 
+mod laws;
+mod lines;
 mod play;
+mod report;
 mod run;
 mod status;
 mod telling;
-#[cfg(test)]
-mod tests;
 mod top;
-#[cfg(test)]
-mod world_tests;

@@ -8,6 +8,7 @@ use ft_io::{Failed, NoMemory, ReadEnd};
 use ft_model::{EventWhy, Limit, LineWhy};
 use net_schedule::StepEnd;
 use schedule_text::ScheduleEnd;
+use std::alloc::AllocError;
 
 /// The exit status of the program.
 #[derive(Clone, Copy, Debug, PartialEq, Eq)]
@@ -39,6 +40,14 @@ impl From<NoMemory> for RunEnd {
     ghost from_gives = { λ _ e. e ≡ ends.NoMemory };
 
     fn from(_error: NoMemory) -> RunEnd {
+        RunEnd::NoMemory
+    }
+}
+
+impl From<AllocError> for RunEnd {
+    ghost from_gives = { λ _ e. e ≡ ends.NoMemory };
+
+    fn from(_error: AllocError) -> RunEnd {
         RunEnd::NoMemory
     }
 }

@@ -1,15 +1,20 @@
 //! What a run that wasn't done to its end writes to the error sink.
 
-ghost use Rattle.std.specs.Prelude.{◌≡◌, ◌≤◌, ◌⊎◌, IsErr};
+ghost use Rattle.std.specs.Prelude.{◌≡◌, ◌⊎◌, ◌++◌, ◌∷◌, [], OnOk, OnErr};
+ghost use Rattle.std.specs.Io.KnownBytes.{Appends};
 ghost use Rattle.ft_io.specs.Faults.{Rose};
+ghost use Rattle.replay_tool.specs.OnItsWay.{WroteFront, CountsFailed};
 ghost use Rattle.replay_tool.specs.Ends.{code_of};
+ghost use Rattle.replay_tool.specs.ErrText.{line_word as line_lem, event_word as event_lem, limit_word as limit_lem, numbered, told, cause_text, text_of};
 
 use crate::status::{RunEnd, Status, TooMuch};
 use ft_io::{Failed, Sink, write_all};
 use ft_model::{EventWhy, LineWhy};
 use itoa::Buffer;
 
-fn line_word(why: LineWhy) -> &'static [u8] {
+fn line_word(why: LineWhy) -> &'static [u8]
+    ensures { result.now ≡ line_lem why }
+{
     match why {
         LineWhy::Character => b"character",
         LineWhy::Word => b"word",
@@ -22,7 +27,9 @@ fn line_word(why: LineWhy) -> &'static [u8] {
     }
 }
 
-fn event_word(why: EventWhy) -> &'static [u8] {
+fn event_word(why: EventWhy) -> &'static [u8]
+    ensures { result.now ≡ event_lem why }
+{
     match why {
         EventWhy::Up => b"up",
         EventWhy::Boot => b"boot",
@@ -35,7 +42,9 @@ fn event_word(why: EventWhy) -> &'static [u8] {
     }
 }
 
-fn limit_word(what: TooMuch) -> &'static [u8] {
+fn limit_word(what: TooMuch) -> &'static [u8]
+    ensures { result.now ≡ limit_lem what }
+{
     match what {
         TooMuch::Text => b"text",
         TooMuch::Events => b"events",
@@ -43,48 +52,80 @@ fn limit_word(what: TooMuch) -> &'static [u8] {
     }
 }
 
-/// `ftreplay: ` and a text, on a line of its own.
+#[tactic(auto, using(crate::proofs::Fronts::front_taken))]
 fn write_text<E: Sink>(err: &mut E, text: &[u8]) -> Result<(), Failed>
-    ensures fault { IsErr result → Rose (E.fault_count err.old) (E.fault_count err.new) }
-    ensures never_falls { E.fault_count err.old ≤ E.fault_count err.new }
+    ensures whole { OnOk result (Appends (E.taken err.old) (E.taken err.new) text.now) }
+    ensures front { OnErr result (WroteFront (E.taken err.old) (E.taken err.new) text.now) }
+    ensures fault { CountsFailed (E.fault_count err.old) (E.fault_count err.new) result }
 {
-    write_all(err, b"ftreplay: ")?;
     write_all(err, text)?;
-    write_all(err, b"\n")
+    Ok(())
 }
 
-/// `ftreplay: `, a name with its number, and a word, on a line of its own.
+/// Two texts, one behind the other.
+#[tactic(auto, using(crate::proofs::Fronts::then_whole, crate::proofs::Fronts::then_front, crate::proofs::Fronts::front_then))]
+fn write_both<E: Sink>(err: &mut E, first: &[u8], second: &[u8]) -> Result<(), Failed>
+    ensures whole { OnOk result (Appends (E.taken err.old) (E.taken err.new) (first.now ++ second.now)) }
+    ensures front { OnErr result (WroteFront (E.taken err.old) (E.taken err.new) (first.now ++ second.now)) }
+    ensures fault { CountsFailed (E.fault_count err.old) (E.fault_count err.new) result }
+{
+    write_text(err, first)?;
+    write_text(err, second)?;
+    Ok(())
+}
+
+/// A name with its number, and a word.
+#[tactic(auto, using(crate::proofs::Fronts::then_whole, crate::proofs::Fronts::then_front, crate::proofs::Fronts::front_then), unfolding(crate::specs::ErrText::numbered))]
 fn write_numbered<E: Sink>(err: &mut E, name: &[u8], n: u32, word: &[u8]) -> Result<(), Failed>
-    ensures fault { IsErr result → Rose (E.fault_count err.old) (E.fault_count err.new) }
-    ensures never_falls { E.fault_count err.old ≤ E.fault_count err.new }
+    ensures whole { OnOk result (Appends (E.taken err.old) (E.taken err.new) (numbered name.now n word.now)) }
+    ensures front { OnErr result (WroteFront (E.taken err.old) (E.taken err.new) (numbered name.now n word.now)) }
+    ensures fault { CountsFailed (E.fault_count err.old) (E.fault_count err.new) result }
 {
     let mut number = Buffer::new();
-    write_all(err, b"ftreplay: ")?;
-    write_all(err, name)?;
-    write_all(err, number.format(n).as_bytes())?;
-    write_all(err, b": ")?;
-    write_all(err, word)?;
-    write_all(err, b"\n")
+    write_both(err, name, number.format(n).as_bytes())?;
+    write_both(err, b": ", word)?;
+    Ok(())
 }
 
-/// The text of an end. None is written where a sink failed.
-fn write_end<E: Sink>(err: &mut E, end: RunEnd) -> Result<(), Failed>
-    ensures fault { IsErr result → Rose (E.fault_count err.old) (E.fault_count err.new) }
-    ensures never_falls { E.fault_count err.old ≤ E.fault_count err.new }
+/// Why a run ended.
+fn write_cause<E: Sink>(err: &mut E, end: RunEnd) -> Result<(), Failed>
+    ensures whole { OnOk result (Appends (E.taken err.old) (E.taken err.new) (cause_text end)) }
+    ensures front { OnErr result (WroteFront (E.taken err.old) (E.taken err.new) (cause_text end)) }
+    ensures fault { CountsFailed (E.fault_count err.old) (E.fault_count err.new) result }
 {
     match end {
         RunEnd::Usage => write_text(err, b"usage"),
         RunEnd::NoMemory => write_text(err, b"no memory"),
         RunEnd::ReadFault => write_text(err, b"read fault"),
-        RunEnd::WriteFault => Ok(()),
+        RunEnd::WriteFault => write_text(err, b""),
         RunEnd::BadLine { line, why } => write_numbered(err, b"line ", line, line_word(why)),
         RunEnd::BadEvent { event, why } => write_numbered(err, b"event ", event, event_word(why)),
-        RunEnd::TooLong(what) => {
-            write_all(err, b"ftreplay: too long: ")?;
-            write_all(err, limit_word(what))?;
-            write_all(err, b"\n")
-        }
+        RunEnd::TooLong(what) => write_both(err, b"too long: ", limit_word(what)),
     }
+}
+
+/// .. and the end of the line.
+#[tactic(auto, using(crate::proofs::Fronts::then_whole, crate::proofs::Fronts::then_front, crate::proofs::Fronts::front_then))]
+fn write_line<E: Sink>(err: &mut E, end: RunEnd) -> Result<(), Failed>
+    ensures whole { OnOk result (Appends (E.taken err.old) (E.taken err.new) (cause_text end ++ 10 ∷ [])) }
+    ensures front { OnErr result (WroteFront (E.taken err.old) (E.taken err.new) (cause_text end ++ 10 ∷ [])) }
+    ensures fault { CountsFailed (E.fault_count err.old) (E.fault_count err.new) result }
+{
+    write_cause(err, end)?;
+    write_text(err, b"\n")?;
+    Ok(())
+}
+
+/// The text of an end, on a line of its own.
+#[tactic(auto, using(crate::proofs::Fronts::then_whole, crate::proofs::Fronts::then_front, crate::proofs::Fronts::front_then), unfolding(crate::specs::ErrText::told))]
+fn write_end<E: Sink>(err: &mut E, end: RunEnd) -> Result<(), Failed>
+    ensures whole { OnOk result (Appends (E.taken err.old) (E.taken err.new) (told (cause_text end))) }
+    ensures front { OnErr result (WroteFront (E.taken err.old) (E.taken err.new) (told (cause_text end))) }
+    ensures fault { CountsFailed (E.fault_count err.old) (E.fault_count err.new) result }
+{
+    write_text(err, b"ftreplay: ")?;
+    write_line(err, end)?;
+    Ok(())
 }
 
 fn code(end: RunEnd) -> u8
@@ -101,11 +142,15 @@ fn code(end: RunEnd) -> u8
     }
 }
 
-/// Writes the text of an end, and gives its status: 5 where that write failed.
+/// Writes the text of an end, and gives its status: 5 where that write failed. Where the sink of the report failed, none is written.
 pub(crate) fn tell<E: Sink>(err: &mut E, end: RunEnd) -> Status
-    ensures status { (result.code ≡ code_of end) ⊎ ((result.code ≡ 5) × Rose (E.fault_count err.old) (E.fault_count err.new)) }
-    ensures never_falls { E.fault_count err.old ≤ E.fault_count err.new }
+    ensures told { ((result.code ≡ code_of end) × Appends (E.taken err.old) (E.taken err.new) (text_of end))
+        ⊎ ((result.code ≡ 5) × Rose (E.fault_count err.old) (E.fault_count err.new) × WroteFront (E.taken err.old) (E.taken err.new) (text_of end)) }
+    ensures untold { end ≡ RunEnd.WriteFault → (err.new ≡ err.old) × (result.code ≡ 5) }
 {
+    if end == RunEnd::WriteFault {
+        return Status { code: 5 };
+    }
     match write_end(err, end) {
         Ok(()) => Status { code: code(end) },
         Err(Failed) => Status { code: 5 },

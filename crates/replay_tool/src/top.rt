@@ -1,12 +1,15 @@
 //! The top call.
 
-ghost use Rattle.std.specs.Prelude.{◌≡◌, ◌⊎◌, true, false, map, string_bytes, IfSome};
-ghost use Rattle.std.specs.Io.KnownBytes.{IsAtEnd};
+ghost use Rattle.std.specs.Prelude.{◌≡◌, ◌⊎◌, true, false, codes, map, string_bytes, IfSome};
+ghost use Rattle.std.specs.Io.KnownBytes.{Appends, IsAtEnd};
 ghost use Rattle.ft_io.specs.Faults.{Rose};
 ghost use Rattle.ft_io.specs.Source.{ConsumesAtMost};
 ghost use Rattle.replay_tool.specs.Words.{is_run};
-ghost use Rattle.replay_tool.specs.Played.{IsReported, IsReportedTill};
-ghost use Rattle.replay_tool.specs.Causes.{HasBadLine, IsPastLimit, IsStill, IsSettled};
+ghost use Rattle.replay_tool.specs.OnItsWay.{Wrote};
+ghost use Rattle.replay_tool.specs.Played.{Spells, ReportsAll};
+ghost use Rattle.replay_tool.specs.ErrText.{told};
+ghost use Rattle.replay_tool.specs.Runs.{KeepsFront};
+ghost use Rattle.replay_tool.specs.Causes.{IsStill, IsSettled, IsReportedTill, IsBadLineTold, IsLimitTold, IsWriteFault};
 ghost use Rattle.replay_tool.specs.Ends.{is_code};
 
 use crate::run::run;
@@ -27,30 +30,46 @@ pub fn replay<I: Source, O: Sink, E: Sink>(
     out: &mut O,
     err: &mut E,
 ) -> Status
-    // The input spells a schedule, and what was written is the report of a legal trace of it.
-    ensures done { result.code ≡ 0 → IfSome (I.left input.old) (λ text. IsReported text (O.taken out.old) (O.taken out.new)) }
-    // The input was read to its end.
+    // The input was read to its end and spells a schedule, what was written is the report of a legal trace of it, and nothing was written to err.
+    ensures done { result.code ≡ 0 → IfSome (I.left input.old) (λ text. Spells text (λ schedule. Wrote (O.taken out.old) (O.taken out.new) (ReportsAll schedule))) }
     ensures end { result.code ≡ 0 → IsAtEnd (I.left input.new) }
-    // Nothing was written to err.
     ensures silent { result.code ≡ 0 → err.new ≡ err.old }
 
+    // Other words: nothing is read and nothing is reported.
+    ensures usage { result.code ≡ 2 → is_run (map string_bytes words.now) ≡ false }
+    ensures usage_keeps_out { result.code ≡ 2 → out.new ≡ out.old }
+    ensures usage_keeps_input { result.code ≡ 2 → input.new ≡ input.old }
+    ensures usage_told { result.code ≡ 2 → Appends (E.taken err.old) (E.taken err.new) (told (codes "usage")) }
+    ensures other_words { is_run (map string_bytes words.now) ≡ false → (result.code ≡ 2) ⊎ (result.code ≡ 5) }
+
+    // Memory ran out: a front of the report was written.
+    ensures no_memory { result.code ≡ 3 → KeepsFront O.taken out.old out.new (I.left input.old) (I.left input.new) }
+    ensures no_memory_told { result.code ≡ 3 → Appends (E.taken err.old) (E.taken err.new) (told (codes "no memory")) }
+
+    // The source failed.
+    ensures read_fault { result.code ≡ 4 → Rose (I.fault_count input.old) (I.fault_count input.new) }
+    ensures read_fault_keeps_out { result.code ≡ 4 → out.new ≡ out.old }
+    ensures read_fault_told { result.code ≡ 4 → Appends (E.taken err.old) (E.taken err.new) (told (codes "read fault")) }
+
+    // A sink failed: that of the report, and then nothing is written to err; or err itself, of which a front of a text was written.
+    ensures write_fault { result.code ≡ 5 → IsWriteFault (O.fault_count out.old) (O.fault_count out.new) (E.fault_count err.old) (E.fault_count err.new) (err.new ≡ err.old) (E.taken err.old) (E.taken err.new) }
+    ensures write_fault_front { result.code ≡ 5 → KeepsFront O.taken out.old out.new (I.left input.old) (I.left input.new) }
+
     // A line is refused, and nothing was written to out.
-    ensures bad_line { result.code ≡ 6 → IfSome (I.left input.old) HasBadLine }
+    ensures bad_line { result.code ≡ 6 → IfSome (I.left input.old) (IsBadLineTold (E.taken err.old) (E.taken err.new)) }
     ensures bad_line_keeps_out { result.code ≡ 6 → out.new ≡ out.old }
     // An event is refused, and what was written is the report of a legal trace of the events before it.
-    ensures bad_event { result.code ≡ 7 → IfSome (I.left input.old) (λ text. IsReportedTill text (O.taken out.old) (O.taken out.new)) }
+    ensures bad_event { result.code ≡ 7 → IfSome (I.left input.old) (IsReportedTill (O.taken out.old) (O.taken out.new) (E.taken err.old) (E.taken err.new)) }
+    ensures bad_event_end { result.code ≡ 7 → IsAtEnd (I.left input.new) }
     // The text, its events or their packets pass a limit.
-    ensures past_limit { result.code ≡ 8 → IfSome (I.left input.old) IsPastLimit }
+    ensures past_limit { result.code ≡ 8 → IfSome (I.left input.old) (IsLimitTold (O.taken out.old) (O.taken out.new) (E.taken err.old) (E.taken err.new)) }
+    ensures limit_keeps_out { result.code ≡ 8 → (out.new ≡ out.old) ⊎ IsAtEnd (I.left input.new) }
+
     // Where no count of faults rises, the text settles the status, but for want of memory.
     ensures settled { is_run (map string_bytes words.now) ≡ true
         → IsStill (I.fault_count input.old) (I.fault_count input.new) → IsStill (O.fault_count out.old) (O.fault_count out.new) → IsStill (E.fault_count err.old) (E.fault_count err.new)
         → IfSome (I.left input.old) (λ text. IsSettled text result.code) }
-
     ensures codes { is_code result.code ≡ true }
-    ensures usage { result.code ≡ 2 → is_run (map string_bytes words.now) ≡ false }
-    ensures other_words { is_run (map string_bytes words.now) ≡ false → (result.code ≡ 2) ⊎ (result.code ≡ 5) }
-    ensures read_fault { result.code ≡ 4 → Rose (I.fault_count input.old) (I.fault_count input.new) }
-    ensures write_fault { result.code ≡ 5 → Rose (O.fault_count out.old) (O.fault_count out.new) ⊎ Rose (E.fault_count err.old) (E.fault_count err.new) }
 
     // At most one byte past the limit of the text is read.
     ensures taken { ConsumesAtMost 8388609 (I.left input.old) (I.left input.new) }

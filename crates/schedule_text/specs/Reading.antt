@@ -1,12 +1,17 @@
 -- What reading returns, beside what the grammar gives.
-use Rattle.std.specs.Prelude.{◌≡◌, Result, Ok, Err}
-use Rattle.ft_model.specs.Grammar.{Refusal}
+use Rattle.std.specs.Prelude.{◌≡◌, ℕ, List, Result, Ok, Err}
+use Rattle.ft_model.specs.Grammar.{◌>>=◌, Refusal, line_of, with_line}
 use Rattle.ft_model.specs.Grammar.Refusal.{BadLine, TooLong}
+use Rattle.ft_model.specs.declared.line.Draft.{Draft}
 use Rattle.ft_model.specs.declared.schedule.LineWhy.{LineWhy}
 use Rattle.schedule_text.specs.declared.end.LineEnd.{LineEnd}
 use Rattle.schedule_text.specs.declared.end.LineEnd.TheVariants as line_end
 use Rattle.schedule_text.specs.declared.end.ScheduleEnd.{ScheduleEnd}
 use Rattle.schedule_text.specs.declared.end.ScheduleEnd.TheVariants as end
+
+-- what a line makes of the lines before it
+abbrev pub with_text : Draft → List ℕ → Result Draft LineWhy
+with_text draft text = line_of draft text >>= λ l. Ok (with_line draft l)
 
 -- a line's outcome is the grammar's, unless memory ran out
 abbrev pub GivesLine : {X : Type 0} → Result X LineEnd → Result X LineWhy → Type 0

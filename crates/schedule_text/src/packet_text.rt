@@ -5,12 +5,10 @@ ghost use Rattle.seq_arith.specs.Value.{said};
 ghost use Rattle.ft_model.specs.Texts.{spaced, way_text};
 ghost use Rattle.ft_model.specs.Report.{segment_words, content_words, packet_line};
 ghost use Rattle.schedule_text.specs.Bytes.{packet_in};
-ghost use Rattle.schedule_text.specs.Packet.{packet_of};
 
 use crate::line_out::LineOut;
 use crate::line_text::{put_field, put_flags, put_hex, put_mss, put_number, put_way};
 use crate::message_text::put_message;
-use crate::packet::Packet;
 use ft_io::NoMemory;
 use ft_model::Way;
 use logger_wire::read_msg;
@@ -57,32 +55,6 @@ fn put_packet_line(n: u32, way: Way, bytes: &[u8], line: &mut LineOut) -> Result
     line.push(b'\n')
 }
 
-/// Writes the line of a packet that is kept as a value, likewise.
-pub fn write_packet_value(
-    alloc: Global,
-    n: u32,
-    way: Way,
-    packet: &Packet,
-    out: &mut Vec<u8>,
-) -> Result<(), NoMemory>
-    ensures ok { OnOk result (out.new.items ≡ out.old.items ++ packet_line n way (packet_of packet.now)) }
-    ensures err { OnErr result (out.new.items ≡ out.old.items) }
-{
-    let mut line = LineOut::open(alloc, out);
-    let written = put_value_line(n, way, packet, &mut line);
-    line.close(out, written)
-}
-
-#[tactic(auto, using(std::proofs::Common::append_assoc), unfolding(ft_model::specs::Report::packet_line))]
-fn put_value_line(n: u32, way: Way, packet: &Packet, line: &mut LineOut) -> Result<(), NoMemory>
-    ensures ok { OnOk result (line.new.words ≡ line.old.words ++ packet_line n way (packet_of packet.now)) }
-    ensures before { line.new.before ≡ line.old.before }
-{
-    put_start(n, way, line)?;
-    put_value(packet, line)?;
-    line.push(b'\n')
-}
-
 /// What stands before a packet's content.
 #[tactic(auto, using(crate::proofs::LineLemmas::line_rules))]
 fn put_start(n: u32, way: Way, line: &mut LineOut) -> Result<(), NoMemory>
@@ -110,25 +82,6 @@ fn put_bytes(way: Way, bytes: &[u8], line: &mut LineOut) -> Result<(), NoMemory>
             let Ok(msg) = read_msg(bytes) else {
                 unreachable!()
             };
-            put_message(&msg, line)
-        }
-    }
-}
-
-/// The words of a packet, each behind a space.
-#[tactic(auto, unfolding(ft_model::specs::Report::content_words))]
-fn put_value(packet: &Packet, line: &mut LineOut) -> Result<(), NoMemory>
-    ensures ok { OnOk result (line.new.words ≡ line.old.words ++ spaced (content_words (packet_of packet.now))) }
-    ensures before { line.new.before ≡ line.old.before }
-{
-    match packet {
-        Packet::ToServer(segment) | Packet::ToClient(segment) => put_segment(
-            &segment.head,
-            segment.payload.as_slice(),
-            line,
-        ),
-        Packet::ToLogger(message) | Packet::FromLogger(message) => {
-            let msg = message.as_msg();
             put_message(&msg, line)
         }
     }

@@ -1,13 +1,11 @@
 //! The reading of a whole text, line after line.
 
 ghost use Rattle.std.specs.Prelude.{◌≡◌, IfOk, length};
-ghost use Rattle.ft_model.specs.Grammar.{with_line, is_comment, is_passed_over, is_full, is_too_much, after_line, schedule_of};
-ghost use Rattle.schedule_text.specs.Reading.{Gives, GivesLine};
-ghost use Rattle.schedule_text.specs.Stage.{not_built, with_built, read_built};
+ghost use Rattle.ft_model.specs.Grammar.{with_line, no_objection, is_comment, is_passed_over, is_full, is_too_much, after_line, schedule_of, read_text};
+ghost use Rattle.schedule_text.specs.Reading.{Gives, GivesLine, with_text};
 
 use crate::end::{LineEnd, ScheduleEnd};
 use crate::line::{begins_with_event, read_line};
-use crate::stage::needs_more;
 use crate::words::{next_line, next_word};
 use ft_io::NoMemory;
 use ft_model::{ClientLines, Draft, Events, Limit, Line, LineWhy, Schedule};
@@ -83,22 +81,18 @@ fn add_line(alloc: Global, draft: Draft, line: Line) -> Result<Draft, NoMemory>
     }
 }
 
-/// Reads a line and adds it to those before it, unless it asks for what isn't built.
-#[tactic(auto, unfolding(crate::specs::Stage::not_built))]
+/// Reads a line and adds it to those before it.
 fn read_more(alloc: Global, draft: Draft, text: &[u8]) -> Result<Draft, LineEnd>
-    ensures { GivesLine result (with_built draft text.now) }
+    ensures { GivesLine result (with_text draft text.now) }
 {
     let line = read_line(alloc, &draft, text)?;
-    if needs_more(&draft, &line) {
-        return Err(LineEnd::Refused(LineWhy::Built));
-    }
     Ok(add_line(alloc, draft, line)?)
 }
 
 /// Reads line `number` of a text behind the lines before it.
 #[tactic(auto, unfolding(ft_model::specs::Grammar::after_line))]
 fn take_line(alloc: Global, number: u32, draft: Draft, text: &[u8]) -> Result<Draft, ScheduleEnd>
-    ensures { Gives result (after_line not_built number draft text.now) }
+    ensures { Gives result (after_line no_objection number draft text.now) }
 {
     if says_nothing(text) {
         return Ok(draft);
@@ -129,10 +123,10 @@ fn finish(number: u32, draft: Draft) -> Result<Schedule, ScheduleEnd>
 }
 
 /// Reads a schedule from its text. Unless memory runs out, it returns the schedule that the text spells; or the first line that is
-/// refused and why, `Built` where the line asks for what isn't built yet; or the limit that is passed.
+/// refused and why; or the limit that is passed.
 #[tactic(auto, using(crate::proofs::Reading::goes_on, crate::proofs::Reading::stops, crate::proofs::Reading::ends), unfolding(ft_model::specs::Grammar::read_with))]
 pub fn read_schedule(alloc: Global, text: &[u8]) -> Result<Schedule, ScheduleEnd>
-    ensures { Gives result (read_built text.now) }
+    ensures { Gives result (read_text text.now) }
 {
     if text.len() > TEXT_LIMIT {
         return Err(ScheduleEnd::TooLong { what: Limit::Text });

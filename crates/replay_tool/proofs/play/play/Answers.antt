@@ -1,37 +1,22 @@
-use Rattle.std.proofs.Common.{ap, subst, length, ◌++◌}
-use Rattle.replay_tool.proofs.Playing.{reaches_none, closes, on_ok}
+use Rattle.std.proofs.Common.{sym, subst}
+use Rattle.replay_tool.specs.OnItsWay.{Wrote}
+use Rattle.replay_tool.specs.Playing.{EndsPlaying}
+use Rattle.replay_tool.proofs.Ending.{if_err, all_goes, all_fails}
+use Rattle.replay_tool.proofs.Fronts.{all_taken}
 use Rattle.replay_tool.proofs.play.play.Goals as goal
-use Rattle.replay_tool.proofs.Stopping.{others_stop, closes_till}
-use Rattle.replay_tool.specs.Stops.{StopsEvents}
-use Rattle.std.specs.List.{flat_map}
-use Rattle.std.specs.Io.KnownBytes.{Appends}
-use Rattle.ft_model.specs.Report.{client_lines, log_line, end_line}
+
+pub returns-in_err-flush-in-Ok-clause-stops : goal.returns-in_err-flush-in-Ok-clause-stops
+returns-in_err-flush-in-Ok-clause-stops g c =
+    if_err c.from_residual.result c.from_residual.ensures.1
+    (λ end is. subst (λ x. Wrote (g.O.Sink.taken c.args.out.now) (g.O.Sink.taken c.flush.new.out) (EndsPlaying c.args.schedule.now x)) (sym is)
+    (all_fails c.args.schedule.now (g.O.Sink.taken c.args.out.now) (g.O.Sink.taken c.play_whole.new.out) (g.O.Sink.taken c.flush.new.out) c.play_whole.new.report.held.items c.in-Ok.ensures.done
+    (λ text way. c.in_err-flush-in-Ok.ensures.err (g.O.Sink.taken c.args.out.now) text way)))
 
 pub returns-in-Ok-clause-done : goal.returns-in-Ok-clause-done
 returns-in-Ok-clause-done g c =
-    on_ok c.write_closing.result
-    (closes c.args.schedule.now c.play_events.new.world _ (g.O.Sink.taken c.args.out.now) (g.O.Sink.taken c.play_events.new.out) (g.O.Sink.taken c.write_closing.new.out) c.every_joint_trace_is_masked.ensures
-    (c.in-Ok.ensures.done (g.O.Sink.taken c.args.out.now)
-    (reaches_none c.args.schedule.now c.in_ok-world.world (g.O.Sink.taken c.args.out.now) (g.O.Sink.taken c.write_start.new.out)
-    (c.playable_schedules_start.ensures c.args.schedule.now c.requires.playable) c.in_ok-world.ensures.stands c.in_ok-world.ensures.kind c.in_ok-write_start.ensures.written))
-    (ap length c.as_slice.ensures))
-    c.write_closing.ensures.written
+    all_goes c.args.schedule.now (g.O.Sink.taken c.args.out.now) (g.O.Sink.taken c.play_whole.new.out) (g.O.Sink.taken c.flush.new.out) c.play_whole.new.report.held.items c.in-Ok.ensures.done
+    (λ text way. all_taken (g.O.Sink.taken c.args.out.now) (g.O.Sink.taken c.flush.new.out) c.flush.new.report.held.items text c.in_ok-flush-in-Ok.ensures.empty
+    (c.in_ok-flush-in-Ok.ensures.ok (g.O.Sink.taken c.args.out.now) text way))
 
-pub returns-in-BadEvent-clause-stops : goal.returns-in-BadEvent-clause-stops
-returns-in-BadEvent-clause-stops g c =
-    closes_till c.args.schedule.now c.in-BadEvent.event c.in-BadEvent.why c.play_events.new.world (g.O.Sink.taken c.args.out.now) (g.O.Sink.taken c.play_events.new.out) (g.O.Sink.taken c.write_closing-in-BadEvent.new.out)
-    c.every_joint_trace_is_masked.ensures
-    (subst (StopsEvents c.args.schedule.now c.play_events.new.world (g.O.Sink.taken c.args.out.now) (g.O.Sink.taken c.play_events.new.out)) c.in-BadEvent.is
-    (c.in-Err.ensures.stops (g.O.Sink.taken c.args.out.now)
-    (reaches_none c.args.schedule.now c.in_ok-world.world (g.O.Sink.taken c.args.out.now) (g.O.Sink.taken c.write_start.new.out)
-    (c.playable_schedules_start.ensures c.args.schedule.now c.requires.playable) c.in_ok-world.ensures.stands c.in_ok-world.ensures.kind c.in_ok-write_start.ensures.written)))
-    (subst (λ n. Appends (g.O.Sink.taken c.play_events.new.out) (g.O.Sink.taken c.write_closing-in-BadEvent.new.out) (client_lines 1 c.play_events.new.world.clients ++ (flat_map log_line c.play_events.new.world.log.entries ++ end_line n))) c.saturating_sub.ensures
-    c.in_ok-write_closing-in-BadEvent.ensures.written)
-
-pub returns-clause-stops : goal.returns-clause-stops
-returns-clause-stops g c =
-    others_stop c.args.schedule.now c.play_events.new.world (g.O.Sink.taken c.args.out.now) (g.O.Sink.taken c.play_events.new.out) (g.O.Sink.taken c.play_events.new.out) c.in-Err.end
-    c.in_default.not-BadEvent
-    (c.in-Err.ensures.stops (g.O.Sink.taken c.args.out.now)
-    (reaches_none c.args.schedule.now c.in_ok-world.world (g.O.Sink.taken c.args.out.now) (g.O.Sink.taken c.write_start.new.out)
-    (c.playable_schedules_start.ensures c.args.schedule.now c.requires.playable) c.in_ok-world.ensures.stands c.in_ok-world.ensures.kind c.in_ok-write_start.ensures.written))
+pub returns-clause-faults : goal.returns-clause-faults
+returns-clause-faults g c = c.write_rest.ensures.faults (g.O.Sink.fault_count c.args.out.now) c.in-Err.ensures.faults

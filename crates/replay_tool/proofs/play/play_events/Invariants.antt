@@ -1,8 +1,10 @@
-use Rattle.std.proofs.Common.{Option, take, ℕ, ◌≤◌, List, []}
-use Rattle.replay_tool.specs.Played.{Reaches}
+use Rattle.std.proofs.Common.{◌≡◌, drop}
+use Rattle.net_schedule.specs.Keeping.{kept}
+use Rattle.replay_tool.specs.Playing.{Reaches}
 use Rattle.replay_tool.proofs.play.play_events.Given as goal
 
+-- all events but the ones that are left are played, and no call of the sink has failed
 abbrev pub invariant-loop-i : goal.invariant-loop-i
 invariant-loop-i g l =
-    ((before : Option (List ℕ)) → Reaches l.schedule [] l.initial.world before (g.O.Sink.taken l.initial.out) → Reaches l.schedule (take l.i l.events) l.world before (g.O.Sink.taken l.out))
-    × (g.O.Sink.fault_count l.initial.out ≤ g.O.Sink.fault_count l.out)
+    Reaches l.schedule (drop l.i l.events) (kept l.world) (g.O.Sink.taken l.initial.out) (g.O.Sink.taken l.out) l.report.held.items
+    × (g.O.Sink.fault_count l.out ≡ g.O.Sink.fault_count l.initial.out)

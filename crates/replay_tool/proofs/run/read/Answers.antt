@@ -1,6 +1,4 @@
 use Rattle.replay_tool.proofs.run.read.Goals as goal
 
 pub returns-clause-playable : goal.returns-clause-playable
-returns-clause-playable c =
-    c.accepted_schedules_can_be_played.ensures c.args.text.now c.in_ok-read_schedule.field-0
-    (c.built_texts_are_spelled.ensures c.args.text.now c.in_ok-read_schedule.field-0 c.in_ok-read_schedule.ensures)
+returns-clause-playable c = c.accepted_schedules_can_be_played.ensures c.args.text.now c.in_ok-read_schedule.field-0 c.in_ok-read_schedule.ensures

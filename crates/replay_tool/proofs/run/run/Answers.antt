@@ -1,16 +1,8 @@
 use Rattle.std.proofs.Common.{◌∙◌, ap, sym, subst, Err, IfSome}
-use Rattle.replay_tool.specs.Stops.{StopsRun}
-use Rattle.schedule_text.specs.Stage.{read_built}
-use Rattle.replay_tool.proofs.Playing.{on_ok, on_err, if_err, reports}
+use Rattle.ft_model.specs.Grammar.{read_text}
+use Rattle.replay_tool.specs.Runs.{StopsRun}
+use Rattle.replay_tool.proofs.Ending.{on_err, if_err, err_gives, source_stops, playing_stops, playing_keeps}
 use Rattle.replay_tool.proofs.run.run.Goals as goal
-use Rattle.replay_tool.proofs.Stopping.{source_stops, playing_stops}
-
-pub returns-clause-done : goal.returns-clause-done
-returns-clause-done g c =
-    on_ok c.play.result
-    (reports (g.I.Source.left c.args.input.now) c.in_ok-text.text.items c.in_ok-schedule.schedule (g.O.Sink.taken c.args.out.now) (g.O.Sink.taken c.play.new.out)
-    c.in_ok-text.ensures.whole (ap read_built (sym c.deref.ensures.value) ∙ c.in_ok-schedule.ensures.spelled))
-    c.play.ensures.done
 
 pub returns-in_err-text-clause-stops : goal.returns-in_err-text-clause-stops
 returns-in_err-text-clause-stops g c =
@@ -22,5 +14,12 @@ pub returns-clause-stops : goal.returns-clause-stops
 returns-clause-stops g c =
     on_err c.play.result
     (λ end s. playing_stops (g.I.Source.left c.args.input.now) c.in_ok-text.text.items c.in_ok-schedule.schedule (g.O.Sink.taken c.args.out.now) (g.O.Sink.taken c.play.new.out) end
-    c.in_ok-text.ensures.whole (ap read_built (sym c.deref.ensures.value) ∙ c.in_ok-schedule.ensures.spelled) s)
+    c.in_ok-text.ensures.whole (ap read_text (sym c.deref.ensures.value) ∙ c.in_ok-schedule.ensures.spelled) s)
+    c.play.ensures.stops
+
+pub returns-clause-front : goal.returns-clause-front
+returns-clause-front g c =
+    err_gives c.play.result
+    (λ end s. playing_keeps g.O.Sink.taken c.args.out.now c.play.new.out (g.I.Source.left c.args.input.now) (g.I.Source.left c.read_to_limit.new.input) c.in_ok-text.text.items c.in_ok-schedule.schedule end
+    c.in_ok-text.ensures.end c.in_ok-text.ensures.whole (ap read_text (sym c.deref.ensures.value) ∙ c.in_ok-schedule.ensures.spelled) s)
     c.play.ensures.stops

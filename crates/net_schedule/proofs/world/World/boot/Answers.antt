@@ -1,18 +1,22 @@
-use Rattle.std.proofs.Common.{ap, subst, arith, Some, map}
+use Rattle.std.proofs.Common.{◌≡◌, ◌∙◌, ap, arith, Some}
 use Rattle.server_trait.specs.Service.{machine}
-use Rattle.schedule_text.specs.Packet.{packet_of}
-use Rattle.ft_model.specs.Node.{booted}
-use Rattle.ft_model.specs.declared.event.Event.TheVariants.{Boot}
-use Rattle.net_schedule.specs.Server.{ServerStarts}
-use Rattle.net_schedule.proofs.Stepping.{along, boots, is_none}
+use Rattle.net_schedule.specs.Carried.{with_wires}
+use Rattle.net_schedule.specs.Keeping.{kept, server_of}
+use Rattle.net_schedule.proofs.Events.{boots, refuses_up, refuses_boot}
+use Rattle.net_schedule.proofs.Outcomes.{not_there, same_there}
 use Rattle.net_schedule.proofs.world.World.boot.Goals as goal
 
+pub returns-then-is_some-clause-ends : goal.returns-then-is_some-clause-ends
+returns-then-is_some-clause-ends g c = λ v st p.
+    refuses_up (machine (g.S.Service.started c.args.self.now.kind) g.S.Service.after) (kept c.args.self.now) v c.args.boot c.args.isn st (same_there server_of c.args.self.now.node ∙ cc)
+
+pub returns-then-boot-self-clause-ends : goal.returns-then-boot-self-clause-ends
+returns-then-boot-self-clause-ends g c = λ v st p.
+    refuses_boot (machine (g.S.Service.started c.args.self.now.kind) g.S.Service.after) (kept c.args.self.now) v c.args.boot c.args.isn st (same_there server_of c.args.self.now.node ∙ cc) (omega arith)
+
 pub returns-clause-done : goal.returns-clause-done
-returns-clause-done g c =
-    let sent = map packet_of c.start.new.out.items in
-    λ v st. along g.S.Service.started g.S.Service.after _ _ v (Boot c.args.boot c.args.isn) _ c.self.view_is
-    (λ t. boots _ _ _ v c.args.boot c.args.isn c.in_ok-node.node sent t (is_none _ (cc)) (omega arith) (omega arith)
-    (λ key closes. subst (λ xs. ServerStarts (machine (g.S.Service.started c.self.inside.kind) g.S.Service.after) key (booted c.self.inside.server c.args.boot c.args.isn) c.in_ok-node.node (map packet_of xs) sent) c.new-sent.ensures.items (c.in_ok-node.ensures.starts key closes))
-    c.in_ok-node.ensures.kind
-    (ap (λ ps. record { kind = c.self.inside.kind; server = c.self.inside.server; clients = c.self.inside.clients.items; log = c.self.inside.log; packets = ps; boot = c.args.boot; node = Some c.in_ok-node.node }) c.in_ok-keep.ensures.kept))
-    st
+returns-clause-done g c = λ v st p.
+    let kept_is : c.keep_sent.new.packets ≡ with_wires c.args.self.now.keys.items c.args.self.now.packets c.in_ok-node.node.sent.items = cc (c.in_ok-keep_sent.ensures) in
+    boots (machine (g.S.Service.started c.args.self.now.kind) g.S.Service.after) (kept c.args.self.now) _ v c.args.boot c.args.isn (server_of c.in_ok-node.node) c.in_ok-node.node.sent.items st
+    (not_there server_of c.args.self.now.node (cc)) (omega arith) (omega arith) c.in_ok-node.ensures.stands c.in_ok-node.ensures.hello c.in_ok-node.ensures.same
+    (ap (λ ps. record (kept c.args.self.now) { packets = ps; boot = c.args.boot; node = Some (server_of c.in_ok-node.node) }) kept_is)

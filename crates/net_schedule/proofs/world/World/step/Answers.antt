@@ -1,12 +1,23 @@
-use Rattle.server_trait.specs.Service.{machine}
-use Rattle.net_schedule.proofs.Stepping.{steps, limits}
+use Rattle.ft_model.specs.Legal.{machines}
+use Rattle.net_schedule.specs.Keeping.{kept}
+use Rattle.net_schedule.proofs.Trace.{steps, limits, ends_so}
 use Rattle.net_schedule.proofs.world.World.step.Goals as goal
 
-pub returns-clause-done : goal.returns-clause-done
-returns-clause-done g c =
-    steps (machine (g.S.Service.started c.args.self.now.kind) g.S.Service.after) c.counted.result c.args.self.now c.act.new.self c.args.event.now c.packet_count-before.result c.packet_count-before.ensures
-    c.in_ok-act.ensures.done c.counted.ensures.first c.counted.ensures.count c.counted.ensures.within
+pub returns-in-Ok-clause-done : goal.returns-in-Ok-clause-done
+returns-in-Ok-clause-done g c =
+    steps (machines g.S.Service.started g.S.Service.after)
+    (record { near = c.premises_hold.ensures.near; sound = c.premises_hold.ensures.sound; unfenced = c.premises_hold.ensures.unfenced; wires = c.packets_have_wires.ensures.all })
+    c.counted.result (kept c.args.self.now) (kept c.act.new.self) c.args.event.now c.len-before.result c.len-before.ensures c.act.ensures.kind
+    c.in-Ok.ensures.done c.counted.ensures.first c.counted.ensures.count c.counted.ensures.within
 
-pub returns-clause-ends : goal.returns-clause-ends
-returns-clause-ends g c =
-    limits (machine (g.S.Service.started c.args.self.now.kind) g.S.Service.after) c.counted.result c.args.self.now c.act.new.self c.args.event.now c.in_ok-act.ensures.done c.counted.ensures.over
+pub returns-in-Ok-clause-ends : goal.returns-in-Ok-clause-ends
+returns-in-Ok-clause-ends g c =
+    limits (machines g.S.Service.started g.S.Service.after)
+    (record { near = c.premises_hold.ensures.near; sound = c.premises_hold.ensures.sound; unfenced = c.premises_hold.ensures.unfenced; wires = c.packets_have_wires.ensures.all })
+    c.counted.result (kept c.args.self.now) (kept c.act.new.self) c.args.event.now c.act.ensures.kind c.in-Ok.ensures.done c.counted.ensures.over
+
+pub returns-in-Err-clause-ends : goal.returns-in-Err-clause-ends
+returns-in-Err-clause-ends g c =
+    ends_so (machines g.S.Service.started g.S.Service.after)
+    (record { near = c.premises_hold.ensures.near; sound = c.premises_hold.ensures.sound; unfenced = c.premises_hold.ensures.unfenced; wires = c.packets_have_wires.ensures.all })
+    c.in-Err.end (kept c.args.self.now) (kept c.act.new.self) c.args.event.now c.in-Err.ensures.ends

@@ -1,0 +1,149 @@
+-- Bytes that come to the addressee of a packet.
+use Rattle.std.proofs.Common.{◌≡◌, ◌∙◌, sym, ap, subst, refl, ℕ, ◌<◌, ◌*◌, true, false, true≢false, Bool, List, [], ◌∷◌, length, cond, Result, Ok, Err, IsErr, arith}
+use Rattle.std.proofs.lemmas.List.{length-map}
+use Rattle.ft_io.specs.declared.Key.{Key}
+use Rattle.ft_io.specs.Key.{key_eq}
+use Rattle.seq_arith.specs.Packet.{Segment}
+use Rattle.seq_arith.specs.Message.{Message}
+use Rattle.seq_arith.specs.PacketGrammar as segments
+use Rattle.seq_arith.specs.MessageGrammar as messages
+use Rattle.seq_arith.specs.Damage.{flipped}
+use Rattle.seq_arith.specs.declared.BadPacket.{BadPacket}
+use Rattle.seq_arith.specs.declared.kinds.BadMsg.{BadMsg}
+use Rattle.seq_arith.proofs.Spelling.{spelling_is_read}
+use Rattle.seq_arith.proofs.MessageSpelling.{message_is_read}
+use Rattle.seq_arith.proofs.Refused.{flipped_packet_is_refused, flipped_message_is_refused}
+use Rattle.server_trait.specs.Service.{Machine}
+use Rattle.ft_model.specs.Client.{Client}
+use Rattle.ft_model.specs.Network.{Packet, destination_of}
+use Rattle.ft_model.specs.Network.Packet.{To_server, To_client, To_logger, From_logger}
+use Rattle.ft_model.specs.Wire.{wire_of, HasWire}
+use Rattle.ft_model.specs.World.{World as Seen, WasSent, MayCome, ServerMoves, ClientReads, LogReads, Delivered, DeliveredAs, segment_or_noise, message_or_noise, with_client}
+use Rattle.ft_model.specs.declared.way.Way.TheVariants.{ClientToServer, ServerToClient, ServerToLogger, LoggerToServer}
+use Rattle.ft_model.proofs.Keys.{AreDistinct}
+use Rattle.peer_client.specs.Scripted.{delivered, hearing}
+use Rattle.net_schedule.specs.Carried.{number_in, way_along}
+use Rattle.net_schedule.specs.Hearing.{changed_at, delivered_to, logged}
+use Rattle.net_schedule.specs.Premises.{Premises, ComesAs}
+use Rattle.net_schedule.specs.Standing.{Kept, WorldStands, GoesOn}
+use Rattle.net_schedule.proofs.Goings.{client_hears, log_hears, nothing_happens}
+use Rattle.net_schedule.proofs.Peers.{keys_in, first_of, apart_distinct, at_first, by_number, changed_past}
+
+-- keys of a legal trace are distinct
+pub distinct_keys : {State : Type 0} (service : Machine State) (v : Seen) → Premises service v → AreDistinct (keys_in v.clients)
+distinct_keys service v p = let k = p.keys in subst AreDistinct (sym k.2) (apart_distinct k.0.server k.0.clients k.1.apart)
+
+-- bytes to the client of a key's number are bytes to the client of the key
+told_by_key : (cs : List Client) (key : Key) (bytes : List ℕ) → AreDistinct (keys_in cs) → delivered_to (number_in (keys_in cs) key) bytes cs ≡ with_client key (λ c. delivered c bytes) cs
+told_by_key cs key bytes d =
+    let first : with_client key (λ c. delivered c bytes) cs ≡ changed_at (first_of key (keys_in cs)) (λ c. delivered c bytes) cs = at_first key (λ c. delivered c bytes) cs d in
+    by_number (λ n. delivered_to n bytes cs ≡ with_client key (λ c. delivered c bytes) cs) (keys_in cs) key
+    (λ there. sym first)
+    (λ past. sym (first ∙ changed_past (first_of key (keys_in cs)) (λ c. delivered c bytes) cs (omega (arith, length-map cs (λ c. c.key)))))
+
+-- who changes nothing leaves all as they are
+unchanged : (key : Key) (cs : List Client) → with_client key (λ c. c) cs ≡ cs
+unchanged key [] = refl
+unchanged key (c ∷ cs) = ap (λ x. x ∷ with_client key (λ d. d) cs) (alike (key_eq c.key key)) ∙ ap (λ xs. c ∷ xs) (unchanged key cs)
+  where
+    alike : (b : Bool) → cond b c c ≡ c
+    alike true = refl
+    alike false = refl
+
+module _ {State : Type 0} (service : Machine State) where
+  -- what a client makes of them
+  reads_client : (w w' : Kept State) (v : Seen) (key : Key) (bytes : List ℕ) (r : Result Segment BadPacket) → segments.reading bytes ≡ r → WorldStands service w v
+      → w' ≡ record w { clients = with_client key (λ c. delivered c bytes) w.clients } → GoesOn service (ClientReads key r v) v w'
+  reads_client w w' v key bytes (Ok segment) e st e' =
+      client_hears service w w' v key segment st (e' ∙ ap (λ r. record w { clients = with_client key (λ c. hearing c r) w.clients }) e)
+  reads_client w w' v key bytes (Err bad) e st e' =
+      nothing_happens service w w' v st (e' ∙ ap (λ r. record w { clients = with_client key (λ c. hearing c r) w.clients }) e ∙ ap (λ cs. record w { clients = cs }) (unchanged key w.clients))
+
+  pub brings_client : (w w' : Kept State) (v : Seen) (packet : Packet) (bytes : List ℕ) (number : ℕ) → WorldStands service w v → Premises service v
+      → ServerToClient number ≡ way_along w.keys (wire_of packet) → w' ≡ record w { clients = delivered_to number bytes w.clients } → GoesOn service (DeliveredAs service v packet bytes) v w'
+  brings_client w w' v (To_client segment) bytes number st p way e' =
+      let key : Key = destination_of segment in
+      let n : number ≡ number_in (keys_in w.clients) (destination_of segment) =
+      number_of_way number (number_in w.keys (destination_of segment)) way ∙ ap (λ ks. number_in ks (destination_of segment)) (st.keys ∙ ap keys_in (sym st.clients)) in
+      let d : AreDistinct (keys_in w.clients) = subst (λ cs. AreDistinct (keys_in cs)) (sym st.clients) (distinct_keys service v p) in
+      reads_client w w' v (destination_of segment) bytes (segments.reading bytes) refl st
+      (e' ∙ ap (λ cs. record w { clients = cs }) (ap (λ k. delivered_to k bytes w.clients) n ∙ told_by_key w.clients (destination_of segment) bytes d))
+    where
+      number_of_way : (a b : ℕ) → ServerToClient a ≡ ServerToClient b → a ≡ b
+      number_of_way a b e = cc
+  brings_client w w' v (To_server segment) bytes number st p way e' = absurd (cc)
+  brings_client w w' v (To_logger message) bytes number st p way e' = absurd (cc)
+  brings_client w w' v (From_logger message) bytes number st p way e' = absurd (cc)
+
+  reads_log : (w w' : Kept State) (v : Seen) (r : Result Message BadMsg) → WorldStands service w v → w' ≡ logged w r → GoesOn service (LogReads r v) v w'
+  reads_log w w' v (Ok message) st e' = log_hears service w w' v message st e'
+  reads_log w w' v (Err bad) st e' = nothing_happens service w w' v st e'
+
+  pub brings_logger : (w w' : Kept State) (v : Seen) (packet : Packet) (bytes : List ℕ) → WorldStands service w v
+      → ServerToLogger ≡ way_along w.keys (wire_of packet) → w' ≡ logged w (messages.reading bytes) → GoesOn service (DeliveredAs service v packet bytes) v w'
+  brings_logger w w' v (To_logger message) bytes st way e' = reads_log w w' v (messages.reading bytes) st e'
+  brings_logger w w' v (To_server segment) bytes st way e' = absurd (cc)
+  brings_logger w w' v (To_client segment) bytes st way e' = absurd (cc)
+  brings_logger w w' v (From_logger message) bytes st way e' = absurd (cc)
+
+  -- what the server makes of them is its turn
+  pub packet_comes : (keys : List Key) (v : Seen) (packet : Packet) (bytes : List ℕ) (number : ℕ) → ClientToServer number ≡ way_along keys (wire_of packet) → ComesAs v packet bytes
+      → MayCome v (segment_or_noise (segments.reading bytes))
+  packet_comes keys v (To_server segment) bytes number way comes = comes
+  packet_comes keys v (To_client segment) bytes number way comes = absurd (cc)
+  packet_comes keys v (To_logger message) bytes number way comes = absurd (cc)
+  packet_comes keys v (From_logger message) bytes number way comes = absurd (cc)
+
+  pub packet_brought : (keys : List Key) (v : Seen) (packet : Packet) (bytes : List ℕ) (number : ℕ) (w' : Kept State) → ClientToServer number ≡ way_along keys (wire_of packet)
+      → GoesOn service (ServerMoves service (segment_or_noise (segments.reading bytes)) v) v w' → GoesOn service (DeliveredAs service v packet bytes) v w'
+  packet_brought keys v (To_server segment) bytes number w' way g = g
+  packet_brought keys v (To_client segment) bytes number w' way g = absurd (cc)
+  packet_brought keys v (To_logger message) bytes number w' way g = absurd (cc)
+  packet_brought keys v (From_logger message) bytes number w' way g = absurd (cc)
+
+  pub message_comes : (keys : List Key) (v : Seen) (packet : Packet) (bytes : List ℕ) → LoggerToServer ≡ way_along keys (wire_of packet) → ComesAs v packet bytes
+      → MayCome v (message_or_noise (messages.reading bytes))
+  message_comes keys v (From_logger message) bytes way comes = comes
+  message_comes keys v (To_server segment) bytes way comes = absurd (cc)
+  message_comes keys v (To_client segment) bytes way comes = absurd (cc)
+  message_comes keys v (To_logger message) bytes way comes = absurd (cc)
+
+  pub message_brought : (keys : List Key) (v : Seen) (packet : Packet) (bytes : List ℕ) (w' : Kept State) → LoggerToServer ≡ way_along keys (wire_of packet)
+      → GoesOn service (ServerMoves service (message_or_noise (messages.reading bytes)) v) v w' → GoesOn service (DeliveredAs service v packet bytes) v w'
+  message_brought keys v (From_logger message) bytes w' way g = g
+  message_brought keys v (To_server segment) bytes w' way g = absurd (cc)
+  message_brought keys v (To_client segment) bytes w' way g = absurd (cc)
+  message_brought keys v (To_logger message) bytes w' way g = absurd (cc)
+
+  -- a packet's own bytes are the packet
+  pub comes_whole : (v : Seen) (packet : Packet) → HasWire packet → WasSent v packet → ComesAs v packet (wire_of packet).bytes
+  comes_whole v (To_server segment) wire sent = subst (λ r. MayCome v (segment_or_noise r)) (sym (spelling_is_read segment wire.0)) sent
+  comes_whole v (To_client segment) wire sent = tt
+  comes_whole v (To_logger message) wire sent = tt
+  comes_whole v (From_logger message) wire sent = subst (λ r. MayCome v (message_or_noise r)) (sym (message_is_read message wire.0)) sent
+
+  as_whole : (v : Seen) (packet : Packet) (sent : List Packet) (after : Seen) → HasWire packet → DeliveredAs service v packet (wire_of packet).bytes sent after → Delivered service v packet sent after
+  as_whole v (To_server segment) sent after wire h = subst (λ r. ServerMoves service (segment_or_noise r) v sent after) (spelling_is_read segment wire.0) h
+  as_whole v (To_client segment) sent after wire h = subst (λ r. ClientReads (destination_of segment) r v sent after) (spelling_is_read segment wire.0) h
+  as_whole v (To_logger message) sent after wire h = subst (λ r. LogReads r v sent after) (message_is_read message wire.0) h
+  as_whole v (From_logger message) sent after wire h = subst (λ r. ServerMoves service (message_or_noise r) v sent after) (message_is_read message wire.0) h
+
+  pub goes_whole : (v : Seen) (packet : Packet) (w' : Kept State) → HasWire packet → GoesOn service (DeliveredAs service v packet (wire_of packet).bytes) v w' → GoesOn service (Delivered service v packet) v w'
+  goes_whole v packet w' wire g = record { sent = g.sent; world = g.world; goes = as_whole v packet g.sent g.world wire g.goes; stands = g.stands; grew = g.grew }
+
+  -- with a changed bit they are noise
+  segment_noise : (v : Seen) (r : Result Segment BadPacket) → IsErr r → MayCome v (segment_or_noise r)
+  segment_noise v (Err bad) h = tt
+  segment_noise v (Ok segment) h = absurd (true≢false (sym h))
+
+  message_noise : (v : Seen) (r : Result Message BadMsg) → IsErr r → MayCome v (message_or_noise r)
+  message_noise v (Err bad) h = tt
+  message_noise v (Ok message) h = absurd (true≢false (sym h))
+
+  pub comes_changed : (v : Seen) (packet : Packet) (bit : ℕ) → HasWire packet → bit < 8 * length (wire_of packet).bytes → ComesAs v packet (flipped bit (wire_of packet).bytes)
+  comes_changed v (To_server segment) bit wire within =
+      segment_noise v (segments.reading (flipped bit (segments.spelling segment))) (flipped_packet_is_refused bit (segments.spelling segment) segment (spelling_is_read segment wire.0) within)
+  comes_changed v (To_client segment) bit wire within = tt
+  comes_changed v (To_logger message) bit wire within = tt
+  comes_changed v (From_logger message) bit wire within =
+      message_noise v (messages.reading (flipped bit (messages.spelling message))) (flipped_message_is_refused bit (messages.spelling message) message (message_is_read message wire.0) within)

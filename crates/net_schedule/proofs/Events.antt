@@ -1,0 +1,192 @@
+-- What is done at an event is what may happen, and what is refused is refused by the events' tests.
+use Rattle.std.proofs.Common.{◌≡◌, ◌∙◌, sym, ap, subst, refl, ℕ, zero, suc, ◌<◌, ◌≤◌, ◌*◌, ◌^◌, nat_le, true, false, is_some, Some, None, List, [], ◌++◌, length, map, cond, arith}
+use Rattle.std.specs.List.{AllByRecursion}
+use Rattle.std.proofs.lemmas.Bool.Decides.{nat_tests}
+use Rattle.seq_arith.specs.Damage.{flipped}
+use Rattle.server_trait.specs.Service.{Machine}
+use Rattle.ft_model.specs.Client.{move_asked}
+use Rattle.ft_model.specs.Lawful.{hello}
+use Rattle.ft_model.specs.Legal.{refusal, refusal_of_flip, IsScripted}
+use Rattle.ft_model.specs.Network.{Packet, packet_at}
+use Rattle.ft_model.specs.Node.{Node, booted}
+use Rattle.ft_model.specs.Node.Stage.{Asking}
+use Rattle.ft_model.specs.Node.Input.{Tick_comes}
+use Rattle.ft_model.specs.Wire.{Wire, wire_of, HasWire}
+use Rattle.ft_model.specs.World.{World as Seen, ServerMoves, Delivered, DeliveredAs}
+use Rattle.ft_model.specs.declared.event.Event.{Event}
+use Rattle.ft_model.specs.declared.event.Event.TheVariants as events
+use Rattle.ft_model.specs.declared.event.EventWhy.TheVariants as why
+use Rattle.ft_model.specs.declared.way.Way.{Way}
+use Rattle.ft_model.proofs.Lists.{all_slice_get, none_is_some}
+use Rattle.server_node.specs.Identity.{node_of}
+use Rattle.server_node.specs.Stages.{StageStands}
+use Rattle.net_schedule.specs.AtNumber.{at_number}
+use Rattle.net_schedule.specs.Carried.{with_wires, way_along}
+use Rattle.net_schedule.specs.Premises.{Premises, ComesAs}
+use Rattle.net_schedule.specs.Standing.{Kept, Server, WorldStands, GoesOn, Advances, Refuses, IsForMemory}
+use Rattle.net_schedule.specs.declared.end.StepEnd.{StepEnd}
+use Rattle.net_schedule.specs.declared.end.StepEnd.TheVariants.{NoMemory, BadEvent, PacketLimit}
+use Rattle.net_schedule.proofs.Keeping.{Found, found, none_kept, sent_kept}
+use Rattle.net_schedule.proofs.Goings.{down, both_up}
+use Rattle.net_schedule.proofs.Bringing.{comes_whole, comes_changed, goes_whole}
+
+-- memory may run out at each event
+pub refuses_nothing : (v : Seen) (event : Event) (end : StepEnd) → IsForMemory end → Refuses v event end
+refuses_nothing v event NoMemory h = tt
+refuses_nothing v event (BadEvent w) h = absurd h
+refuses_nothing v event PacketLimit h = absurd h
+
+-- a packet of this number has its bytes
+pub all_numbered : (P : Packet → Type 0) (ps : List Packet) (n : ℕ) (p : Packet) → AllByRecursion P ps → packet_at ps n ≡ Some p → P p
+all_numbered P ps zero p a e = none_is_some p e
+all_numbered P ps (suc n) p a e = all_slice_get P ps n p a e
+
+-- one that starts, goes down, ticks or delivers asks no client for a move
+no_move : (v : Seen) (event : Event) (sent : List Packet) (after : Seen) → move_asked event ≡ None → IsScripted v event sent after
+no_move v event sent after none number move client k h = none_is_some (number, move) (sym none ∙ k)
+
+module _ {State : Type 0} (service : Machine State) where
+  -- the server starts
+  pub boots : (w w' : Kept State) (v : Seen) (boot isn : ℕ) (s : Server State) (sent : List Wire) → WorldStands service w v → w.node ≡ None → w.boot < boot → boot < 2 ^ 64
+      → StageStands service (booted w.server boot isn) s.stage → sent ≡ map wire_of (hello (booted w.server boot isn))
+      → s.who ≡ record { boot = boot; isn = isn; kind = w.kind; local = w.server }
+      → w' ≡ record w { packets = with_wires w.keys w.packets sent; boot = boot; node = Some s } → Advances service v (events.Boot boot isn) w'
+  boots w w' v boot isn s wires st is_down more fits stands hello_is who e' =
+      let none : v.node ≡ None = down service w.kind w.node v.node st.node is_down in
+      let node : Node = booted v.server boot isn in
+      let low : v.boot < boot = subst (λ n. n < boot) st.boot more in
+      let rises : nat_le boot v.boot ≡ false = grind (arith, nat_tests) in
+      let said : wires ≡ map wire_of (hello node) = subst (λ a. wires ≡ map wire_of (hello (booted a boot isn))) st.server hello_is in
+      subst (Advances service v (events.Boot boot isn)) (sym e')
+      (record {
+        happens = record {
+          sent = hello (booted v.server boot isn);
+          world = record v { boot = boot; node = Some (booted v.server boot isn); packets = v.packets ++ hello (booted v.server boot isn) };
+          goes = (none, (low, fits), refl, refl);
+          stands = record {
+            server = st.server;
+            keys = st.keys;
+            clients = st.clients;
+            log = st.log;
+            packets = ap (with_wires w.keys w.packets) said ∙ sent_kept w.keys w.packets v.packets (hello (booted v.server boot isn)) st.packets;
+            boot = refl;
+            node = record {
+              kind_is = ap (λ i. i.kind) who;
+              standing = Asking;
+              is = ap (λ a. booted a boot isn) (sym st.server) ∙ ap (λ i. node_of i Asking) (sym who);
+              stands = subst (λ i. StageStands service (node_of i Asking) s.stage) (sym who) stands;
+            };
+          };
+          grew = refl;
+        };
+        allowed = rw none (rw rises refl);
+        scripted = no_move v (events.Boot boot isn) (hello (booted v.server boot isn)) (record v { boot = boot; node = Some (booted v.server boot isn); packets = v.packets ++ hello (booted v.server boot isn) }) refl;
+      })
+
+  pub refuses_up : (w : Kept State) (v : Seen) (boot isn : ℕ) → WorldStands service w v → is_some w.node ≡ true → refusal v (events.Boot boot isn) ≡ Some why.Up
+  refuses_up w v boot isn st e = let is_up : is_some v.node ≡ true = sym (both_up service w.kind w.node v.node st.node) ∙ e in rw is_up refl
+
+  pub refuses_boot : (w : Kept State) (v : Seen) (boot isn : ℕ) → WorldStands service w v → is_some w.node ≡ false → boot ≤ w.boot → refusal v (events.Boot boot isn) ≡ Some why.Boot
+  refuses_boot w v boot isn st e old =
+      let is_down : is_some v.node ≡ false = sym (both_up service w.kind w.node v.node st.node) ∙ e in
+      let low : boot ≤ v.boot = subst (λ n. boot ≤ n) st.boot old in
+      let rises : nat_le boot v.boot ≡ true = grind (arith, nat_tests) in
+      rw is_down (rw rises refl)
+
+  -- the server goes down
+  pub crashes : (w w' : Kept State) (v : Seen) → WorldStands service w v → is_some w.node ≡ true → w' ≡ record w { node = None } → Advances service v events.Crash w'
+  crashes w w' v st e e' =
+      let is_up : is_some v.node ≡ true = sym (both_up service w.kind w.node v.node st.node) ∙ e in
+      subst (Advances service v events.Crash) (sym e')
+      (record {
+        happens = record {
+          sent = [];
+          world = record v { node = None; packets = v.packets ++ [] };
+          goes = (is_up, refl, refl);
+          stands = record { server = st.server; keys = st.keys; clients = st.clients; log = st.log; packets = none_kept w.keys w.packets v.packets st.packets; boot = st.boot; node = tt };
+          grew = refl;
+        };
+        allowed = rw is_up refl;
+        scripted = no_move v events.Crash [] (record v { node = None; packets = v.packets ++ [] }) refl;
+      })
+
+  pub refuses_down : (w : Kept State) (v : Seen) (event : Event) → WorldStands service w v → is_some w.node ≡ false → refusal v event ≡ cond (is_some v.node) None (Some why.Down) → refusal v event ≡ Some why.Down
+  refuses_down w v event st e r = let is_down : is_some v.node ≡ false = sym (both_up service w.kind w.node v.node st.node) ∙ e in r ∙ ap (λ b. cond b None (Some why.Down)) is_down
+
+  -- a tick
+  pub ticks : (w w' : Kept State) (v : Seen) → WorldStands service w v → is_some w.node ≡ true → GoesOn service (ServerMoves service Tick_comes v) v w' → Advances service v events.Tick w'
+  ticks w w' v st e g =
+      let is_up : is_some v.node ≡ true = sym (both_up service w.kind w.node v.node st.node) ∙ e in
+      record {
+        happens = record { sent = g.sent; world = g.world; goes = (is_up, g.goes); stands = g.stands; grew = g.grew };
+        allowed = rw is_up refl;
+        scripted = no_move v events.Tick g.sent g.world refl;
+      }
+
+  -- a packet is delivered
+  pub delivers : (w w' : Kept State) (v : Seen) (n : ℕ) (way : Way) (bytes : List ℕ) → WorldStands service w v → Premises service v
+      → at_number w.packets.ways n ≡ Some way → at_number w.packets.bytes n ≡ Some bytes
+      → ((packet : Packet) → way ≡ way_along w.keys (wire_of packet) → ComesAs v packet bytes → GoesOn service (DeliveredAs service v packet bytes) v w') → Advances service v (events.Deliver n) w'
+  delivers w w' v n way bytes st p e f brings =
+      let x : Found w.keys v.packets n way bytes = found w.keys w.packets v.packets n way bytes st.packets e f in
+      let wire : HasWire x.packet = all_numbered HasWire v.packets n x.packet p.wires x.is in
+      let came : ComesAs v x.packet bytes = subst (ComesAs v x.packet) (sym x.spells) (comes_whole service v x.packet wire (n, x.is)) in
+      let g : GoesOn service (Delivered service v x.packet) v w' = goes_whole service v x.packet w' wire (subst (λ b. GoesOn service (DeliveredAs service v x.packet b) v w') x.spells (brings x.packet x.goes came)) in
+      record {
+        happens = record { sent = g.sent; world = g.world; goes = (x.packet, x.is, g.goes); stands = g.stands; grew = g.grew };
+        allowed = rw x.is refl;
+        scripted = no_move v (events.Deliver n) g.sent g.world refl;
+      }
+
+  -- what isn't refused by the tests is not for want of a packet
+  pub delivers_end : (w : Kept State) (v : Seen) (n : ℕ) (way : Way) (bytes : List ℕ) (end : StepEnd) → WorldStands service w v → Premises service v
+      → at_number w.packets.ways n ≡ Some way → at_number w.packets.bytes n ≡ Some bytes
+      → ((packet : Packet) → way ≡ way_along w.keys (wire_of packet) → ComesAs v packet bytes → IsForMemory end) → Refuses v (events.Deliver n) end
+  delivers_end w v n way bytes end st p e f brings =
+      let x : Found w.keys v.packets n way bytes = found w.keys w.packets v.packets n way bytes st.packets e f in
+      let wire : HasWire x.packet = all_numbered HasWire v.packets n x.packet p.wires x.is in
+      let came : ComesAs v x.packet bytes = subst (ComesAs v x.packet) (sym x.spells) (comes_whole service v x.packet wire (n, x.is)) in
+      refuses_nothing v (events.Deliver n) end (brings x.packet x.goes came)
+
+  pub refuses_packet : (v : Seen) (n : ℕ) → packet_at v.packets n ≡ None → refusal v (events.Deliver n) ≡ Some why.Packet
+  refuses_packet v n e = rw e refl
+
+  -- .. or with a changed bit
+  pub flips : (w w' : Kept State) (v : Seen) (n bit : ℕ) (way : Way) (bytes : List ℕ) → WorldStands service w v → Premises service v
+      → at_number w.packets.ways n ≡ Some way → at_number w.packets.bytes n ≡ Some bytes → bit < 8 * length bytes
+      → ((packet : Packet) → way ≡ way_along w.keys (wire_of packet) → ComesAs v packet (flipped bit bytes) → GoesOn service (DeliveredAs service v packet (flipped bit bytes)) v w')
+      → Advances service v (events.Flip n bit) w'
+  flips w w' v n bit way bytes st p e f within brings =
+      let x : Found w.keys v.packets n way bytes = found w.keys w.packets v.packets n way bytes st.packets e f in
+      let wire : HasWire x.packet = all_numbered HasWire v.packets n x.packet p.wires x.is in
+      let inside : bit < 8 * length (wire_of x.packet).bytes = subst (λ b. bit < 8 * length b) x.spells within in
+      let came : ComesAs v x.packet (flipped bit bytes) = subst (λ b. ComesAs v x.packet (flipped bit b)) (sym x.spells) (comes_changed service v x.packet bit wire inside) in
+      let g : GoesOn service (DeliveredAs service v x.packet (flipped bit (wire_of x.packet).bytes)) v w' =
+      subst (λ b. GoesOn service (DeliveredAs service v x.packet (flipped bit b)) v w') x.spells (brings x.packet x.goes came) in
+      let has : nat_le (8 * length (wire_of x.packet).bytes) bit ≡ false = grind (arith, nat_tests) in
+      record {
+        happens = record { sent = g.sent; world = g.world; goes = (x.packet, x.is, record { wire = wire; within = inside; comes = g.goes }); stands = g.stands; grew = g.grew };
+        allowed = ap (λ o. refusal_of_flip o bit) x.is ∙ ap (λ b. cond b (Some why.Bit) None) has;
+        scripted = no_move v (events.Flip n bit) g.sent g.world refl;
+      }
+
+  pub flips_end : (w : Kept State) (v : Seen) (n bit : ℕ) (way : Way) (bytes : List ℕ) (end : StepEnd) → WorldStands service w v → Premises service v
+      → at_number w.packets.ways n ≡ Some way → at_number w.packets.bytes n ≡ Some bytes → bit < 8 * length bytes
+      → ((packet : Packet) → way ≡ way_along w.keys (wire_of packet) → ComesAs v packet (flipped bit bytes) → IsForMemory end) → Refuses v (events.Flip n bit) end
+  flips_end w v n bit way bytes end st p e f within brings =
+      let x : Found w.keys v.packets n way bytes = found w.keys w.packets v.packets n way bytes st.packets e f in
+      let wire : HasWire x.packet = all_numbered HasWire v.packets n x.packet p.wires x.is in
+      let inside : bit < 8 * length (wire_of x.packet).bytes = subst (λ b. bit < 8 * length b) x.spells within in
+      let came : ComesAs v x.packet (flipped bit bytes) = subst (λ b. ComesAs v x.packet (flipped bit b)) (sym x.spells) (comes_changed service v x.packet bit wire inside) in
+      refuses_nothing v (events.Flip n bit) end (brings x.packet x.goes came)
+
+  pub refuses_no_packet : (v : Seen) (n bit : ℕ) → packet_at v.packets n ≡ None → refusal v (events.Flip n bit) ≡ Some why.Packet
+  refuses_no_packet v n bit e = ap (λ o. refusal_of_flip o bit) e
+
+  pub refuses_bit : (w : Kept State) (v : Seen) (n bit : ℕ) (way : Way) (bytes : List ℕ) → WorldStands service w v → at_number w.packets.ways n ≡ Some way → at_number w.packets.bytes n ≡ Some bytes
+      → 8 * length bytes ≤ bit → refusal v (events.Flip n bit) ≡ Some why.Bit
+  refuses_bit w v n bit way bytes st e f past =
+      let x : Found w.keys v.packets n way bytes = found w.keys w.packets v.packets n way bytes st.packets e f in
+      let outside : 8 * length (wire_of x.packet).bytes ≤ bit = subst (λ b. 8 * length b ≤ bit) x.spells past in
+      let has : nat_le (8 * length (wire_of x.packet).bytes) bit ≡ true = grind (arith, nat_tests) in
+      ap (λ o. refusal_of_flip o bit) x.is ∙ ap (λ b. cond b (Some why.Bit) None) has

@@ -1,0 +1,173 @@
+-- What each actor's turn does to the code's world is what the definitions say of the world at which it stands.
+use Rattle.std.proofs.Common.{◌≡◌, ◌∙◌, sym, ap, subst, refl, ℕ, is_some, Option, Some, None, option_map, List, [], ◌++◌}
+use Rattle.std.specs.Option.{option_to_list}
+use Rattle.ft_io.specs.declared.Key.{Key}
+use Rattle.seq_arith.specs.Packet.{Segment}
+use Rattle.seq_arith.specs.Message.{Message}
+use Rattle.server_trait.specs.Service.{Machine}
+use Rattle.ft_model.specs.Client.{Client, received}
+use Rattle.ft_model.specs.Lawful.{IsNearInput, IsSoundInput, fence}
+use Rattle.ft_model.specs.Log.{log_after, answer_to}
+use Rattle.ft_model.specs.Network.{Packet}
+use Rattle.ft_model.specs.Network.Packet.{From_logger}
+use Rattle.ft_model.specs.Node.{Node, Stage, Input}
+use Rattle.ft_model.specs.Wire.{Wire}
+use Rattle.ft_model.specs.World.{World as Seen, MayCome, ServerTurn, ServerMoves, ClientHears, LogHears, NothingHappens, with_client}
+use Rattle.ft_model.proofs.FaithfulKept.{received_same}
+use Rattle.ft_model.proofs.Lists.{none_is_some}
+use Rattle.logger_store.specs.Stored.{answer_bytes}
+use Rattle.server_node.specs.Identity.{node_of}
+use Rattle.server_node.specs.Stages.{StageStands, NodeGoes}
+use Rattle.net_schedule.specs.Carried.{with_wires, with_answer}
+use Rattle.net_schedule.specs.Premises.{Premises}
+use Rattle.net_schedule.specs.Standing.{Kept, Server, IsAt, NodeStands, WorldStands, GoesOn}
+use Rattle.net_schedule.proofs.Keeping.{sent_kept, none_kept, answer_kept}
+use Rattle.net_schedule.proofs.Peers.{keys_stay}
+
+-- the server is down in both worlds at once, ..
+pub down : {State : Type 0} (service : Machine State) (kind : ℕ) (s : Option (Server State)) (n : Option Node) → NodeStands service kind s n → s ≡ None → n ≡ None
+down service kind None None h e = refl
+down service kind (Some s) n h e = none_is_some s (sym e)
+down service kind None (Some n) h e = absurd h
+
+-- .. and up
+pub record IsUp {State : Type 0} (service : Machine State) (kind : ℕ) (s : Server State) (n : Option Node) : Type 0 where
+  pub node : Node
+  pub up : n ≡ Some node
+  pub at : IsAt service kind s node
+
+pub up : {State : Type 0} (service : Machine State) (kind : ℕ) (s : Server State) (n : Option Node) → NodeStands service kind (Some s) n → IsUp service kind s n
+up service kind s None h = absurd h
+up service kind s (Some node) h = record { node = node; up = refl; at = h }
+
+pub both_up : {State : Type 0} (service : Machine State) (kind : ℕ) (s : Option (Server State)) (n : Option Node) → NodeStands service kind s n → is_some s ≡ is_some n
+both_up service kind None None h = refl
+both_up service kind None (Some n) h = absurd h
+both_up service kind (Some s) None h = absurd h
+both_up service kind (Some s) (Some n) h = refl
+
+module _ {State : Type 0} (service : Machine State) where
+  -- a lawful turn of the server
+  pub server_goes : (w w' : Kept State) (v : Seen) (input : Input) (s s' : Server State) (sent : List Wire) → WorldStands service w v → Premises service v → MayCome v input → w.node ≡ Some s
+      → s'.who ≡ s.who
+      → ((standing : Stage) → IsNearInput input standing → IsSoundInput service (node_of s.who standing) input standing → StageStands service (node_of s.who standing) s.stage
+      → NodeGoes service (node_of s.who standing) input s.who s'.stage sent)
+      → w' ≡ record w { packets = with_wires w.keys w.packets sent; node = Some s' } → GoesOn service (ServerMoves service input v) v w'
+  server_goes w w' v input s s' sent st p comes is_up same turn e' =
+      let u : IsUp service w.kind s v.node = up service w.kind s v.node (subst (λ o. NodeStands service w.kind o v.node) is_up st.node) in
+      let node : Node = node_of s.who u.at.standing in
+      let is : v.node ≡ Some (node_of s.who u.at.standing) = u.up ∙ ap Some u.at.is in
+      let g : NodeGoes service (node_of s.who u.at.standing) input s.who s'.stage sent =
+      turn u.at.standing (p.near (node_of s.who u.at.standing) input is comes) (p.sound (node_of s.who u.at.standing) input is comes) u.at.stands in
+      subst (GoesOn service (ServerMoves service input v) v) (sym e')
+      (record {
+        sent = g.packets;
+        world = record v { node = Some (node_of s.who g.after); packets = v.packets ++ g.packets };
+        goes = (subst (λ o. ServerTurn service input o g.packets (Some (node_of s.who g.after))) (sym is) (node_of s.who g.after, refl, g.turn), refl);
+        stands = record {
+          server = st.server;
+          keys = st.keys;
+          clients = st.clients;
+          log = st.log;
+          packets = ap (with_wires w.keys w.packets) g.wires ∙ sent_kept w.keys w.packets v.packets g.packets st.packets;
+          boot = st.boot;
+          node = record {
+            kind_is = ap (λ i. i.kind) same ∙ u.at.kind_is;
+            standing = g.after;
+            is = ap (λ i. node_of i g.after) (sym same);
+            stands = subst (λ i. StageStands service (node_of i g.after) s'.stage) (sym same) g.stands;
+          };
+        };
+        grew = refl;
+      })
+
+  -- nothing that may come fences it
+  pub never_fenced : {P : Type 0} (w : Kept State) (v : Seen) (input : Input) (s : Server State) (newer : ℕ) → WorldStands service w v → Premises service v → MayCome v input → w.node ≡ Some s
+      → ((standing : Stage) → fence (node_of s.who standing) input ≡ Some newer) → P
+  never_fenced w v input s newer st p comes is_up fenced =
+      let u : IsUp service w.kind s v.node = up service w.kind s v.node (subst (λ o. NodeStands service w.kind o v.node) is_up st.node) in
+      none_is_some newer (sym (p.unfenced (node_of s.who u.at.standing) input (u.up ∙ ap Some u.at.is) comes) ∙ fenced u.at.standing)
+
+  -- nothing changes but that nothing is sent
+  rests : (w : Kept State) (v : Seen) → WorldStands service w v → WorldStands service w (record v { packets = v.packets ++ [] })
+  rests w v st = record { server = st.server; keys = st.keys; clients = st.clients; log = st.log; packets = none_kept w.keys w.packets v.packets st.packets; boot = st.boot; node = st.node }
+
+  -- a server that is down has no turn
+  pub server_rests : (w : Kept State) (v : Seen) (input : Input) → WorldStands service w v → w.node ≡ None → GoesOn service (ServerMoves service input v) v w
+  server_rests w v input st is_down =
+      let none : v.node ≡ None = down service w.kind w.node v.node st.node is_down in
+      record {
+        sent = [];
+        world = record v { packets = v.packets ++ [] };
+        goes = (subst (λ o. ServerTurn service input o [] o) (sym none) (refl, refl), refl);
+        stands = rests w v st;
+        grew = refl;
+      }
+
+  -- a client receives
+  pub client_hears : (w w' : Kept State) (v : Seen) (key : Key) (segment : Segment) → WorldStands service w v
+      → w' ≡ record w { clients = with_client key (λ c. received c segment) w.clients } → GoesOn service (ClientHears key segment v) v w'
+  client_hears w w' v key segment st e' =
+      let change : Client → Client = λ c. received c segment in
+      subst (GoesOn service (ClientHears key segment v) v) (sym e')
+      (record {
+        sent = [];
+        world = record v { clients = with_client key (λ c. received c segment) v.clients; packets = v.packets ++ [] };
+        goes = (refl, refl);
+        stands = record {
+          server = st.server;
+          keys = st.keys ∙ sym (keys_stay key (λ c. received c segment) v.clients (λ c e. (received_same c segment).key));
+          clients = ap (with_client key (λ c. received c segment)) st.clients;
+          log = st.log;
+          packets = none_kept w.keys w.packets v.packets st.packets;
+          boot = st.boot;
+          node = st.node;
+        };
+        grew = refl;
+      })
+
+  -- the logger takes a message and answers
+  pub log_hears : (w w' : Kept State) (v : Seen) (message : Message) → WorldStands service w v
+      → w' ≡ record w { log = log_after w.log message; packets = with_answer w.packets (answer_bytes (answer_to w.log message)) } → GoesOn service (LogHears message v) v w'
+  log_hears w w' v message st e' =
+      let answer : Option Message = answer_to v.log message in
+      let sent : List Packet = option_to_list (option_map From_logger (answer_to v.log message)) in
+      subst (GoesOn service (LogHears message v) v) (sym e')
+      (record {
+        sent = option_to_list (option_map From_logger (answer_to v.log message));
+        world = record v { log = log_after v.log message; packets = v.packets ++ option_to_list (option_map From_logger (answer_to v.log message)) };
+        goes = (refl, refl);
+        stands = record {
+          server = st.server;
+          keys = st.keys;
+          clients = st.clients;
+          log = ap (λ l. log_after l message) st.log;
+          packets = ap (λ l. with_answer w.packets (answer_bytes (answer_to l message))) st.log ∙ answer_kept w.keys w.packets (answer_to v.log message)
+              ∙ sent_kept w.keys w.packets v.packets (option_to_list (option_map From_logger (answer_to v.log message))) st.packets;
+          boot = st.boot;
+          node = st.node;
+        };
+        grew = refl;
+      })
+
+  -- noise comes to a client or to the logger
+  pub nothing_happens : (w w' : Kept State) (v : Seen) → WorldStands service w v → w' ≡ w → GoesOn service (NothingHappens v) v w'
+  nothing_happens w w' v st e' =
+      subst (GoesOn service (NothingHappens v) v) (sym e')
+      (record { sent = []; world = record v { packets = v.packets ++ [] }; goes = (refl, refl); stands = rests w v st; grew = refl })
+
+-- so it is where the turn is by the service of the server's own kind, which is the world's
+pub server_goes_at : {State : Type 0} (services : ℕ → Machine State) (w w' : Kept State) (v : Seen) (input : Input) (s s' : Server State) (sent : List Wire)
+    → WorldStands (services w.kind) w v → Premises (services w.kind) v → MayCome v input → w.node ≡ Some s → s'.who ≡ s.who
+    → ((standing : Stage) → IsNearInput input standing → IsSoundInput (services s.who.kind) (node_of s.who standing) input standing → StageStands (services s.who.kind) (node_of s.who standing) s.stage
+    → NodeGoes (services s.who.kind) (node_of s.who standing) input s.who s'.stage sent)
+    → w' ≡ record w { packets = with_wires w.keys w.packets sent; node = Some s' } → GoesOn (services w.kind) (ServerMoves (services w.kind) input v) v w'
+server_goes_at services w w' v input s s' sent st p comes is_up same turn e' =
+    let u : IsUp (services w.kind) w.kind s v.node = up (services w.kind) w.kind s v.node (subst (λ o. NodeStands (services w.kind) w.kind o v.node) is_up st.node) in
+    server_goes (services w.kind) w w' v input s s' sent st p comes is_up same
+    (λ standing near sound stands.
+    subst (λ k. NodeGoes (services k) (node_of s.who standing) input s.who s'.stage sent) u.at.kind_is
+    (turn standing near
+    (subst (λ k. IsSoundInput (services k) (node_of s.who standing) input standing) (sym u.at.kind_is) sound)
+    (subst (λ k. StageStands (services k) (node_of s.who standing) s.stage) (sym u.at.kind_is) stands)))
+    e'

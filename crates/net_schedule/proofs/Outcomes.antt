@@ -1,0 +1,40 @@
+-- What holds at Ok or at Err follows from what holds there, and a server's part of what is kept.
+use Rattle.std.proofs.Common.{◌≡◌, ◌∙◌, sym, ap, subst, not, Bool, true, false, is_some, Option, Some, None, option_map, Result, Ok, Err, refl, true≢false}
+use Rattle.std.specs.Prelude.{OnOk, IfErr, IsErrAnd}
+use Rattle.ft_model.specs.declared.event.EventWhy.{EventWhy}
+use Rattle.net_schedule.specs.Standing.{Kept, IsForMemory, KeepsAtRefusal}
+use Rattle.net_schedule.specs.declared.end.StepEnd.{StepEnd}
+use Rattle.net_schedule.specs.declared.end.StepEnd.TheVariants.{NoMemory, BadEvent, PacketLimit}
+
+pub on_ok : {A B : Type 0} {P Q : Type 0} (r : Result A B) → (P → Q) → OnOk r P → OnOk r Q
+on_ok (Ok x) f h = f h
+on_ok (Err e) f h = h
+
+pub if_err : {A B : Type 0} {P Q : B → Type 0} (r : Result A B) → ((e : B) → P e → Q e) → IfErr r P → IfErr r Q
+if_err (Ok x) f h = h
+if_err (Err e) f h = f e h
+
+-- without memory nothing is kept
+pub keeps_nothing : {State : Type 0} (before after : Kept State) (end : StepEnd) → IsForMemory end → KeepsAtRefusal before after end
+keeps_nothing before after NoMemory h = tt
+keeps_nothing before after (BadEvent why) h = absurd h
+keeps_nothing before after PacketLimit h = tt
+
+pub not_there : {X Y : Type 0} (f : X → Y) (o : Option X) → is_some o ≡ false → option_map f o ≡ None
+not_there f None h = refl
+not_there f (Some x) h = absurd (true≢false h)
+
+pub same_there : {X Y : Type 0} (f : X → Y) (o : Option X) → is_some (option_map f o) ≡ is_some o
+same_there f None = refl
+same_there f (Some x) = refl
+
+pub is_up : {X Y : Type 0} (f : X → Y) (o : Option X) (none : Bool) → is_some o ≡ not none → none ≡ false → is_some (option_map f o) ≡ true
+is_up f o none e n = same_there f o ∙ (e ∙ ap not n)
+
+pub is_down : {X Y : Type 0} (f : X → Y) (o : Option X) (none : Bool) → is_some o ≡ not none → none ≡ true → is_some (option_map f o) ≡ false
+is_down f o none e n = same_there f o ∙ (e ∙ ap not n)
+
+-- the error that a conversion gives
+pub converted : (r : Result (Unit {0}) StepEnd) (why : EventWhy) (Q : StepEnd → Type 0) → IsErrAnd r (λ e. e ≡ BadEvent why) → Q (BadEvent why) → IfErr r Q
+converted (Ok x) why Q h q = tt
+converted (Err e) why Q h q = subst Q (sym h) q

@@ -1,0 +1,50 @@
+use Rattle.std.proofs.Common.{◌≡◌, ◌∙◌, sym, ap, subst, ◌<◌, ◌*◌, length, arith}
+use Rattle.std.specs.Prelude.{option_copied}
+use Rattle.seq_arith.specs.Damage.{flipped}
+use Rattle.server_trait.specs.Service.{machine}
+use Rattle.ft_model.specs.World.{DeliveredAs}
+use Rattle.net_schedule.specs.Keeping.{kept}
+use Rattle.net_schedule.specs.Premises.{ComesAs}
+use Rattle.net_schedule.specs.Standing.{GoesOn}
+use Rattle.net_schedule.proofs.Events.{flips, flips_end, refuses_no_packet, refuses_bit}
+use Rattle.net_schedule.proofs.Keeping.{no_way, no_bytes}
+use Rattle.net_schedule.proofs.Outcomes.{on_ok, if_err}
+use Rattle.net_schedule.proofs.world.World.flip.Goals as goal
+
+pub returns-in_default-clause-ends : goal.returns-in_default-clause-ends
+returns-in_default-clause-ends g c = λ v st p.
+    refuses_no_packet (machine (g.S.Service.started c.args.self.now.kind) g.S.Service.after) v c.args.number c.args.bit
+    (no_way c.args.self.now.keys.items c.args.self.now.packets v.packets c.args.number st.packets (sym c.way.ensures ∙ c.in_default.is))
+
+pub returns-in_default-bytes-clause-ends : goal.returns-in_default-bytes-clause-ends
+returns-in_default-bytes-clause-ends g c = λ v st p.
+    refuses_no_packet (machine (g.S.Service.started c.args.self.now.kind) g.S.Service.after) v c.args.number c.args.bit
+    (no_bytes c.args.self.now.keys.items c.args.self.now.packets v.packets c.args.number st.packets (sym c.bytes.ensures ∙ ap option_copied c.in_default-bytes.is))
+
+pub returns-then-bit-bytes-clause-ends : goal.returns-then-bit-bytes-clause-ends
+returns-then-bit-bytes-clause-ends g c = λ v st p.
+    refuses_bit (machine (g.S.Service.started c.args.self.now.kind) g.S.Service.after) (kept c.args.self.now) v c.args.number c.args.bit c.in-Some.way c.in-Some-bytes.bytes.now st
+    (sym c.way.ensures ∙ c.in-Some.is) (sym c.in-Some-bytes.ensures) (omega arith)
+
+pub returns-clause-done : goal.returns-clause-done
+returns-clause-done g c =
+    let service = machine (g.S.Service.started c.args.self.now.kind) g.S.Service.after in
+    let bytes = c.in-Some-bytes.bytes.now in
+    let within : c.args.bit < 8 * length bytes = omega arith in
+    let is : c.as_slice.result.now ≡ flipped c.args.bit bytes = c.as_slice.ensures.value ∙ c.in_ok-refill_flipped.ensures in
+    on_ok c.bring-done.result
+    (λ so v st p. flips service (kept c.args.self.now) (kept c.bring-done.new.self) v c.args.number c.args.bit c.in-Some.way bytes st p
+    (sym c.way.ensures ∙ c.in-Some.is) (sym c.in-Some-bytes.ensures) within
+    (λ packet goes came. subst (λ b. GoesOn service (DeliveredAs service v packet b) v (kept c.bring-done.new.self)) is (so v packet st p goes (subst (ComesAs v packet) (sym is) came))))
+    c.bring-done.ensures.done
+
+pub returns-clause-ends : goal.returns-clause-ends
+returns-clause-ends g c =
+    let service = machine (g.S.Service.started c.args.self.now.kind) g.S.Service.after in
+    let bytes = c.in-Some-bytes.bytes.now in
+    let within : c.args.bit < 8 * length bytes = omega arith in
+    let is : c.as_slice.result.now ≡ flipped c.args.bit bytes = c.as_slice.ensures.value ∙ c.in_ok-refill_flipped.ensures in
+    if_err c.bring-done.result
+    (λ end so v st p. flips_end service (kept c.args.self.now) v c.args.number c.args.bit c.in-Some.way bytes end st p
+    (sym c.way.ensures ∙ c.in-Some.is) (sym c.in-Some-bytes.ensures) within (λ packet goes came. so v packet st p goes (subst (ComesAs v packet) (sym is) came)))
+    c.bring-done.ensures.ends

@@ -1,0 +1,27 @@
+-- What every legal trace gives of the world at its end, on which the step after it rests.
+use Rattle.std.specs.Prelude.{◌≡◌, ℕ, None, Some, List, map}
+use Rattle.std.specs.List.{AllByRecursion}
+use Rattle.seq_arith.specs.PacketGrammar as segments
+use Rattle.seq_arith.specs.MessageGrammar as messages
+use Rattle.server_trait.specs.Service.{Machine}
+use Rattle.ft_model.specs.Lawful.{IsNearInput, IsSoundInput, fence}
+use Rattle.ft_model.specs.Network.{Packet}
+use Rattle.ft_model.specs.Network.Packet.{To_server, From_logger}
+use Rattle.ft_model.specs.Node.{Node, Input}
+use Rattle.ft_model.specs.Wire.{HasWire}
+use Rattle.ft_model.specs.World.{World as Seen, MayCome, IsStart, segment_or_noise, message_or_noise}
+
+-- each packet has its bytes, the clients have the keys with which they started, and whatever may come to the server is near, lets it fetch
+-- what is sound, and doesn't fence it
+pub record Premises {State : Type 0} (service : Machine State) (v : Seen) : Type 0 where
+  pub wires : AllByRecursion HasWire v.packets
+  pub keys : (start : Seen) × IsStart start × (map (λ c. c.key) v.clients ≡ map (λ c. c.key) start.clients)
+  pub near : (node : Node) (input : Input) → v.node ≡ Some node → MayCome v input → IsNearInput input node.stage
+  pub sound : (node : Node) (input : Input) → v.node ≡ Some node → MayCome v input → IsSoundInput service node input node.stage
+  pub unfenced : (node : Node) (input : Input) → v.node ≡ Some node → MayCome v input → fence node input ≡ None
+
+-- what these bytes say to the addressee of a packet may come to it
+abbrev pub ComesAs : Seen → Packet → List ℕ → Type 0
+ComesAs v (To_server segment) bytes = MayCome v (segment_or_noise (segments.reading bytes))
+ComesAs v (From_logger message) bytes = MayCome v (message_or_noise (messages.reading bytes))
+ComesAs v _ bytes = Unit {0}

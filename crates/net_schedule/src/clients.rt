@@ -1,0 +1,100 @@
+//! The clients of a schedule, before anything was sent, and how they are found.
+
+ghost use Rattle.std.specs.Prelude.{◌≡◌, ◌≤◌, ◌+◌, ◌%◌, ◌^◌, map, length, All, IfOk, IfSome, position};
+ghost use Rattle.ft_io.specs.Key.{key_eq};
+ghost use Rattle.ft_model.specs.Schedule.{kind_of as kind_lem, letters as letters_lem, bytes_of as bytes_lem, client_of as client_lem, clients_of};
+ghost use Rattle.net_schedule.specs.Carried.{number_in as number_lem};
+
+use ft_io::{Addr, Key, NoMemory};
+use ft_model::{ClientLine, Script, ServiceKind};
+use peer_client::Client;
+use std::alloc::Global;
+
+/// The number of a service.
+pub fn kind_of(service: ServiceKind) -> u8
+    ensures { result ≡ kind_lem service }
+{
+    match service {
+        ServiceKind::Echo => 1,
+        ServiceKind::Line => 2,
+        ServiceKind::Transfer => 3,
+        ServiceKind::Meter => 4,
+    }
+}
+
+/// The first letters of the alphabet, over and over.
+#[tactic(auto, using(crate::proofs::Letters::letters_none, crate::proofs::Letters::letters_more))]
+fn letters(alloc: Global, len: u32) -> Result<Vec<u8>, NoMemory>
+    ensures { IfOk result (λ text. text.items ≡ letters_lem len) }
+{
+    let mut text = Vec::with_capacity(alloc, len as usize)?;
+    for i in 0..len {
+        text.push(97 + (i % 26) as u8)?;
+    }
+    Ok(text)
+}
+
+/// The bytes of a script.
+fn bytes_of(alloc: Global, script: &Script) -> Result<Vec<u8>, NoMemory>
+    ensures { IfOk result (λ text. text.items ≡ bytes_lem script.now) }
+{
+    match script {
+        Script::Bytes(bytes) => Ok(Vec::from_slice(alloc, bytes.as_slice())?),
+        Script::Fill { len } => letters(alloc, *len),
+    }
+}
+
+/// A client of a schedule, before anything was sent.
+fn new_client(alloc: Global, server: Addr, line: &ClientLine) -> Result<Client, NoMemory>
+    requires { length (bytes_lem line.now.script) ≤ 2 ^ 24 }
+    ensures { IfOk result (λ client. client ≡ client_lem server line.now) }
+{
+    let script = bytes_of(alloc, &line.script)?;
+    Ok(Client::new(alloc, line.key, server, line.isn, script))
+}
+
+/// The clients of a schedule, before anything was sent.
+pub fn new_clients(
+    alloc: Global,
+    server: Addr,
+    lines: &[ClientLine],
+) -> Result<Vec<Client>, NoMemory>
+    requires { All (λ line. length (bytes_lem line.script) ≤ 2 ^ 24) lines.now }
+    ensures { IfOk result (λ clients. clients.items ≡ clients_of server lines.now) }
+{
+    let mut clients = Vec::new(alloc);
+    for line in lines {
+        clients.push(new_client(alloc, server, line)?)?;
+    }
+    Ok(clients)
+}
+
+/// The keys of a schedule's clients.
+pub fn keys_of(alloc: Global, lines: &[ClientLine]) -> Result<Vec<Key>, NoMemory>
+    ensures { IfOk result (λ keys. keys.items ≡ map (λ line. line.key) lines.now) }
+{
+    let mut keys = Vec::new(alloc);
+    for line in lines {
+        keys.push(line.key)?;
+    }
+    Ok(keys)
+}
+
+/// The place of a key among these.
+fn place_of(keys: &[Key], key: Key) -> Option<usize>
+    ensures place { result ≡ position (λ k. key_eq k key) keys.now }
+    ensures within { IfSome result (λ place. place + 1 ≤ length keys.now) }
+{
+    keys.iter().position(|other| *other == key)
+}
+
+/// The number of the client with this key, from 1; 0 where there is none.
+pub fn number_of(keys: &[Key], key: Key) -> u8
+    requires { length keys.now ≤ 16 }
+    ensures { result ≡ number_lem keys.now key }
+{
+    match place_of(keys, key) {
+        Some(place) => (place + 1) as u8,
+        None => 0,
+    }
+}

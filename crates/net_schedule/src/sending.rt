@@ -1,0 +1,45 @@
+//! What the server and the logger send, as the network keeps it.
+
+ghost use Rattle.std.specs.Prelude.{◌≡◌, ◌≤◌, length, OnOk};
+ghost use Rattle.server_node.specs.Sending.{party_of};
+ghost use Rattle.net_schedule.specs.Carried.{way_to as way_lem, with_wires, with_answer};
+
+use crate::clients::number_of;
+use crate::packets::Packets;
+use ft_io::{Key, NoMemory};
+use ft_model::Way;
+use logger_store::MsgOut;
+use server_node::{OutPacket, To};
+
+/// The way of a packet from the server.
+fn way_to(keys: &[Key], to: To) -> Way
+    requires { length keys.now ≤ 16 }
+    ensures { result ≡ way_lem keys.now (party_of to) }
+{
+    match to {
+        To::Client(key) => Way::ServerToClient(number_of(keys, key)),
+        To::Logger => Way::ServerToLogger,
+    }
+}
+
+/// Keeps what the server sent in a turn.
+pub fn keep_sent(keys: &[Key], sent: &[OutPacket], packets: &mut Packets) -> Result<(), NoMemory>
+    requires { length keys.now ≤ 16 }
+    ensures { OnOk result (packets.new ≡ with_wires keys.now packets.old sent.now) }
+{
+    for packet in sent {
+        packets.push(way_to(keys, packet.to()), packet.bytes())?;
+    }
+    Ok(())
+}
+
+/// Keeps the answer of the logger, if it gave one.
+pub fn keep_answer(answer: &MsgOut, packets: &mut Packets) -> Result<(), NoMemory>
+    ensures { OnOk result (packets.new ≡ with_answer packets.old answer.now) }
+{
+    let bytes = answer.bytes();
+    if bytes.is_empty() {
+        return Ok(());
+    }
+    packets.push(Way::LoggerToServer, bytes)
+}

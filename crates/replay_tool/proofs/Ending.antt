@@ -1,0 +1,342 @@
+-- The beginning of a schedule's playing, and the ends of it and of a run.
+use Rattle.std.proofs.Common.{◌≡◌, ◌∙◌, ◌⊎◌, inl, inr, ℕ, suc, ◌+◌, ◌-◌, ◌<◌, ◌≤◌, Option, None, Some, IfSome, Result, Ok, Err, OnOk, OnErr, IfErr, IsErrAnd, List, [], ◌∷◌, ◌++◌, length, take, drop, get_or, map, refl, sym, ap, ap₂, subst, arith, false, append_assoc, append-nil, length-append, if◌then◌else◌}
+use Rattle.std.specs.Prelude.{nat_le}
+use Rattle.std.specs.List.{flat_map}
+use Rattle.std.specs.Io.KnownBytes.{Appends, IsAtEnd}
+use Rattle.std.proofs.lemmas.List.{drop_more, length-drop}
+use Rattle.std.proofs.Math.ListN.{drop_of_length-le}
+use Rattle.ft_io.specs.declared.reading.ReadEnd.{ReadEnd}
+use Rattle.ft_io.specs.declared.reading.ReadEnd.TheVariants as reads
+use Rattle.sample_servers.specs.AnyService.{any_machine}
+use Rattle.sample_servers.specs.declared.any_service.AnyService.{AnyService}
+use Rattle.ft_model.specs.Grammar.{read_text, read_with, read_lines, no_objection}
+use Rattle.ft_model.specs.Grammar.{Refusal as reading}
+use Rattle.ft_model.specs.Words.{lines_of}
+use Rattle.ft_model.specs.Legal.{start_of, IsLegalFor}
+use Rattle.ft_model.specs.Report.{header, event_lines, client_lines, log_line, end_line, closing_lines, report}
+use Rattle.ft_model.specs.Schedule.{clients_of}
+use Rattle.ft_model.specs.World.{Moment, IsStart}
+use Rattle.ft_model.specs.declared.event.Event.{Event}
+use Rattle.ft_model.specs.declared.event.EventWhy.{EventWhy}
+use Rattle.ft_model.specs.declared.line.Draft.TheVariants.{Empty}
+use Rattle.ft_model.specs.declared.schedule.Schedule.{Schedule}
+use Rattle.ft_model.specs.declared.schedule.Limit.TheVariants as limits
+use Rattle.net_schedule.specs.Standing.{Kept}
+use Rattle.net_schedule.specs.Stepping.{StandsAfter}
+use Rattle.ft_io.specs.Faults.{Rose}
+use Rattle.replay_tool.specs.Ends.{end_of_read, CountsFaults}
+use Rattle.replay_tool.specs.OnItsWay.{IsOnItsWay, IsFrontOf, Wrote, WroteFront, Holds}
+use Rattle.replay_tool.specs.Played.{IsSafe, IsPlayedTo, lines_so_far, reached, NoneIsAllowed, Spells, ReportsAll, ReportsTill, ReportsToLimit, ReportsFront}
+use Rattle.replay_tool.specs.Playing.{Reaches, StandsAt, StopsPlaying, HoldsAtEnd, EndsPlaying}
+use Rattle.replay_tool.specs.Runs.{StopsReading, StopsRun, KeepsFront, KeepsOut, IsReadOut}
+use Rattle.replay_tool.specs.declared.status.TooMuch.TheVariants.{Text, Events, Packets}
+use Rattle.replay_tool.specs.declared.status.RunEnd.{RunEnd}
+use Rattle.replay_tool.specs.declared.status.RunEnd.TheVariants.{Usage, NoMemory, ReadFault, WriteFault, BadLine, BadEvent, TooLong}
+use Rattle.replay_tool.proofs.Fronts.{none_on_its_way, more_held}
+use Rattle.replay_tool.proofs.Playing.{AreSafe, as_many_events, holds_front}
+
+-- what is known where a call ends well, and where it doesn't
+pub on_ok : {T E A B : Type 0} (r : Result T E) → (A → B) → OnOk r A → OnOk r B
+on_ok (Ok x) f a = f a
+on_ok (Err e) f a = tt
+
+pub on_err : {T E : Type 0} {A B : E → Type 0} (r : Result T E) → ((end : E) → A end → B end) → IfErr r A → IfErr r B
+on_err (Ok x) f a = tt
+on_err (Err e) f a = f e a
+
+pub when_err : {T E B : Type 0} {A : E → Type 0} (r : Result T E) → IsErrAnd r A → ((end : E) → A end → B) → OnErr r B
+when_err (Ok x) a f = absurd a
+when_err (Err e) a f = f e a
+
+pub err_gives : {T E B : Type 0} {A : E → Type 0} (r : Result T E) → ((end : E) → A end → B) → IfErr r A → OnErr r B
+err_gives (Ok x) f a = tt
+err_gives (Err e) f a = f e a
+
+pub if_err : {T E : Type 0} {A B : E → Type 0} (r : Result T E) → IsErrAnd r A → ((end : E) → A end → B end) → IfErr r B
+if_err (Ok x) a f = absurd a
+if_err (Err e) a f = f e a
+
+-- before the first event
+abbrev none_played : AreSafe → (schedule : Schedule) → IsLegalFor any_machine schedule [] [] → IsPlayedTo schedule schedule.events
+none_played safe schedule legal = record { events = []; trace = []; split = refl; legal = legal; safe = safe schedule [] [] legal (omega arith) }
+
+pub begins : AreSafe → (schedule : Schedule) (w : Kept AnyService) (old : Option (List ℕ)) (held : List ℕ) → StandsAfter any_machine schedule [] [] w → held ≡ header schedule
+    → Reaches schedule schedule.events w old old held
+begins safe schedule w old held s is = record {
+  played = none_played safe schedule s.legal;
+  stands = s;
+  counted = refl;
+  text = subst (IsOnItsWay old old held) (is ∙ sym (append-nil (header schedule))) (none_on_its_way old held);
+}
+
+-- .. where memory runs out
+pub ends_before : AreSafe → (schedule : Schedule) (old : Option (List ℕ)) (held : List ℕ) → IsStart (start_of schedule) → IsFrontOf held (header schedule) → Holds old old held (ReportsFront schedule)
+ends_before safe schedule old held start front =
+    let legal : IsLegalFor any_machine schedule [] [] = record { joint = start; events_are = refl; allowed = tt } in (
+      held,
+      none_on_its_way old held,
+      record {
+        others = schedule.events;
+        played = none_played safe schedule legal;
+        front = inl (front.0, front.1 ∙ sym (append-nil (header schedule)));
+      },
+    )
+
+-- the next event among those that aren't played yet
+pub next_is : (schedule : Schedule) (events : List Event) (event : Event) (i : ℕ) (w : Kept AnyService) (old now : Option (List ℕ)) (held : List ℕ) → events ≡ schedule.events → i < length events
+    → event ≡ get_or events i event → Reaches schedule (drop i events) w old now held
+    → (r : Reaches schedule (event ∷ drop (i + 1) events) w old now held) × (i + 1 ≡ length r.played.events + 1)
+next_is schedule events event i w old now held all within same r =
+    let left : drop i events ≡ event ∷ drop (i + 1) events = drop_more events i event within ∙ ap (λ e. e ∷ drop (i + 1) events) (sym same) in
+    let next : Reaches schedule (event ∷ drop (i + 1) events) w old now held = subst (λ es. Reaches schedule es w old now held) left r in
+    let long : length events ≡ length next.played.events + length (event ∷ drop (i + 1) events) = ap length (all ∙ next.played.split) ∙ length-append next.played.events (event ∷ drop (i + 1) events) in
+    let rest : length (drop (i + 1) events) ≡ length events - (i + 1) = length-drop (i + 1) events in
+    (next, omega (arith, long, rest))
+
+-- it is played
+pub plays_next : (schedule : Schedule) (events : List Event) (event : Event) (i : ℕ) (w w' : Kept AnyService) (old now new : Option (List ℕ)) (held after : List ℕ) → events ≡ schedule.events → i < length events
+    → event ≡ get_or events i event
+    → ((s : Schedule) (others : List Event) (o : Option (List ℕ)) (before : Reaches s (event ∷ others) w o now held) → i + 1 ≡ length before.played.events + 1 → Reaches s others w' o new after)
+    → Reaches schedule (drop i events) w old now held → Reaches schedule (drop (i + 1) events) w' old new after
+plays_next schedule events event i w w' old now new held after all within same plays r =
+    let next : (r : Reaches schedule (event ∷ drop (i + 1) events) w old now held) × (i + 1 ≡ length r.played.events + 1) = next_is schedule events event i w old now held all within same r in
+    plays schedule (drop (i + 1) events) old next.0 next.1
+
+-- it isn't done
+pub stops_next : (schedule : Schedule) (events : List Event) (event : Event) (i : ℕ) (w w' : Kept AnyService) (old now new : Option (List ℕ)) (held after : List ℕ) (end : RunEnd) → events ≡ schedule.events
+    → i < length events → event ≡ get_or events i event
+    → ((s : Schedule) (others : List Event) (o : Option (List ℕ)) (before : Reaches s (event ∷ others) w o now held) → i + 1 ≡ length before.played.events + 1 → StopsPlaying s w' o new after end)
+    → Reaches schedule (drop i events) w old now held → StopsPlaying schedule w' old new after end
+stops_next schedule events event i w w' old now new held after end all within same stops r =
+    let next : (r : Reaches schedule (event ∷ drop (i + 1) events) w old now held) × (i + 1 ≡ length r.played.events + 1) = next_is schedule events event i w old now held all within same r in
+    stops schedule (drop (i + 1) events) old next.0 next.1
+
+-- all are played
+pub none_left : (schedule : Schedule) (events : List Event) (i : ℕ) (w : Kept AnyService) (old now : Option (List ℕ)) (held : List ℕ) → length events ≤ i → Reaches schedule (drop i events) w old now held
+    → Reaches schedule [] w old now held
+none_left schedule events i w old now held past r = subst (λ es. Reaches schedule es w old now held) (drop_of_length-le events past) r
+
+-- as many moments as events
+moments : (schedule : Schedule) (others : List Event) (p : IsPlayedTo schedule others) → length p.events ≡ length p.trace
+moments schedule others p = ap length (sym p.legal.events_are) ∙ as_many_events p.trace
+
+-- how the world stands is put behind the lines so far
+closed : (schedule : Schedule) (others : List Event) (n : ℕ) (w : Kept AnyService) (old now : Option (List ℕ)) (held after : List ℕ) (r : Reaches schedule others w old now held) → n ≡ length r.played.trace
+    → after ≡ held ++ (client_lines 1 w.clients ++ (flat_map log_line w.log.entries ++ end_line n)) → IsOnItsWay old now after (report schedule r.played.trace)
+closed schedule others n w old now held after r at grown =
+    let trace : List Moment = r.played.trace in
+    let ends : client_lines 1 w.clients ++ (flat_map log_line w.log.entries ++ end_line n) ≡ closing_lines (reached schedule trace) (length trace) =
+    ap₂ (λ cs l. client_lines 1 cs ++ (flat_map log_line l.entries ++ end_line n)) r.stands.stands.clients r.stands.stands.log
+    ∙ ap (λ k. client_lines 1 (reached schedule trace).clients ++ (flat_map log_line (reached schedule trace).log.entries ++ end_line k)) at in
+    let way : IsOnItsWay old now (held ++ closing_lines (reached schedule trace) (length trace)) (lines_so_far schedule trace ++ closing_lines (reached schedule trace) (length trace)) =
+    more_held old now held (lines_so_far schedule trace) (closing_lines (reached schedule trace) (length trace)) r.text in
+    subst (λ h. IsOnItsWay old now h (report schedule trace)) (sym (grown ∙ ap (λ l. held ++ l) ends))
+    (subst (IsOnItsWay old now (held ++ closing_lines (reached schedule trace) (length trace)))
+    (append_assoc (header schedule) (event_lines (clients_of schedule.server schedule.clients) trace) (closing_lines (reached schedule trace) (length trace))) way)
+
+pub closes_all : (schedule : Schedule) (n : ℕ) (w : Kept AnyService) (old now : Option (List ℕ)) (held after : List ℕ) → Reaches schedule [] w old now held → n ≡ length schedule.events
+    → after ≡ held ++ (client_lines 1 w.clients ++ (flat_map log_line w.log.entries ++ end_line n)) → Holds old now after (ReportsAll schedule)
+closes_all schedule n w old now held after r at grown =
+    let number : n ≡ length r.played.trace = at ∙ ap length (r.played.split ∙ append-nil r.played.events) ∙ moments schedule [] r.played in
+    (report schedule r.played.trace, closed schedule [] n w old now held after r number grown, record { played = r.played; is = refl })
+
+pub closes_till : (schedule : Schedule) (number n : ℕ) (why : EventWhy) (w : Kept AnyService) (old now : Option (List ℕ)) (held after : List ℕ) → StandsAt schedule number why w old now held → n ≡ number - 1
+    → after ≡ held ++ (client_lines 1 w.clients ++ (flat_map log_line w.log.entries ++ end_line n)) → Holds old now after (ReportsTill schedule number why)
+closes_till schedule number n why w old now held after s at grown =
+    let r : Reaches schedule (s.event ∷ s.others) w old now held = s.reaches in
+    let count : length r.played.events ≡ length r.played.trace = moments schedule (s.event ∷ s.others) r.played in
+    let from : number ≡ length r.played.events + 1 = s.number_is in
+    let last : n ≡ length r.played.trace = omega (arith, at, count, from) in (
+      report schedule r.played.trace,
+      closed schedule (s.event ∷ s.others) n w old now held after r last grown,
+      record { event = s.event; others = s.others; played = r.played; number_is = s.number_is; refused = s.refused; is = refl },
+    )
+
+-- .. and where memory runs out at that
+pub front_till : (schedule : Schedule) (number : ℕ) (why : EventWhy) (w : Kept AnyService) (old now : Option (List ℕ)) (held : List ℕ) → StandsAt schedule number why w old now held
+    → Holds old now held (ReportsFront schedule)
+front_till schedule number why w old now held s = holds_front schedule (s.event ∷ s.others) w old now held s.reaches
+
+-- any other end
+pub others_stop : (schedule : Schedule) (w : Kept AnyService) (old now : Option (List ℕ)) (held : List ℕ) (end : RunEnd) → ((number : ℕ) (why : EventWhy) → end ≡ BadEvent number why → ⊥)
+    → StopsPlaying schedule w old now held end → HoldsAtEnd schedule old now held end
+others_stop schedule w old now held (BadEvent number why) never s = absurd (never number why refl)
+others_stop schedule w old now held Usage never s = s
+others_stop schedule w old now held NoMemory never s = s
+others_stop schedule w old now held ReadFault never s = s
+others_stop schedule w old now held WriteFault never s = s
+others_stop schedule w old now held (BadLine line why) never s = s
+others_stop schedule w old now held (TooLong what) never s = s
+
+-- a front of what an end leaves
+front_of_all : (schedule : Schedule) (front text : List ℕ) → ReportsAll schedule text → IsFrontOf front text → ReportsFront schedule front
+front_of_all schedule front text r f = record { others = []; played = r.played; front = inr (tt, (f.0, f.1 ∙ r.is)) }
+
+front_of_till : (schedule : Schedule) (number : ℕ) (why : EventWhy) (front text : List ℕ) → ReportsTill schedule number why text → IsFrontOf front text → ReportsFront schedule front
+front_of_till schedule number why front text r f = record { others = r.event ∷ r.others; played = r.played; front = inr ((why, r.refused), (f.0, f.1 ∙ r.is)) }
+
+front_of_limit : (schedule : Schedule) (front text : List ℕ) → ReportsToLimit schedule text → IsFrontOf front text → ReportsFront schedule front
+front_of_limit schedule front text r f = record { others = r.event ∷ r.others; played = r.played; front = inl (f.0, f.1 ∙ r.is) }
+
+front_of_front : (schedule : Schedule) (front text : List ℕ) → ReportsFront schedule text → IsFrontOf front text → ReportsFront schedule front
+front_of_front schedule front text r f = record { others = r.others; played = r.played; front = by_part r.front }
+  where
+    further : (whole : List ℕ) → IsFrontOf text whole → IsFrontOf front whole
+    further whole g = (f.0 ++ g.0, sym (append_assoc front f.0 g.0) ∙ ap (λ l. l ++ g.0) f.1 ∙ g.1)
+
+    by_part : IsFrontOf text (lines_so_far schedule r.played.trace) ⊎ (NoneIsAllowed (reached schedule r.played.trace) r.others × IsFrontOf text (report schedule r.played.trace))
+        → IsFrontOf front (lines_so_far schedule r.played.trace) ⊎ (NoneIsAllowed (reached schedule r.played.trace) r.others × IsFrontOf front (report schedule r.played.trace))
+    by_part (inl g) = inl (further (lines_so_far schedule r.played.trace) g)
+    by_part (inr g) = inr (g.0, further (report schedule r.played.trace) g.1)
+
+pub front_of_end : (schedule : Schedule) (end : RunEnd) (front text : List ℕ) → EndsPlaying schedule end text → IsFrontOf front text → ReportsFront schedule front
+front_of_end schedule NoMemory front text e f = front_of_front schedule front text e f
+front_of_end schedule WriteFault front text e f = front_of_front schedule front text e f
+front_of_end schedule (BadEvent number why) front text e f = front_of_till schedule number why front text e f
+front_of_end schedule (TooLong Packets) front text e f = front_of_limit schedule front text e f
+front_of_end schedule (TooLong Text) front text e f = absurd e
+front_of_end schedule (TooLong Events) front text e f = absurd e
+front_of_end schedule (BadLine line why) front text e f = absurd e
+front_of_end schedule Usage front text e f = absurd e
+front_of_end schedule ReadFault front text e f = absurd e
+
+whole_front : (text : List ℕ) → IsFrontOf text text
+whole_front text = ([], append-nil text)
+
+-- what is held at the end, but where the sink failed
+held_at : (schedule : Schedule) (old now : Option (List ℕ)) (held : List ℕ) (end : RunEnd) → (end ≡ WriteFault → ⊥) → HoldsAtEnd schedule old now held end → Holds old now held (EndsPlaying schedule end)
+held_at schedule old now held WriteFault never h = absurd (never refl)
+held_at schedule old now held Usage never h = h
+held_at schedule old now held NoMemory never h = h
+held_at schedule old now held ReadFault never h = h
+held_at schedule old now held (BadLine line why) never h = h
+held_at schedule old now held (BadEvent number why) never h = h
+held_at schedule old now held (TooLong what) never h = h
+
+-- the count of the sink's failed calls, where the rest goes out and where it doesn't
+pub steady : (before now new : ℕ) (end : RunEnd) → (end ≡ WriteFault → ⊥) → CountsFaults before now (Err end) → new ≡ now → CountsFaults before new (Err end)
+steady before now new WriteFault never c e = absurd (never refl)
+steady before now new Usage never c e = e ∙ c
+steady before now new NoMemory never c e = e ∙ c
+steady before now new ReadFault never c e = e ∙ c
+steady before now new (BadLine line why) never c e = e ∙ c
+steady before now new (BadEvent number why) never c e = e ∙ c
+steady before now new (TooLong what) never c e = e ∙ c
+
+still : (before now : ℕ) (end : RunEnd) → (end ≡ WriteFault → ⊥) → CountsFaults before now (Err end) → now ≡ before
+still before now WriteFault never c = absurd (never refl)
+still before now Usage never c = c
+still before now NoMemory never c = c
+still before now ReadFault never c = c
+still before now (BadLine line why) never c = c
+still before now (BadEvent number why) never c = c
+still before now (TooLong what) never c = c
+
+pub rises : (before now new : ℕ) (end : RunEnd) → (end ≡ WriteFault → ⊥) → CountsFaults before now (Err end) → Rose now new → Rose before new
+rises before now new end never c r = subst (λ n. Rose n new) (still before now end never c) r
+
+-- the rest goes out, or a front of it
+pub rest_goes : (schedule : Schedule) (old now new : Option (List ℕ)) (held : List ℕ) (end : RunEnd) → (end ≡ WriteFault → ⊥) → HoldsAtEnd schedule old now held end
+    → ((text : List ℕ) → IsOnItsWay old now held text → Appends old new text) → Wrote old new (EndsPlaying schedule end)
+rest_goes schedule old now new held end never h out =
+    let k : Holds old now held (EndsPlaying schedule end) = held_at schedule old now held end never h in
+    (k.0, out k.0 k.1, k.2)
+
+pub rest_fails : (schedule : Schedule) (old now new : Option (List ℕ)) (held : List ℕ) (end : RunEnd) → (end ≡ WriteFault → ⊥) → HoldsAtEnd schedule old now held end
+    → ((text : List ℕ) → IsOnItsWay old now held text → WroteFront old new text) → Wrote old new (ReportsFront schedule)
+rest_fails schedule old now new held end never h out =
+    let k : Holds old now held (EndsPlaying schedule end) = held_at schedule old now held end never h in
+    let f : WroteFront old new k.0 = out k.0 k.1 in
+    (f.0, f.1, front_of_end schedule end f.0 k.0 k.2 f.2)
+
+pub all_goes : (schedule : Schedule) (old now new : Option (List ℕ)) (held : List ℕ) → Holds old now held (ReportsAll schedule)
+    → ((text : List ℕ) → IsOnItsWay old now held text → Appends old new text) → Wrote old new (ReportsAll schedule)
+all_goes schedule old now new held k out = (k.0, out k.0 k.1, k.2)
+
+pub all_fails : (schedule : Schedule) (old now new : Option (List ℕ)) (held : List ℕ) → Holds old now held (ReportsAll schedule)
+    → ((text : List ℕ) → IsOnItsWay old now held text → WroteFront old new text) → Wrote old new (ReportsFront schedule)
+all_fails schedule old now new held k out =
+    let f : WroteFront old new k.0 = out k.0 k.1 in
+    (f.0, f.1, front_of_all schedule f.0 k.0 k.2 f.2)
+
+-- a text that was read, and what holds of its schedule
+pub spelled_as : (Is : Schedule → Type 0) (left : Option (List ℕ)) (text : List ℕ) (schedule : Schedule) → IfSome left (λ whole. text ≡ whole) → read_text text ≡ Ok schedule → Is schedule
+    → IfSome left (λ whole. Spells whole Is)
+spelled_as Is None text schedule same spelled is = tt
+spelled_as Is (Some whole) text schedule same spelled is = (schedule, ap read_text (sym same) ∙ spelled, is)
+
+-- a text past the limit isn't read
+too_long : (text : List ℕ) → 8388608 < length text → read_text text ≡ Err (reading.TooLong limits.Text)
+unfolding read_with
+too_long text h =
+    let past : nat_le (length text) 8388608 ≡ false = grind arith in
+    ap (λ b. if b then read_lines no_objection 1 Empty (lines_of text) else Err (reading.TooLong limits.Text)) past
+
+-- the reading of a source that is too long
+pub source_stops : (left : Option (List ℕ)) (old new : Option (List ℕ)) (end : ReadEnd) → (end ≡ reads.TooLong → IfSome left (λ text. 8388608 < length text))
+    → IfSome left (λ text. StopsRun text old new (end_of_read end))
+source_stops None old new end h = tt
+source_stops (Some text) old new reads.NoMemory h = tt
+source_stops (Some text) old new reads.Fault h = tt
+source_stops (Some text) old new reads.TooLong h = too_long text (h refl)
+
+-- the reading of a text ends the run
+pub reading_stops : (left : Option (List ℕ)) (text : List ℕ) (old new : Option (List ℕ)) (end : RunEnd) → IfSome left (λ whole. text ≡ whole) → StopsReading text end → IfSome left (λ whole. StopsRun whole old new end)
+reading_stops None text old new end same s = tt
+reading_stops (Some whole) text old new NoMemory same s = tt
+reading_stops (Some whole) text old new (BadLine line why) same s = ap read_text (sym same) ∙ s
+reading_stops (Some whole) text old new (TooLong Text) same s = ap read_text (sym same) ∙ s
+reading_stops (Some whole) text old new (TooLong Events) same s = ap read_text (sym same) ∙ s
+reading_stops (Some whole) text old new (TooLong Packets) same s = absurd s
+reading_stops (Some whole) text old new (BadEvent number why) same s = absurd s
+reading_stops (Some whole) text old new Usage same s = tt
+reading_stops (Some whole) text old new ReadFault same s = tt
+reading_stops (Some whole) text old new WriteFault same s = tt
+
+-- the playing ends the run
+pub playing_stops : (left : Option (List ℕ)) (text : List ℕ) (schedule : Schedule) (old new : Option (List ℕ)) (end : RunEnd) → IfSome left (λ whole. text ≡ whole)
+    → read_text text ≡ Ok schedule → Wrote old new (EndsPlaying schedule end) → IfSome left (λ whole. StopsRun whole old new end)
+playing_stops None text schedule old new end same spelled s = tt
+playing_stops (Some whole) text schedule old new (BadEvent number why) same spelled s = (schedule, ap read_text (sym same) ∙ spelled, s)
+playing_stops (Some whole) text schedule old new (TooLong Packets) same spelled s = (schedule, ap read_text (sym same) ∙ spelled, s)
+playing_stops (Some whole) text schedule old new (TooLong Text) same spelled s = absurd s.2
+playing_stops (Some whole) text schedule old new (TooLong Events) same spelled s = absurd s.2
+playing_stops (Some whole) text schedule old new (BadLine line why) same spelled s = absurd s.2
+playing_stops (Some whole) text schedule old new Usage same spelled s = tt
+playing_stops (Some whole) text schedule old new NoMemory same spelled s = tt
+playing_stops (Some whole) text schedule old new ReadFault same spelled s = tt
+playing_stops (Some whole) text schedule old new WriteFault same spelled s = tt
+
+-- .. with a front of the report
+pub playing_keeps : {Out : Type 0} (taken : Out → Option (List ℕ)) (out out' : Out) (left after : Option (List ℕ)) (text : List ℕ) (schedule : Schedule) (end : RunEnd) → IsAtEnd after
+    → IfSome left (λ whole. text ≡ whole) → read_text text ≡ Ok schedule → Wrote (taken out) (taken out') (EndsPlaying schedule end) → KeepsFront taken out out' left after
+playing_keeps taken out out' left after text schedule end at same spelled s =
+    inr (at, spelled_as (λ x. Wrote (taken out) (taken out') (ReportsFront x)) left text schedule same spelled (s.0, s.1, front_of_end schedule end s.0 s.0 s.2 (whole_front s.0)))
+
+pub playing_keeps_out : {Out : Type 0} (taken : Out → Option (List ℕ)) (out out' : Out) (schedule : Schedule) (end : RunEnd) → Wrote (taken out) (taken out') (EndsPlaying schedule end) → KeepsOut out out' end
+playing_keeps_out taken out out' schedule Usage s = absurd s.2
+playing_keeps_out taken out out' schedule ReadFault s = absurd s.2
+playing_keeps_out taken out out' schedule (BadLine line why) s = absurd s.2
+playing_keeps_out taken out out' schedule (TooLong Text) s = absurd s.2
+playing_keeps_out taken out out' schedule (TooLong Events) s = absurd s.2
+playing_keeps_out taken out out' schedule (TooLong Packets) s = tt
+playing_keeps_out taken out out' schedule NoMemory s = tt
+playing_keeps_out taken out out' schedule WriteFault s = tt
+playing_keeps_out taken out out' schedule (BadEvent number why) s = tt
+
+pub playing_reads_out : (left : Option (List ℕ)) (end : RunEnd) → IsAtEnd left → IsReadOut left end
+playing_reads_out left (BadEvent number why) at = at
+playing_reads_out left (TooLong Packets) at = at
+playing_reads_out left (TooLong Text) at = tt
+playing_reads_out left (TooLong Events) at = tt
+playing_reads_out left Usage at = tt
+playing_reads_out left NoMemory at = tt
+playing_reads_out left ReadFault at = tt
+playing_reads_out left WriteFault at = tt
+playing_reads_out left (BadLine line why) at = tt
+
+-- neither of these is an end of the playing
+pub not_played : (schedule : Schedule) (old new : Option (List ℕ)) (end : RunEnd) → Wrote old new (EndsPlaying schedule end)
+    → (end ≡ Usage → ⊥) × (end ≡ ReadFault → ⊥)
+not_played schedule old new end s =
+    ((λ e. absurd (subst (λ x. Wrote old new (EndsPlaying schedule x)) e s).2), (λ e. absurd (subst (λ x. Wrote old new (EndsPlaying schedule x)) e s).2))

@@ -1,0 +1,32 @@
+-- A text on its way to a sink: a front of it was taken, and the rest is held.
+use Rattle.std.specs.Prelude.{◌≡◌, ℕ, List, ◌++◌, Option, Result, Ok, Err}
+use Rattle.std.specs.Io.KnownBytes.{Appends}
+use Rattle.ft_io.specs.Faults.{Rose}
+use Rattle.ft_io.specs.declared.Failed.{Failed}
+
+-- since the sink had taken `old`
+pub record IsOnItsWay (old now : Option (List ℕ)) (held text : List ℕ) : Type 0 where
+  pub front : List ℕ
+  pub taken : Appends old now front
+  pub whole : front ++ held ≡ text
+
+-- a front of a text
+abbrev pub IsFrontOf : List ℕ → List ℕ → Type 0
+IsFrontOf front text = (behind : List ℕ) × (front ++ behind ≡ text)
+
+-- a text of this kind was taken whole
+abbrev pub Wrote : (old new : Option (List ℕ)) → (List ℕ → Type 0) → Type 0
+Wrote old new Is = (text : List ℕ) × Appends old new text × Is text
+
+-- a front of this text was taken
+abbrev pub WroteFront : (old new : Option (List ℕ)) → List ℕ → Type 0
+WroteFront old new text = Wrote old new (λ front. IsFrontOf front text)
+
+-- a text of this kind is on its way
+abbrev pub Holds : (old now : Option (List ℕ)) → List ℕ → (List ℕ → Type 0) → Type 0
+Holds old now held Is = (text : List ℕ) × IsOnItsWay old now held text × Is text
+
+-- a sink's count of failed calls rises where the write failed, and stays otherwise
+abbrev pub CountsFailed : (old new : ℕ) → Result (Unit {0}) Failed → Type 0
+CountsFailed old new (Ok _) = new ≡ old
+CountsFailed old new (Err _) = Rose old new

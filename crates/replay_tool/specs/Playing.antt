@@ -1,0 +1,50 @@
+-- The playing of a schedule, event after event: where it stands, and where it ends early.
+use Rattle.std.specs.Prelude.{◌≡◌, ℕ, ◌+◌, Some, List, [], ◌∷◌, Option, length}
+use Rattle.ft_model.specs.Legal.{refusal}
+use Rattle.ft_model.specs.Outcome.{packets_sent}
+use Rattle.ft_model.specs.Report.{packet_count}
+use Rattle.ft_model.specs.declared.event.Event.{Event}
+use Rattle.ft_model.specs.declared.event.EventWhy.{EventWhy}
+use Rattle.ft_model.specs.declared.schedule.Schedule.{Schedule}
+use Rattle.net_schedule.specs.Standing.{Kept}
+use Rattle.net_schedule.specs.Stepping.{StandsAfter}
+use Rattle.sample_servers.specs.AnyService.{any_machine}
+use Rattle.sample_servers.specs.declared.any_service.AnyService.{AnyService}
+use Rattle.replay_tool.specs.OnItsWay.{IsOnItsWay, Wrote, Holds}
+use Rattle.replay_tool.specs.Played.{IsPlayedTo, lines_so_far, reached, ReportsTill, ReportsToLimit, ReportsFront}
+use Rattle.replay_tool.specs.declared.status.TooMuch.TheVariants.{Packets}
+use Rattle.replay_tool.specs.declared.status.RunEnd.{RunEnd}
+use Rattle.replay_tool.specs.declared.status.RunEnd.TheVariants.{NoMemory, WriteFault, BadEvent, TooLong}
+
+-- All events but these are played: the world stands there, and the lines so far are on their way to the sink, which had taken `old`.
+pub record Reaches (schedule : Schedule) (others : List Event) (w : Kept AnyService) (old now : Option (List ℕ)) (held : List ℕ) : Type 0 where
+  pub played : IsPlayedTo schedule others
+  pub stands : StandsAfter any_machine schedule played.events played.trace w
+  pub counted : packets_sent schedule played.trace ≡ packet_count played.trace
+  pub text : IsOnItsWay old now held (lines_so_far schedule played.trace)
+
+-- the text that an end of the playing leaves
+abbrev pub EndsPlaying : Schedule → RunEnd → List ℕ → Type 0
+EndsPlaying schedule NoMemory text = ReportsFront schedule text
+EndsPlaying schedule WriteFault text = ReportsFront schedule text
+EndsPlaying schedule (BadEvent number why) text = ReportsTill schedule number why text
+EndsPlaying schedule (TooLong Packets) text = ReportsToLimit schedule text
+EndsPlaying schedule _ text = ⊥
+
+-- it is on its way, and where the sink failed a front of it was taken
+abbrev pub HoldsAtEnd : Schedule → (old now : Option (List ℕ)) → List ℕ → RunEnd → Type 0
+HoldsAtEnd schedule old now held WriteFault = Wrote old now (ReportsFront schedule)
+HoldsAtEnd schedule old now held end = Holds old now held (EndsPlaying schedule end)
+
+-- the next event is refused, and all is where the events before it lead
+pub record StandsAt (schedule : Schedule) (number : ℕ) (why : EventWhy) (w : Kept AnyService) (old now : Option (List ℕ)) (held : List ℕ) : Type 0 where
+  pub event : Event
+  pub others : List Event
+  pub reaches : Reaches schedule (event ∷ others) w old now held
+  pub number_is : number ≡ length reaches.played.events + 1
+  pub refused : refusal (reached schedule reaches.played.trace) event ≡ Some why
+
+-- an event isn't done
+abbrev pub StopsPlaying : Schedule → Kept AnyService → (old now : Option (List ℕ)) → List ℕ → RunEnd → Type 0
+StopsPlaying schedule w old now held (BadEvent number why) = StandsAt schedule number why w old now held
+StopsPlaying schedule w old now held end = HoldsAtEnd schedule old now held end

@@ -1,0 +1,188 @@
+//! The lines of a report, as they are appended to a text: those of an event's packets, and those on clients and log at the end.
+
+ghost use Rattle.std.specs.Prelude.{◌≡◌, ℕ, ◌+◌, ◌<◌, ◌≤◌, ◌^◌, Some, None, List, ◌++◌, length, slice_get, IfOk, OnOk};
+ghost use Rattle.std.specs.List.{flat_map};
+ghost use Rattle.ft_model.specs.Client.{Client as Seen};
+ghost use Rattle.ft_model.specs.Log.{Entry};
+ghost use Rattle.ft_model.specs.Network.{Packet, packet_at};
+ghost use Rattle.ft_model.specs.Report.{packet_line, packet_lines, client_line, client_lines, log_line, end_line, event_line};
+ghost use Rattle.ft_model.specs.Schedule.{clients_of};
+ghost use Rattle.ft_model.specs.World.{Moment};
+ghost use Rattle.ft_model.specs.declared.event.Event.{Event as Asked};
+ghost use Rattle.ft_model.specs.declared.schedule.Schedule.{Schedule};
+ghost use Rattle.logger_store.specs.Stored.{lengths_of};
+ghost use Rattle.net_schedule.specs.Keeping.{kept};
+ghost use Rattle.net_schedule.specs.Sent.{packets_of, reported_way};
+ghost use Rattle.net_schedule.specs.Stepping.{StandsAfter};
+ghost use Rattle.sample_servers.specs.AnyService.{any_machine};
+ghost use Rattle.replay_tool.specs.Standing.{IsStanding};
+
+use ft_io::NoMemory;
+use ft_model::Event;
+use logger_store::LogStore;
+use net_schedule::laws::worlds_keep_what_was_sent;
+use net_schedule::{StepOut, World};
+use peer_client::Client;
+use sample_servers::AnyService;
+use schedule_text::{
+    LogLine, write_client_line, write_end, write_event, write_log_line, write_packet_line,
+};
+use std::alloc::Global;
+
+/// The most clients of a schedule.
+const CLIENT_LIMIT: u8 = 16;
+
+/// The line of packet `n`.
+fn write_packet(
+    alloc: Global,
+    world: &World<AnyService>,
+    n: u32,
+    lines: &mut Vec<u8>,
+) -> Result<(), NoMemory>
+    requires { IsStanding (kept world.now) }
+    ensures { OnOk result ((schedule : Schedule) (events : List Asked) (trace : List Moment) (p : Packet) → StandsAfter any_machine schedule events trace (kept world.now)
+        → packet_at (packets_of schedule trace) n ≡ Some p → lines.new.items ≡ lines.old.items ++ packet_line n (reported_way schedule p) p) }
+{
+    worlds_keep_what_was_sent::<AnyService>();
+    let Some(way) = world.way(n) else {
+        return Ok(());
+    };
+    let Some(bytes) = world.packet(n) else {
+        return Ok(());
+    };
+    write_packet_line(alloc, n, way, bytes, lines)
+}
+
+/// The lines of `count` packets from number `first` on, the last that were sent.
+fn write_packets(
+    alloc: Global,
+    world: &World<AnyService>,
+    first: u32,
+    count: u32,
+    lines: &mut Vec<u8>,
+) -> Result<(), NoMemory>
+    requires stands { IsStanding (kept world.now) }
+    requires numbers { first + count < 2 ^ 32 }
+    ensures { OnOk result ((schedule : Schedule) (events : List Asked) (trace : List Moment) (before sent : List Packet) → StandsAfter any_machine schedule events trace (kept world.now)
+        → packets_of schedule trace ≡ before ++ sent → first ≡ length before + 1 → count ≡ length sent
+        → lines.new.items ≡ lines.old.items ++ packet_lines (clients_of schedule.server schedule.clients) first sent) }
+{
+    for k in 0..count {
+        write_packet(alloc, world, first + k, lines)?;
+    }
+    Ok(())
+}
+
+/// The lines of event number `n`, which was just played: its own, and those of the packets that it sent.
+pub(crate) fn write_played(
+    alloc: Global,
+    n: u32,
+    event: &Event,
+    world: &World<AnyService>,
+    answer: StepOut,
+    lines: &mut Vec<u8>,
+) -> Result<(), NoMemory>
+    requires stands { IsStanding (kept world.now) }
+    requires numbers { answer.first + answer.count < 2 ^ 32 }
+    ensures { OnOk result ((schedule : Schedule) (events : List Asked) (trace : List Moment) (before sent : List Packet) → StandsAfter any_machine schedule events trace (kept world.now)
+        → packets_of schedule trace ≡ before ++ sent → answer.first ≡ length before + 1 → answer.count ≡ length sent
+        → lines.new.items ≡ lines.old.items ++ (event_line n event.now ++ packet_lines (clients_of schedule.server schedule.clients) answer.first sent)) }
+{
+    write_event(alloc, n, event, lines)?;
+    write_packets(alloc, world, answer.first, answer.count, lines)
+}
+
+/// The line of client `n`.
+fn write_client(alloc: Global, n: u32, client: &Client, lines: &mut Vec<u8>) -> Result<(), NoMemory>
+    ensures { OnOk result (lines.new.items ≡ lines.old.items ++ client_line n client.now) }
+{
+    write_client_line(alloc, n, client.phase(), client.accepted(), lines)
+}
+
+/// The line of the client at place `i`, if there is one.
+fn write_client_at(
+    alloc: Global,
+    world: &World<AnyService>,
+    i: u8,
+    lines: &mut Vec<u8>,
+) -> Result<(), NoMemory>
+    requires { i < 16 }
+    ensures one { OnOk result ((c : Seen) → slice_get world.now.clients.items i ≡ Some c → lines.new.items ≡ lines.old.items ++ client_line (i + 1) c) }
+    ensures none { OnOk result (slice_get world.now.clients.items i ≡ None → lines.new.items ≡ lines.old.items) }
+{
+    match world.client(i + 1) {
+        Some(client) => write_client(alloc, u32::from(i) + 1, client, lines),
+        None => Ok(()),
+    }
+}
+
+/// The lines of the clients, numbered from 1.
+fn write_clients(
+    alloc: Global,
+    world: &World<AnyService>,
+    lines: &mut Vec<u8>,
+) -> Result<(), NoMemory>
+    requires { length world.now.clients.items ≤ 16 }
+    ensures { OnOk result (lines.new.items ≡ lines.old.items ++ client_lines 1 world.now.clients.items) }
+{
+    for i in 0..CLIENT_LIMIT {
+        write_client_at(alloc, world, i, lines)?;
+    }
+    Ok(())
+}
+
+/// The lengths of the reads of the log's entry at place `i`, of which there are `count`, in order.
+fn read_lengths(alloc: Global, log: &LogStore, i: u16, count: u32) -> Result<Vec<u16>, NoMemory>
+    requires { count ≡ length (lengths_of (slice_get log.now.entries i)) }
+    ensures { IfOk result (λ lengths. lengths.items ≡ lengths_of (slice_get log.now.entries i)) }
+{
+    let mut lengths = Vec::new(alloc);
+    for at in 0..count {
+        lengths.push(log.length(i, at))?;
+    }
+    Ok(lengths)
+}
+
+/// The line of the log's entry at place `i`.
+fn write_entry(alloc: Global, log: &LogStore, i: u16, lines: &mut Vec<u8>) -> Result<(), NoMemory>
+    ensures { OnOk result ((e : Entry) → slice_get log.now.entries i ≡ Some e → lines.new.items ≡ lines.old.items ++ log_line e) }
+{
+    let Some(head) = log.entry(i) else {
+        return Ok(());
+    };
+    let reads = read_lengths(alloc, log, i, head.reads)?;
+    let line = LogLine {
+        key: head.key,
+        length: head.length,
+        fin: head.fin == 1,
+        acked: head.acked,
+        done: head.done == 1,
+        reads: reads.as_slice(),
+    };
+    write_log_line(alloc, &line, lines)
+}
+
+/// The lines of the log, in order.
+fn write_entries(alloc: Global, log: &LogStore, lines: &mut Vec<u8>) -> Result<(), NoMemory>
+    ensures { OnOk result (lines.new.items ≡ lines.old.items ++ flat_map log_line log.now.entries) }
+{
+    for i in 0..log.count() {
+        write_entry(alloc, log, i, lines)?;
+    }
+    Ok(())
+}
+
+/// How the world stands after `n` events, as the end of a report.
+pub(crate) fn write_closing(
+    alloc: Global,
+    world: &World<AnyService>,
+    n: u32,
+    lines: &mut Vec<u8>,
+) -> Result<(), NoMemory>
+    requires { length world.now.clients.items ≤ 16 }
+    ensures { OnOk result (lines.new.items ≡ lines.old.items ++ (client_lines 1 world.now.clients.items ++ (flat_map log_line world.now.log.entries ++ end_line n))) }
+{
+    write_clients(alloc, world, lines)?;
+    write_entries(alloc, world.log(), lines)?;
+    write_end(alloc, n, lines)
+}

@@ -1,0 +1,59 @@
+//! A report on its way to a sink: it is held in one buffer, and goes out in pieces.
+
+ghost use Rattle.std.specs.Prelude.{◌≡◌, ℕ, List, [], Option, OnOk, OnErr};
+ghost use Rattle.replay_tool.specs.OnItsWay.{IsOnItsWay, WroteFront, CountsFailed};
+
+use ft_io::{Failed, Sink, write_all};
+use std::alloc::Global;
+
+/// How many bytes are held, at least, before they are written.
+const PIECE: usize = 65_536;
+
+/// What is still to be written of a report, and the lines of one event, or of the end, until they are whole.
+#[derive(Drop)]
+pub(crate) struct Report {
+    pub(crate) held: Vec<u8>,
+    pub(crate) lines: Vec<u8>,
+}
+
+impl Report {
+    ghost use Rattle.std.specs.Prelude.{◌≡◌, []};
+
+    /// A report of which nothing is written yet.
+    pub(crate) fn new(alloc: Global) -> Report
+        ensures { result.held.items ≡ [] }
+    {
+        Report {
+            held: Vec::new(alloc),
+            lines: Vec::new(alloc),
+        }
+    }
+}
+
+/// Writes all that is held.
+pub(crate) fn flush<O: Sink>(report: &mut Report, out: &mut O) -> Result<(), Failed>
+    ensures ok { OnOk result ((old : Option (List ℕ)) (text : List ℕ) → IsOnItsWay old (O.taken out.old) report.old.held.items text
+        → IsOnItsWay old (O.taken out.new) report.new.held.items text) }
+    ensures empty { OnOk result (report.new.held.items ≡ []) }
+    ensures err { OnErr result ((old : Option (List ℕ)) (text : List ℕ) → IsOnItsWay old (O.taken out.old) report.old.held.items text
+        → WroteFront old (O.taken out.new) text) }
+    ensures faults { CountsFailed (O.fault_count out.old) (O.fault_count out.new) result }
+{
+    write_all(out, report.held.as_slice())?;
+    report.held.clear();
+    Ok(())
+}
+
+/// Writes what is held, where it is a piece.
+pub(crate) fn flush_piece<O: Sink>(report: &mut Report, out: &mut O) -> Result<(), Failed>
+    ensures ok { OnOk result ((old : Option (List ℕ)) (text : List ℕ) → IsOnItsWay old (O.taken out.old) report.old.held.items text
+        → IsOnItsWay old (O.taken out.new) report.new.held.items text) }
+    ensures err { OnErr result ((old : Option (List ℕ)) (text : List ℕ) → IsOnItsWay old (O.taken out.old) report.old.held.items text
+        → WroteFront old (O.taken out.new) text) }
+    ensures faults { CountsFailed (O.fault_count out.old) (O.fault_count out.new) result }
+{
+    if report.held.len() < PIECE {
+        return Ok(());
+    }
+    flush(report, out)
+}
