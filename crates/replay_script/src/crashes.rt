@@ -1,0 +1,192 @@
+//! The crash table: the first events of a schedule, then a crash and a restart, and the client goes on as long as it must.
+
+ghost use Rattle.std.specs.Prelude.{◌≤◌, length, IfOk};
+ghost use Rattle.ft_model.specs.Playable.{IsPlayable};
+
+use ft_io::NoMemory;
+use ft_model::grammar::{accepted_schedules_can_be_played, accepted_schedules_keep_the_limits};
+use ft_model::{Event, Phase};
+use net_schedule::{StepEnd, World};
+use sample_servers::AnyService;
+use schedule_text::{Schedule, ScheduleEnd, read_schedule};
+use std::alloc::Global;
+
+/// The most packets of a run.
+const PACKET_LIMIT: u32 = 200_000;
+
+/// A number of the client whose accepted bytes are printed.
+const CLIENT: u8 = 1;
+
+/// The schedule that a text spells.
+fn schedule_of(alloc: Global, text: &[u8]) -> Result<Schedule, ScheduleEnd>
+    ensures playable { IfOk result IsPlayable }
+    ensures clients { IfOk result (λ s. length s.clients ≤ 16) }
+{
+    accepted_schedules_can_be_played();
+    accepted_schedules_keep_the_limits();
+    read_schedule(alloc, text)
+}
+
+/// A world, and how many of its packets were delivered.
+#[derive(Drop)]
+struct Driven {
+    world: World<AnyService>,
+    delivered: u32,
+}
+
+impl Driven {
+    /// Delivers each packet that wasn't, in order, until none is left.
+    fn drain(&mut self, alloc: Global) -> Result<(), StepEnd> {
+        for number in 1..PACKET_LIMIT {
+            if number <= self.delivered {
+                continue;
+            }
+            if self.world.packet(number).is_none() {
+                return Ok(());
+            }
+            self.world.step(alloc, &Event::Deliver { packet: number })?;
+            self.delivered = number;
+        }
+        Ok(())
+    }
+
+    /// An event, and all that it leads to.
+    fn go_on(&mut self, alloc: Global, event: &Event) -> Result<(), StepEnd> {
+        self.world.step(alloc, event)?;
+        self.drain(alloc)
+    }
+
+    /// How many packets were sent.
+    fn sent(&self) -> u32 {
+        for number in 1..PACKET_LIMIT {
+            if self.world.packet(number).is_none() {
+                return number - 1;
+            }
+        }
+        PACKET_LIMIT
+    }
+
+    /// The phase of the client, and how much the server has acknowledged of it.
+    fn client(&self) -> (Phase, u32) {
+        match self.world.client(CLIENT) {
+            Some(client) => (client.phase(), client.acked()),
+            None => (Phase::Reset, 0),
+        }
+    }
+
+    /// The server crashes and restarts, and the client opens, sends its five bytes and acknowledges, where it must.
+    fn crash(&mut self, alloc: Global) -> Result<(), StepEnd> {
+        let window = 65_535;
+        self.delivered = self.sent();
+        self.world.step(alloc, &Event::Crash)?;
+        self.go_on(
+            alloc,
+            &Event::Boot {
+                boot: 2,
+                isn: 900_000,
+            },
+        )?;
+        if matches!(self.client().0, Phase::New | Phase::Opening) {
+            self.go_on(
+                alloc,
+                &Event::Begin {
+                    client: CLIENT,
+                    window,
+                },
+            )?;
+        }
+        self.go_on(
+            alloc,
+            &Event::Ack {
+                client: CLIENT,
+                window,
+            },
+        )?;
+        if self.client().1 == 0 {
+            self.go_on(
+                alloc,
+                &Event::Send {
+                    client: CLIENT,
+                    from: 0,
+                    len: 5,
+                },
+            )?;
+        }
+        self.go_on(
+            alloc,
+            &Event::Ack {
+                client: CLIENT,
+                window,
+            },
+        )
+    }
+
+    /// The first events of a schedule, and then a crash.
+    fn play(&mut self, alloc: Global, events: &[Event]) -> Result<(), StepEnd> {
+        for event in events {
+            self.world.step(alloc, event)?;
+        }
+        self.crash(alloc)
+    }
+
+    /// What the client has accepted, and the lengths of the reads of the log's first entry.
+    fn tell(&self, alloc: Global, out: &mut Vec<u8>) -> Result<(), NoMemory> {
+        if let Some(client) = self.world.client(CLIENT) {
+            out.extend_from_slice(client.accepted())?;
+        }
+        out.extend_from_slice(b" in reads of")?;
+        let log = self.world.log();
+        let Some(head) = log.entry(0) else {
+            return Ok(());
+        };
+        let text = format!(in alloc; " {} bytes, {} reads\n", head.length, head.reads)?;
+        out.extend_from_slice(text.as_bytes())?;
+        Ok(())
+    }
+}
+
+/// The first `count` events of a schedule, a crash, and what the client has at the end.
+fn play_crash(
+    alloc: Global,
+    schedule: &Schedule,
+    count: usize,
+    out: &mut Vec<u8>,
+) -> Result<(), NoMemory>
+    requires playable { IsPlayable schedule.now }
+    requires clients { length schedule.now.clients ≤ 16 }
+    requires count { count ≤ length schedule.now.events }
+{
+    let mut driven = Driven {
+        world: World::new(alloc, schedule)?,
+        delivered: 0,
+    };
+    let events = schedule.events.as_slice();
+    match driven.play(alloc, &events[..count]) {
+        Ok(()) => driven.tell(alloc, out),
+        Err(StepEnd::NoMemory) => Err(NoMemory),
+        Err(end) => {
+            let text = format!(in alloc; "{end:?}\n")?;
+            out.extend_from_slice(text.as_bytes())?;
+            Ok(())
+        }
+    }
+}
+
+/// Plays a crash after each number of the first events of a schedule.
+pub fn play_crashes(
+    alloc: Global,
+    name: &str,
+    text: &[u8],
+    out: &mut Vec<u8>,
+) -> Result<(), NoMemory> {
+    let Ok(schedule) = schedule_of(alloc, text) else {
+        out.extend_from_slice(b"no schedule\n")?;
+        return Ok(());
+    };
+    for count in 1..=schedule.events.as_slice().len() {
+        let head = format!(in alloc; "{name}, crash after {count}: ")?;
+        out.extend_from_slice(head.as_bytes())?;
+        play_crash(alloc, &schedule, count, out)?;
+    }
+    Ok(())
+}

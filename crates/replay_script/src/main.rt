@@ -1,0 +1,110 @@
+//! `replay_script`: plays the schedules of a script, which comes from standard input, by `replay` over memory, and prints what was written and how it ended. A line
+//! that begins with `=` says what is done with the lines behind it, up to the next such line:
+//!
+//! - `= play NAME WORD READ OUT ERR LAST` plays them as the text of a schedule, with this word; READ, OUT and ERR number the call of the source, of the sink of the
+//!   report and of that of the errors that fails, 0 for none. Printed are the status, what was written to the sink of the errors, and the report: its last LAST
+//!   lines, or all of it for 0. Without lines behind it, it plays those of the one before it;
+//! - `= crash NAME` plays them in the world, and for each number of their first events anew: then the server crashes, restarts and all is delivered that is sent,
+//!   and the client goes on. Printed is what it has accepted at the end, and the lengths that the log keeps.
+//!
+//! Of the lines of a schedule, `*COUNT LINE` stands for so many of them.
+#![tactic(auto)]
+
+use crashes::play_crashes;
+use ft_io::NoMemory;
+use playing::play;
+use std::alloc::Global;
+use std::io;
+
+mod crashes;
+mod playing;
+
+/// What a script says up to here: what is to be done next, and with which text.
+#[derive(Drop)]
+struct Script {
+    order: String,
+    text: Vec<u8>,
+    fresh: bool,
+}
+
+impl Script {
+    /// A line: the next order, or one of the text.
+    fn take(&mut self, alloc: Global, line: &str, out: &mut Vec<u8>) -> Result<(), NoMemory> {
+        if line.starts_with('=') {
+            self.follow(alloc, out)?;
+            self.order = String::from_str(alloc, line)?;
+            self.fresh = true;
+            return Ok(());
+        }
+        if self.fresh {
+            self.text.clear();
+            self.fresh = false;
+        }
+        self.add(line)
+    }
+
+    /// A line of the text, or many.
+    fn add(&mut self, line: &str) -> Result<(), NoMemory> {
+        let Some((count, repeated)) = many(line) else {
+            self.text.extend_from_slice(line.as_bytes())?;
+            self.text.push(b'\n')?;
+            return Ok(());
+        };
+        for _ in 0..count {
+            self.text.extend_from_slice(repeated.as_bytes())?;
+            self.text.push(b'\n')?;
+        }
+        Ok(())
+    }
+
+    /// Does what the order says, and appends what it prints.
+    fn follow(&self, alloc: Global, out: &mut Vec<u8>) -> Result<(), NoMemory> {
+        let mut words = Vec::new(alloc);
+        for word in self.order.split_whitespace() {
+            words.push(word)?;
+        }
+        match words.as_slice() {
+            [_, "play", rest @ ..] => play(alloc, rest, &self.text, out),
+            [_, "crash", name] => play_crashes(alloc, name, &self.text, out),
+            _ => Ok(()),
+        }
+    }
+}
+
+/// The line that is meant so many times.
+fn many(line: &str) -> Option<(u32, &str)> {
+    let (count, repeated) = line.strip_prefix('*')?.split_once(' ')?;
+    let Ok(count) = count.parse::<u32>() else {
+        return None;
+    };
+    Some((count, repeated))
+}
+
+fn main(rt: HostRuntime) -> io::Result<()> {
+    let alloc = rt.alloc();
+    let mut script = Script {
+        order: String::new(alloc),
+        text: Vec::new(alloc),
+        fresh: true,
+    };
+    for line in rt.lines(alloc) {
+        let mut out = Vec::new(alloc);
+        if script.take(alloc, line?.as_str(), &mut out).is_err() {
+            return println!(rt; "no memory");
+        }
+        tell(&rt, &out)?;
+    }
+    let mut out = Vec::new(alloc);
+    if script.follow(alloc, &mut out).is_err() {
+        return println!(rt; "no memory");
+    }
+    tell(&rt, &out)
+}
+
+/// Prints what an order has printed.
+fn tell(rt: &impl Print, out: &[u8]) -> io::Result<()> {
+    match str::from_utf8(out) {
+        Ok(text) => print!(rt; "{text}"),
+        Err(_) => println!(rt; "no text"),
+    }
+}
