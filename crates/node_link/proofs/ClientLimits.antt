@@ -1,0 +1,409 @@
+-- Whatever comes, a live client's TCP has sent no more than its script and a FIN, so that numbers tell the order of its offsets, and it holds no more
+-- for its user than its buffer has room for.
+use Rattle.std.proofs.Common.{◌≡◌, ℕ, ◌≤◌, ◌+◌, ◌-◌, ◌^◌, Bool, true, false, not, List, [], ◌∷◌, ◌++◌, length, length-append, length-drop, take, drop, max, min, refl, ap, arith, ◌∙◌, Result, Ok, Err}
+use Rattle.std.specs.Prelude.{ℤ, pos, ◌==◌, ◌&&◌, ◌||◌, nat_abs, nat_lt, int_le, int_lt, ◌+ℤ◌, if◌then◌else◌}
+use Rattle.std.proofs.lemmas.Int.{ints}
+use Rattle.std.proofs.lemmas.List.{length-take}
+use Rattle.std.proofs.lemmas.Bool.{false≢true}
+use Rattle.ft_io.specs.declared.Addr.{Addr}
+use Rattle.seq_arith.specs.Arrival.{int_eq, is_new_ack, below}
+use Rattle.seq_arith.specs.Offset.{one_if, length_of}
+use Rattle.seq_arith.specs.Packet.{Segment, has_fin, has_syn, has_rst, has_ack}
+use Rattle.seq_arith.specs.PacketGrammar.{reading}
+use Rattle.seq_arith.specs.declared.BadPacket.{BadPacket}
+use Rattle.tcp_endpoint.specs.declared.states.StateName.{StateName}
+use Rattle.tcp_endpoint.specs.declared.states.StateName.TheVariants.{Closed, Listen, SynSent, SynReceived, Established, FinWait1, FinWait2, CloseWait, Closing, LastAck, TimeWait}
+use Rattle.tcp_endpoint.specs.States.{has_begun}
+use Rattle.tcp_endpoint.specs.Receiving.{Receiving, taken, next, with_text, with_fin, with_segment}
+use Rattle.tcp_endpoint.specs.Sending.{Sending, IsShort, opened_by, acknowledged, moves_edge, sendable, expires, timed, with_sent, with_fin_sent}
+use Rattle.tcp_endpoint.specs.Tcb.{Tcb, listening, connecting}
+use Rattle.tcp_endpoint.specs.Arrival.{ack_at, first, owing_if, killed, received, received_in, in_closed, in_listen, begun, refusing, refusing_without_ack, answered, in_syn_sent, in_others, check_place, waiting_again, check_rst, check_syn, check_ack, with_ack, with_first_ack, with_fin_acked, with_text_and_fin}
+use Rattle.tcp_endpoint.specs.Leaving.{probes_text, probes_fin, with_probe, with_text_sent, new_fin, with_fin_out, after_full, announced, is_timed, settled, flushed}
+use Rattle.tcp_endpoint.specs.Turning.{after_tick, timer_ticked, waited, after_read, after_write, closing, write_room}
+use Rattle.endpoint_laws.proofs.Bounding.{text_facts}
+use Rattle.endpoint_laws.proofs.SendingLaw.{held_field}
+use Rattle.peer_client.specs.Live.{LiveState, new_live, is_of, met, hearing, ticked, unread, given_up, supplied, next_part, closes, before_flush, turned}
+use Rattle.node_link.specs.Received.{Received, datagram, silence, failure}
+use Rattle.node_link.specs.ClientTurns.{ClientTurn, after_receive, emptied, due_at}
+use Rattle.node_link.specs.ClientParts.{HasLimits, IsWithin, IsLimited}
+
+both : {X : Type 0} (P : X → Type 0) (b : Bool) (x y : X) → P x → P y → P (if b then x else y)
+both P true x y p q = p
+both P false x y p q = q
+
+by_test : {X : Type 0} (P : X → Type 0) (b : Bool) (x y : X) → (b ≡ true → P x) → (b ≡ false → P y) → P (if b then x else y)
+by_test P true x y p q = p refl
+by_test P false x y p q = q refl
+
+-- the sending half, as an acknowledgement comes
+new_within : (una sent : ℕ) (z : ℤ) → una ≤ sent → (if is_new_ack una sent z then nat_abs z else una) ≤ sent
+new_within una sent z h = grind (arith, ints)
+
+moved_within : (una sent : ℕ) (z : ℤ) (c : Bool) → (int_le (pos una) z && int_le z (pos sent) && c) ≡ true → nat_abs z ≤ sent
+moved_within una sent z c h = grind (arith, ints)
+
+module _ (isn written read : ℕ) where
+  acknowledged_within : (s : Sending) (r : Receiving) (seq : ℕ) (z : ℤ) (edge : ℕ) → HasLimits isn written read s r → HasLimits isn written read (acknowledged s seq z edge) r
+  unfolding acknowledged
+  acknowledged_within s r seq z edge h =
+      let kept : (if is_new_ack s.una s.sent z then nat_abs z else s.una) + length (if is_new_ack s.una s.sent z then drop (nat_abs z - s.una) s.held else s.held)
+      ≡ max (if is_new_ack s.una s.sent z then nat_abs z else s.una) (s.una + length s.held) = held_field s.una s.sent z s.held h.order in
+      let una : (if is_new_ack s.una s.sent z then nat_abs z else s.una) ≤ s.sent = new_within s.una s.sent z h.order in
+      let within : ℕ → Type 0 = λ n. n ≤ s.sent in
+      record {
+        isn_is = h.isn_is;
+        order = una;
+        wl2_within = by_test within (moves_edge s seq z) (nat_abs z) s.wl2 (λ k. moved_within s.una s.sent z _ k) (λ k. h.wl2_within);
+        sent_within = h.sent_within;
+        held_within = omega (arith, kept, una, h.held_within, h.sent_within);
+        read_is = h.read_is;
+        queued = h.queued;
+      }
+
+  opened_within : (s : Sending) (r : Receiving) (seq edge : ℕ) → HasLimits isn written read s r → HasLimits isn written read (opened_by s seq edge) r
+  opened_within s r seq edge h = record {
+    isn_is = h.isn_is;
+    order = omega arith;
+    wl2_within = omega arith;
+    sent_within = omega arith;
+    held_within = omega (arith, h.held_within);
+    read_is = h.read_is;
+    queued = h.queued;
+  }
+
+  -- the receiving half
+  received_within : (s : Sending) (r after : Receiving) → after.read ≡ r.read → length after.unread ≤ 65535 → HasLimits isn written read s r → HasLimits isn written read s after
+  received_within s r after same few h = record {
+    isn_is = h.isn_is;
+    order = h.order;
+    wl2_within = h.wl2_within;
+    sent_within = h.sent_within;
+    held_within = h.held_within;
+    read_is = same ∙ h.read_is;
+    queued = few;
+  }
+
+text_queued : (read limit : ℕ) (unread text : List ℕ) → length unread ≤ 65535 → length (unread ++ take (min (read + 65535) limit - (read + length unread)) text) ≤ 65535
+text_queued read limit unread text h = omega (arith, length-append {A = ℕ}, length-take {A = ℕ})
+
+segment_queued : (r : Receiving) (z : ℤ) (text : List ℕ) (fin : Bool) → length r.unread ≤ 65535
+    → ((with_segment r z text fin).read ≡ r.read) × (length (with_segment r z text fin).unread ≤ 65535)
+unfolding with_segment with_fin with_text
+segment_queued r z text fin h =
+    let few : Receiving → Type 0 = λ q. (q.read ≡ r.read) × (length q.unread ≤ 65535) in
+    both few (r.fin || int_lt (pos (taken r)) z) r (with_fin (with_text r z text) (z +ℤ pos (length text)) fin) (refl, h)
+    (refl, text_queued r.read r.limit r.unread (drop (below (taken r) z) text) h)
+
+-- a segment comes
+module _ (isn written read : ℕ) (p : Segment) where
+  abbrev Good : Tcb → Type 0
+  Good e = IsWithin isn written read e
+
+  text_limited : (e : Tcb) → Good e → Good (with_text_and_fin e p)
+  unfolding with_text_and_fin
+  text_limited e h =
+      let after : Receiving = with_segment e.receiving (first e p) p.payload (has_fin p) in
+      let q = segment_queued e.receiving (first e p) p.payload (has_fin p) h.queued in
+      let good : HasLimits isn written read e.sending after = received_within isn written read e.sending e.receiving after q.0 q.1 h in
+      both Good _ _ _ good good
+
+  fin_acked_limited : (e : Tcb) → Good e → Good (with_fin_acked e)
+  unfolding with_fin_acked
+  fin_acked_limited e h = both Good _ _ _ h h
+
+  first_ack_limited : (e : Tcb) → Good e → Good (with_first_ack e p)
+  unfolding with_first_ack refusing
+  first_ack_limited e h =
+      both Good _ _ _ (text_limited _ (opened_within isn written read e.sending e.receiving p.head.seq p.head.window h)) h
+
+  ack_limited : (e : Tcb) → Good e → Good (with_ack e p)
+  unfolding with_ack
+  ack_limited e h =
+      both Good _ _ _ h
+      (text_limited _ (fin_acked_limited _ (acknowledged_within isn written read e.sending e.receiving p.head.seq (ack_at e p) p.head.window h)))
+
+  check_ack_limited : (e : Tcb) → Good e → Good (check_ack e p)
+  unfolding check_ack
+  check_ack_limited e h =
+      both Good (has_ack p) _ e (both Good e.sending.opened (with_ack e p) (with_first_ack e p) (ack_limited e h) (first_ack_limited e h)) h
+
+  check_syn_limited : (e : Tcb) → Good e → Good (check_syn e p)
+  unfolding check_syn
+  check_syn_limited e h =
+      both Good (has_syn p) (owing_if true e) (check_ack (owing_if (nat_lt 0 (length_of p)) e) p) h (check_ack_limited (owing_if (nat_lt 0 (length_of p)) e) h)
+
+  check_rst_limited : (e : Tcb) → Good e → Good (check_rst e p)
+  unfolding check_rst
+  check_rst_limited e h =
+      both Good (has_rst p) _ (check_syn e p) (both Good (int_eq (first e p) (pos (next e.receiving))) (killed e) (owing_if true e) h h) (check_syn_limited e h)
+
+  others_limited : (e : Tcb) → Good e → Good (in_others e p)
+  unfolding in_others check_place waiting_again
+  others_limited e h = both Good _ _ _ (check_rst_limited _ h) h
+
+  closed_limited : (e : Tcb) → Good e → Good (in_closed e p)
+  unfolding in_closed refusing refusing_without_ack
+  closed_limited e h = both Good (has_rst p) e _ h (both Good (has_ack p) (refusing e p) (refusing_without_ack e p) h h)
+
+  listen_limited : (e : Tcb) → Good e → Good (in_listen e p)
+  unfolding in_listen refusing begun
+  listen_limited e h = both Good (has_rst p) e _ h (both Good (has_ack p) (refusing e p) _ h (both Good (has_syn p) (begun e p) e h h))
+
+  syn_sent_limited : (e : Tcb) → Good e → Good (in_syn_sent e p)
+  unfolding in_syn_sent refusing answered
+  syn_sent_limited e h =
+      both Good (has_ack p) _ e
+      (both Good (int_eq (ack_at e p) (pos 0)) _ _
+      (both Good (has_rst p) (killed e) _ h
+      (both Good (has_syn p) (answered e p) e (opened_within isn written read e.sending e.receiving p.head.seq p.head.window h) h))
+      (both Good (has_rst p) e (refusing e p) h h))
+      h
+
+  by_name : (name : StateName) (e : Tcb) → Good e → Good (received_in name e p)
+  by_name Closed e h = closed_limited e h
+  by_name Listen e h = listen_limited e h
+  by_name SynSent e h = syn_sent_limited e h
+  by_name SynReceived e h = others_limited e h
+  by_name Established e h = others_limited e h
+  by_name FinWait1 e h = others_limited e h
+  by_name FinWait2 e h = others_limited e h
+  by_name CloseWait e h = others_limited e h
+  by_name Closing e h = others_limited e h
+  by_name LastAck e h = others_limited e h
+  by_name TimeWait e h = others_limited e h
+
+  received_limited : (e : Tcb) → Good e → Good (received e p)
+  unfolding received
+  received_limited e h = by_name e.name e h
+
+-- a tick passes
+tick_limited : (isn written read : ℕ) (e : Tcb) → IsWithin isn written read e → IsWithin isn written read (after_tick e)
+unfolding after_tick timer_ticked waited
+tick_limited isn written read e h =
+    let limits : Sending → Type 0 = λ s. HasLimits isn written read s e.receiving in both limits (expires e.sending) _ _ h h
+
+-- the user's calls
+read_limited : (isn written read : ℕ) (e : Tcb) (n : ℕ) → IsWithin isn written read e → IsWithin isn written (read + n) (after_read e n)
+read_limited isn written read e n h = record {
+  isn_is = h.isn_is;
+  order = h.order;
+  wl2_within = h.wl2_within;
+  sent_within = h.sent_within;
+  held_within = h.held_within;
+  read_is = ap (λ k. k + n) h.read_is;
+  queued = omega (arith, h.queued, length-drop n e.receiving.unread);
+}
+
+write_limited : (isn written read : ℕ) (e : Tcb) (bytes : List ℕ) → IsWithin isn written read e → IsWithin isn (written + length bytes) read (after_write e bytes)
+write_limited isn written read e bytes h =
+    let more : length (e.sending.held ++ bytes) ≡ length e.sending.held + length bytes = length-append e.sending.held bytes in
+    record {
+      isn_is = h.isn_is;
+      order = h.order;
+      wl2_within = h.wl2_within;
+      sent_within = omega (arith, h.sent_within);
+      held_within = omega (arith, more, h.held_within);
+      read_is = h.read_is;
+      queued = h.queued;
+    }
+
+-- the end of a turn
+module _ (isn written read : ℕ) where
+  sent_more : (s : Sending) (r : Receiving) (n : ℕ) → s.sent + n ≤ written + one_if s.fin_sent → HasLimits isn written read s r
+      → HasLimits isn written read (with_sent s n) r
+  sent_more s r n few h = record {
+    isn_is = h.isn_is;
+    order = omega (arith, h.order);
+    wl2_within = omega (arith, h.wl2_within);
+    sent_within = few;
+    held_within = h.held_within;
+    read_is = h.read_is;
+    queued = h.queued;
+  }
+
+  fin_more : (s : Sending) (r : Receiving) → s.fin_sent ≡ false → HasLimits isn written read s r → HasLimits isn written read (with_fin_sent s) r
+  fin_more s r unsent h =
+      let sent : s.sent ≤ written = omega (arith, h.sent_within, ap one_if unsent) in
+      let held : s.una + length s.held ≤ written = omega (arith, h.held_within, ap one_if unsent) in
+      record {
+        isn_is = h.isn_is;
+        order = omega (arith, h.order);
+        wl2_within = omega (arith, h.wl2_within);
+        sent_within = omega (arith, sent);
+        held_within = omega (arith, held);
+        read_is = h.read_is;
+        queued = h.queued;
+      }
+
+and_left : (x u : Bool) → (x && u) ≡ true → x ≡ true
+and_left true u h = refl
+and_left false u h = h
+
+and_right : (x u : Bool) → (x && u) ≡ true → u ≡ true
+and_right true u h = h
+and_right false u h = absurd (false≢true h)
+
+fin_is_probed : (a b c d t u : Bool) → (a && b && c && not d && t && u) ≡ true → d ≡ false
+fin_is_probed a b c d t u h = (text_facts a b c d t (and_left (a && b && c && not d && t) u h)).1
+
+fin_is_new : (a b c d t u : Bool) → (a && (b && c && not d && t && u)) ≡ true → d ≡ false
+fin_is_new a b c d t u h = (text_facts true b c d t (and_left (b && c && not d && t) u (and_right a (b && c && not d && t && u) h))).1
+
+sendable_within : (is_opened fin_sent : Bool) (una len edge sent most : ℕ) → una + len ≤ most → sent ≤ most
+    → sent + (if is_opened && not fin_sent then min (una + len) edge - sent else 0) ≤ most
+sendable_within true true una len edge sent most h k = omega arith
+sendable_within true false una len edge sent most h k = omega arith
+sendable_within false fin_sent una len edge sent most h k = omega arith
+
+module _ (isn written read : ℕ) where
+  probe_limited : (e : Tcb) → IsWithin isn written read e → IsWithin isn written read (with_probe e)
+  unfolding with_probe
+  probe_limited e h =
+      let s : Sending = e.sending in
+      let limits : Sending → Type 0 = λ x. HasLimits isn written read x e.receiving in
+      by_test limits (probes_text e) _ _
+      (λ k. let f = text_facts e.probe (has_begun e.name) s.opened s.fin_sent (nat_lt (s.sent - s.una) (length s.held)) k in
+      let room : s.sent + 1 ≤ s.una + length s.held = grind (arith, f.2, h.order) in
+      sent_more isn written read s e.receiving 1 (omega (arith, room, h.held_within)) h)
+      (λ k. by_test limits (probes_fin e) _ _
+      (λ j. fin_more isn written read s e.receiving
+      (fin_is_probed e.probe (has_begun e.name) s.opened s.fin_sent (not (nat_lt (s.sent - s.una) (length s.held))) s.closed j) h)
+      (λ j. h))
+
+  text_sent_limited : (e : Tcb) → IsWithin isn written read e → IsWithin isn written read (with_text_sent e)
+  unfolding with_text_sent
+  text_sent_limited e h =
+      let s : Sending = e.sending in
+      let sent_by : ℕ → Type 0 = λ k. HasLimits isn written read (with_sent s k) e.receiving in
+      both sent_by (has_begun e.name) (sendable s) 0
+      (sent_more isn written read s e.receiving (sendable s)
+      (sendable_within s.opened s.fin_sent s.una (length s.held) s.edge s.sent _ h.held_within h.sent_within) h)
+      (sent_more isn written read s e.receiving 0 (omega (arith, h.sent_within)) h)
+
+  fin_out_limited : (e : Tcb) → IsWithin isn written read e → IsWithin isn written read (with_fin_out e)
+  unfolding with_fin_out
+  fin_out_limited e h =
+      let s : Sending = e.sending in
+      let limits : Sending → Type 0 = λ x. HasLimits isn written read x e.receiving in
+      by_test limits (new_fin e) _ _
+      (λ k. fin_more isn written read s e.receiving
+      (fin_is_new (has_begun e.name) s.opened s.closed s.fin_sent (s.sent == s.una + length s.held) (nat_lt s.sent s.edge) k) h)
+      (λ k. h)
+
+  timed_limited : (s : Sending) (r : Receiving) (runs : Bool) → HasLimits isn written read s r → HasLimits isn written read (timed runs s) r
+  timed_limited s r runs h =
+      let limits : Sending → Type 0 = λ x. HasLimits isn written read x r in both limits runs _ _ (both limits (s.rest == 0) _ _ h h) h
+
+  flush_limited : (e : Tcb) → IsWithin isn written read e → IsWithin isn written read (flushed e)
+  unfolding flushed settled announced after_full
+  flush_limited e h =
+      let after : Tcb = with_fin_out (with_text_sent (with_probe e)) in
+      let good : IsWithin isn written read after = fin_out_limited _ (text_sent_limited _ (probe_limited e h)) in
+      timed_limited after.sending after.receiving (is_timed after) good
+
+connect_limited : (local remote : Addr) (isn limit : ℕ) → IsWithin isn 0 0 (connecting local remote isn limit)
+unfolding connecting listening
+connect_limited local remote isn limit =
+    record { isn_is = refl; order = omega arith; wl2_within = omega arith; sent_within = omega arith; held_within = omega arith; read_is = refl; queued = omega arith }
+
+own_read : (isn written read : ℕ) (e : Tcb) → IsWithin isn written read e → IsWithin isn written e.receiving.read e
+own_read isn written read e h = record {
+  isn_is = h.isn_is;
+  order = h.order;
+  wl2_within = h.wl2_within;
+  sent_within = h.sent_within;
+  held_within = h.held_within;
+  read_is = refl;
+  queued = h.queued;
+}
+
+-- a live client
+pub new_limited : (local server : Addr) (isn : ℕ) (script : List ℕ) → length script ≤ 2 ^ 24 → IsLimited isn (new_live local server isn script)
+new_limited local server isn script short = record {
+  tcb = own_read isn 0 0 (connecting local server isn (2 ^ 24)) (connect_limited local server isn (2 ^ 24));
+  written = omega arith;
+  script = short;
+}
+
+met_limited : (isn : ℕ) (l : LiveState) (p : Segment) → IsLimited isn l → IsLimited isn (met l p)
+met_limited isn l p h =
+    record { tcb = own_read isn l.written _ (received l.tcb p) (received_limited isn l.written l.tcb.receiving.read p l.tcb h.tcb); written = h.written; script = h.script }
+
+hearing_limited : (isn : ℕ) (l : LiveState) (r : Result Segment BadPacket) → IsLimited isn l → IsLimited isn (hearing l r)
+hearing_limited isn l (Ok p) h = both (IsLimited isn) (is_of l.local l.server p) (met l p) l (met_limited isn l p h) h
+hearing_limited isn l (Err bad) h = h
+
+ticked_limited : (isn : ℕ) (l : LiveState) → IsLimited isn l → IsLimited isn (ticked l)
+ticked_limited isn l h =
+    record { tcb = own_read isn l.written _ (after_tick l.tcb) (tick_limited isn l.written l.tcb.receiving.read l.tcb h.tcb); written = h.written; script = h.script }
+
+pub receive_limited : (isn : ℕ) (l : LiveState) (r : Received) → IsLimited isn l → IsLimited isn (after_receive l r)
+receive_limited isn l (datagram from bytes) h = hearing_limited isn l (reading bytes) h
+receive_limited isn l silence h = ticked_limited isn l h
+receive_limited isn l failure h = ticked_limited isn l h
+
+emptied_limited : (isn : ℕ) (l : LiveState) → IsLimited isn l → IsLimited isn (emptied l)
+emptied_limited isn l h = record { tcb = h.tcb; written = h.written; script = h.script }
+
+part_fits : (room written : ℕ) (script : List ℕ) → written ≤ length script → written + length (take room (drop written script)) ≤ length script
+part_fits room written script h = omega (arith, length-take {A = ℕ}, length-drop {A = ℕ})
+
+pub turned_limited : (isn : ℕ) (l : LiveState) → IsLimited isn l → IsLimited isn (turned l)
+turned_limited isn l h =
+    let n : ℕ = min l.seen (length l.tcb.receiving.unread) in
+    let m : LiveState = supplied (given_up l) in
+    let read : ℕ = l.tcb.receiving.read + n in
+    let good : IsWithin isn m.written read m.tcb =
+    write_limited isn l.written read (after_read l.tcb n) (next_part (given_up l)) (read_limited isn l.written l.tcb.receiving.read l.tcb n h.tcb) in
+    let closed : IsWithin isn m.written read (before_flush l).tcb = both (IsWithin isn m.written read) (closes m) (closing m.tcb) m.tcb good good in
+    record {
+      tcb = own_read isn m.written read (flushed (before_flush l).tcb) (flush_limited isn m.written read (before_flush l).tcb closed);
+      written = part_fits (write_room (after_read l.tcb n)) l.written l.script h.written;
+      script = h.script;
+    }
+
+pub limited_at : (isn : ℕ) (start : LiveState) (turns : List ClientTurn) → IsLimited isn start → IsLimited isn (due_at start turns)
+unfolding due_at
+limited_at isn start [] h = h
+limited_at isn start (turn ∷ earlier) h =
+    emptied_limited isn _ (receive_limited isn (turned (due_at start earlier)) turn.received (turned_limited isn (due_at start earlier) (limited_at isn start earlier h)))
+
+one_most : (b : Bool) → one_if b ≤ 1
+one_most true = omega arith
+one_most false = omega arith
+
+pub limited_short : (isn : ℕ) (l : LiveState) → IsLimited isn l → IsShort l.tcb.sending
+limited_short isn l h = record {
+  sent = omega (arith, h.tcb.sent_within, one_most l.tcb.sending.fin_sent, h.written, h.script);
+  wl2 = omega (arith, h.tcb.wl2_within, h.tcb.sent_within, one_most l.tcb.sending.fin_sent, h.written, h.script);
+}
+
+pub limited_unread : (isn : ℕ) (l : LiveState) → IsLimited isn l → length (unread l) ≤ 65535
+limited_unread isn l h = omega (arith, h.tcb.queued, length-drop l.seen l.tcb.receiving.unread)
+
+-- what a turn's end reads, and that nothing else is read
+pub turned_read : (isn : ℕ) (l : LiveState) → IsLimited isn l → (turned l).tcb.receiving.read ≡ l.tcb.receiving.read + min l.seen (length l.tcb.receiving.unread)
+turned_read isn l h =
+    let n : ℕ = min l.seen (length l.tcb.receiving.unread) in
+    let m : LiveState = supplied (given_up l) in
+    let read : ℕ = l.tcb.receiving.read + n in
+    let good : IsWithin isn m.written read m.tcb =
+    write_limited isn l.written read (after_read l.tcb n) (next_part (given_up l)) (read_limited isn l.written l.tcb.receiving.read l.tcb n h.tcb) in
+    let closed : IsWithin isn m.written read (before_flush l).tcb = both (IsWithin isn m.written read) (closes m) (closing m.tcb) m.tcb good good in
+    (flush_limited isn m.written read (before_flush l).tcb closed).read_is
+
+met_read : (isn : ℕ) (l : LiveState) (p : Segment) → IsLimited isn l → (met l p).tcb.receiving.read ≡ l.tcb.receiving.read
+met_read isn l p h = (received_limited isn l.written l.tcb.receiving.read p l.tcb h.tcb).read_is
+
+-- what comes leaves unread what was, and hands nothing out
+abbrev HandsNothing : LiveState → LiveState → Type 0
+HandsNothing l m = (m.tcb.receiving.read ≡ l.tcb.receiving.read) × (m.seen ≡ l.seen)
+
+hearing_reads : (isn : ℕ) (l : LiveState) (r : Result Segment BadPacket) → IsLimited isn l → HandsNothing l (hearing l r)
+hearing_reads isn l (Ok p) h = both (HandsNothing l) (is_of l.local l.server p) (met l p) l (met_read isn l p h, refl) (refl, refl)
+hearing_reads isn l (Err bad) h = (refl, refl)
+
+pub receive_reads : (isn : ℕ) (l : LiveState) (r : Received) → IsLimited isn l → HandsNothing l (after_receive l r)
+receive_reads isn l (datagram from bytes) h = hearing_reads isn l (reading bytes) h
+receive_reads isn l silence h = ((tick_limited isn l.written l.tcb.receiving.read l.tcb h.tcb).read_is, refl)
+receive_reads isn l failure h = ((tick_limited isn l.written l.tcb.receiving.read l.tcb h.tcb).read_is, refl)

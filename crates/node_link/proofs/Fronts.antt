@@ -1,0 +1,41 @@
+-- Texts that are written one behind another, as far as the writes go.
+use Rattle.std.proofs.Common.{◌≡◌, ℕ, zero, suc, ◌+◌, Option, None, Some, List, [], ◌∷◌, ◌++◌, length, take, refl, sym, ap, subst, Result, Ok, Err, OnErr, OnOk, MatchOption, IfErr, IsErrAnd}
+use Rattle.std.proofs.Math.Seq.{take-append-add}
+use Rattle.std.specs.Io.KnownBytes.{Appends}
+use Rattle.std.proofs.KnownBytes.{Appends-trans}
+use Rattle.ft_io.specs.Sink.{AppendsFront}
+
+front_is : (n : ℕ) (a b : List ℕ) → (m : ℕ) × (take m (a ++ b) ≡ take n a)
+front_is zero a b = (0, refl)
+front_is (suc n) [] b = (0, refl)
+front_is (suc n) (x ∷ a) b = let (m, e) = front_is n a b in (suc m, ap (λ l. x ∷ l) e)
+
+-- a front of the first text
+pub front_before : (old new : Option (List ℕ)) (a b : List ℕ) → AppendsFront old new a → AppendsFront old new (a ++ b)
+front_before old new a b h = let (m, e) = front_is h.0 a b in (m, subst (Appends old new) (sym e) h.1)
+
+-- the first text whole, and a front of the second
+pub front_behind : (old mid new : Option (List ℕ)) (a b : List ℕ) → Appends old mid a → AppendsFront mid new b → AppendsFront old new (a ++ b)
+front_behind old mid new a b h t =
+    (length a + t.0, subst (Appends old new) (sym (take-append-add a b t.0)) (Appends-trans old mid new a (take t.0 b) h t.1))
+
+pub on_failed : {T E P Q : Type 0} (r : Result T E) → (P → Q) → OnErr r P → OnErr r Q
+on_failed (Ok x) f p = tt
+on_failed (Err e) f p = f p
+
+pub at_failed : {T E P : Type 0} (r : Result T E) → P → OnErr r P
+at_failed (Ok x) p = tt
+at_failed (Err e) p = p
+
+pub on_done : {T E P Q : Type 0} (r : Result T E) → (P → Q) → OnOk r P → OnOk r Q
+on_done (Ok x) f p = f p
+on_done (Err e) f p = tt
+
+-- a result that `?` made of an error
+pub if_err : {T E : Type 0} {A B : E → Type 0} (r : Result T E) → IsErrAnd r A → ((end : E) → A end → B end) → IfErr r B
+if_err (Ok x) a f = absurd a
+if_err (Err e) a f = f e a
+
+pub at_some : {T : Type 0} (o : Option T) (P : Type 0) (Q R : T → Type 0) → ((x : T) → Q x → R x) → MatchOption o P Q → MatchOption o P R
+at_some None P Q R f h = h
+at_some (Some x) P Q R f h = f x h

@@ -1,0 +1,6 @@
+use Rattle.node_link.proofs.ClientRunning.{Hands}
+use Rattle.node_link.proofs.client.send_all.Given as goal
+
+-- so many packets were handed to send
+abbrev pub invariant-loop-i : goal.invariant-loop-i
+invariant-loop-i g l = Hands l.to l.i l.outbox (g.L.Link.told l.initial.link) (g.L.Link.told l.link)

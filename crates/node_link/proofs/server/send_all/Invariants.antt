@@ -1,0 +1,7 @@
+use Rattle.std.proofs.Common.{take}
+use Rattle.node_link.specs.Turning.{HasSent}
+use Rattle.node_link.proofs.server.send_all.Given as goal
+
+-- the packets so far were handed to send
+abbrev pub invariant-loop-packet : goal.invariant-loop-packet
+invariant-loop-packet g l = HasSent l.logger (take l.packet-index l.packets) (g.L.Link.told l.initial.link) (g.L.Link.told l.link) l.initial.counts l.counts

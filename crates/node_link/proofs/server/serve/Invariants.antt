@@ -1,0 +1,6 @@
+use Rattle.node_link.specs.Turning.{IsServing, standing_of}
+use Rattle.node_link.proofs.server.serve.Given as goal
+
+-- so many turns are done
+abbrev pub invariant-loop-turn : goal.invariant-loop-turn
+invariant-loop-turn g l = IsServing l.role l._turn (standing_of l.node) (g.L.Link.told l.fn.link) (g.L.Link.told l.link) l.counts

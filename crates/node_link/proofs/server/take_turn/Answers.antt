@@ -1,0 +1,32 @@
+use Rattle.std.proofs.Common.{◌≡◌, ◌≤◌, ◌^◌, sym, subst, length, take, Some, arith}
+use Rattle.node_link.specs.Received.{datagram, IsQuiet}
+use Rattle.ft_model.specs.Node.{Stage as law_stage}
+use Rattle.ft_model.specs.Lawful.{fence}
+use Rattle.server_node.specs.Identity.{node_of}
+use Rattle.server_node.specs.Inputs.{input_of}
+use Rattle.server_node.specs.Stages.{IsFence}
+use Rattle.node_link.specs.Turning.{standing_of}
+use Rattle.node_link.proofs.Fronts.{if_err, at_some}
+use Rattle.node_link.proofs.Serviced.{turned, turn_stops}
+use Rattle.node_link.proofs.server.take_turn.Goals as goal
+
+pub returns-in_err-packets-clause-stops : goal.returns-in_err-packets-clause-stops
+unfolding standing_of
+returns-in_err-packets-clause-stops g c =
+    let r = c.receive-came.ensures.received in
+    if_err c.from_residual.result c.from_residual.ensures.1
+    (λ end is. turn_stops c.args.logger (standing_of c.args.node.now) (g.L.Link.told c.args.link.now) (g.L.Link.told c.receive-came.new.link) r.0 (input_of c.input_of.result) end r.1
+    (c.input_of.ensures r.0 (at_some c.receive-came.result (IsQuiet r.0) (λ g. (g.0 ≤ length c.receive-came.new.buffer) × (r.0 ≡ datagram g.1 (take g.0 c.receive-came.new.buffer)))
+    (λ g. r.0 ≡ datagram g.1 (take g.0 c.receive-came.new.buffer)) (λ g h. h.1) r.3))
+    (subst (λ e. IsFence e (λ newer. (standing : law_stage) → fence (node_of c.args.node.now.who standing) (input_of c.input_of.result) ≡ Some newer)) (sym is) c.in_err-packets.ensures.fenced))
+
+pub returns-clause-turned : goal.returns-clause-turned
+unfolding standing_of
+returns-clause-turned g c =
+    let r = c.receive-came.ensures.received in
+    let went = rw c.in_ok-packets.was at c.turn.follows.holds-at-none in
+    let few : length c.in_ok-packets.packets.now ≤ 2 ^ 64 = omega (arith, c.send_all.ensures.short) in
+    turned c.args.logger (standing_of c.args.node.now) (standing_of c.turn.follows.lender-at-none) (g.L.Link.told c.args.link.now) (g.L.Link.told c.receive-came.new.link) (g.L.Link.told c.send_all.new.link)
+    c.args.counts.now c.receive-came.new.counts c.send_all.new.counts r.0 (input_of c.input_of.result) c.in_ok-packets.packets.now r.1 r.2
+    (c.input_of.ensures r.0 (at_some c.receive-came.result (IsQuiet r.0) (λ g. (g.0 ≤ length c.receive-came.new.buffer) × (r.0 ≡ datagram g.1 (take g.0 c.receive-came.new.buffer)))
+    (λ g. r.0 ≡ datagram g.1 (take g.0 c.receive-came.new.buffer)) (λ g h. h.1) r.3)) few c.send_all.ensures.sent went.0 went.2 c.in_ok-packets.ensures.unfenced

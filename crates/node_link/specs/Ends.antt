@@ -1,0 +1,38 @@
+-- How a process ends early: its exit status, and the line that tells it.
+use Rattle.std.specs.Prelude.{◌≡◌, ◌⊎◌, ℕ, Option, List, [], ◌++◌, codes}
+use Rattle.std.specs.Fmt.{decimal}
+use Rattle.std.specs.Io.KnownBytes.{Appends}
+use Rattle.ft_io.specs.Faults.{Rose}
+use Rattle.ft_io.specs.Sink.{AppendsFront}
+use Rattle.node_link.specs.declared.status.NodeEnd.{NodeEnd}
+use Rattle.node_link.specs.declared.status.NodeEnd.TheVariants.{Usage, NoMemory, LinkFault, WriteFault, Fenced, Reset, Spent, ReadFault}
+
+abbrev pub code_of : NodeEnd → ℕ
+code_of Usage = 2
+code_of NoMemory = 3
+code_of LinkFault = 4
+code_of WriteFault = 5
+code_of (Fenced newer) = 6
+code_of Reset = 7
+code_of Spent = 8
+code_of ReadFault = 9
+
+abbrev pub fence_text : ℕ → List ℕ
+fence_text newer = codes "ftnode: fenced by boot " ++ (decimal newer ++ codes "\n")
+
+-- nothing is told of a fault of a sink
+abbrev pub text_of : NodeEnd → List ℕ
+text_of Usage = codes "ftnode: usage\n"
+text_of NoMemory = codes "ftnode: no memory\n"
+text_of LinkFault = codes "ftnode: link fault\n"
+text_of WriteFault = []
+text_of (Fenced newer) = fence_text newer
+text_of Reset = codes "ftnode: reset\n"
+text_of Spent = codes "ftnode: spent\n"
+text_of ReadFault = codes "ftnode: read fault\n"
+
+-- the line is written whole and the status is the end's; or that write failed, and the status is that of a fault of a sink
+abbrev pub TellsEnd : NodeEnd → (err_old err_new : Option (List ℕ)) → (faults_old faults_new : ℕ) → (code : ℕ) → Type 0
+TellsEnd end err_old err_new faults_old faults_new code =
+    ((code ≡ code_of end) × Appends err_old err_new (text_of end))
+    ⊎ ((code ≡ 5) × AppendsFront err_old err_new (text_of end) × Rose faults_old faults_new)

@@ -1,0 +1,93 @@
+-- A role as words: its name, and behind it its options. Each value has the spelling that it has in a schedule's text.
+use Rattle.std.specs.Prelude.{ℕ, ◌^◌, ◌-◌, Option, Some, None, option_map, List, [], ◌∷◌, codes, if◌then◌else◌}
+use Rattle.std.specs.Option.{option_and_then}
+use Rattle.std.specs.Str.{bytes_eq}
+use Rattle.ft_io.specs.declared.Addr.{Addr}
+use Rattle.ft_model.specs.declared.schedule.ServiceKind.{ServiceKind}
+use Rattle.ft_model.specs.declared.schedule.Script.{Script}
+use Rattle.ft_model.specs.Spelling.{addr_of, number_of, service_of, script_of}
+use Rattle.node_link.specs.declared.options.OptionName.{OptionName}
+use Rattle.node_link.specs.declared.options.OptionName.TheVariants as option
+use Rattle.node_link.specs.declared.role.ServerRole.{ServerRole}
+use Rattle.node_link.specs.declared.role.LoggerRole.{LoggerRole}
+use Rattle.node_link.specs.declared.role.ClientRole.{ClientRole}
+use Rattle.node_link.specs.declared.role.Role.{Role}
+use Rattle.node_link.specs.declared.role.Role.TheVariants.{Server, Logger, Client}
+use Rattle.node_link.specs.Options.{Text, Use, allowed_uses, value_of}
+
+-- the values of options, where their words spell them
+abbrev pub addr_at : List Use → OptionName → Option Addr
+addr_at uses o = option_and_then addr_of (value_of uses o)
+
+abbrev pub number_at : ℕ → ℕ → List Use → OptionName → Option ℕ
+number_at least most uses o = option_and_then (number_of least most) (value_of uses o)
+
+abbrev pub service_at : List Use → OptionName → Option ServiceKind
+service_at uses o = option_and_then service_of (value_of uses o)
+
+-- a script may be left out
+abbrev pub script_in : Option Text → Option (Option Script)
+script_in None = Some None
+script_in (Some word) = option_map Some (script_of word)
+
+abbrev pub script_at : List Use → OptionName → Option (Option Script)
+script_at uses o = script_in (value_of uses o)
+
+abbrev pub isn_in : List Use → Option ℕ
+isn_in uses = number_at 0 (2 ^ 32 - 1) uses option.Isn
+
+abbrev pub turns_in : List Use → Option ℕ
+turns_in uses = number_at 1 1000000 uses option.Turns
+
+abbrev pub server_from : Option Addr → Option Addr → Option ServiceKind → Option ℕ → Option ℕ → Option ℕ → Option ServerRole
+server_from (Some local) (Some logger) (Some service) (Some boot) (Some isn) (Some turns) =
+    Some (record { local = local; logger = logger; service = service; boot = boot; isn = isn; turns = turns })
+server_from _ _ _ _ _ _ = None
+
+abbrev pub server_in : List Use → Option ServerRole
+server_in uses =
+    server_from (addr_at uses option.Local) (addr_at uses option.Logger) (service_at uses option.Service) (number_at 1 (2 ^ 64 - 1) uses option.Boot) (isn_in uses) (turns_in uses)
+
+abbrev pub logger_from : Option Addr → Option ℕ → Option LoggerRole
+logger_from (Some local) (Some turns) = Some (record { local = local; turns = turns })
+logger_from _ _ = None
+
+abbrev pub logger_in : List Use → Option LoggerRole
+logger_in uses = logger_from (addr_at uses option.Local) (turns_in uses)
+
+abbrev pub client_from : Option Addr → Option Addr → Option ℕ → Option ℕ → Option (Option Script) → Option ClientRole
+client_from (Some local) (Some server) (Some isn) (Some turns) (Some script) =
+    Some (record { local = local; server = server; isn = isn; turns = turns; script = script })
+client_from _ _ _ _ _ = None
+
+abbrev pub client_in : List Use → Option ClientRole
+client_in uses =
+    client_from (addr_at uses option.Local) (addr_at uses option.Server) (isn_in uses) (turns_in uses) (script_at uses option.Script)
+
+-- the options of each role
+abbrev pub server_options : List OptionName
+server_options = option.Local ∷ option.Logger ∷ option.Service ∷ option.Boot ∷ option.Isn ∷ option.Turns ∷ []
+
+abbrev pub logger_options : List OptionName
+logger_options = option.Local ∷ option.Turns ∷ []
+
+abbrev pub client_options : List OptionName
+client_options = option.Local ∷ option.Server ∷ option.Isn ∷ option.Turns ∷ option.Script ∷ []
+
+unfoldable pub server_of : List Text → Option Role
+server_of words = option_map Server (option_and_then server_in (allowed_uses server_options words))
+
+unfoldable pub logger_of : List Text → Option Role
+logger_of words = option_map Logger (option_and_then logger_in (allowed_uses logger_options words))
+
+unfoldable pub client_of : List Text → Option Role
+client_of words = option_map Client (option_and_then client_in (allowed_uses client_options words))
+
+-- the role that words ask for, where they are allowed
+unfoldable pub role_of : List Text → Option Role
+role_of [] = None
+role_of (name ∷ words) =
+    if bytes_eq name (codes "server") then server_of words
+    else (if bytes_eq name (codes "logger") then logger_of words
+    else (if bytes_eq name (codes "client") then client_of words
+    else None))

@@ -1,0 +1,231 @@
+//! The client: a live client over a link. It sends a script, and what the server sends is written out as it is accepted.
+
+ghost use Rattle.std.specs.Prelude.{◌≡◌, ℕ, ◌+◌, ◌%◌, ◌^◌, ◌≤◌, List, [], ◌∷◌, ◌++◌, length, vec_len, None, IfSome, IfOk, IfErr, OnOk, OnErr, IsErrOf};
+ghost use Rattle.std.specs.Io.KnownBytes.{Appends};
+ghost use Rattle.ft_io.specs.Faults.{Rose};
+ghost use Rattle.ft_io.specs.Sink.{AppendsFront};
+ghost use Rattle.ft_io.specs.declared.link_call.LinkCall.{LinkCall};
+ghost use Rattle.ft_model.specs.Client.{Client};
+ghost use Rattle.ft_model.specs.Schedule.{letters as letters_lem, bytes_of as bytes_lem};
+ghost use Rattle.tcp_endpoint.specs.Leaving.{packets as packets_lem};
+ghost use Rattle.tcp_endpoint.specs.Sending.{IsShort};
+ghost use Rattle.peer_client.specs.Live.{sent_by, turned};
+ghost use Rattle.node_link.specs.ClientParts.{AreHanded, HasReceived, HasTurned, IsLimited, IsFresh, BeginsBeside, RunStops};
+ghost use Rattle.node_link.specs.ClientRuns.{Runs, IsEndedBy, IsClient, IsScript, RunsScript, ScriptStops, ScriptRunStops, ClientStops};
+
+use crate::receiving::DATAGRAM_ROOM;
+use crate::role::ClientRole;
+use crate::status::NodeEnd;
+use ft_io::{Addr, Failed, Heard, Link, NoMemory, ReadEnd, Sink, Source, read_to_limit, write_all};
+use ft_model::Script;
+use peer_client::{ClientEnd, LiveClient};
+use std::alloc::Global;
+use tcp_endpoint::Outbox;
+
+/// The most bytes of a script.
+const SCRIPT_LIMIT: usize = 1 << 24;
+
+/// As many bytes as a client's TCP holds for its user.
+const ACCEPT_ROOM: usize = 65_535;
+
+/// The first letters of the alphabet, over and over.
+#[tactic(auto, using(crate::proofs::ClientScripts::letters_none, crate::proofs::ClientScripts::letters_more))]
+fn letters(alloc: Global, len: u32) -> Result<Vec<u8>, NoMemory>
+    ensures { IfOk result (λ text. text.items ≡ letters_lem len) }
+{
+    let mut text = Vec::with_capacity(alloc, len as usize)?;
+    for i in 0..len {
+        text.push(97 + (i % 26) as u8)?;
+    }
+    Ok(text)
+}
+
+/// The bytes of a script.
+fn script_bytes(alloc: Global, script: &Script) -> Result<Vec<u8>, NoMemory>
+    ensures { IfOk result (λ text. text.items ≡ bytes_lem script.now) }
+{
+    match script {
+        Script::Bytes(bytes) => Ok(Vec::from_slice(alloc, bytes.as_slice())?),
+        Script::Fill { len } => letters(alloc, *len),
+    }
+}
+
+/// Reads the whole input as a script. It takes at most one byte more than a script may have.
+fn read_script<I: Source>(alloc: Global, input: &mut I) -> Result<Vec<u8>, NodeEnd>
+    ensures script { IfOk result (λ script. IsScript None (I.left input.old) (I.left input.new) script.items) }
+    ensures stops { IfErr result (ScriptStops None (I.left input.old)) }
+    ensures cause { IsErrOf result NodeEnd.ReadFault → Rose (I.fault_count input.old) (I.fault_count input.new) }
+    ensures no_bind { IsErrOf result NodeEnd.LinkFault → ⊥ }
+    ensures no_write { IsErrOf result NodeEnd.WriteFault → ⊥ }
+{
+    match read_to_limit(alloc, input, SCRIPT_LIMIT) {
+        Ok(bytes) => Ok(bytes),
+        Err(ReadEnd::NoMemory) => Err(NodeEnd::NoMemory),
+        Err(ReadEnd::Fault) => Err(NodeEnd::ReadFault),
+        Err(ReadEnd::TooLong) => Err(NodeEnd::Usage),
+    }
+}
+
+/// The script of the words, or else of the input.
+fn script_of<I: Source>(
+    alloc: Global,
+    script: &Option<Script>,
+    input: &mut I,
+) -> Result<Vec<u8>, NodeEnd>
+    ensures script { IfOk result (λ text. IsScript script.now (I.left input.old) (I.left input.new) text.items) }
+    ensures stops { IfErr result (ScriptStops script.now (I.left input.old)) }
+    ensures cause { IsErrOf result NodeEnd.ReadFault → Rose (I.fault_count input.old) (I.fault_count input.new) }
+    ensures no_bind { IsErrOf result NodeEnd.LinkFault → ⊥ }
+    ensures no_write { IsErrOf result NodeEnd.WriteFault → ⊥ }
+{
+    match script {
+        Some(script) => Ok(script_bytes(alloc, script)?),
+        None => read_script(alloc, input),
+    }
+}
+
+/// Room for all that a client's TCP holds for its user.
+fn accept_room(alloc: Global) -> Result<Vec<u8>, NoMemory>
+    ensures { IfOk result (λ room. vec_len room ≡ ACCEPT_ROOM) }
+{
+    Ok(vec![in alloc; 0; ACCEPT_ROOM]?)
+}
+
+/// Hands each packet to send, in order. One whose send fails is lost.
+fn send_all<L: Link>(link: &mut L, to: Addr, outbox: &Outbox)
+    ensures { AreHanded to outbox.now (L.told link.old) (L.told link.new) }
+{
+    for i in 0..outbox.len() {
+        let _ = link.send(to, outbox.packet(i));
+    }
+}
+
+/// Ends a turn of the client: what leaves then is handed to send.
+fn flush<L: Link>(link: &mut L, to: Addr, client: &mut LiveClient, outbox: &mut Outbox)
+    ensures sent { AreHanded to (packets_lem (sent_by client.old)) (L.told link.old) (L.told link.new) }
+    ensures state { client.new ≡ turned client.old }
+{
+    outbox.clear();
+    client.flush(outbox);
+    send_all(link, to, outbox);
+}
+
+/// Receives once: the client sees what comes, or else a tick.
+fn receive<L: Link>(link: &mut L, client: &mut LiveClient)
+    requires { IsShort client.old.tcb.sending }
+    ensures { HasReceived client.old client.new (L.told link.old) (L.told link.new) }
+{
+    let mut buffer = [0; DATAGRAM_ROOM];
+    match link.recv(&mut buffer) {
+        Ok(Heard::Got { len, .. }) => client.on_packet(&buffer[..len]),
+        Ok(Heard::Nothing) | Err(Failed) => client.on_tick(),
+    }
+}
+
+/// One turn: what is received, what leaves then, and what was accepted.
+fn take_turn<L: Link, O: Sink>(
+    link: &mut L,
+    role: &ClientRole,
+    client: &mut LiveClient,
+    outbox: &mut Outbox,
+    room: &mut [u8],
+    out: &mut O,
+) -> Result<(), Failed>
+    requires limited { IsLimited role.now.isn client.old }
+    requires room { ACCEPT_ROOM ≤ length room.old }
+    ensures turned { OnOk result (HasTurned role.now.server client.old client.new (L.told link.old) (L.told link.new) (Appends (O.taken out.old) (O.taken out.new))) }
+    ensures cut_short { OnErr result (HasTurned role.now.server client.old client.new (L.told link.old) (L.told link.new) (AppendsFront (O.taken out.old) (O.taken out.new))) }
+    ensures cause { OnErr result (Rose (O.fault_count out.old) (O.fault_count out.new)) }
+    ensures never_falls { O.fault_count out.old ≤ O.fault_count out.new }
+{
+    receive(link, client);
+    let count = client.accept(room);
+    flush(link, role.server, client, outbox);
+    write_all(out, &room[..count])
+}
+
+/// The client's first flush and its turns, until its connection has an outcome.
+fn take_turns<L: Link, O: Sink>(
+    link: &mut L,
+    role: &ClientRole,
+    client: &mut LiveClient,
+    outbox: &mut Outbox,
+    room: &mut [u8],
+    out: &mut O,
+) -> Result<(), NodeEnd>
+    requires fresh { IsFresh role.now client.old }
+    requires room { ACCEPT_ROOM ≤ length room.old }
+    ensures done { OnOk result ((machine : Client) → BeginsBeside client.old machine
+        → Runs client.old machine role.now.turns [] (L.told link.old) (L.told link.new) (Appends (O.taken out.old) (O.taken out.new)) (IsEndedBy ClientEnd.Closed)) }
+    ensures stops { IfErr result (λ end. (machine : Client) → BeginsBeside client.old machine
+        → RunStops client.old machine role.now.turns [] (L.told link.old) (L.told link.new) (O.taken out.old) (O.taken out.new) end) }
+    ensures cause { IsErrOf result NodeEnd.WriteFault → Rose (O.fault_count out.old) (O.fault_count out.new) }
+    ensures no_bind { IsErrOf result NodeEnd.LinkFault → ⊥ }
+    ensures no_read { IsErrOf result NodeEnd.ReadFault → ⊥ }
+{
+    flush(link, role.server, client, outbox);
+    for _turn in 0..role.turns {
+        match take_turn(link, role, client, outbox, room, out) {
+            Err(Failed) => return Err(NodeEnd::WriteFault),
+            Ok(()) => match client.outcome() {
+                Some(ClientEnd::Closed) => return Ok(()),
+                Some(ClientEnd::Reset) => return Err(NodeEnd::Reset),
+                None => (),
+            },
+        }
+    }
+    Err(NodeEnd::Spent)
+}
+
+/// A client with this script. All memory that it needs is taken before the bind.
+fn run_script<L: Link, O: Sink>(
+    alloc: Global,
+    role: &ClientRole,
+    script: Vec<u8>,
+    link: &mut L,
+    out: &mut O,
+) -> Result<(), NodeEnd>
+    requires { length script.items ≤ 2 ^ 24 }
+    ensures done { OnOk result (IsClient role.now script.items (L.told link.old) (L.told link.new) (Appends (O.taken out.old) (O.taken out.new)) (IsEndedBy ClientEnd.Closed)) }
+    ensures stops { IfErr result (ScriptRunStops role.now script.items (L.told link.old) (L.told link.new) (O.taken out.old) (O.taken out.new)) }
+    ensures bind_cause { IsErrOf result NodeEnd.LinkFault → Rose (L.bind_fault_count link.old) (L.bind_fault_count link.new) }
+    ensures write_cause { IsErrOf result NodeEnd.WriteFault → Rose (O.fault_count out.old) (O.fault_count out.new) }
+    ensures no_read { IsErrOf result NodeEnd.ReadFault → ⊥ }
+{
+    let mut client = LiveClient::new(alloc, role.local, role.server, role.isn, script)?;
+    let mut outbox = Outbox::new(alloc)?;
+    let mut room = accept_room(alloc)?;
+    match link.bind(role.local) {
+        Err(Failed) => Err(NodeEnd::LinkFault),
+        Ok(()) => take_turns(
+            link,
+            role,
+            &mut client,
+            &mut outbox,
+            room.as_mut_slice(),
+            out,
+        ),
+    }
+}
+
+/// A client: it reads its script, binds, and takes its turns until both ends are closed.
+pub(crate) fn run_client<L: Link, I: Source, O: Sink>(
+    alloc: Global,
+    role: &ClientRole,
+    link: &mut L,
+    input: &mut I,
+    out: &mut O,
+) -> Result<(), NodeEnd>
+    requires { IfSome role.now.script (λ script. length (bytes_lem script) ≤ 2 ^ 24) }
+    ensures done { OnOk result (RunsScript role.now (I.left input.old) (I.left input.new) (L.told link.old) (L.told link.new)
+        (Appends (O.taken out.old) (O.taken out.new)) (IsEndedBy ClientEnd.Closed)) }
+    ensures stops { IfErr result (ClientStops role.now (I.left input.old) (I.left input.new) (L.told link.old) (L.told link.new) (O.taken out.old) (O.taken out.new)) }
+    ensures read_cause { IsErrOf result NodeEnd.ReadFault → Rose (I.fault_count input.old) (I.fault_count input.new) }
+    ensures bind_cause { IsErrOf result NodeEnd.LinkFault → Rose (L.bind_fault_count link.old) (L.bind_fault_count link.new) }
+    ensures write_cause { IsErrOf result NodeEnd.WriteFault → Rose (O.fault_count out.old) (O.fault_count out.new) }
+{
+    match script_of(alloc, &role.script, input) {
+        Ok(script) => run_script(alloc, role, script, link, out),
+        Err(end) => Err(end),
+    }
+}

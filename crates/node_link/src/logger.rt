@@ -1,0 +1,122 @@
+//! The logger: a log that answers over a link. Each turn is one receive and the answer to what came, which is handed to send before the next receive.
+
+ghost use Rattle.std.specs.Prelude.{List, ◌≡◌, ◌≤◌, [], ◌∷◌, OnOk, OnErr, IfOk, IfErr, IsErrOf};
+ghost use Rattle.std.specs.Io.KnownBytes.{Appends};
+ghost use Rattle.ft_io.specs.Faults.{Rose};
+ghost use Rattle.seq_arith.specs.MessageGrammar.{reading};
+ghost use Rattle.ft_io.specs.Told.{Tells};
+ghost use Rattle.ft_io.specs.declared.link_call.LinkCall.{LinkCall};
+ghost use Rattle.ft_io.specs.declared.link_call.LinkCall.TheVariants.{Bound};
+ghost use Rattle.std.specs.declared.option.Option.{Option};
+ghost use Rattle.logger_store.specs.Stored.{answer_bytes, IsAnswer};
+ghost use Rattle.node_link.specs.Counts.{HasRoom};
+ghost use Rattle.node_link.specs.LoggerTurns.{log_with, answer_for};
+ghost use Rattle.node_link.specs.Logging.{HasTurned, IsCutOff, Replies, HasCounted, IsCutServing, IsLogger, LoggerStops};
+
+use crate::counts::{Counts, tell_counts};
+use crate::receiving::{DATAGRAM_ROOM, receive};
+use crate::role::LoggerRole;
+use crate::status::NodeEnd;
+use ft_io::{Addr, Failed, Link, NoMemory, Sink};
+use logger_store::{LogStore, MsgOut};
+use logger_wire::read_msg;
+use std::alloc::Global;
+
+/// Takes what the bytes say, if they are a message, and gives the answer to it, or no bytes.
+fn answer(alloc: Global, store: &mut LogStore, bytes: &[u8]) -> Result<MsgOut, NoMemory>
+    ensures next { OnOk result (store.new ≡ log_with store.old (reading bytes.now)) }
+    ensures answer { IfOk result (λ out. out ≡ answer_bytes (answer_for store.old (reading bytes.now))) }
+{
+    let mut out = MsgOut::new();
+    if let Ok(m) = read_msg(bytes) {
+        store.answer(alloc, &m, &mut out)?;
+    }
+    Ok(out)
+}
+
+/// Hands an answer to send, if it has bytes.
+fn reply<L: Link>(link: &mut L, to: Addr, answer: &MsgOut, counts: &mut Counts)
+    requires { HasRoom 1 counts.old }
+    ensures { Replies to answer.now (L.told link.old) (L.told link.new) counts.old counts.new }
+{
+    let bytes = answer.bytes();
+    if bytes.is_empty() {
+        return;
+    }
+    let sent = link.send(to, bytes);
+    counts.note_sent(&sent);
+}
+
+/// One turn: a receive, and the answer to what came.
+fn take_turn<L: Link>(
+    alloc: Global,
+    link: &mut L,
+    store: &mut LogStore,
+    counts: &mut Counts,
+) -> Result<(), NoMemory>
+    requires { HasRoom 2 counts.old }
+    ensures turned { OnOk result (HasTurned store.old store.new (L.told link.old) (L.told link.new) counts.old counts.new) }
+    ensures cut_off { OnErr result ((calls : List LinkCall) × IsCutOff calls × Tells (L.told link.old) (L.told link.new) calls) }
+{
+    let mut buffer = [0; DATAGRAM_ROOM];
+    let Some((len, from)) = receive(link, &mut buffer, counts) else {
+        return Ok(());
+    };
+    let answer = answer(alloc, store, &buffer[..len])?;
+    reply(link, from, &answer, counts);
+    Ok(())
+}
+
+/// So many turns, from the empty log on, and their calls counted.
+fn serve<L: Link>(alloc: Global, link: &mut L, turns: u32) -> Result<Counts, NoMemory>
+    requires { turns ≤ 1000000 }
+    ensures served { IfOk result (λ counts. HasCounted turns (L.told link.old) (L.told link.new) counts) }
+    ensures cut_off { OnErr result (IsCutServing turns (L.told link.old) (L.told link.new)) }
+{
+    let mut store = LogStore::new(alloc);
+    let mut counts = Counts::new();
+    for _turn in 0..turns {
+        take_turn(alloc, link, &mut store, &mut counts)?;
+    }
+    Ok(counts)
+}
+
+/// A logger behind its bind: its turns, and the line that it ends with.
+fn serve_and_tell<L: Link, O: Sink>(
+    alloc: Global,
+    role: &LoggerRole,
+    link: &mut L,
+    out: &mut O,
+) -> Result<(), NodeEnd>
+    requires { role.now.turns ≤ 1000000 }
+    ensures done { OnOk result ((before : Option (List LinkCall)) → Tells before (L.told link.old) (Bound role.now.local ∷ [])
+        → IsLogger role.now before (L.told link.new) (Appends (O.taken out.old) (O.taken out.new))) }
+    ensures stops { IfErr result (λ end. (before : Option (List LinkCall)) → Tells before (L.told link.old) (Bound role.now.local ∷ [])
+        → LoggerStops role.now before (L.told link.new) (O.taken out.old) (O.taken out.new) end) }
+    ensures write_cause { IsErrOf result NodeEnd.WriteFault → Rose (O.fault_count out.old) (O.fault_count out.new) }
+    ensures bound { IsErrOf result NodeEnd.LinkFault → ⊥ }
+{
+    match serve(alloc, link, role.turns) {
+        Err(NoMemory) => Err(NodeEnd::NoMemory),
+        Ok(counts) => tell_counts(alloc, &counts, out),
+    }
+}
+
+/// A logger: it binds, does its turns, and tells the counts of their calls.
+pub(crate) fn run_logger<L: Link, O: Sink>(
+    alloc: Global,
+    role: &LoggerRole,
+    link: &mut L,
+    out: &mut O,
+) -> Result<(), NodeEnd>
+    requires { role.now.turns ≤ 1000000 }
+    ensures done { OnOk result (IsLogger role.now (L.told link.old) (L.told link.new) (Appends (O.taken out.old) (O.taken out.new))) }
+    ensures stops { IfErr result (LoggerStops role.now (L.told link.old) (L.told link.new) (O.taken out.old) (O.taken out.new)) }
+    ensures bind_cause { IsErrOf result NodeEnd.LinkFault → Rose (L.bind_fault_count link.old) (L.bind_fault_count link.new) }
+    ensures write_cause { IsErrOf result NodeEnd.WriteFault → Rose (O.fault_count out.old) (O.fault_count out.new) }
+{
+    match link.bind(role.local) {
+        Err(Failed) => Err(NodeEnd::LinkFault),
+        Ok(()) => serve_and_tell(alloc, role, link, out),
+    }
+}

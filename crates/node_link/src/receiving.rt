@@ -1,0 +1,31 @@
+//! One receive of a turn.
+
+ghost use Rattle.std.specs.Prelude.{◌≡◌, ◌≤◌, [], ◌∷◌, take, length, MatchOption};
+ghost use Rattle.ft_io.specs.Told.{Tells};
+ghost use Rattle.node_link.specs.Counts.{with_calls, HasRoom};
+ghost use Rattle.node_link.specs.Received.{Received, datagram, received_as, IsQuiet};
+
+use crate::counts::Counts;
+use ft_io::{Addr, Heard, Link};
+
+/// Room for a datagram, in bytes: no packet and no message is longer.
+pub(crate) const DATAGRAM_ROOM: usize = 2_048;
+
+/// Receives once: how many bytes came to the front of the buffer, and from where. None is a tick.
+pub(crate) fn receive<L: Link>(
+    link: &mut L,
+    buffer: &mut [u8],
+    counts: &mut Counts,
+) -> Option<(usize, Addr)>
+    requires room { 2048 ≤ length buffer.old }
+    requires counts { HasRoom 1 counts.old }
+    ensures received { (r : Received) × Tells (L.told link.old) (L.told link.new) (received_as r ∷ []) × (counts.new ≡ with_calls counts.old (received_as r ∷ []))
+        × MatchOption result (IsQuiet r) (λ g. (g.0 ≤ length buffer.new) × (r ≡ datagram g.1 (take g.0 buffer.new))) }
+{
+    let heard = link.recv(buffer);
+    counts.note_received(&heard);
+    match heard {
+        Ok(Heard::Got { len, from }) => Some((len, from)),
+        _ => None,
+    }
+}

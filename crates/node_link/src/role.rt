@@ -1,0 +1,216 @@
+//! What the words ask for: a role, and the values of its options.
+
+ghost use Rattle.std.specs.Prelude.{◌≡◌, ◌≤◌, List, map, string_bytes, IfOk, IfSome};
+ghost use Rattle.node_link.specs.Options.{Use, HasValues};
+ghost use Rattle.node_link.specs.Ranges.{ServerInRange, IsShort, ClientInRange, InRange};
+ghost use Rattle.node_link.specs.Roles.{addr_at as addr_lem, number_at as number_lem, service_at as service_lem, script_at as script_lem};
+ghost use Rattle.node_link.specs.Roles.{server_in, logger_in, client_in, server_of, logger_of, client_of, role_of};
+
+use crate::options::{OptionName, read_options};
+use clap::ArgMatches;
+use ft_io::{Addr, NoMemory};
+use ft_model::{Script, ServiceKind};
+use schedule_text::{read_addr, read_number, read_script, read_service};
+use std::alloc::Global;
+
+const SERVER_OPTIONS: [OptionName; 6] = [
+    OptionName::Local,
+    OptionName::Logger,
+    OptionName::Service,
+    OptionName::Boot,
+    OptionName::Isn,
+    OptionName::Turns,
+];
+
+const LOGGER_OPTIONS: [OptionName; 2] = [OptionName::Local, OptionName::Turns];
+
+const CLIENT_OPTIONS: [OptionName; 5] = [
+    OptionName::Local,
+    OptionName::Server,
+    OptionName::Isn,
+    OptionName::Turns,
+    OptionName::Script,
+];
+
+/// The most turns of a role.
+const TURN_LIMIT: u64 = 1_000_000;
+
+/// An incarnation of the server.
+#[derive(Clone, Copy, Debug)]
+pub struct ServerRole {
+    pub local: Addr,
+    pub logger: Addr,
+    pub service: ServiceKind,
+    /// At least 1.
+    pub boot: u64,
+    /// From which its connections' initial numbers are made.
+    pub isn: u32,
+    /// 1 to 1,000,000.
+    pub turns: u32,
+}
+
+/// The logger, from an empty log.
+#[derive(Clone, Copy, Debug)]
+pub struct LoggerRole {
+    pub local: Addr,
+    /// 1 to 1,000,000.
+    pub turns: u32,
+}
+
+/// A client that sends a script.
+#[derive(Debug, Drop)]
+pub struct ClientRole {
+    pub local: Addr,
+    pub server: Addr,
+    /// Its initial number.
+    pub isn: u32,
+    /// At most so many, 1 to 1,000,000.
+    pub turns: u32,
+    /// None where the script is the input.
+    pub script: Option<Script>,
+}
+
+/// What one process is to be.
+#[derive(Debug, Drop)]
+pub enum Role {
+    Server(ServerRole),
+    Logger(LoggerRole),
+    Client(ClientRole),
+}
+
+fn addr_at(matches: &ArgMatches<'_>, option: OptionName) -> Option<Addr>
+    ensures { (uses : List Use) → HasValues uses matches.now → result ≡ addr_lem uses option }
+{
+    read_addr(matches.get_str(option.word())?.as_bytes())
+}
+
+fn number_at(matches: &ArgMatches<'_>, option: OptionName, least: u64, most: u64) -> Option<u64>
+    ensures value { (uses : List Use) → HasValues uses matches.now → result ≡ number_lem least most uses option }
+    ensures range { IfSome result (λ n. (least ≤ n) × (n ≤ most)) }
+{
+    read_number(matches.get_str(option.word())?.as_bytes(), least, most)
+}
+
+fn service_at(matches: &ArgMatches<'_>, option: OptionName) -> Option<ServiceKind>
+    ensures { (uses : List Use) → HasValues uses matches.now → result ≡ service_lem uses option }
+{
+    read_service(matches.get_str(option.word())?.as_bytes())
+}
+
+/// The script, if one is given. The outer None stands for a word that spells none.
+fn script_at(
+    alloc: Global,
+    matches: &ArgMatches<'_>,
+    option: OptionName,
+) -> Result<Option<Option<Script>>, NoMemory>
+    ensures short { IfOk result (λ given. IfSome given (λ script. IfSome script IsShort)) }
+    ensures value { IfOk result (λ script. (uses : List Use) → HasValues uses matches.now → script ≡ script_lem uses option) }
+{
+    let Some(word) = matches.get_str(option.word()) else {
+        return Ok(Some(None));
+    };
+    match read_script(alloc, word.as_bytes())? {
+        Some(script) => Ok(Some(Some(script))),
+        None => Ok(None),
+    }
+}
+
+fn server_role(matches: &ArgMatches<'_>) -> Option<ServerRole>
+    ensures range { IfSome result (λ role. ServerInRange role) }
+    ensures value { (uses : List Use) → HasValues uses matches.now → result ≡ server_in uses }
+{
+    Some(ServerRole {
+        local: addr_at(matches, OptionName::Local)?,
+        logger: addr_at(matches, OptionName::Logger)?,
+        service: service_at(matches, OptionName::Service)?,
+        boot: number_at(matches, OptionName::Boot, 1, u64::MAX)?,
+        isn: number_at(matches, OptionName::Isn, 0, u64::from(u32::MAX))? as u32,
+        turns: number_at(matches, OptionName::Turns, 1, TURN_LIMIT)? as u32,
+    })
+}
+
+fn logger_role(matches: &ArgMatches<'_>) -> Option<LoggerRole>
+    ensures range { IfSome result (λ role. role.turns ≤ 1000000) }
+    ensures value { (uses : List Use) → HasValues uses matches.now → result ≡ logger_in uses }
+{
+    Some(LoggerRole {
+        local: addr_at(matches, OptionName::Local)?,
+        turns: number_at(matches, OptionName::Turns, 1, TURN_LIMIT)? as u32,
+    })
+}
+
+fn client_role(alloc: Global, matches: &ArgMatches<'_>) -> Result<Option<ClientRole>, NoMemory>
+    ensures range { IfOk result (λ role. IfSome role (λ r. ClientInRange r)) }
+    ensures value { IfOk result (λ role. (uses : List Use) → HasValues uses matches.now → role ≡ client_in uses) }
+{
+    let script = script_at(alloc, matches, OptionName::Script)?;
+    Ok(client_with(matches, script))
+}
+
+fn client_with(matches: &ArgMatches<'_>, script: Option<Option<Script>>) -> Option<ClientRole>
+    requires { IfSome script (λ given. IfSome given IsShort) }
+    ensures range { IfSome result (λ role. ClientInRange role) }
+    ensures value { (uses : List Use) → HasValues uses matches.now → script ≡ script_lem uses OptionName.Script → result ≡ client_in uses }
+{
+    Some(ClientRole {
+        local: addr_at(matches, OptionName::Local)?,
+        server: addr_at(matches, OptionName::Server)?,
+        isn: number_at(matches, OptionName::Isn, 0, u64::from(u32::MAX))? as u32,
+        turns: number_at(matches, OptionName::Turns, 1, TURN_LIMIT)? as u32,
+        script: script?,
+    })
+}
+
+#[tactic(auto, unfolding(crate::specs::Roles::server_of))]
+fn read_server(alloc: Global, words: &[String]) -> Result<Option<Role>, NoMemory>
+    ensures role { IfOk result (λ role. role ≡ server_of (map string_bytes words.now)) }
+    ensures range { IfOk result (λ role. IfSome role InRange) }
+{
+    let Some(matches) = read_options(alloc, &SERVER_OPTIONS, words)? else {
+        return Ok(None);
+    };
+    Ok(server_role(&matches).map(Role::Server))
+}
+
+#[tactic(auto, unfolding(crate::specs::Roles::logger_of))]
+fn read_logger(alloc: Global, words: &[String]) -> Result<Option<Role>, NoMemory>
+    ensures role { IfOk result (λ role. role ≡ logger_of (map string_bytes words.now)) }
+    ensures range { IfOk result (λ role. IfSome role InRange) }
+{
+    let Some(matches) = read_options(alloc, &LOGGER_OPTIONS, words)? else {
+        return Ok(None);
+    };
+    Ok(logger_role(&matches).map(Role::Logger))
+}
+
+#[tactic(auto, unfolding(crate::specs::Roles::client_of))]
+fn read_client(alloc: Global, words: &[String]) -> Result<Option<Role>, NoMemory>
+    ensures role { IfOk result (λ role. role ≡ client_of (map string_bytes words.now)) }
+    ensures range { IfOk result (λ role. IfSome role InRange) }
+{
+    let Some(matches) = read_options(alloc, &CLIENT_OPTIONS, words)? else {
+        return Ok(None);
+    };
+    match client_role(alloc, &matches)? {
+        Some(role) => Ok(Some(Role::Client(role))),
+        None => Ok(None),
+    }
+}
+
+/// Reads a role from the words: its name, and behind it its options in any order, each as `--NAME VALUE` or `--NAME=VALUE`. None where the words
+/// aren't allowed.
+#[tactic(auto, unfolding(crate::specs::Roles::role_of))]
+pub fn read_role(alloc: Global, words: &[String]) -> Result<Option<Role>, NoMemory>
+    ensures role { IfOk result (λ role. role ≡ role_of (map string_bytes words.now)) }
+    ensures range { IfOk result (λ role. IfSome role InRange) }
+{
+    let Some((name, words)) = words.split_first() else {
+        return Ok(None);
+    };
+    match name.as_str() {
+        "server" => read_server(alloc, words),
+        "logger" => read_logger(alloc, words),
+        "client" => read_client(alloc, words),
+        _ => Ok(None),
+    }
+}

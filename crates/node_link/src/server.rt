@@ -1,0 +1,181 @@
+//! The server: a node over a link. Each turn is one receive and the node's turn of what came, whose packets are all handed to send before the next
+//! receive.
+
+ghost use Rattle.std.specs.Prelude.{List, ◌≡◌, ◌<◌, ◌≤◌, ◌^◌, [], ◌∷◌, take, length, IfSome, IfOk, IfErr, OnOk, OnErr, IsErrOf, MatchOption};
+ghost use Rattle.std.specs.Io.KnownBytes.{Appends};
+ghost use Rattle.std.specs.declared.option.Option.{Option};
+ghost use Rattle.ft_io.specs.Faults.{Rose};
+ghost use Rattle.ft_io.specs.Told.{Tells};
+ghost use Rattle.ft_io.specs.declared.link_call.LinkCall.{LinkCall};
+ghost use Rattle.ft_io.specs.declared.link_call.LinkCall.TheVariants.{Bound};
+ghost use Rattle.ft_model.specs.Schedule.{kind_of as kind_lem};
+ghost use Rattle.server_node.specs.Inputs.{input_of as input_lem};
+ghost use Rattle.server_node.specs.Sending.{party_of};
+ghost use Rattle.node_link.specs.Counts.{HasRoom};
+ghost use Rattle.node_link.specs.Received.{Received, datagram, IsQuiet};
+ghost use Rattle.node_link.specs.Ranges.{ServerInRange};
+ghost use Rattle.node_link.specs.ServerTurns.{address_of as address_lem, input_from};
+ghost use Rattle.node_link.specs.ServerLife.{IsServer, ServerStops};
+ghost use Rattle.node_link.specs.Turning.{standing_of, HasSent, HasBooted, HasTurned, TurnStops, HasServed, ServeStops};
+
+use crate::counts::{Counts, tell_counts};
+use crate::receiving::{DATAGRAM_ROOM, receive};
+use crate::role::ServerRole;
+use crate::status::NodeEnd;
+use ft_io::{Addr, Failed, Link, NoMemory, Sink};
+use ft_model::ServiceKind;
+use sample_servers::AnyService;
+use server_node::{Input, Node, OutPacket, To, TurnEnd};
+use std::alloc::Global;
+
+/// The number by which the services know a kind.
+fn kind_of(service: ServiceKind) -> u8
+    ensures { result ≡ kind_lem service }
+{
+    match service {
+        ServiceKind::Echo => 1,
+        ServiceKind::Line => 2,
+        ServiceKind::Transfer => 3,
+        ServiceKind::Meter => 4,
+    }
+}
+
+/// Where a packet goes: to its client's own address, or to the logger's.
+fn address_of(logger: Addr, to: To) -> Addr
+    ensures { result ≡ address_lem logger (party_of to) }
+{
+    match to {
+        To::Client(key) => Addr {
+            ip: key.ip,
+            port: key.port,
+        },
+        To::Logger => logger,
+    }
+}
+
+/// Hands packets to send, in order.
+fn send_all<L: Link>(link: &mut L, logger: Addr, packets: &[OutPacket], counts: &mut Counts)
+    requires { HasRoom (length packets.now) counts.old }
+    ensures sent { HasSent logger packets.now (L.told link.old) (L.told link.new) counts.old counts.new }
+    ensures short { length packets.now < 2 ^ 64 }
+{
+    for packet in packets {
+        let sent = link.send(address_of(logger, packet.to()), packet.bytes());
+        counts.note_sent(&sent);
+    }
+}
+
+/// What came, as the node takes it: a datagram from the logger's address is a message, any other a packet.
+fn input_of<'a>(logger: Addr, came: Option<(usize, Addr)>, buffer: &'a [u8]) -> Input<'a>
+    requires { IfSome came (λ g. g.0 ≤ length buffer.now) }
+    ensures { (r : Received) → MatchOption came (IsQuiet r) (λ g. r ≡ datagram g.1 (take g.0 buffer.now)) → input_lem result ≡ input_from logger r }
+{
+    match came {
+        None => Input::Tick,
+        Some((len, from)) => {
+            let bytes = &buffer[..len];
+            if from.ip == logger.ip && from.port == logger.port {
+                Input::Message(bytes)
+            } else {
+                Input::Packet(bytes)
+            }
+        }
+    }
+}
+
+/// One turn: a receive, and all that the node sends at what came.
+fn take_turn<L: Link>(
+    alloc: Global,
+    logger: Addr,
+    node: &mut Node<AnyService>,
+    link: &mut L,
+    counts: &mut Counts,
+) -> Result<(), TurnEnd>
+    requires { HasRoom (2 ^ 64) counts.old }
+    ensures turned { OnOk result (HasTurned logger (standing_of node.old) (standing_of node.new) (L.told link.old) (L.told link.new) counts.old counts.new) }
+    ensures stops { IfErr result (TurnStops logger (standing_of node.old) (L.told link.old) (L.told link.new)) }
+{
+    let mut buffer = [0; DATAGRAM_ROOM];
+    let came = receive(link, &mut buffer, counts);
+    let packets = node.turn(alloc, input_of(logger, came, &buffer))?;
+    send_all(link, logger, packets, counts);
+    Ok(())
+}
+
+/// Boots, and sends what the boot sends.
+fn boot<L: Link>(
+    alloc: Global,
+    role: &ServerRole,
+    link: &mut L,
+    counts: &mut Counts,
+) -> Result<Node<AnyService>, NoMemory>
+    requires range { ServerInRange role.now }
+    requires room { HasRoom (2 ^ 64) counts.old }
+    ensures booted { IfOk result (λ node. HasBooted role.now (standing_of node) (L.told link.old) (L.told link.new) counts.old counts.new) }
+    ensures lost { OnErr result (L.told link.new ≡ L.told link.old) }
+{
+    let node = Node::boot(
+        alloc,
+        role.boot,
+        role.isn,
+        kind_of(role.service),
+        role.local,
+    )?;
+    send_all(link, role.logger, node.sent(), counts);
+    Ok(node)
+}
+
+/// So many turns, and their calls counted.
+fn serve<L: Link>(alloc: Global, role: &ServerRole, link: &mut L) -> Result<Counts, TurnEnd>
+    requires { ServerInRange role.now }
+    ensures served { IfOk result (λ counts. HasServed role.now (L.told link.old) (L.told link.new) counts) }
+    ensures stops { IfErr result (ServeStops role.now (L.told link.old) (L.told link.new)) }
+{
+    let mut counts = Counts::new();
+    let mut node = boot(alloc, role, link, &mut counts)?;
+    for _turn in 0..role.turns {
+        take_turn(alloc, role.logger, &mut node, link, &mut counts)?;
+    }
+    Ok(counts)
+}
+
+/// A server behind its bind: its turns, and the line that it ends with.
+fn serve_and_tell<L: Link, O: Sink>(
+    alloc: Global,
+    role: &ServerRole,
+    link: &mut L,
+    out: &mut O,
+) -> Result<(), NodeEnd>
+    requires { ServerInRange role.now }
+    ensures done { OnOk result ((before : Option (List LinkCall)) → Tells before (L.told link.old) (Bound role.now.local ∷ [])
+        → IsServer role.now before (L.told link.new) (Appends (O.taken out.old) (O.taken out.new))) }
+    ensures stops { IfErr result (λ end. (before : Option (List LinkCall)) → Tells before (L.told link.old) (Bound role.now.local ∷ [])
+        → ServerStops role.now before (L.told link.new) (O.taken out.old) (O.taken out.new) end) }
+    ensures write_cause { IsErrOf result NodeEnd.WriteFault → Rose (O.fault_count out.old) (O.fault_count out.new) }
+    ensures bound { IsErrOf result NodeEnd.LinkFault → ⊥ }
+{
+    match serve(alloc, role, link) {
+        Err(TurnEnd::NoMemory) => Err(NodeEnd::NoMemory),
+        Err(TurnEnd::Fenced { newer }) => Err(NodeEnd::Fenced { newer }),
+        Ok(counts) => tell_counts(alloc, &counts, out),
+    }
+}
+
+/// A server: it binds, boots, does its turns, and tells the counts of their calls.
+pub(crate) fn run_server<L: Link, O: Sink>(
+    alloc: Global,
+    role: &ServerRole,
+    link: &mut L,
+    out: &mut O,
+) -> Result<(), NodeEnd>
+    requires { ServerInRange role.now }
+    ensures done { OnOk result (IsServer role.now (L.told link.old) (L.told link.new) (Appends (O.taken out.old) (O.taken out.new))) }
+    ensures stops { IfErr result (ServerStops role.now (L.told link.old) (L.told link.new) (O.taken out.old) (O.taken out.new)) }
+    ensures bind_cause { IsErrOf result NodeEnd.LinkFault → Rose (L.bind_fault_count link.old) (L.bind_fault_count link.new) }
+    ensures write_cause { IsErrOf result NodeEnd.WriteFault → Rose (O.fault_count out.old) (O.fault_count out.new) }
+{
+    match link.bind(role.local) {
+        Err(Failed) => Err(NodeEnd::LinkFault),
+        Ok(()) => serve_and_tell(alloc, role, link, out),
+    }
+}

@@ -1,0 +1,40 @@
+//! How a process ends.
+
+ghost use Rattle.std.specs.Prelude.{◌≡◌};
+ghost use Rattle.node_link.specs.declared.status.NodeEnd.TheVariants as ends;
+
+use ft_io::NoMemory;
+
+/// The exit status of the program.
+#[derive(Clone, Copy, Debug, PartialEq, Eq)]
+pub struct Status {
+    pub code: u8,
+}
+
+/// How a process ends that wasn't done to its end.
+#[derive(Clone, Copy, Debug, PartialEq, Eq)]
+pub enum NodeEnd {
+    /// The words aren't allowed.
+    Usage,
+    NoMemory,
+    /// The bind failed.
+    LinkFault,
+    /// A write failed.
+    WriteFault,
+    /// A server with this larger boot number has spoken to the logger.
+    Fenced { newer: u64 },
+    /// The client's connection was reset.
+    Reset,
+    /// The client's turns ended before its connection did.
+    Spent,
+    /// A read of the input failed.
+    ReadFault,
+}
+
+impl From<NoMemory> for NodeEnd {
+    ghost from_gives = { λ _ e. e ≡ ends.NoMemory };
+
+    fn from(_error: NoMemory) -> NodeEnd {
+        NodeEnd::NoMemory
+    }
+}

@@ -1,0 +1,66 @@
+//! What a process that wasn't done to its end writes to the error sink, and its status.
+
+ghost use Rattle.std.specs.Prelude.{◌≡◌, OnOk, OnErr};
+ghost use Rattle.std.specs.Io.KnownBytes.{Appends};
+ghost use Rattle.ft_io.specs.Faults.{Rose};
+ghost use Rattle.ft_io.specs.Sink.{AppendsFront};
+ghost use Rattle.node_link.specs.Ends.{code_of, text_of, fence_text, TellsEnd};
+
+use crate::status::{NodeEnd, Status};
+use ft_io::{Failed, Sink, write_all};
+use itoa::Buffer;
+
+/// The line of a server that a newer one fenced.
+fn write_fence<E: Sink>(err: &mut E, newer: u64) -> Result<(), Failed>
+    ensures whole { OnOk result (Appends (E.taken err.old) (E.taken err.new) (fence_text newer)) }
+    ensures front { OnErr result (AppendsFront (E.taken err.old) (E.taken err.new) (fence_text newer)) }
+    ensures cause { OnErr result (Rose (E.fault_count err.old) (E.fault_count err.new)) }
+{
+    let mut number = Buffer::new();
+    write_all(err, b"ftnode: fenced by boot ")?;
+    write_all(err, number.format(newer).as_bytes())?;
+    write_all(err, b"\n")
+}
+
+/// The line of an end. None is written where a sink failed.
+fn write_end<E: Sink>(err: &mut E, end: NodeEnd) -> Result<(), Failed>
+    ensures whole { OnOk result (Appends (E.taken err.old) (E.taken err.new) (text_of end)) }
+    ensures front { OnErr result (AppendsFront (E.taken err.old) (E.taken err.new) (text_of end)) }
+    ensures cause { OnErr result (Rose (E.fault_count err.old) (E.fault_count err.new)) }
+{
+    match end {
+        NodeEnd::Usage => write_all(err, b"ftnode: usage\n"),
+        NodeEnd::NoMemory => write_all(err, b"ftnode: no memory\n"),
+        NodeEnd::LinkFault => write_all(err, b"ftnode: link fault\n"),
+        NodeEnd::WriteFault => Ok(()),
+        NodeEnd::Fenced { newer } => write_fence(err, newer),
+        NodeEnd::Reset => write_all(err, b"ftnode: reset\n"),
+        NodeEnd::Spent => write_all(err, b"ftnode: spent\n"),
+        NodeEnd::ReadFault => write_all(err, b"ftnode: read fault\n"),
+    }
+}
+
+fn code(end: NodeEnd) -> u8
+    ensures { result ≡ code_of end }
+{
+    match end {
+        NodeEnd::Usage => 2,
+        NodeEnd::NoMemory => 3,
+        NodeEnd::LinkFault => 4,
+        NodeEnd::WriteFault => 5,
+        NodeEnd::Fenced { .. } => 6,
+        NodeEnd::Reset => 7,
+        NodeEnd::Spent => 8,
+        NodeEnd::ReadFault => 9,
+    }
+}
+
+/// Writes the line of an end, and gives its status: 5 where that write failed.
+pub(crate) fn tell<E: Sink>(err: &mut E, end: NodeEnd) -> Status
+    ensures told { TellsEnd end (E.taken err.old) (E.taken err.new) (E.fault_count err.old) (E.fault_count err.new) result.code }
+{
+    match write_end(err, end) {
+        Ok(()) => Status { code: code(end) },
+        Err(Failed) => Status { code: 5 },
+    }
+}
