@@ -17,6 +17,9 @@ const PACKET_LIMIT: u32 = 200_000;
 /// A number of the client whose accepted bytes are printed.
 const CLIENT: u8 = 1;
 
+/// The window that the client announces, in bytes.
+const WINDOW: u16 = 65_535;
+
 /// The schedule that a text spells.
 fn schedule_of(alloc: Global, text: &[u8]) -> Result<Schedule, ScheduleEnd>
     ensures playable { IfOk result IsPlayable }
@@ -74,51 +77,58 @@ impl Driven {
         }
     }
 
-    /// The server crashes and restarts, and the client opens, sends its five bytes and acknowledges, where it must.
-    fn crash(&mut self, alloc: Global) -> Result<(), StepEnd> {
-        let window = 65_535;
+    /// The server crashes and restarts, and what it asks is answered.
+    fn restart(&mut self, alloc: Global) -> Result<(), StepEnd> {
         self.delivered = self.sent();
         self.world.step(alloc, &Event::Crash)?;
-        self.go_on(
-            alloc,
-            &Event::Boot {
-                boot: 2,
-                isn: 900_000,
-            },
-        )?;
-        if matches!(self.client().0, Phase::New | Phase::Opening) {
-            self.go_on(
-                alloc,
-                &Event::Begin {
-                    client: CLIENT,
-                    window,
-                },
-            )?;
+        let boot = Event::Boot {
+            boot: 2,
+            isn: 900_000,
+        };
+        self.go_on(alloc, &boot)
+    }
+
+    /// The client opens, where it hasn't.
+    fn reopen(&mut self, alloc: Global) -> Result<(), StepEnd> {
+        if !matches!(self.client().0, Phase::New | Phase::Opening) {
+            return Ok(());
         }
-        self.go_on(
-            alloc,
-            &Event::Ack {
-                client: CLIENT,
-                window,
-            },
-        )?;
-        if self.client().1 == 0 {
-            self.go_on(
-                alloc,
-                &Event::Send {
-                    client: CLIENT,
-                    from: 0,
-                    len: 5,
-                },
-            )?;
+        let open = Event::Begin {
+            client: CLIENT,
+            window: WINDOW,
+        };
+        self.go_on(alloc, &open)
+    }
+
+    /// The client sends its five bytes, where none of them is acknowledged.
+    fn send_again(&mut self, alloc: Global) -> Result<(), StepEnd> {
+        if self.client().1 != 0 {
+            return Ok(());
         }
-        self.go_on(
-            alloc,
-            &Event::Ack {
-                client: CLIENT,
-                window,
-            },
-        )
+        let send = Event::Send {
+            client: CLIENT,
+            from: 0,
+            len: 5,
+        };
+        self.go_on(alloc, &send)
+    }
+
+    /// The client acknowledges what it has.
+    fn acknowledge(&mut self, alloc: Global) -> Result<(), StepEnd> {
+        let ack = Event::Ack {
+            client: CLIENT,
+            window: WINDOW,
+        };
+        self.go_on(alloc, &ack)
+    }
+
+    /// The server crashes and restarts, and the client goes on as far as it must.
+    fn crash(&mut self, alloc: Global) -> Result<(), StepEnd> {
+        self.restart(alloc)?;
+        self.reopen(alloc)?;
+        self.acknowledge(alloc)?;
+        self.send_again(alloc)?;
+        self.acknowledge(alloc)
     }
 
     /// The first events of a schedule, and then a crash.

@@ -1,5 +1,5 @@
 -- The beginning of a schedule's playing, and the ends of it and of a run.
-use Rattle.std.proofs.Common.{◌≡◌, ◌∙◌, ◌⊎◌, inl, inr, ℕ, suc, ◌+◌, ◌-◌, ◌<◌, ◌≤◌, Option, None, Some, IfSome, Result, Ok, Err, OnOk, OnErr, IfErr, IsErrAnd, List, [], ◌∷◌, ◌++◌, length, take, drop, get_or, map, refl, sym, ap, ap₂, subst, arith, false, append_assoc, append-nil, length-append, if◌then◌else◌}
+use Rattle.std.proofs.Common.{◌≡◌, ◌∙◌, ◌⊎◌, inl, inr, ℕ, ◌+◌, ◌-◌, ◌<◌, ◌≤◌, Option, None, Some, IfSome, Result, Ok, Err, OnOk, OnErr, IfErr, IsErrAnd, List, [], ◌∷◌, ◌++◌, length, drop, get_or, refl, sym, ap, ap₂, subst, arith, false, append_assoc, append-nil, length-append, if◌then◌else◌}
 use Rattle.std.specs.Prelude.{nat_le}
 use Rattle.std.specs.List.{flat_map}
 use Rattle.std.specs.Io.KnownBytes.{Appends, IsAtEnd}
@@ -26,7 +26,7 @@ use Rattle.net_schedule.specs.Stepping.{StandsAfter}
 use Rattle.ft_io.specs.Faults.{Rose}
 use Rattle.replay_tool.specs.Ends.{end_of_read, CountsFaults}
 use Rattle.replay_tool.specs.OnItsWay.{IsOnItsWay, IsFrontOf, Wrote, WroteFront, Holds}
-use Rattle.replay_tool.specs.Played.{IsSafe, IsPlayedTo, lines_so_far, reached, NoneIsAllowed, Spells, ReportsAll, ReportsTill, ReportsToLimit, ReportsFront}
+use Rattle.replay_tool.specs.Played.{IsPlayedTo, lines_so_far, reached, NoneIsAllowed, Spells, ReportsAll, ReportsTill, ReportsToLimit, ReportsFront}
 use Rattle.replay_tool.specs.Playing.{Reaches, StandsAt, StopsPlaying, HoldsAtEnd, EndsPlaying}
 use Rattle.replay_tool.specs.Runs.{StopsReading, StopsRun, KeepsFront, KeepsOut, IsReadOut}
 use Rattle.replay_tool.specs.declared.status.TooMuch.TheVariants.{Text, Events, Packets}

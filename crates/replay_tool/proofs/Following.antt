@@ -7,8 +7,7 @@ use Rattle.ft_model.specs.Client.{Client}
 use Rattle.ft_model.specs.Log.{Entry, head_of}
 use Rattle.ft_model.specs.Network.{Packet, packet_at}
 use Rattle.ft_model.specs.Network.Packet.{To_server, To_client, To_logger, From_logger}
-use Rattle.ft_model.specs.Report.{packet_line, packet_lines, way_of, client_line, client_lines, log_line, entry_line}
-use Rattle.ft_model.specs.Schedule.{clients_of}
+use Rattle.ft_model.specs.Report.{packet_line, packet_lines, way_of, log_line, entry_line}
 use Rattle.ft_model.specs.Wire.{wire_of, HasWire}
 use Rattle.ft_model.specs.World.{Moment, client_at}
 use Rattle.ft_model.specs.declared.schedule.Schedule.{Schedule}

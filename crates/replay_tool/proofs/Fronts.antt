@@ -1,10 +1,10 @@
 -- Texts that are written in parts, and fronts of them where a part failed.
-use Rattle.std.proofs.Common.{◌≡◌, ◌∙◌, ℕ, List, [], ◌++◌, Option, None, Some, refl, sym, ap, subst, append_assoc, append-nil, take, drop}
+use Rattle.std.proofs.Common.{◌≡◌, ◌∙◌, ℕ, List, [], ◌++◌, Option, refl, sym, ap, subst, append_assoc, append-nil, take, drop}
 use Rattle.std.proofs.lemmas.List.{take-append-drop}
 use Rattle.std.proofs.KnownBytes.{Appends-nil, Appends-trans}
 use Rattle.std.specs.Io.KnownBytes.{Appends}
 use Rattle.ft_io.specs.Sink.{AppendsFront}
-use Rattle.replay_tool.specs.OnItsWay.{IsOnItsWay, IsFrontOf, Wrote, WroteFront, Holds}
+use Rattle.replay_tool.specs.OnItsWay.{IsOnItsWay, WroteFront}
 
 -- the sink took a front of a part
 pub front_taken : (a b : Option (List ℕ)) (xs : List ℕ) → AppendsFront a b xs → WroteFront a b xs

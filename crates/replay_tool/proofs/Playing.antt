@@ -1,20 +1,19 @@
 -- A run that has played some events of a schedule plays one more, or ends there.
-use Rattle.std.proofs.Common.{◌≡◌, ◌∙◌, ℕ, suc, ◌+◌, ◌≤◌, ◌<◌, Option, None, Some, List, [], ◌∷◌, ◌++◌, length, refl, sym, ap, ap₂, subst, inl, inr, arith, append_assoc, append-nil, length-append}
+use Rattle.std.proofs.Common.{◌≡◌, ◌∙◌, ℕ, ◌+◌, ◌≤◌, Option, List, [], ◌∷◌, ◌++◌, length, refl, sym, ap, subst, inl, arith, append_assoc, append-nil, length-append}
 use Rattle.sample_servers.specs.AnyService.{any_machine}
 use Rattle.sample_servers.specs.declared.any_service.AnyService.{AnyService}
 use Rattle.ft_model.specs.Client.{Client}
-use Rattle.ft_model.specs.Legal.{start_of, refusal, IsLegalFor}
+use Rattle.ft_model.specs.Legal.{IsLegalFor}
 use Rattle.ft_model.specs.Network.{Packet}
 use Rattle.ft_model.specs.Outcome.{packets_sent}
-use Rattle.ft_model.specs.Report.{header, event_line, packet_lines, packet_count, event_lines, report}
+use Rattle.ft_model.specs.Report.{header, event_line, packet_lines, packet_count, event_lines}
 use Rattle.ft_model.specs.Schedule.{clients_of}
 use Rattle.ft_model.specs.World.{Moment, events_of}
 use Rattle.ft_model.specs.declared.event.Event.{Event}
-use Rattle.ft_model.specs.declared.event.EventWhy.{EventWhy}
 use Rattle.ft_model.specs.declared.schedule.Schedule.{Schedule}
 use Rattle.net_schedule.specs.Standing.{Kept, KeepsAtRefusal}
 use Rattle.net_schedule.specs.Sent.{packets_of}
-use Rattle.net_schedule.specs.Stepping.{StandsAfter, Extends, Steps, EndsStep}
+use Rattle.net_schedule.specs.Stepping.{StandsAfter, Steps, EndsStep}
 use Rattle.net_schedule.specs.declared.end.StepEnd.{StepEnd}
 use Rattle.net_schedule.specs.declared.end.StepEnd.TheVariants.{NoMemory, BadEvent, PacketLimit}
 use Rattle.net_schedule.specs.declared.step_out.StepOut.{StepOut}
@@ -22,7 +21,7 @@ use Rattle.replay_tool.specs.Ends.{end_of_step}
 use Rattle.replay_tool.specs.OnItsWay.{IsOnItsWay, Wrote, WroteFront, Holds}
 use Rattle.replay_tool.specs.Played.{IsSafe, IsPlayedTo, lines_so_far, reached, ReportsFront, ReportsToLimit}
 use Rattle.replay_tool.specs.Standing.{IsStanding}
-use Rattle.replay_tool.specs.Playing.{Reaches, StandsAt, StopsPlaying}
+use Rattle.replay_tool.specs.Playing.{Reaches, StopsPlaying}
 use Rattle.replay_tool.proofs.Fronts.{more_held}
 
 -- what holds of every legal trace

@@ -15,10 +15,10 @@ use Rattle.replay_tool.specs.Causes.{IsInOrder, HasBadLine, HasBadEvent, IsPastL
 use Rattle.replay_tool.specs.Causes.IsPastLimit.{by_text, by_packets}
 use Rattle.std.specs.Io.KnownBytes.{Appends, IsAtEnd}
 use Rattle.ft_io.specs.Faults.{Rose}
-use Rattle.replay_tool.specs.ErrText.{told, text_of}
+use Rattle.replay_tool.specs.ErrText.{text_of}
 use Rattle.replay_tool.specs.OnItsWay.{Wrote, WroteFront}
 use Rattle.replay_tool.specs.Played.{Spells, ReportsAll, ReportsTill, ReportsToLimit}
-use Rattle.replay_tool.specs.Runs.{StopsRun, PassesLimit, KeepsOut, IsReadOut}
+use Rattle.replay_tool.specs.Runs.{StopsRun, KeepsOut, IsReadOut}
 use Rattle.replay_tool.specs.declared.status.TooMuch.TheVariants.{Text, Events, Packets}
 use Rattle.replay_tool.specs.declared.status.RunEnd.{RunEnd}
 use Rattle.replay_tool.specs.declared.status.RunEnd.TheVariants.{Usage, NoMemory, ReadFault, WriteFault, BadLine, BadEvent, TooLong}

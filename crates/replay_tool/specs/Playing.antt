@@ -1,5 +1,5 @@
 -- The playing of a schedule, event after event: where it stands, and where it ends early.
-use Rattle.std.specs.Prelude.{◌≡◌, ℕ, ◌+◌, Some, List, [], ◌∷◌, Option, length}
+use Rattle.std.specs.Prelude.{◌≡◌, ℕ, ◌+◌, Some, List, ◌∷◌, Option, length}
 use Rattle.ft_model.specs.Legal.{refusal}
 use Rattle.ft_model.specs.Outcome.{packets_sent}
 use Rattle.ft_model.specs.Report.{packet_count}

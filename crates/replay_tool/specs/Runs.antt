@@ -9,7 +9,7 @@ use Rattle.replay_tool.specs.Played.{Spells, ReportsTill, ReportsToLimit, Report
 use Rattle.replay_tool.specs.declared.status.TooMuch.{TooMuch}
 use Rattle.replay_tool.specs.declared.status.TooMuch.TheVariants.{Text, Events, Packets}
 use Rattle.replay_tool.specs.declared.status.RunEnd.{RunEnd}
-use Rattle.replay_tool.specs.declared.status.RunEnd.TheVariants.{Usage, NoMemory, ReadFault, WriteFault, BadLine, BadEvent, TooLong}
+use Rattle.replay_tool.specs.declared.status.RunEnd.TheVariants.{Usage, NoMemory, ReadFault, BadLine, BadEvent, TooLong}
 
 -- the text passes a limit: its own, that of its events, or that of the packets that these send
 abbrev pub PassesLimit : List ℕ → (old new : Option (List ℕ)) → TooMuch → Type 0

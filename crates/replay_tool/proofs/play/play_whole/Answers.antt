@@ -1,7 +1,7 @@
 use Rattle.std.proofs.Common.{◌∙◌, ◌++◌, [], ap, length, sym, subst, append-nil}
 use Rattle.ft_model.specs.Report.{header}
 use Rattle.net_schedule.specs.Keeping.{kept}
-use Rattle.replay_tool.specs.Playing.{HoldsAtEnd, Reaches, StandsAt, StopsPlaying}
+use Rattle.replay_tool.specs.Playing.{HoldsAtEnd, StopsPlaying}
 use Rattle.replay_tool.specs.Played.{ReportsFront}
 use Rattle.replay_tool.specs.OnItsWay.{Holds}
 use Rattle.replay_tool.proofs.Ending.{if_err, ends_before, closes_all, closes_till, front_till, others_stop}

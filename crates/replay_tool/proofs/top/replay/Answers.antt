@@ -1,4 +1,4 @@
-use Rattle.std.proofs.Common.{◌≡◌, ◌∙◌, ℕ, refl, sym, ap, subst, true≢false, Err, ⊎_elim}
+use Rattle.std.proofs.Common.{◌∙◌, refl, sym, ap, subst, true≢false, Err, ⊎_elim}
 use Rattle.replay_tool.specs.Ends.{CountsFaults}
 use Rattle.replay_tool.proofs.Settling.{where_told, of_told, when_told, in_order, settles, settles_end, told_whole, line_told}
 use Rattle.replay_tool.proofs.top.replay.Goals as goal
