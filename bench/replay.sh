@@ -71,6 +71,13 @@ awk '
     }
     END { printf "%d packets of %.1f MB; 1.2 times that and 64 bytes for each are %.1f MB\n", packets, bytes / 1e6, (1.2 * bytes + 64 * packets) / 1e6 }' "$schedules/report"
 printf 'schedule %s bytes, report %s bytes\n' "$(wc -c <"$schedules/crash100000")" "$(wc -c <"$schedules/report")"
+# a stream that is full: its end is acknowledged with no window, a byte more gets the same acknowledgement, and nothing is reset
+awk -f bench/limit_schedule.awk >"$schedules/limit"
+"$program" run <"$schedules/limit" >"$schedules/report"
+for packet in 91941 91945; do
+    grep -q "^packet $packet S>1 A seq 62[0-9]* ack 16778217 window 0 mss - data -\$" "$schedules/report" || { echo "packet $packet of a full stream is another"; exit 1; }
+done
+! grep -q '^packet [0-9]* S>1 [A-Z]*R' "$schedules/report" || { echo 'a full stream is reset'; exit 1; }
 echo 'one client, without a crash'
 { time_schedule 999; time_schedule 9999; } | compare
 
