@@ -18,7 +18,7 @@ use Rattle.ft_io.specs.Faults.{Rose}
 use Rattle.replay_tool.specs.ErrText.{text_of}
 use Rattle.replay_tool.specs.OnItsWay.{Wrote, WroteFront}
 use Rattle.replay_tool.specs.Played.{Spells, ReportsAll, ReportsTill, ReportsToLimit}
-use Rattle.replay_tool.specs.Runs.{StopsRun, KeepsOut, IsReadOut}
+use Rattle.replay_tool.specs.Runs.{StopsRun, KeepsOut, IsReadOut, LimitKeepsOut}
 use Rattle.replay_tool.specs.declared.status.TooMuch.TheVariants.{Text, Events, Packets}
 use Rattle.replay_tool.specs.declared.status.RunEnd.{RunEnd}
 use Rattle.replay_tool.specs.declared.status.RunEnd.TheVariants.{Usage, NoMemory, ReadFault, WriteFault, BadLine, BadEvent, TooLong}
@@ -183,16 +183,17 @@ line_keeps old new (TooLong what) e k = cc
 pub event_read_out : (left : Option (List ℕ)) (end : RunEnd) → code_of end ≡ 7 → IsReadOut left end → IsAtEnd left
 event_read_out left end e r = only_event end e (λ number why is. subst (IsReadOut left) is r)
 
-pub limit_keeps : {Out : Type 0} (old new : Out) (left : Option (List ℕ)) (end : RunEnd) → code_of end ≡ 8 → KeepsOut old new end → IsReadOut left end → (new ≡ old) ⊎ IsAtEnd left
-limit_keeps old new left (TooLong Text) e k r = inl k
-limit_keeps old new left (TooLong Events) e k r = inl k
-limit_keeps old new left (TooLong Packets) e k r = inr r
-limit_keeps old new left (BadLine line why) e k r = cc
-limit_keeps old new left Usage e k r = cc
-limit_keeps old new left NoMemory e k r = cc
-limit_keeps old new left ReadFault e k r = cc
-limit_keeps old new left WriteFault e k r = cc
-limit_keeps old new left (BadEvent number why) e k r = cc
+pub limit_keeps : {Out : Type 0} (taken : Out → Option (List ℕ)) (old new : Out) (text left : Option (List ℕ)) (end : RunEnd) → code_of end ≡ 8 → KeepsOut old new end → IsReadOut left end
+    → IfSome text (λ t. StopsRun t (taken old) (taken new) end) → LimitKeepsOut taken old new text left
+limit_keeps taken old new text left (TooLong Text) e k r s = inl k
+limit_keeps taken old new text left (TooLong Events) e k r s = inl k
+limit_keeps taken old new text left (TooLong Packets) e k r s = inr (r, s)
+limit_keeps taken old new text left (BadLine line why) e k r s = cc
+limit_keeps taken old new text left Usage e k r s = cc
+limit_keeps taken old new text left NoMemory e k r s = cc
+limit_keeps taken old new text left ReadFault e k r s = cc
+limit_keeps taken old new text left WriteFault e k r s = cc
+limit_keeps taken old new text left (BadEvent number why) e k r s = cc
 
 pub line_told : (text : List ℕ) (old new err err' : Option (List ℕ)) (end : RunEnd) → code_of end ≡ 6 → StopsRun text old new end → Appends err err' (text_of end) → IsBadLineTold err err' text
 line_told text old new err err' (BadLine line why) e s t = (record { line = line; why = why; refused = s }, t)

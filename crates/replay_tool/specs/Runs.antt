@@ -51,3 +51,9 @@ IsReadOut left _ = Unit {0}
 abbrev pub KeepsFront : {Out : Type 0} → (taken : Out → Option (List ℕ)) → (old new : Out) → (text left : Option (List ℕ)) → Type 0
 KeepsFront taken old new text left =
     (new ≡ old) ⊎ (IsAtEnd left × IfSome text (λ t. Spells t (λ schedule. Wrote (taken old) (taken new) (ReportsFront schedule))))
+
+-- At a limit nothing was written; or it is that of the packets: the text was read to its end, it spells a schedule, and the events before the one that
+-- would pass the limit are reported
+abbrev pub LimitKeepsOut : {Out : Type 0} → (taken : Out → Option (List ℕ)) → (old new : Out) → (text left : Option (List ℕ)) → Type 0
+LimitKeepsOut taken old new text left =
+    (new ≡ old) ⊎ (IsAtEnd left × IfSome text (λ t. Spells t (λ schedule. Wrote (taken old) (taken new) (ReportsToLimit schedule))))

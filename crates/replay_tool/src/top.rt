@@ -8,7 +8,7 @@ ghost use Rattle.replay_tool.specs.Words.{is_run};
 ghost use Rattle.replay_tool.specs.OnItsWay.{Wrote};
 ghost use Rattle.replay_tool.specs.Played.{Spells, ReportsAll};
 ghost use Rattle.replay_tool.specs.ErrText.{told};
-ghost use Rattle.replay_tool.specs.Runs.{KeepsFront};
+ghost use Rattle.replay_tool.specs.Runs.{KeepsFront, LimitKeepsOut};
 ghost use Rattle.replay_tool.specs.Causes.{IsStill, IsSettled, IsReportedTill, IsBadLineTold, IsLimitTold, IsWriteFault};
 ghost use Rattle.replay_tool.specs.Ends.{is_code};
 
@@ -63,7 +63,7 @@ pub fn replay<I: Source, O: Sink, E: Sink>(
     ensures bad_event_end { result.code ≡ 7 → IsAtEnd (I.left input.new) }
     // The text, its events or their packets pass a limit.
     ensures past_limit { result.code ≡ 8 → IfSome (I.left input.old) (IsLimitTold (O.taken out.old) (O.taken out.new) (E.taken err.old) (E.taken err.new)) }
-    ensures limit_keeps_out { result.code ≡ 8 → (out.new ≡ out.old) ⊎ IsAtEnd (I.left input.new) }
+    ensures limit_keeps_out { result.code ≡ 8 → LimitKeepsOut O.taken out.old out.new (I.left input.old) (I.left input.new) }
 
     // Where no count of faults rises, the text settles the status, but for want of memory.
     ensures settled { is_run (map string_bytes words.now) ≡ true
