@@ -8,7 +8,7 @@
 # connections. Then the memory that a live connection holds, by the most that runs with 64 connections and with one hold.
 set -eu
 cd "$(dirname "$0")/.."
-(cd crates/node_bench && rt run >/dev/null 2>&1)
+(cd crates/node_bench && rt run -- 1 1 64 1 0 >/dev/null 2>&1)
 program="$PWD/crates/node_bench/out/node_bench"
 work=$(mktemp -d)
 trap 'rm -rf "$work"' EXIT
