@@ -48,7 +48,8 @@ IsBadLineTold old new text = (bad : HasBadLine text) × Appends old new (text_of
 -- its events before the first that is refused are reported, and that event is told, with the cause
 abbrev pub IsReportedTill : (out out' err err' : Option (List ℕ)) → List ℕ → Type 0
 IsReportedTill out out' err err' text =
-    (number : ℕ) × (why : EventWhy) × Spells text (λ schedule. Wrote out out' (ReportsTill schedule number why)) × Appends err err' (text_of (ends.BadEvent number why))
+    (number : ℕ) × (why : EventWhy) × Spells text (λ schedule. Wrote out out' (ReportsTill schedule number why))
+    × Appends err err' (text_of (ends.BadEvent number why))
 
 -- The limit that it passes is told. Where the packets pass theirs, the events before are reported, without the lines on clients and log
 abbrev pub IsLimitTold : (out out' err err' : Option (List ℕ)) → List ℕ → Type 0

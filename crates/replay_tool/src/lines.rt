@@ -40,8 +40,8 @@ fn write_packet(
     lines: &mut Vec<u8>,
 ) -> Result<(), NoMemory>
     requires { IsStanding (kept world.now) }
-    ensures { OnOk result ((schedule : Schedule) (events : List Asked) (trace : List Moment) (p : Packet) → StandsAfter any_machine schedule events trace (kept world.now)
-        → packet_at (packets_of schedule trace) n ≡ Some p → lines.new.items ≡ lines.old.items ++ packet_line n (reported_way schedule p) p) }
+    ensures { OnOk result ((schedule : Schedule) (events : List Asked) (trace : List Moment) (p : Packet)
+        → StandsAfter any_machine schedule events trace (kept world.now) → packet_at (packets_of schedule trace) n ≡ Some p → lines.new.items ≡ lines.old.items ++ packet_line n (reported_way schedule p) p) }
 {
     worlds_keep_what_was_sent::<AnyService>();
     let Some(way) = world.way(n) else {
@@ -63,8 +63,8 @@ fn write_packets(
 ) -> Result<(), NoMemory>
     requires stands { IsStanding (kept world.now) }
     requires numbers { first + count < 2 ^ 32 }
-    ensures { OnOk result ((schedule : Schedule) (events : List Asked) (trace : List Moment) (before sent : List Packet) → StandsAfter any_machine schedule events trace (kept world.now)
-        → packets_of schedule trace ≡ before ++ sent → first ≡ length before + 1 → count ≡ length sent
+    ensures { OnOk result ((schedule : Schedule) (events : List Asked) (trace : List Moment) (before sent : List Packet)
+        → StandsAfter any_machine schedule events trace (kept world.now) → packets_of schedule trace ≡ before ++ sent → first ≡ length before + 1 → count ≡ length sent
         → lines.new.items ≡ lines.old.items ++ packet_lines (clients_of schedule.server schedule.clients) first sent) }
 {
     for k in 0..count {
@@ -84,8 +84,8 @@ pub(crate) fn write_played(
 ) -> Result<(), NoMemory>
     requires stands { IsStanding (kept world.now) }
     requires numbers { answer.first + answer.count < 2 ^ 32 }
-    ensures { OnOk result ((schedule : Schedule) (events : List Asked) (trace : List Moment) (before sent : List Packet) → StandsAfter any_machine schedule events trace (kept world.now)
-        → packets_of schedule trace ≡ before ++ sent → answer.first ≡ length before + 1 → answer.count ≡ length sent
+    ensures { OnOk result ((schedule : Schedule) (events : List Asked) (trace : List Moment) (before sent : List Packet)
+        → StandsAfter any_machine schedule events trace (kept world.now) → packets_of schedule trace ≡ before ++ sent → answer.first ≡ length before + 1 → answer.count ≡ length sent
         → lines.new.items ≡ lines.old.items ++ (event_line n event.now ++ packet_lines (clients_of schedule.server schedule.clients) answer.first sent)) }
 {
     write_event(alloc, n, event, lines)?;
@@ -180,7 +180,8 @@ pub(crate) fn write_closing(
     lines: &mut Vec<u8>,
 ) -> Result<(), NoMemory>
     requires { length world.now.clients.items ≤ 16 }
-    ensures { OnOk result (lines.new.items ≡ lines.old.items ++ (client_lines 1 world.now.clients.items ++ (flat_map log_line world.now.log.entries ++ end_line n))) }
+    ensures { OnOk result (lines.new.items ≡ lines.old.items ++ (client_lines 1 world.now.clients.items ++ (flat_map log_line world.now.log.entries
+        ++ end_line n))) }
 {
     write_clients(alloc, world, lines)?;
     write_entries(alloc, world.log(), lines)?;

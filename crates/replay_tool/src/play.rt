@@ -37,9 +37,11 @@ fn play_event<O: Sink>(
     out: &mut O,
 ) -> Result<(), RunEnd>
     requires { IsStanding (kept world.old) }
-    ensures done { OnOk result ((schedule : Written) (others : List Asked) (old : Option (List ℕ)) (before : Reaches schedule (event.now ∷ others) (kept world.old) old (O.taken out.old) report.old.held.items)
+    ensures done { OnOk result ((schedule : Written) (others : List Asked) (old : Option (List ℕ))
+        (before : Reaches schedule (event.now ∷ others) (kept world.old) old (O.taken out.old) report.old.held.items)
         → n ≡ length before.played.events + 1 → Reaches schedule others (kept world.new) old (O.taken out.new) report.new.held.items) }
-    ensures stops { IfErr result (λ end. (schedule : Written) (others : List Asked) (old : Option (List ℕ)) (before : Reaches schedule (event.now ∷ others) (kept world.old) old (O.taken out.old) report.old.held.items)
+    ensures stops { IfErr result (λ end. (schedule : Written) (others : List Asked) (old : Option (List ℕ))
+        (before : Reaches schedule (event.now ∷ others) (kept world.old) old (O.taken out.old) report.old.held.items)
         → n ≡ length before.played.events + 1 → StopsPlaying schedule (kept world.new) old (O.taken out.new) report.new.held.items end) }
     ensures faults { CountsFaults (O.fault_count out.old) (O.fault_count out.new) result }
 {
@@ -86,7 +88,8 @@ fn close(
     report: &mut Report,
 ) -> Result<(), NoMemory>
     requires { length world.now.clients.items ≤ 16 }
-    ensures ok { OnOk result (report.new.held.items ≡ report.old.held.items ++ (client_lines 1 world.now.clients.items ++ (flat_map log_line world.now.log.entries ++ end_line n))) }
+    ensures ok { OnOk result (report.new.held.items ≡ report.old.held.items ++ (client_lines 1 world.now.clients.items ++ (flat_map log_line world.now.log.entries
+        ++ end_line n))) }
     ensures err { OnErr result (report.new.held.items ≡ report.old.held.items) }
 {
     report.lines.clear();
@@ -136,7 +139,8 @@ fn play_whole<O: Sink>(
 
 /// Writes what is still to be written where a run ends early, unless the sink has failed.
 fn write_rest<O: Sink>(end: RunEnd, report: &mut Report, out: &mut O) -> RunEnd
-    ensures stops { (schedule : Written) (old : Option (List ℕ)) → HoldsAtEnd schedule old (O.taken out.old) report.old.held.items end → Wrote old (O.taken out.new) (EndsPlaying schedule result) }
+    ensures stops { (schedule : Written) (old : Option (List ℕ)) → HoldsAtEnd schedule old (O.taken out.old) report.old.held.items end
+        → Wrote old (O.taken out.new) (EndsPlaying schedule result) }
     ensures faults { (before : ℕ) → CountsFaults before (O.fault_count out.old) (Err end) → CountsFaults before (O.fault_count out.new) (Err result) }
 {
     match end {

@@ -52,7 +52,8 @@ pub fn replay<I: Source, O: Sink, E: Sink>(
     ensures read_fault_told { result.code ≡ 4 → Appends (E.taken err.old) (E.taken err.new) (told (codes "read fault")) }
 
     // A sink failed: that of the report, and then nothing is written to err; or err itself, of which a front of a text was written.
-    ensures write_fault { result.code ≡ 5 → IsWriteFault (O.fault_count out.old) (O.fault_count out.new) (E.fault_count err.old) (E.fault_count err.new) (err.new ≡ err.old) (E.taken err.old) (E.taken err.new) }
+    ensures write_fault { result.code ≡ 5 → IsWriteFault (O.fault_count out.old) (O.fault_count out.new)
+        (E.fault_count err.old) (E.fault_count err.new) (err.new ≡ err.old) (E.taken err.old) (E.taken err.new) }
     ensures write_fault_front { result.code ≡ 5 → KeepsFront O.taken out.old out.new (I.left input.old) (I.left input.new) }
 
     // A line is refused, and nothing was written to out.
@@ -67,7 +68,8 @@ pub fn replay<I: Source, O: Sink, E: Sink>(
 
     // Where no count of faults rises, the text settles the status, but for want of memory.
     ensures settled { is_run (map string_bytes words.now) ≡ true
-        → IsStill (I.fault_count input.old) (I.fault_count input.new) → IsStill (O.fault_count out.old) (O.fault_count out.new) → IsStill (E.fault_count err.old) (E.fault_count err.new)
+        → IsStill (I.fault_count input.old) (I.fault_count input.new) → IsStill (O.fault_count out.old) (O.fault_count out.new)
+        → IsStill (E.fault_count err.old) (E.fault_count err.new)
         → IfSome (I.left input.old) (λ text. IsSettled text result.code) }
     ensures codes { is_code result.code ≡ true }
 
