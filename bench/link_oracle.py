@@ -1,0 +1,285 @@
+#!/usr/bin/env python3
+"""Writes link_script's script and what it has to print: link_oracle.py SCRIPT PRINTED.
+
+The expected lines follow the written rules alone: which command lines are allowed stands in a table made by hand, and the logger, and the server before it
+has a connection, are played by the short models below, with the messages' bytes made here."""
+import random
+import sys
+
+script, printed = [], []
+
+
+def line(text, *says):
+    script.append(text)
+    printed.extend(says)
+
+
+# Messages: magic, version, kind, length, sum, boot, body
+def checksum(data):
+    if len(data) % 2:
+        data += b"\0"
+    total = sum(data[i] << 8 | data[i + 1] for i in range(0, len(data), 2))
+    while total > 0xFFFF:
+        total = (total & 0xFFFF) + (total >> 16)
+    return total ^ 0xFFFF
+
+
+def message(kind, boot, body=b""):
+    head = b"FT\x01" + bytes([kind]) + (16 + len(body)).to_bytes(2, "big")
+    rest = boot.to_bytes(8, "big") + body
+    return (head + checksum(head + b"\0\0" + rest).to_bytes(2, "big") + rest).hex()
+
+
+def hello(boot):
+    return message(1, boot)
+
+
+def summary(boot, count):
+    return message(2, boot, count.to_bytes(2, "big"))
+
+
+def stale(boot, newer):
+    return message(17, boot, newer.to_bytes(8, "big"))
+
+
+assert hello(1) == "465401010010b8990000000000000001"
+assert summary(1, 0) == "465401020012b89600000000000000010000"
+
+# Command lines
+LOGGER = "logger --local 127.0.0.1:7040 --turns 3"
+SERVER = "server --local 127.0.0.1:7007 --logger 127.0.0.1:7008 --service echo --boot 1 --isn 5000 --turns 6"
+CLIENT = "client --local 127.0.0.1:7010 --server 127.0.0.1:7007 --isn 1000 --turns 9"
+L, S, C = "logger ", "server ", "client "
+
+
+def without(words, name):
+    parts = words.split(" ")
+    at = parts.index("--" + name)
+    return " ".join(parts[:at] + parts[at + 2 :])
+
+
+refused = ["", "''", "run", "Logger --local 127.0.0.1:7040 --turns 3", "--logger --local 127.0.0.1:7040 --turns 3"]
+refused += ["--local 127.0.0.1:7040 --turns 3", "logger~ --local 127.0.0.1:7040 --turns 3"]
+refused += [without(LOGGER, name) for name in ("local", "turns")]
+refused += [without(SERVER, name) for name in ("local", "logger", "service", "boot", "isn", "turns")]
+refused += [without(CLIENT, name) for name in ("local", "server", "isn", "turns")]
+# twice, or an option of another role
+refused += [LOGGER + " --turns 3", LOGGER + " --turns=3", LOGGER + " --local=127.0.0.1:7040", CLIENT + " --script - --script=-", SERVER + " --boot 2"]
+refused += [LOGGER + " --boot 1", LOGGER + " --script -", CLIENT + " --logger 127.0.0.1:7040", SERVER + " --script -"]
+# unknown names
+refused += [LOGGER + " --Turns 3", "logger --loca 127.0.0.1:7040 --turns 3", "logger --local 127.0.0.1:7040 --turn 3", LOGGER + " --=3", LOGGER + " ---turns 3"]
+# `--`, help, version, `-` and words that stand alone
+refused += [LOGGER + " --", "logger -- --local 127.0.0.1:7040 --turns 3", "logger --local 127.0.0.1:7040 -- --turns 3", "logger --local -- 127.0.0.1:7040 --turns 3"]
+refused += ["logger --help", LOGGER + " --help", LOGGER + " -h", "logger --version", LOGGER + " -V", "logger help", LOGGER + " help", LOGGER + " -"]
+refused += ["logger - --local 127.0.0.1:7040 --turns 3", LOGGER + " 3", "logger x --local 127.0.0.1:7040 --turns 3", "logger -local 127.0.0.1:7040 --turns 3"]
+refused += ["logger --local 127.0.0.1:7040 -t3", LOGGER + " ''", "logger --local --turns 3", "logger --turns 3 --local"]
+# empty values, and values out of their spelling or range
+refused += ["logger --local= --turns 3", "logger --local '' --turns 3"]
+for turns in ("0", "1000001", "''", "+3", "-3", "3~", "0x3", "3.0", "000000000000000000003", "18446744073709551616"):
+    refused.append("logger --local 127.0.0.1:7040 --turns " + turns)
+for at in ("127.0.0.1", "127.0.0.1:0", "127.0.0.1:65536", "256.0.0.1:7040", "127.0.1:7040", "localhost:7040", "127.0.0.1:7040:1", "~127.0.0.1:7040"):
+    refused.append(f"logger --local {at} --turns 3")
+for name, value in (("boot", "0"), ("boot", "18446744073709551616"), ("isn", "4294967296"), ("service", "Echo"), ("service", "''")):
+    refused.append(without(SERVER, name) + f" --{name} {value}")
+for text in ("''", "hex:", "hex:6", "hex:6g", "fill:0", "fill:16777217", "fill:", "text", "--"):
+    refused.append(CLIENT + " --script " + text)
+refused += [CLIENT + " --script", CLIENT + " --script=", without(SERVER, "turns") + " --turns=0"]
+allowed = [(LOGGER, "logger"), ("logger --turns=3 --local=127.0.0.1:7040", "logger"), ("logger --turns 0000001000000 --local=127.0.0.1:7040", "logger")]
+allowed += [(SERVER, "server"), ("server --turns=6 --isn=5000 --boot=1 --service=echo --logger=127.0.0.1:7008 --local=127.0.0.1:7007", "server")]
+allowed += [(CLIENT, "client"), (CLIENT + " --script -", "client"), ("client --script=hex:68656C6c6f" + CLIENT[6:], "client"), (CLIENT + " --script=fill:16777216", "client")]
+
+line("# words that ask for no role", "# words that ask for no role")
+for words in refused:
+    line("ask " + words, "none")
+line("# words that do", "# words that do")
+for words, role in allowed:
+    line("ask " + words, role)
+
+
+# Runs: what comes is a list of (from, hex) and None for silence; the numbers of calls that fail are from 1
+class Net:
+    def __init__(self, come, send=0, receive=0):
+        self.come, self.fail_send, self.fail_receive = list(come), send, receive
+        self.sends = self.receives = 0
+        self.calls = []
+        self.counts = dict(turns=0, datagrams=0, sent=0, lost=0, failed=0)
+
+    def send(self, to, data):
+        self.sends += 1
+        lost = self.sends == self.fail_send
+        self.calls.append(f"{'lost' if lost else 'sent'} {to} {data or '-'}")
+        self.counts["lost" if lost else "sent"] += 1
+
+    def receive(self):
+        self.receives += 1
+        self.counts["turns"] += 1
+        if self.receives == self.fail_receive:
+            self.calls.append("missed")
+            self.counts["failed"] += 1
+            return None
+        came = self.come.pop(0) if self.come else None
+        if came is None:
+            self.calls.append("silent")
+            return None
+        self.counts["datagrams"] += 1
+        self.calls.append(f"came {came[0]} {came[1] or '-'}")
+        return came
+
+    def told(self):
+        return " ".join(f"{name} {count}" for name, count in self.counts.items())
+
+
+def logger(net, turns):
+    boot = 0
+    for _ in range(turns):
+        came = net.receive()
+        if came is None or came[1] not in KNOWN:
+            continue
+        asks, of = KNOWN[came[1]]
+        if of < boot:
+            net.send(came[0], stale(of, boot))
+        elif asks == "hello":
+            boot = of
+            net.send(came[0], summary(of, 0))
+    return 0, net.told()
+
+
+def server(net, turns, boot, at):
+    serving = False
+    net.send(at, hello(boot))
+    for _ in range(turns):
+        came = net.receive()
+        if came is None:
+            if not serving:
+                net.send(at, hello(boot))
+        elif came[0] == at and came[1] in KNOWN and KNOWN[came[1]][1] == boot:
+            asks = KNOWN[came[1]][0]
+            if asks == "summary":
+                serving = True
+            elif asks != "hello" and asks > boot:
+                return 6, f"ftnode: fenced by boot {asks}"
+    return 0, net.told()
+
+
+KNOWN = {hello(b): ("hello", b) for b in (1, 2, 3)}
+KNOWN.update({summary(b, 0): ("summary", b) for b in (1, 2)})
+KNOWN.update({stale(1, 2): (2, 1), stale(1, 18446744073709551615): (18446744073709551615, 1), stale(2, 3): (3, 2)})
+AT = {"logger": "127.0.0.1:7040", "server": "127.0.0.1:7007"}
+
+
+def run(words, come, bind=0, send=0, receive=0, write=0, error=0):
+    role, turns = words.split(" ")[0], int(words.split(" ")[-1])
+    for came in come:
+        script.append("nothing" if came is None else f"come {came[0]} {came[1]}".rstrip())
+    for call, number in (("bind", bind), ("send", send), ("receive", receive), ("write", write), ("error", error)):
+        if number:
+            script.append(f"fail {call} {number}")
+    script.append("run " + words)
+    net = Net(come, send, receive)
+    if bind:
+        status, said = 4, "ftnode: link fault"
+    elif role == "logger":
+        status, said = logger(net, turns)
+    else:
+        status, said = server(net, turns, 1, "127.0.0.1:7008")
+    if write and status == 0:
+        status, said = 5, None
+    if error and status:
+        status, said = 5, None
+    printed.append(f"status {status}")
+    if said is not None:
+        printed.append(said)
+    if not bind:
+        printed.append(f"bound {AT[role]} -")
+    printed.extend(net.calls)
+
+
+line("# a server whose third send and fifth receive fail", "# a server whose third send and fifth receive fail")
+six = [None, None, ("127.0.0.1:7008", summary(1, 0)), None, None]
+run(SERVER, six, send=3, receive=5)
+line("# each send and each receive in turn", "# each send and each receive in turn")
+for n in range(1, 5):
+    run(SERVER, six, send=n)
+for n in range(1, 7):
+    run(SERVER, six, receive=n)
+line("# a fenced server, and what fences none", "# a fenced server, and what fences none")
+run(SERVER, [("127.0.0.1:7008", stale(1, 2))])
+run(SERVER, [None, ("127.0.0.1:7008", stale(1, 18446744073709551615))])
+run(SERVER, [("127.0.0.1:7008", stale(1, 2))], error=1)
+run(SERVER, [("127.0.0.1:7008", stale(2, 3)), ("127.0.0.1:7009", stale(1, 2)), ("127.0.1.1:7008", stale(1, 2)), ("127.0.0.1:7008", stale(1, 2)[:-2]), ("127.0.0.1:7008", "")])
+line("# a logger, by each send and each receive that fails", "# a logger, by each send and each receive that fails")
+peers = [("127.0.0.1:7007", hello(1)), ("10.0.0.9:1", hello(2)), ("127.0.0.1:7007", hello(1)), None, ("127.0.0.1:7007", "465401"), ("127.0.0.1:7007", "")]
+SIX = LOGGER[:-1] + "6"
+run(SIX, peers)
+for n in range(1, 4):
+    run(SIX, peers, send=n)
+for n in range(1, 7):
+    run(SIX, peers, receive=n)
+line("# hostile datagrams leave each serving", "# hostile datagrams leave each serving")
+drawn = random.Random(7)
+heads = ["", "4654", "46540101", "45000028", "4500003c00004000400600"]
+hostile = [(f"10.0.0.{i}:{1000 + i}", heads[i % 5] + drawn.randbytes(drawn.choice([0, 1, 5, 14, 30, 60])).hex()) for i in range(1, 25)]
+hostile += [("127.0.0.1:7008", data) for _, data in hostile[:10]] + [("10.0.0.9:9", drawn.randbytes(1500).hex()), ("10.0.0.9:9", drawn.randbytes(2048).hex())]
+run(SERVER[:-1] + "40", [("127.0.0.1:7008", summary(1, 0))] + hostile)
+run(LOGGER[:-1] + "40", hostile + [("10.0.0.1:1", hello(3))])
+# A client at 192.0.2.1:40000 with the number 1000; its server is at 192.0.2.100:7 and has the number 5000
+SYN, ACK, FIN, RST = 2, 16, 1, 4
+SERVER_IP, CLIENT_IP = bytes([192, 0, 2, 100]), bytes([192, 0, 2, 1])
+
+
+def packet(flags, seq, ack, text=b""):
+    def head(check):
+        return bytes.fromhex("4500") + (40 + len(text)).to_bytes(2, "big") + bytes.fromhex("000040004006") + check.to_bytes(2, "big") + SERVER_IP + CLIENT_IP
+
+    def body(check):
+        ports = (7).to_bytes(2, "big") + (40000).to_bytes(2, "big")
+        return ports + seq.to_bytes(4, "big") + ack.to_bytes(4, "big") + bytes([0x50, flags]) + b"\xff\xff" + check.to_bytes(2, "big") + b"\0\0" + text
+
+    pseudo = SERVER_IP + CLIENT_IP + b"\0\x06" + (20 + len(text)).to_bytes(2, "big")
+    return (head(checksum(head(0))) + body(checksum(pseudo + body(0)))).hex()
+
+
+def life(comes, turns, status, said, receives, sends, script=b"", **fails):
+    for came in comes:
+        script_line = f"come 192.0.2.100:7 {packet(*came)}"
+        line(script_line)
+    if script:
+        line("input " + script.hex())
+    for call, number in fails.items():
+        line(f"fail {call} {number}")
+    words = f"brief client --local 192.0.2.1:40000 --server 192.0.2.100:7 --isn 1000 --turns {turns}"
+    line(words, f"status {status}", *said, f"receives {receives} sends {sends}")
+
+
+line("# lives of a client: its SYN, its FIN and its last ACK are sent; hello is accepted", "# lives of a client: its SYN, its FIN and its last ACK are sent; hello is accepted")
+both = (SYN | ACK, 5000, 1001)
+closed = [both, (FIN | ACK, 5001, 1002)]
+hello_comes = [both, (ACK, 5001, 1002, b"hello"), (FIN | ACK, 5006, 1002)]
+spent, reset = "ftnode: spent", "ftnode: reset"
+life(closed, 5, 0, [], 2, 3)
+life(closed, 2, 0, [], 2, 3)
+life(closed, 1, 8, [spent], 1, 2)
+life(closed, 5, 0, [], 3, 4, receive=2)
+# what a client writes has no line feed of its own
+life(hello_comes[:1] + [(ACK, 5001, 1002, b"hello\n"), (FIN | ACK, 5007, 1002)], 5, 0, ["hello"], 3, 4)
+life(hello_comes, 5, 5, [], 2, 3, write=1)
+life([both, (ACK, 5001, 1002, b"he\n"), (RST, 5004, 0)], 5, 7, ["he", reset], 3, 3)
+life([both, (RST, 5002, 0)], 2, 8, [spent], 2, 3)
+life([], 1, 8, [spent], 1, 2)
+life([both, (FIN | ACK, 5001, 1004)], 5, 0, [], 2, 4, script=b"hi")
+life(closed, 5, 9, ["ftnode: read fault"], 0, 0, script=b"hi", read=2)
+life(closed, 5, 4, ["ftnode: link fault"], 0, 0, bind=1)
+line("# faults of the bind and of the sinks", "# faults of the bind and of the sinks")
+run(LOGGER, [], bind=1)
+run(SERVER, [], bind=1)
+run(LOGGER, [], bind=1, error=1)
+run(LOGGER, [], write=1)
+run(SERVER, [], write=1)
+line("# words that aren't allowed", "# words that aren't allowed")
+script.append("run logger")
+printed.extend(["status 2", "ftnode: usage"])
+script.extend(["fail error 1", "run logger"])
+printed.extend(["status 5"])
+
+open(sys.argv[1], "w").write("\n".join(script) + "\n")
+open(sys.argv[2], "w").write("\n".join(printed) + "\n")

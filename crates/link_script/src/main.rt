@@ -1,0 +1,167 @@
+//! `link_script`: runs `node` over a link in memory, by the lines of a script, which comes from standard input, and prints how each run ends. The lines of a
+//! script:
+//!
+//! - `# ..` is printed as it stands;
+//! - `ask WORDS` prints which role the words ask for. In words `~` stands for a space, and `''` for an empty word;
+//! - `come FROM HEX` adds a datagram to what comes to the next run, and `nothing` a silence;
+//! - `input HEX` is the input of the next run;
+//! - `fail CALL N` makes the call with number N, from 1, of the next run fail: CALL is `bind`, `send`, `receive`, `read`, `write` or `error`, the last two on
+//!   out and err;
+//! - `run WORDS` runs `node`, and prints its status, what it wrote to out and to err, and the calls that the link tells; `brief WORDS` prints of these calls
+//!   only how many were receives and how many sends.
+#![tactic(auto)]
+
+use faults::Faults;
+use ft_io::{Addr, Arrival, NoMemory, Octets, WriteSink, write_all};
+use hex::FromHexError;
+use node_link::{Role, read_role};
+use run::Setting;
+use schedule_text::read_addr;
+use std::alloc::Global;
+use std::{io, mem};
+
+mod faults;
+mod run;
+
+fn main(rt: HostRuntime) -> io::Result<()> {
+    let mut script = Script {
+        arrivals: Vec::new(rt.alloc()),
+        input: Vec::new(rt.alloc()),
+        faults: Faults::none(),
+        said: Vec::new(rt.alloc()),
+    };
+    for line in rt.lines(rt.alloc()) {
+        if script.play(rt.alloc(), line?.as_str()).is_err() {
+            println!(rt; "no memory")?;
+            return Ok(());
+        }
+    }
+    if write_all(&mut WriteSink::new(rt.stdout()), script.said.as_slice()).is_err() {
+        println!(rt; "a fault")?;
+    }
+    Ok(())
+}
+
+/// What comes to the next run and is its input, which of its calls fail, and what was printed so far.
+#[derive(Drop)]
+struct Script {
+    arrivals: Vec<Arrival>,
+    input: Vec<u8>,
+    faults: Faults,
+    said: Vec<u8>,
+}
+
+impl Script {
+    /// Plays a line.
+    fn play(&mut self, alloc: Global, line: &str) -> Result<(), NoMemory> {
+        let (word, rest) = line.split_once(' ').unwrap_or((line, ""));
+        match word.as_bytes() {
+            b"#" => say(line, &mut self.said),
+            b"ask" => ask(alloc, rest, &mut self.said),
+            b"come" => self.come(alloc, rest),
+            b"nothing" => {
+                self.arrivals.push(Arrival::Nothing)?;
+                Ok(())
+            }
+            b"fail" => {
+                self.faults.add(rest);
+                Ok(())
+            }
+            b"input" => self.give(alloc, rest),
+            b"run" => self.run(alloc, rest, false),
+            b"brief" => self.run(alloc, rest, true),
+            _ => say("no such line", &mut self.said),
+        }
+    }
+
+    /// Runs `node` with these words.
+    fn run(&mut self, alloc: Global, rest: &str, is_brief: bool) -> Result<(), NoMemory> {
+        let words = words_of(alloc, rest)?;
+        let setting = Setting {
+            arrivals: mem::replace(&mut self.arrivals, Vec::new(alloc)),
+            input: mem::replace(&mut self.input, Vec::new(alloc)),
+            faults: mem::replace(&mut self.faults, Faults::none()),
+            is_brief,
+        };
+        run::run(alloc, words.as_slice(), setting, &mut self.said)
+    }
+
+    /// Sets the input.
+    fn give(&mut self, alloc: Global, text: &str) -> Result<(), NoMemory> {
+        match hex::decode(alloc, text) {
+            Ok(bytes) => {
+                self.input = bytes;
+                Ok(())
+            }
+            Err(FromHexError::OutOfMemory) => Err(NoMemory),
+            Err(_) => say("no input", &mut self.said),
+        }
+    }
+
+    /// Adds a datagram to what comes.
+    fn come(&mut self, alloc: Global, rest: &str) -> Result<(), NoMemory> {
+        let (from, text) = rest.split_once(' ').unwrap_or((rest, ""));
+        match datagram(alloc, from, text)? {
+            Some((from, bytes)) => {
+                let bytes = Octets::new(bytes);
+                self.arrivals.push(Arrival::Datagram { from, bytes })?;
+                Ok(())
+            }
+            None => say("no datagram", &mut self.said),
+        }
+    }
+}
+
+/// A datagram, with where it comes from.
+fn datagram(alloc: Global, from: &str, text: &str) -> Result<Option<(Addr, Vec<u8>)>, NoMemory> {
+    let Some(from) = read_addr(from.as_bytes()) else {
+        return Ok(None);
+    };
+    match hex::decode(alloc, text) {
+        Ok(bytes) => Ok(Some((from, bytes))),
+        Err(FromHexError::OutOfMemory) => Err(NoMemory),
+        Err(_) => Ok(None),
+    }
+}
+
+/// Appends a line.
+fn say(line: &str, said: &mut Vec<u8>) -> Result<(), NoMemory> {
+    said.extend_from_slice(line.as_bytes())?;
+    said.push(b'\n')?;
+    Ok(())
+}
+
+/// Says which role the words ask for.
+fn ask(alloc: Global, text: &str, said: &mut Vec<u8>) -> Result<(), NoMemory> {
+    let words = words_of(alloc, text)?;
+    let name = match read_role(alloc, words.as_slice())? {
+        None => "none",
+        Some(Role::Server(_)) => "server",
+        Some(Role::Logger(_)) => "logger",
+        Some(Role::Client(_)) => "client",
+    };
+    say(name, said)
+}
+
+/// The words of a text, which single spaces separate. An empty text has none.
+fn words_of(alloc: Global, text: &str) -> Result<Vec<String>, NoMemory> {
+    let mut words = Vec::new(alloc);
+    if text.is_empty() {
+        return Ok(words);
+    }
+    for piece in text.split(' ') {
+        words.push(word_of(alloc, piece)?)?;
+    }
+    Ok(words)
+}
+
+fn word_of(alloc: Global, piece: &str) -> Result<String, NoMemory> {
+    let mut word = String::new(alloc);
+    if piece == "''" {
+        return Ok(word);
+    }
+    for c in piece.chars() {
+        word.push(if c == '~' { ' ' } else { c })?;
+    }
+    Ok(word)
+}

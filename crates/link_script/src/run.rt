@@ -1,0 +1,156 @@
+//! One run of `node` over a link in memory.
+
+use crate::faults::Faults;
+use crate::say;
+use ft_io::{Addr, Arrival, LinkCall, MemLink, MemSink, MemSource, MemSpawner, NoMemory};
+use node_link::node;
+use std::alloc::Global;
+
+/// What a run meets, and whether its calls are only counted.
+#[derive(Drop)]
+pub struct Setting {
+    pub arrivals: Vec<Arrival>,
+    pub input: Vec<u8>,
+    pub faults: Faults,
+    pub is_brief: bool,
+}
+
+/// A run that is over.
+#[derive(Drop)]
+struct Finished {
+    code: u8,
+    link: MemLink,
+    out: MemSink,
+    err: MemSink,
+}
+
+/// A list of this number alone.
+fn only(alloc: Global, number: u32) -> Result<Vec<u32>, NoMemory> {
+    Ok(vec![in alloc; number]?)
+}
+
+fn link_of(alloc: Global, arrivals: Vec<Arrival>, faults: Faults) -> Result<MemLink, NoMemory> {
+    let sends = only(alloc, faults.send)?;
+    let receives = only(alloc, faults.receive)?;
+    Ok(MemLink::new(alloc, arrivals, sends, receives, faults.bind != 0))
+}
+
+/// Runs `node` between these.
+fn run_between(
+    alloc: Global,
+    words: &[String],
+    mut link: MemLink,
+    mut input: MemSource,
+    mut out: MemSink,
+    mut err: MemSink,
+) -> Finished {
+    let mut kids = MemSpawner::new(alloc, Vec::new(alloc), Vec::new(alloc));
+    let status = node(
+        alloc, words, &mut link, &mut input, &mut out, &mut err, &mut kids,
+    );
+    Finished {
+        code: status.code,
+        link,
+        out,
+        err,
+    }
+}
+
+/// Runs `node`, and says how that ended.
+pub fn run(
+    alloc: Global,
+    words: &[String],
+    setting: Setting,
+    said: &mut Vec<u8>,
+) -> Result<(), NoMemory> {
+    let Setting {
+        arrivals,
+        input,
+        faults,
+        is_brief,
+    } = setting;
+    let input = MemSource::new(input, only(alloc, faults.read)?);
+    let out = MemSink::new(alloc, only(alloc, faults.write)?);
+    let err = MemSink::new(alloc, only(alloc, faults.error)?);
+    let link = link_of(alloc, arrivals, faults)?;
+    say_run(
+        alloc,
+        &run_between(alloc, words, link, input, out, err),
+        is_brief,
+        said,
+    )
+}
+
+/// Says how a run ended, and what was called and written.
+fn say_run(
+    alloc: Global,
+    ran: &Finished,
+    is_brief: bool,
+    said: &mut Vec<u8>,
+) -> Result<(), NoMemory> {
+    let code = ran.code;
+    let line = format!(in alloc; "status {code}")?;
+    say(line.as_str(), said)?;
+    said.extend_from_slice(ran.out.written())?;
+    said.extend_from_slice(ran.err.written())?;
+    match ran.link.told() {
+        None => say("nothing told", said),
+        Some(calls) => {
+            if is_brief {
+                say_counts(alloc, calls, said)
+            } else {
+                say_calls(alloc, calls, said)
+            }
+        }
+    }
+}
+
+/// Says how many calls were receives, and how many sends.
+fn say_counts(alloc: Global, calls: &[LinkCall], said: &mut Vec<u8>) -> Result<(), NoMemory> {
+    let mut receives = 0u64;
+    let mut sends = 0u64;
+    for call in calls {
+        match call {
+            LinkCall::Bound(_) => (),
+            LinkCall::Handed(..) => sends = sends.saturating_add(1),
+            _ => receives = receives.saturating_add(1),
+        }
+    }
+    let line = format!(in alloc; "receives {receives} sends {sends}")?;
+    say(line.as_str(), said)
+}
+
+/// Says the calls on a link, each in a line.
+fn say_calls(alloc: Global, calls: &[LinkCall], said: &mut Vec<u8>) -> Result<(), NoMemory> {
+    for call in calls {
+        match call {
+            LinkCall::Bound(at) => say_bytes(alloc, "bound", *at, b"", said)?,
+            LinkCall::Came(from, bytes) => say_bytes(alloc, "came", *from, bytes.as_slice(), said)?,
+            LinkCall::Silent => say("silent", said)?,
+            LinkCall::Missed => say("missed", said)?,
+            LinkCall::Handed(to, bytes, is_lost) => {
+                let name = if *is_lost { "lost" } else { "sent" };
+                say_bytes(alloc, name, *to, bytes.as_slice(), said)?
+            }
+        }
+    }
+    Ok(())
+}
+
+/// Says a call with an address and bytes, or `-` where there are none.
+fn say_bytes(
+    alloc: Global,
+    name: &str,
+    at: Addr,
+    bytes: &[u8],
+    said: &mut Vec<u8>,
+) -> Result<(), NoMemory> {
+    let [a, b, c, d] = at.ip.to_be_bytes();
+    let port = at.port;
+    let line = format!(in alloc; "{name} {a}.{b}.{c}.{d}:{port} ")?;
+    said.extend_from_slice(line.as_bytes())?;
+    if bytes.is_empty() {
+        return say("-", said);
+    }
+    say(hex::encode(alloc, bytes)?.as_str(), said)
+}
