@@ -1,23 +1,22 @@
 #!/usr/bin/env bash
 # Real processes over UDP on this machine's loopback, as LLVM builds them: a client that sends `fill:SIZE` (15,000,000 bytes unless one is given) and reads
 # its echo, through `server` and `logger`. Printed are the bytes a second, and of server and logger the counts of their calls, the processor time a datagram
-# that came, and the most memory held. Then the same with the server killed (kill -9) three times meanwhile and started again with the next boot number.
+# that came, and the most memory held; and the processor time of a C loop that sends and receives datagrams of 1,400 bytes (bench/link.c). Then a transfer of
+# 1,000,000 bytes whose server is killed (kill -9) three times meanwhile, two seconds apart, and started again with the next boot number.
 # Each time the client has to end with 0 and its bytes to be the script's.
+#     bench/ftnode.sh [SIZE] [PORT]        three ports from PORT (7200) on, and three from ten above
 set -eu
-cd "$(dirname "$0")/.."
-size=${1:-15000000}
-(cd crates/ftnode && rt run -- logger --local 127.0.0.1:7040 --turns 1 >/dev/null 2>&1) || true
-ours="$PWD/crates/ftnode/out/ftnode"
-work=$(mktemp -d)
+. "$(dirname "$0")/common.sh"
+size=${1:-15000000} base=${2:-7200}
+build ftnode logger --local 127.0.0.1:7040 --turns 1
+ours=$PWD/crates/ftnode/out/ftnode
 pids=()
-cleanup() {
-    local pid
-    for pid in "${pids[@]}"; do kill -9 "$pid" 2>/dev/null || true; done
+clean_up() {
+    for pid in "${pids[@]}"; do pkill -9 -P "$pid" || true; done
     rm -rf "$work"
 }
-trap cleanup EXIT
+trap clean_up EXIT
 at=127.0.0.1
-base=${2:-7200}
 
 # starts a role in the background, with its times and its memory in a file of its name; its process number is in `last`
 start() {
@@ -32,11 +31,7 @@ logger() { start "logger$1" logger --local "$at:$((base + 1))" --turns "$2"; }
 server() { start "server$1" server --local "$at:$base" --logger "$at:$((base + 1))" --service echo --boot "$2" --isn $((1000 * $2 + 7)) --turns "$3"; }
 client() { start "client$1" client --local "$at:$((base + 2))" --server "$at:$base" --isn 1000 --turns 1000000 --script "fill:$size"; }
 
-python3 - "$size" >"$work/script" <<'END'
-import sys
-n = int(sys.argv[1])
-sys.stdout.write(("abcdefghijklmnopqrstuvwxyz" * (n // 26 + 1))[:n])
-END
+letters() { awk -v n="$1" 'BEGIN { for (i = 0; i < n; i++) printf "%c", 97 + i % 26 }' >"$work/script"; }
 
 same() {
     cmp -s "$work/script" "$work/client$1.out" && echo "the client ended with $2, and its bytes are the script's" || { echo "the client ended with $2, and its bytes differ"; exit 1; }
@@ -58,7 +53,8 @@ told() {
 # the logger
 server_turns=$((size / 1460 * 54 / 10 + 300))
 logger_turns=$((size / 1460 * 34 / 10 + 300))
-printf '%s processors, %s, load %s\n' "$(nproc)" "$(lscpu | sed -n 's/^Model name: *//p')" "$(cut -d' ' -f1 /proc/loadavg)"
+machine
+letters "$size"
 
 logger A "$logger_turns"
 logger_pid=$last
@@ -75,28 +71,31 @@ awk -v n="$size" -v ns=$((ended - begun)) 'BEGIN { printf "%d bytes each way in 
 wait "$server_pid" "$logger_pid" || true
 told A
 
+gcc -O2 -Wall -o "$work/link" bench/link.c
+awk -v ms="$(spent "$work/link" 1400 200000)" 'BEGIN { printf "the C loop: %.1f us of processor for a datagram of 1,400 bytes sent and received\n", ms / 200 }'
+
 # killed and started again
-base=$((base + 10))
+base=$((base + 10)) size=1000000
+letters "$size"
 logger B 1000000
-logger_pid=$last
 sleep 0.2
 server B1 1 1000000
 server_pid=$last
 begun=$(date +%s%N)
 client B
 client_pid=$last
+while kill -0 "$client_pid" 2>/dev/null && [ ! -s "$work/clientB.out" ]; do sleep 0.005; done
 for boot in 2 3 4; do
-    sleep "${3:-0.5}"
-    kill -0 "$client_pid" 2>/dev/null || { echo "the client ended before boot $boot: give more bytes"; break; }
+    kill -0 "$client_pid" 2>/dev/null || { echo "the client ended before boot $boot"; exit 1; }
+    echo "killed when $(stat -c %s "$work/clientB.out") bytes had come back"
     pkill -9 -P "$server_pid" || true
     wait "$server_pid" 2>/dev/null || true
     server "B$boot" "$boot" 1000000
     server_pid=$last
+    sleep 2
 done
 status=0
 wait "$client_pid" || status=$?
 ended=$(date +%s%N)
-awk -v ns=$((ended - begun)) 'BEGIN { printf "with three kills: %.2f s\n", ns / 1e9 }'
+awk -v n="$size" -v ns=$((ended - begun)) 'BEGIN { printf "%d bytes each way with three kills: %.1f s\n", n, ns / 1e9 }'
 same B "$status"
-pkill -9 -P "$server_pid" || true
-pkill -9 -P "$logger_pid" || true
