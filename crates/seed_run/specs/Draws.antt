@@ -1,0 +1,6 @@
+-- What a generator draws from a state. The state behind the draw is the one that it steps to.
+use Rattle.std.specs.Prelude.{ℕ}
+use Rattle.seq_arith.specs.Generator.{stepped, drawn}
+
+abbrev pub draw : ℕ → ℕ
+draw state = drawn (stepped state)

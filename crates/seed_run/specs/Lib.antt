@@ -1,0 +1,6 @@
+pub mod Draws
+pub mod Events
+pub mod Generated
+pub mod Words
+pub mod Summary
+pub mod Runs

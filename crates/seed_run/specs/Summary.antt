@@ -1,0 +1,44 @@
+-- The summary of a generated run: what was asked and what came of it, then how each client stands.
+use Rattle.std.specs.Prelude.{ℕ, ◌+◌, codes, List, [], ◌∷◌, ◌++◌, length, Bool, true, false}
+use Rattle.std.specs.Fmt.{decimal}
+use Rattle.seq_arith.specs.Offset.{one_if}
+use Rattle.ft_model.specs.Client.{Client}
+use Rattle.ft_model.specs.Texts.{phase_text}
+use Rattle.ft_model.specs.World.{World, Moment, world_after}
+use Rattle.ft_model.specs.declared.event.Event.{Event}
+use Rattle.ft_model.specs.declared.event.Event.TheVariants.{Boot, Crash}
+
+abbrev pub is_boot : Event → Bool
+is_boot (Boot boot isn) = true
+is_boot _ = false
+
+abbrev pub is_crash : Event → Bool
+is_crash Crash = true
+is_crash _ = false
+
+-- how many moments of a trace have such an event
+abbrev pub count_events : (Event → Bool) → List Moment → ℕ
+count_events is [] = 0
+count_events is (moment ∷ earlier) = count_events is earlier + one_if (is moment.event)
+
+unfoldable pub first_line : (seed clients events packets boots crashes : ℕ) → List ℕ
+first_line seed clients events packets boots crashes =
+    codes "seed " ++ decimal seed ++ codes " clients " ++ decimal clients ++ codes " events " ++ decimal events ++ codes " packets " ++ decimal packets
+    ++ codes " boots " ++ decimal boots ++ codes " crashes " ++ decimal crashes ++ 10 ∷ []
+
+-- a client's number and phase, and how many of its script's bytes it has got back
+unfoldable pub client_result : ℕ → Client → List ℕ
+client_result n client =
+    codes "client " ++ decimal n ++ codes " " ++ phase_text client.phase ++ codes " accepted " ++ decimal (length client.accepted)
+    ++ codes " of " ++ decimal (length client.script) ++ 10 ∷ []
+
+-- clients numbered on from n
+abbrev pub client_results : ℕ → List Client → List ℕ
+client_results n [] = []
+client_results n (client ∷ others) = client_result n client ++ client_results (n + 1) others
+
+-- of a trace from a start
+abbrev pub summary : ℕ → World → List Moment → List ℕ
+summary seed start trace =
+    first_line seed (length start.clients) (length trace) (length (world_after start trace).packets) (count_events is_boot trace) (count_events is_crash trace)
+    ++ client_results 1 (world_after start trace).clients

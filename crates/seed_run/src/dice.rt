@@ -1,0 +1,193 @@
+//! The dice: numbers that are drawn, and the event that they decide.
+
+ghost use Rattle.std.specs.Prelude.{◌≡◌, ℕ, ◌*◌, ◌<◌, ◌^◌, Some, option_copied, length};
+ghost use Rattle.ft_model.specs.Client.{Client as Seen};
+ghost use Rattle.ft_model.specs.World.{client_at};
+ghost use Rattle.seq_arith.specs.Generator.{stepped};
+ghost use Rattle.seed_run.specs.Draws.{draw as draw_lem};
+
+use ft_model::{Event, Phase};
+use net_schedule::World;
+use peer_client::Client;
+use sample_servers::AnyService;
+use seq_arith::Generator;
+
+/// The window that a client announces.
+const WINDOW: u16 = 65_535;
+
+/// The most bytes of a drawn text.
+const TEXT: u32 = 536;
+
+/// How many bytes each client sends more than the one before it.
+pub(crate) const STEP: u32 = 1_000;
+
+/// What a drawn event depends on of the server.
+#[derive(Clone, Copy, Debug, PartialEq, Eq)]
+pub struct ServerNow {
+    pub is_up: bool,
+    /// How often it has started: the number of its last boot.
+    pub boots: u64,
+}
+
+/// What decides which event comes next: a generator, from which numbers are drawn.
+#[derive(Clone, Copy, Debug)]
+pub struct Dice {
+    pub draws: Generator,
+}
+
+impl Dice {
+    ghost use Rattle.seed_run.specs.Events.{server_event as server_lem, risky_event as risky_lem, delivery as delivery_lem, text_event as text_lem, progress as progress_lem, acknowledgement as acknowledgement_lem, client_event as client_lem, next_event as next_lem};
+
+    /// A number of 31 bits.
+    fn draw(&mut self) -> u32
+        ensures value { result ≡ draw_lem self.old.draws.state }
+        ensures state { self.new.draws.state ≡ stepped self.old.draws.state }
+        ensures small { result < 2 ^ 31 }
+    {
+        self.draws.draw()
+    }
+
+    /// A tick of the server's clock. A server that is down starts, with the next boot number.
+    pub fn server_event(&mut self, server: ServerNow) -> Event
+        requires { server.boots < 2 ^ 32 }
+        ensures { record { event = result; state = self.new.draws.state } ≡ server_lem self.old.draws.state server }
+    {
+        if server.is_up {
+            Event::Tick
+        } else {
+            Event::Boot {
+                boot: server.boots + 1,
+                isn: self.draw(),
+            }
+        }
+    }
+
+    /// Likewise, but of the servers that are up one in 64 crashes.
+    fn risky_event(&mut self, server: ServerNow) -> Event
+        requires { server.boots < 2 ^ 32 }
+        ensures { record { event = result; state = self.new.draws.state } ≡ risky_lem self.old.draws.state server }
+    {
+        if !server.is_up {
+            return self.server_event(server);
+        }
+        if self.draw() % 64 == 0 {
+            Event::Crash
+        } else {
+            Event::Tick
+        }
+    }
+
+    /// The delivery of one of the last 64 packets.
+    fn delivery(&mut self, packets: u32) -> Event
+        requires { 0 < packets }
+        ensures { record { event = result; state = self.new.draws.state } ≡ delivery_lem self.old.draws.state packets }
+    {
+        let back = self.draw() % packets.min(64);
+        Event::Deliver {
+            packet: packets - back,
+        }
+    }
+
+    /// Text of a client whose script has so many bytes, some of which aren't acknowledged.
+    fn text_event(&mut self, number: u8, client: &Client, total: u32) -> Event
+        requires total { total ≡ length client.now.script }
+        requires left { client.now.acknowledged < total }
+        ensures { record { event = result; state = self.new.draws.state } ≡ text_lem self.old.draws.state number client.now }
+    {
+        let sent = client.sent().min(total);
+        let again = self.draw() % 2 == 1 || sent == total;
+        let from = if again { client.acked() } else { sent };
+        Event::Send {
+            client: number,
+            from,
+            len: TEXT.min(total - from),
+        }
+    }
+
+    /// What brings a client on: its SYN, its text, its FIN. Where nothing does, the server has its event.
+    fn progress(&mut self, number: u8, client: &Client, total: u32, server: ServerNow) -> Event
+        requires total { total ≡ length client.now.script }
+        requires boots { server.boots < 2 ^ 32 }
+        ensures { record { event = result; state = self.new.draws.state } ≡ progress_lem self.old.draws.state number client.now server }
+    {
+        match client.phase() {
+            Phase::New | Phase::Opening => Event::Begin {
+                client: number,
+                window: WINDOW,
+            },
+            Phase::Established | Phase::Ended => {
+                if client.acked() < total {
+                    self.text_event(number, client, total)
+                } else if client.acked() == total {
+                    Event::Fin { client: number }
+                } else {
+                    self.server_event(server)
+                }
+            }
+            Phase::Reset => self.server_event(server),
+        }
+    }
+
+    /// An open client acknowledges what it has accepted.
+    fn acknowledgement(&mut self, number: u8, client: &Client, server: ServerNow) -> Event
+        requires { server.boots < 2 ^ 32 }
+        ensures { record { event = result; state = self.new.draws.state } ≡ acknowledgement_lem self.old.draws.state number client.now server }
+    {
+        match client.phase() {
+            Phase::Established | Phase::Ended => Event::Ack {
+                client: number,
+                window: WINDOW,
+            },
+            _ => self.server_event(server),
+        }
+    }
+
+    /// The event of a client: half of the dice bring it on, and all where it isn't open yet.
+    fn client_event(
+        &mut self,
+        die: u32,
+        number: u8,
+        client: Option<&Client>,
+        server: ServerNow,
+    ) -> Event
+        requires total { (c : Seen) → option_copied client ≡ Some c → length c.script ≡ 1000 * number }
+        requires boots { server.boots < 2 ^ 32 }
+        ensures { record { event = result; state = self.new.draws.state } ≡ client_lem die self.old.draws.state number (option_copied client.entry) server }
+    {
+        let Some(client) = client else {
+            return self.server_event(server);
+        };
+        let opens = matches!(client.phase(), Phase::New | Phase::Opening);
+        if die < 11 || opens {
+            self.progress(number, client, STEP * u32::from(number), server)
+        } else {
+            self.acknowledgement(number, client, server)
+        }
+    }
+
+    /// Draws the next event, in a world with so many packets and clients. Before anything was sent it is the server's.
+    pub fn next_event(
+        &mut self,
+        world: &World<AnyService>,
+        packets: u32,
+        clients: u8,
+        server: ServerNow,
+    ) -> Event
+        requires clients { (clients ≡ length world.now.clients.items) × (0 < clients) }
+        requires totals { (n : ℕ) (c : Seen) → client_at world.now.clients.items n ≡ Some c → length c.script ≡ 1000 * n }
+        requires boots { server.boots < 2 ^ 32 }
+        ensures { record { event = result; state = self.new.draws.state } ≡ next_lem self.old.draws.state packets world.now.clients.items server }
+    {
+        if packets == 0 {
+            return self.server_event(server);
+        }
+        let die = self.draw() % 16;
+        let number = 1 + (self.draw() % u32::from(clients)) as u8;
+        match die {
+            0..=8 => self.delivery(packets),
+            9..=12 => self.client_event(die, number, world.client(number), server),
+            13 | 14 => self.server_event(server),
+            _ => self.risky_event(server),
+        }
+    }
+}

@@ -1,0 +1,83 @@
+//! A generated run, from its words to its summary.
+
+ghost use Rattle.std.specs.Prelude.{◌≡◌, ◌≤◌, ◌<◌, map, string_bytes, None, IfSome, IfOk, IfErr, OnOk, IsErrOf};
+ghost use Rattle.ft_io.specs.Faults.{Rose};
+ghost use Rattle.seed_run.specs.Words.{asked as asked_lem};
+ghost use Rattle.seed_run.specs.declared.run.SeedEnd.TheVariants as ends;
+ghost use Rattle.seed_run.specs.Runs.{IsSummary, IsPastLimit, IsSummarized, EndsRun};
+
+use crate::asked::Asked;
+use crate::dice::Dice;
+use crate::progress::Progress;
+use crate::schedule::schedule_for;
+use crate::summary::summarize;
+use ft_io::{Failed, NoMemory, Sink, write_all};
+use ft_model::headline::every_joint_trace_is_masked;
+use net_schedule::World;
+use sample_servers::AnyService;
+use seq_arith::Generator;
+use std::alloc::Global;
+
+/// Why a generated run ends without its whole summary.
+#[derive(Clone, Copy, Debug, PartialEq, Eq)]
+pub enum SeedEnd {
+    /// The words are no `seed SEED CLIENTS EVENTS`.
+    Usage,
+    NoMemory,
+    /// The sink failed. It took a front of the summary.
+    WriteFault,
+    /// An event would send more packets than a run may have.
+    PacketLimit,
+}
+
+impl From<NoMemory> for SeedEnd {
+    ghost from_gives = { λ _ end. end ≡ ends.NoMemory };
+
+    fn from(_error: NoMemory) -> SeedEnd {
+        SeedEnd::NoMemory
+    }
+}
+
+impl From<Failed> for SeedEnd {
+    ghost from_gives = { λ _ end. end ≡ ends.WriteFault };
+
+    fn from(_failed: Failed) -> SeedEnd {
+        SeedEnd::WriteFault
+    }
+}
+
+/// Plays the events that were asked for, and gives their summary.
+fn play_asked(alloc: Global, asked: Asked) -> Result<Vec<u8>, SeedEnd>
+    requires clients { (0 < asked.clients) × (asked.clients ≤ 16) }
+    requires events { asked.events ≤ 20000 }
+    ensures done { IfOk result (λ text. IsSummary asked text.items) }
+    ensures past { IsErrOf result SeedEnd.PacketLimit → IsPastLimit asked }
+    ensures no_usage { IsErrOf result SeedEnd.Usage → ⊥ }
+    ensures no_fault { IsErrOf result SeedEnd.WriteFault → ⊥ }
+{
+    every_joint_trace_is_masked::<AnyService>();
+    let mut generator = Generator::new(asked.seed);
+    let schedule = schedule_for(alloc, &mut generator, asked.clients)?;
+    let mut world: World<AnyService> = World::new(alloc, &schedule)?;
+    let mut progress = Progress::new(Dice { draws: generator });
+    progress.play(alloc, asked, &mut world)?;
+    Ok(summarize(alloc, asked, &world, &progress)?)
+}
+
+/// Plays the schedule that the words make, and writes the summary of the run once it is done.
+pub fn seed<O: Sink>(alloc: Global, words: &[String], out: &mut O) -> Result<(), SeedEnd>
+    ensures done { OnOk result (IfSome (asked_lem (map string_bytes words.now)) (λ asked. IsSummarized asked (O.taken out.old) (O.taken out.new))) }
+    ensures ends { IfErr result (λ end. IfSome (asked_lem (map string_bytes words.now)) (λ asked. EndsRun asked (O.taken out.old) (O.taken out.new) end)) }
+    ensures usage { IsErrOf result SeedEnd.Usage → asked_lem (map string_bytes words.now) ≡ None }
+    ensures other_words { asked_lem (map string_bytes words.now) ≡ None → IsErrOf result SeedEnd.Usage }
+    ensures usage_keeps_out { IsErrOf result SeedEnd.Usage → out.new ≡ out.old }
+    ensures write_fault { IsErrOf result SeedEnd.WriteFault → Rose (O.fault_count out.old) (O.fault_count out.new) }
+    ensures never_falls { O.fault_count out.old ≤ O.fault_count out.new }
+{
+    let Some(asked) = Asked::from_words(words) else {
+        return Err(SeedEnd::Usage);
+    };
+    let lines = play_asked(alloc, asked)?;
+    write_all(out, &lines)?;
+    Ok(())
+}
