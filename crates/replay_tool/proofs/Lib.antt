@@ -3,3 +3,4 @@ pub mod Following
 pub mod Playing
 pub mod Ending
 pub mod Settling
+pub mod Seeding

@@ -8,6 +8,8 @@ use Rattle.schedule_text.specs.declared.end.ScheduleEnd.{ScheduleEnd}
 use Rattle.schedule_text.specs.declared.end.ScheduleEnd.TheVariants as schedules
 use Rattle.net_schedule.specs.declared.end.StepEnd.{StepEnd}
 use Rattle.net_schedule.specs.declared.end.StepEnd.TheVariants as steps
+use Rattle.seed_run.specs.declared.run.SeedEnd.{SeedEnd}
+use Rattle.seed_run.specs.declared.run.SeedEnd.TheVariants as seeds
 use Rattle.replay_tool.specs.declared.status.TooMuch.TheVariants.{Text, Events, Packets}
 use Rattle.replay_tool.specs.declared.status.RunEnd.{RunEnd}
 use Rattle.replay_tool.specs.declared.status.RunEnd.TheVariants.{Usage, NoMemory, ReadFault, WriteFault, BadLine, BadEvent, TooLong}
@@ -28,6 +30,12 @@ end_of_step steps.NoMemory event = NoMemory
 end_of_step (steps.BadEvent why) event = BadEvent event why
 end_of_step steps.PacketLimit event = TooLong Packets
 
+abbrev pub end_of_seed : SeedEnd → RunEnd
+end_of_seed seeds.Usage = Usage
+end_of_seed seeds.NoMemory = NoMemory
+end_of_seed seeds.WriteFault = WriteFault
+end_of_seed seeds.PacketLimit = TooLong Packets
+
 -- the exit status of an end
 abbrev pub code_of : RunEnd → ℕ
 code_of Usage = 2
@@ -46,3 +54,7 @@ CountsFaults old new _ = new ≡ old
 -- the statuses of a run
 abbrev pub is_code : ℕ → Bool
 is_code code = code == 0 || (nat_le 2 code && nat_le code 8)
+
+-- .. and those of a generated run
+abbrev pub is_seed_code : ℕ → Bool
+is_seed_code code = code == 0 || (code == 3 || (code == 5 || code == 8))

@@ -7,3 +7,4 @@ pub mod Standing
 pub mod Playing
 pub mod Runs
 pub mod Causes
+pub mod SeedFaults

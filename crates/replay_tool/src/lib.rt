@@ -1,4 +1,5 @@
-//! `replay`: the top call of `ftreplay`. It reads a schedule, plays its events in the world and writes the report while it runs.
+//! `replay`: the top call of `ftreplay`. It reads a schedule, plays its events in the world and writes the report while it runs; or it plays
+//! the schedule that a number makes, and writes a summary.
 #![tactic(auto)]
 
 pub use status::Status;
@@ -9,6 +10,7 @@ mod lines;
 mod play;
 mod report;
 mod run;
+mod seeds;
 mod status;
 mod telling;
 mod top;

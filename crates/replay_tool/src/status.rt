@@ -2,12 +2,13 @@
 
 ghost use Rattle.std.specs.Prelude.{◌≡◌};
 ghost use Rattle.replay_tool.specs.declared.status.RunEnd.TheVariants as ends;
-ghost use Rattle.replay_tool.specs.Ends.{end_of_step as end_lem};
+ghost use Rattle.replay_tool.specs.Ends.{end_of_step as end_lem, end_of_seed as seed_end_lem};
 
 use ft_io::{Failed, NoMemory, ReadEnd};
 use ft_model::{EventWhy, Limit, LineWhy};
 use net_schedule::StepEnd;
 use schedule_text::ScheduleEnd;
+use seed_run::SeedEnd;
 use std::alloc::AllocError;
 
 /// The exit status of the program.
@@ -101,5 +102,17 @@ pub(crate) fn end_of_step(end: StepEnd, event: u32) -> RunEnd
         StepEnd::NoMemory => RunEnd::NoMemory,
         StepEnd::BadEvent(why) => RunEnd::BadEvent { event, why },
         StepEnd::PacketLimit => RunEnd::TooLong(TooMuch::Packets),
+    }
+}
+
+/// The end of a generated run.
+pub(crate) fn end_of_seed(end: SeedEnd) -> RunEnd
+    ensures { result ≡ seed_end_lem end }
+{
+    match end {
+        SeedEnd::Usage => RunEnd::Usage,
+        SeedEnd::NoMemory => RunEnd::NoMemory,
+        SeedEnd::WriteFault => RunEnd::WriteFault,
+        SeedEnd::PacketLimit => RunEnd::TooLong(TooMuch::Packets),
     }
 }
