@@ -1,5 +1,5 @@
-//! `ftreplay run`: plays a written schedule and prints every event and packet. All is done by `replay`; here are the words, the standard
-//! input, the standard output and the standard error.
+//! `ftreplay`: plays a written schedule and prints every event and packet, or one that a number makes, and prints a summary. All is done by
+//! `replay`; here are the words, the standard input, the standard output and the standard error.
 #![tactic(auto)]
 
 use ft_io::{ReadSource, WriteSink};

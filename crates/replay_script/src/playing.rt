@@ -6,12 +6,14 @@ use std::alloc::Global;
 
 /// Plays a text as the order says, and appends its name, its status, and what was written.
 pub fn play(alloc: Global, order: &[&str], text: &[u8], out: &mut Vec<u8>) -> Result<(), NoMemory> {
-    let [name, word, read, wrote, told, last] = order else {
+    let [name, spoken, read, wrote, told, last] = order else {
         out.extend_from_slice(b"no such order\n")?;
         return Ok(());
     };
     let mut words = Vec::new(alloc);
-    words.push(String::from_str(alloc, word)?)?;
+    for word in spoken.split('~') {
+        words.push(String::from_str(alloc, word)?)?;
+    }
     let mut input = MemSource::new(text.to_vec(alloc)?, failing(alloc, read)?);
     let mut report = MemSink::new(alloc, failing(alloc, wrote)?);
     let mut err = MemSink::new(alloc, failing(alloc, told)?);
