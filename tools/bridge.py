@@ -25,18 +25,11 @@ import struct
 import subprocess
 import sys
 
+from internet import checksum
+
 SET_DEVICE, TUN, NO_HEADER = 0x400454CA, 0x0001, 0x1000  # TUNSETIFF, IFF_TUN, IFF_NO_PI
 LONGEST = 1500
 TCP = 6
-
-
-def checksum(data):
-    """The Internet checksum of some bytes."""
-    padded = data + b"\0" * (len(data) % 2)
-    total = sum(struct.unpack(f">{len(padded) // 2}H", padded))
-    while total > 0xFFFF:
-        total = (total & 0xFFFF) + (total >> 16)
-    return total ^ 0xFFFF
 
 
 def address(text):

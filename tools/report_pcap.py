@@ -12,20 +12,12 @@ import argparse
 import struct
 import sys
 
+from internet import checksum
 from report_text import report_of
 
 RAW_IP = 101
 FLAGS = {"C": 0x80, "E": 0x40, "U": 0x20, "A": 0x10, "P": 0x08, "R": 0x04, "S": 0x02, "F": 0x01}
 DONT_FRAGMENT, HOPS, TCP = 0x4000, 64, 6
-
-
-def checksum(data):
-    """The Internet checksum: the complement of the sum of 16-bit words, carries added in, an odd end padded with a zero byte."""
-    padded = data + b"\0" * (len(data) % 2)
-    total = sum(struct.unpack(f">{len(padded) // 2}H", padded))
-    while total > 0xFFFF:
-        total = (total & 0xFFFF) + (total >> 16)
-    return total ^ 0xFFFF
 
 
 def address(text):
