@@ -4,7 +4,7 @@ ghost use Rattle.std.specs.Prelude.{◌≤◌};
 
 use crate::dice::Dice;
 use crate::joined::{CLIENT, SERVER};
-use crate::rules::{Kept, Rule, anything, keep, may_follow, servers_byte};
+use crate::rules::{Kept, Rule, anything, may_follow, require, servers_byte};
 use ft_io::{Key, NoMemory};
 use ft_model::Event;
 use peer_client::{Client, LiveClient, Phase};
@@ -198,16 +198,16 @@ fn readers_of(client: &Client) -> Told {
 /// The rules on a delivery to a scripted client.
 fn check_scripted(before: Told, client: &Client, is_packet: bool) -> Kept {
     let after = readers_of(client);
-    keep(is_packet || after == before, Rule::Silence)?;
-    keep(before.accepted <= after.accepted, Rule::Text)?;
-    keep(is_servers(client.accepted(), 0), Rule::Text)?;
-    keep(after.accepted <= usize::from(WINDOW), Rule::Window)?;
-    keep(
+    require(is_packet || after == before, Rule::Silence)?;
+    require(before.accepted <= after.accepted, Rule::Text)?;
+    require(is_servers(client.accepted(), 0), Rule::Text)?;
+    require(after.accepted <= usize::from(WINDOW), Rule::Window)?;
+    require(
         after.sent == before.sent && before.acked <= after.acked,
         Rule::Numbers,
     )?;
-    keep(after.acked <= after.sent, Rule::Numbers)?;
-    keep(may_follow(before.phase, after.phase), Rule::End)
+    require(after.acked <= after.sent, Rule::Numbers)?;
+    require(may_follow(before.phase, after.phase), Rule::End)
 }
 
 /// Hands all datagrams to scripted clients, one after another.
@@ -290,7 +290,7 @@ impl Target {
         let mut buf = [0u8; 50];
         let most = dice.roll(51) as usize;
         let count = self.client.accept(&mut buf[..most]).min(most);
-        keep(is_servers(&buf[..count], self.handed), Rule::Text)?;
+        require(is_servers(&buf[..count], self.handed), Rule::Text)?;
         self.handed = self.handed.saturating_add(count as u32);
         Ok(count)
     }
@@ -300,13 +300,13 @@ impl Target {
         for i in 0..self.out.len() {
             let sent = read_packet(self.out.packet(i)).map_err(|_| Rule::Packet)?;
             let head = sent.head;
-            keep(
+            require(
                 head.src == CLIENT.ip && head.dst == SERVER.ip && head.dport == SERVER.port,
                 Rule::Packet,
             )?;
             let first = head.seq.minus(Seq(ISN).add(1)) as usize;
             let text = sent.payload;
-            keep(
+            require(
                 text.is_empty()
                     || SCRIPT
                         .get(first..)
@@ -323,11 +323,11 @@ impl Target {
         self.client.on_packet(bytes);
         self.base = self.base.or(opening(bytes));
         let after = self.client.outcome();
-        keep(before.is_none() || after == before, Rule::End)?;
-        keep(is_packet || after == before, Rule::Silence)?;
+        require(before.is_none() || after == before, Rule::End)?;
+        require(is_packet || after == before, Rule::Silence)?;
         let count = self.accept_some(dice)?;
         self.flush();
-        keep(is_packet || count > 0 || self.out.is_empty(), Rule::Silence)?;
+        require(is_packet || count > 0 || self.out.is_empty(), Rule::Silence)?;
         if before.is_none() {
             self.check_leaving()?;
         }

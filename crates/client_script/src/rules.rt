@@ -24,7 +24,7 @@ pub(crate) enum Rule {
 
 pub(crate) type Kept = Result<(), Rule>;
 
-pub(crate) fn keep(holds: bool, rule: Rule) -> Kept {
+pub(crate) fn require(holds: bool, rule: Rule) -> Kept {
     if holds { Ok(()) } else { Err(rule) }
 }
 

@@ -16,7 +16,7 @@ use Rattle.seq_arith.specs.Packet.{Segment}
 use Rattle.tcp_endpoint.specs.States.{has_begun}
 use Rattle.tcp_endpoint.specs.Sending.{Sending, must_run}
 use Rattle.tcp_endpoint.specs.Tcb.{Tcb}
-use Rattle.tcp_endpoint.specs.Leaving.{flushed, settled, announced, after_full, with_fin_out, with_text_sent, with_probe}
+use Rattle.tcp_endpoint.specs.Leaving.{flushed, with_turn_ended, announced, after_full, with_fin_out, with_text_sent, with_probe}
 use Rattle.endpoint_laws.specs.Ending.{IsNamedRightly, resets}
 use Rattle.endpoint_laws.specs.Laws.{IsBounded}
 use Rattle.endpoint_laws.specs.Turn.{Call, MayUse, arrived, before_flush}
@@ -154,11 +154,11 @@ less_same : (u a b w : ℕ) → u ≤ a → u ≤ b → a ≡ b → a - u ≡ w 
 less_same u a b w x y h k = omega (arith, x, y, h, k)
 
 flushed_answer : (w : Tcb) → (flushed w).answer ≡ None
-unfolding flushed settled announced after_full with_fin_out with_text_sent with_probe
+unfolding flushed with_turn_ended announced after_full with_fin_out with_text_sent with_probe
 flushed_answer w = refl
 
 pub flushed_reset : (w : Tcb) → (flushed w).reset ≡ w.reset
-unfolding flushed settled announced after_full with_fin_out with_text_sent with_probe
+unfolding flushed with_turn_ended announced after_full with_fin_out with_text_sent with_probe
 flushed_reset w = refl
 
 pub ends_inside : {State : Type 0} (service : Machine State) (boot u i delta : ℕ) (news : News) (p q : Point) (calls : List Call) (e : Tcb) (sent : List Packet)

@@ -32,7 +32,7 @@ use Rattle.endpoint_laws.specs.Laws.{IsBounded, Bounds}
 use Rattle.endpoint_laws.specs.Turn.{Call, arrived, used}
 use Rattle.endpoint_laws.specs.Unconnected.{sent_in_closed}
 use Rattle.tcp_endpoint.specs.States.{has_begun}
-use Rattle.tcp_endpoint.specs.Leaving.{flushed, settled, announced, after_full, with_fin_out, with_text_sent, with_probe, probes, probes_text, probes_fin}
+use Rattle.tcp_endpoint.specs.Leaving.{flushed, with_turn_ended, announced, after_full, with_fin_out, with_text_sent, with_probe, probes, probes_text, probes_fin}
 use Rattle.endpoint_laws.proofs.TurnLaw.{after_steps, timed_sent}
 use Rattle.endpoint_laws.proofs.EndingLaw.{flushed_name}
 use Rattle.endpoint_laws.proofs.NoConnection.{closed_stays_law, closed_answers_law}
@@ -217,7 +217,7 @@ off_second_of true b o f h = ap (λ x. x && o && f) h
 off_second_of false b o f h = refl
 
 pub closed_sent : (w : Tcb) → has_begun w.name ≡ false → (flushed w).sending.sent ≡ w.sending.sent
-unfolding flushed settled announced after_full with_fin_out with_text_sent with_probe
+unfolding flushed with_turn_ended announced after_full with_fin_out with_text_sent with_probe
 closed_sent w off =
     let s : Sending = w.sending in
     let none : probes w ≡ false = off_second_of w.probe (has_begun w.name) s.opened (not s.fin_sent) off in

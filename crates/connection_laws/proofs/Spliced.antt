@@ -330,5 +330,5 @@ splices_parts service local e i n g replayed =
       unreset = refl;
       kept = t.kept;
       shut = t.open_still ∙ sym replayed.shut;
-      settled = omega arith;
+      all_sent = omega arith;
     }

@@ -39,7 +39,7 @@ use Rattle.connection_laws.specs.Standing.{PartsTurn}
 use Rattle.connection_laws.proofs.Beginning.{begins_inside}
 use Rattle.connection_laws.proofs.Fed.{reading, north_calls_feed}
 use Rattle.connection_laws.proofs.Joining.{socket_laws, hears, socket_stands}
-use Rattle.connection_laws.proofs.Together.{goes, settles, begun_open}
+use Rattle.connection_laws.proofs.Together.{goes, sends_all, begun_open}
 
 -- TCP once its SYN has come: nothing is read, written or sent
 record IsFreshTcp (m : Tcb) : Type 0 where
@@ -123,7 +123,7 @@ starts_together service boot local numbers old new reads t o st open_still turns
           unreset = refl;
           kept = by.1.kept;
           shut = by.1.shut;
-          settled = settles service local boot Begins p q _ l;
+          all_sent = sends_all service local boot Begins p q _ l;
         };
         no_read = settled_reads service local boot Begins p q _ l;
         exact = by.1.exact;

@@ -84,9 +84,9 @@ goes service server boot news p ks makes = record {
 up_to : (s t e n : ℕ) → min t e ≤ max s (min t e) + n
 up_to s t e n = omega arith
 
-pub settles : {S : Type 0} (service : Machine S) (server : Addr) (boot : ℕ) (news : News) (p q : Point) (sent : List Packet) → LiveTurn service server boot news p q sent → min (target service q) q.edge ≤ q.sent
+pub sends_all : {S : Type 0} (service : Machine S) (server : Addr) (boot : ℕ) (news : News) (p q : Point) (sent : List Packet) → LiveTurn service server boot news p q sent → min (target service q) q.edge ≤ q.sent
 unfolding sent_after sent_at_once
-settles service server boot news p q sent l = subst (λ n. min (target service q) q.edge ≤ n) (sym l.sent_units) (up_to p.sent (target service q) q.edge (one_if (probes news p)))
+sends_all service server boot news p q sent l = subst (λ n. min (target service q) q.edge ≤ n) (sym l.sent_units) (up_to p.sent (target service q) q.edge (one_if (probes news p)))
 
 -- a name that has begun isn't CLOSED's
 pub begun_open : (name : StateName) → has_begun name ≡ true → is_closed name ≡ false
@@ -245,7 +245,7 @@ done_open service boot u i delta given given' news p q old new calls e sent true
     (record { may = s.by.may; begun = begun; used = s.by.is_used }) in
     record {
       tcp = inl (record { stands = t.stands; named = named_law inner calls e st.stands.begun st.stands.between st.named });
-      segments = open_leaves service e.local boot delta news p q sent (before_flush inner calls e) begun s.later s.before.north.fetched s.before.settled l t.segments;
+      segments = open_leaves service e.local boot delta news p q sent (before_flush inner calls e) begun s.later s.before.north.fetched s.before.all_sent l t.segments;
       closed = λ h. absurd (false≢true (sym (begun_open (before_flush inner calls e).name begun) ∙ h));
     }
 done_open service boot u i delta given given' news p q old new calls e sent false s l st ended =
@@ -298,7 +298,7 @@ finish service boot u i delta given given' news p q ks old new calls e t is s le
           unreset = l.reset;
           kept = s.by.kept;
           shut = s.by.shut;
-          settled = settles service e.local boot news p q sent l;
+          all_sent = sends_all service e.local boot news p q sent l;
         };
         no_read = settled_reads service e.local boot news p q sent l;
         exact = s.by.exact;

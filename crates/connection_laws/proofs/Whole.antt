@@ -13,7 +13,7 @@ use Rattle.ft_model.specs.Sending.{acknowledged_after}
 use Rattle.tcp_endpoint.specs.States.{has_begun}
 use Rattle.tcp_endpoint.specs.Tcb.{Tcb}
 use Rattle.endpoint_laws.specs.Turn.{Call, IsUsualNews, before_flush, turned}
-use Rattle.tcp_endpoint.specs.Leaving.{flushed, settled, announced, after_full, with_fin_out, with_text_sent, with_probe}
+use Rattle.tcp_endpoint.specs.Leaving.{flushed, with_turn_ended, announced, after_full, with_fin_out, with_text_sent, with_probe}
 use Rattle.endpoint_laws.specs.Standing.{StandsAt, LeadsTo}
 use Rattle.endpoint_laws.proofs.Turns.{leads_law}
 use Rattle.connection_laws.specs.Inside.{swallowing, inside, GoesOn}
@@ -38,7 +38,7 @@ usual_news u i delta p e Ticks g st f = tt
 usual_news u i delta p e Begins g st f = tt
 
 begun_still : (e : Tcb) → has_begun (flushed e).name ≡ has_begun e.name
-unfolding flushed settled announced after_full with_fin_out with_text_sent with_probe
+unfolding flushed with_turn_ended announced after_full with_fin_out with_text_sent with_probe
 begun_still e = refl
 
 pub above : (u a b : ℕ) → u ≤ a → b ≡ a → u ≤ b

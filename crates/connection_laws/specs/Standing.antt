@@ -35,7 +35,7 @@ pub record PartsStand {S : Type 0} (service : Machine S) (u i delta given : ℕ)
   pub kept : e.reset ≡ false
   pub shut : e.sending.closed ≡ n.shut
   -- nothing may be sent that isn't
-  pub settled : min (target service p) p.edge ≤ p.sent
+  pub all_sent : min (target service p) p.edge ≤ p.sent
 
 -- between two turns nothing is due: no read, and no byte that may be given
 pub record PartsRest {S : Type 0} (service : Machine S) (u i delta given : ℕ) (p : Point) (n : NorthState S) (e : Tcb) : Type 0 where

@@ -30,7 +30,7 @@ pub(crate) enum Rule {
 
 pub(crate) type Kept = Result<(), Rule>;
 
-fn keep(holds: bool, rule: Rule) -> Kept {
+fn require(holds: bool, rule: Rule) -> Kept {
     if holds { Ok(()) } else { Err(rule) }
 }
 
@@ -54,16 +54,16 @@ fn is_clients(bytes: &[u8], from: u32) -> bool {
 fn check_segment(bytes: &[u8], after: Inside) -> Kept {
     let packet = read_packet(bytes).map_err(|_| Rule::Packet)?;
     let head = packet.head;
-    keep(
+    require(
         head.src == SERVER.ip && head.sport == SERVER.port,
         Rule::Packet,
     )?;
-    keep(
+    require(
         head.dst == CLIENT.ip && head.dport == CLIENT.port && !has(head.flags, RST),
         Rule::Packet,
     )?;
-    keep(head.ack.minus(CISN.add(1)) <= after.answered, Rule::Ack)?;
-    keep(
+    require(head.ack.minus(CISN.add(1)) <= after.answered, Rule::Ack)?;
+    require(
         is_clients(packet.payload, head.seq.minus(SISN.add(1))),
         Rule::Text,
     )
@@ -90,7 +90,7 @@ fn check_message(bytes: &[u8], after: Inside, has_ended: bool) -> Kept {
         Body::DoneMsg { .. } => has_ended,
         _ => false,
     };
-    keep(holds && message.boot == 1, Rule::Message)
+    require(holds && message.boot == 1, Rule::Message)
 }
 
 fn check_leaving(after: Inside, has_ended: bool, out: &TurnOut) -> Kept {
@@ -127,9 +127,9 @@ pub(crate) fn check(
 {
     let after = conn.inside();
     let is_silent = out.segments().is_empty() && out.messages() == 0;
-    keep(is_packet || (is_silent && after == before), Rule::Silence)?;
-    keep(never_fall(before, after), Rule::Numbers)?;
-    keep(
+    require(is_packet || (is_silent && after == before), Rule::Silence)?;
+    require(never_fall(before, after), Rule::Numbers)?;
+    require(
         !is_reset || (out.segments().is_empty() && after.taken == before.taken),
         Rule::Reset,
     )?;

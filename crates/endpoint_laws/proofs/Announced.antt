@@ -13,7 +13,7 @@ use Rattle.tcp_endpoint.specs.States.{is_closed, is_syn_sent, has_begun}
 use Rattle.tcp_endpoint.specs.Receiving.{next, window, announced_edge}
 use Rattle.tcp_endpoint.specs.Sending.{in_flight, is_unacknowledged}
 use Rattle.tcp_endpoint.specs.Tcb.{Tcb, listening, connecting}
-use Rattle.tcp_endpoint.specs.Leaving.{or_bare, head_at, opening_segment, text_at, fin_at, texts, answer_segments, answer_out, again_segment, again_out, probes_text, probes_fin, probe_out, with_probe, new_length, text_out, with_text_sent, new_fin, fin_out, with_fin_out, full_out, after_full, is_owed, bare_segment, leaving, announced, settled, flushed}
+use Rattle.tcp_endpoint.specs.Leaving.{or_bare, head_at, opening_segment, text_at, fin_at, texts, answer_segments, answer_out, again_segment, again_out, probes_text, probes_fin, probe_out, with_probe, new_length, text_out, with_text_sent, new_fin, fin_out, with_fin_out, full_out, after_full, is_owed, bare_segment, leaving, announced, with_turn_ended, flushed}
 use Rattle.tcp_endpoint.specs.Turning.{after_tick, timer_ticked, waited}
 use Rattle.endpoint_laws.specs.Laws.{told, asks}
 use Rattle.endpoint_laws.specs.Turn.{Call, Events, arrived, called, used, before_flush, turned, sent_in}
@@ -280,7 +280,7 @@ record TellsAll (e : Tcb) : Type 0 where
   heard : has_begun e.name ≡ true → told e ≡ (next e.receiving, announced_edge e.receiving)
 
 tells_flushed : (u : Tcb) → TellsAll (flushed u)
-unfolding flushed settled announced after_full with_fin_out with_text_sent with_probe
+unfolding flushed with_turn_ended announced after_full with_fin_out with_text_sent with_probe
 tells_flushed u = record { answer = refl; heard = λ begun. told_by_flush u begun }
 
 by_begun : {X : Type 0} (b : Bool) → (b ≡ true → X) → (b ≡ false → X) → X

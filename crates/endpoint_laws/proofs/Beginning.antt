@@ -16,7 +16,7 @@ use Rattle.tcp_endpoint.specs.Receiving.{Receiving, taken}
 use Rattle.tcp_endpoint.specs.Sending.{Sending, is_unacknowledged, target, resent_length}
 use Rattle.tcp_endpoint.specs.Tcb.{Tcb}
 use Rattle.tcp_endpoint.specs.Arrival.{source, received, begun}
-use Rattle.tcp_endpoint.specs.Leaving.{or_bare, announced, settled, with_fin_out, fin_at, text_at, answer_segments, answer_out, again_segment, opening_segment, again_out, probe_out, with_probe, text_out, with_text_sent, fin_out, full_out, is_owed, bare_segment, leaving, after_full, is_timed, flushed}
+use Rattle.tcp_endpoint.specs.Leaving.{or_bare, announced, with_turn_ended, with_fin_out, fin_at, text_at, answer_segments, answer_out, again_segment, opening_segment, again_out, probe_out, with_probe, text_out, with_text_sent, fin_out, full_out, is_owed, bare_segment, leaving, after_full, is_timed, flushed}
 use Rattle.endpoint_laws.specs.Laws.{IsBounded, ProbesRightly}
 use Rattle.endpoint_laws.specs.Turn.{Call, MayUse, IsBetweenTurns, used, before_flush, turned}
 use Rattle.endpoint_laws.specs.Listening.{IsListening}
@@ -189,7 +189,7 @@ opened_turn local iss limit cisn fetched syn m u o a bounds whole number =
     )
 
 flushed_name : (u : Tcb) → has_begun u.name ≡ true → has_begun (flushed u).name ≡ true
-unfolding flushed settled announced after_full with_fin_out with_text_sent with_probe
+unfolding flushed with_turn_ended announced after_full with_fin_out with_text_sent with_probe
 flushed_name u begun = begun
 
 limit_small : (limit fetched : ℕ) → limit + fetched ≡ 2 ^ 24 → limit ≤ 2 ^ 24

@@ -18,7 +18,7 @@ use Rattle.tcp_endpoint.specs.Receiving.{Receiving, taken}
 use Rattle.tcp_endpoint.specs.Sending.{Sending, opened_by, acknowledged, moves_edge, sendable, expires, ticked, timed, with_sent, with_fin_sent, IsShort}
 use Rattle.tcp_endpoint.specs.Tcb.{Tcb, listening, connecting}
 use Rattle.tcp_endpoint.specs.Arrival.{ack_at, received, received_in, in_listen, begun, refusing, answered, in_syn_sent}
-use Rattle.tcp_endpoint.specs.Leaving.{probes_text, probes_fin, with_probe, with_text_sent, new_fin, with_fin_out, after_full, announced, is_timed, settled, flushed}
+use Rattle.tcp_endpoint.specs.Leaving.{probes_text, probes_fin, with_probe, with_text_sent, new_fin, with_fin_out, after_full, announced, is_timed, with_turn_ended, flushed}
 use Rattle.tcp_endpoint.specs.Turning.{after_tick, timer_ticked, waited, after_read, after_write}
 use Rattle.endpoint_laws.specs.Laws.{counts, continues, taken_by, Bounds, IsBounded, IsUsual}
 use Rattle.endpoint_laws.proofs.TakenLaw.{taken_law}
@@ -368,7 +368,7 @@ timed_bounds r s runs b =
     bounds_if r runs _ _ (λ h. bounds_if r (s.rest == 0) _ _ (λ k. timer_bounds r s _ _ b) (λ k. b)) (λ h. timer_bounds r s _ _ b)
 
 pub bounded_by_flush : (e : Tcb) → IsBounded e → IsBounded (flushed e)
-unfolding flushed settled announced after_full
+unfolding flushed with_turn_ended announced after_full
 bounded_by_flush e b =
     let after : Tcb = with_fin_out (with_text_sent (with_probe e)) in
     let bounds : IsBounded after = fin_bounds _ (text_bounds _ (probe_bounds e b)) in

@@ -16,7 +16,7 @@ use Rattle.tcp_endpoint.specs.Receiving.{Receiving, receiving_up_to, read_out}
 use Rattle.tcp_endpoint.specs.Sending.{Sending, sending_from, bytes_end, expires, ticked, timed}
 use Rattle.tcp_endpoint.specs.Tcb.{Tcb, kept_limit, listening, connecting}
 use Rattle.tcp_endpoint.specs.Arrival.{ack_at, received, received_in, in_syn_sent, answered, refusing, killed}
-use Rattle.tcp_endpoint.specs.Leaving.{head_at, opening_segment, again_segment, answer_out, again_out, probe_out, text_out, texts, fin_out, full_out, is_owed, leaving, announced, settled, with_fin_out, with_probe, with_text_sent, after_full, is_timed, flushed}
+use Rattle.tcp_endpoint.specs.Leaving.{head_at, opening_segment, again_segment, answer_out, again_out, probe_out, text_out, texts, fin_out, full_out, is_owed, leaving, announced, with_turn_ended, with_fin_out, with_probe, with_text_sent, after_full, is_timed, flushed}
 use Rattle.tcp_endpoint.specs.Turning.{after_tick, timer_ticked, waited}
 use Rattle.endpoint_laws.specs.Laws.{Bounds, IsBounded, asks}
 use Rattle.endpoint_laws.specs.Turn.{Call, MayCall, MayUse, IsBetweenTurns, arrived, called, used, before_flush, turned, sent_in}
@@ -253,7 +253,7 @@ still_connecting local remote iss limit u c = λ i.
     record u { name = c.name i; receiving = c.receiving i; sending = c.sending.same i; probe = c.probe i }
 
 connects_flushed : (local remote : Addr) (iss limit : ℕ) (u : Tcb) → Connects local remote iss limit u → Flushed local remote iss limit (flushed u)
-unfolding flushed settled announced after_full with_fin_out with_text_sent with_probe
+unfolding flushed with_turn_ended announced after_full with_fin_out with_text_sent with_probe
 connects_flushed local remote iss limit u c =
     let s : Sending = record (sending_from iss) { held = u.sending.held; interval = u.sending.interval; rest = u.sending.rest } in
     let P : Tcb → Type 0 = λ t. IsConnecting iss limit (flushed t) in

@@ -17,7 +17,7 @@ use Rattle.tcp_endpoint.specs.Receiving.{Receiving, next, taken, window, with_te
 use Rattle.tcp_endpoint.specs.Sending.{Sending, opened_by, acknowledged, fin_acked, sendable, sends_fin, timed, expires, with_sent, with_fin_sent}
 use Rattle.tcp_endpoint.specs.Tcb.{Tcb}
 use Rattle.tcp_endpoint.specs.Arrival.{first, ack_at, owing_if, killed, entering, refusing, begun, with_text_and_fin, with_fin_acked, with_first_ack, with_ack, check_ack, check_syn, check_rst, waiting_again, check_place, in_others, received}
-use Rattle.tcp_endpoint.specs.Leaving.{probes_text, probes_fin, with_probe, with_text_sent, with_fin_out, after_full, announced, settled, flushed, answer_segments}
+use Rattle.tcp_endpoint.specs.Leaving.{probes_text, probes_fin, with_probe, with_text_sent, with_fin_out, after_full, announced, with_turn_ended, flushed, answer_segments}
 use Rattle.tcp_endpoint.specs.Turning.{after_tick, timer_ticked, waited}
 use Rattle.endpoint_laws.specs.Turn.{Call, called, used, IsBetweenTurns, arrived, before_flush, turned, sent_in}
 use Rattle.endpoint_laws.specs.Turn.Call.{Reads, Writes, Closes}
@@ -426,7 +426,7 @@ timed_follows name fin true s h =
 timed_follows name fin false s h = record { placed = h.placed; ends = h.ends; order = h.order; unsent = h.unsent }
 
 pub flush_follows : (u : Tcb) → FollowsAt u → FollowsAt (flushed u)
-unfolding flushed settled announced after_full with_fin_out with_text_sent with_probe
+unfolding flushed with_turn_ended announced after_full with_fin_out with_text_sent with_probe
 flush_follows u h =
     let s : Sending = u.sending in
     let b : Bool = has_begun u.name in
@@ -491,7 +491,7 @@ pub reset_closed : (news : News) (calls : List Call) (e : Tcb) → has_begun e.n
 reset_closed news calls e begun h = stays_closed calls (arrived news e) (ap (λ (t : Tcb). t.name) (arrived_reset news e begun h).1)
 
 pub flushed_name : (u : Tcb) → (flushed u).name ≡ u.name
-unfolding flushed settled announced after_full with_fin_out with_text_sent with_probe
+unfolding flushed with_turn_ended announced after_full with_fin_out with_text_sent with_probe
 flushed_name u = refl
 
 closed_named : (e : Tcb) → e.name ≡ Closed → IsNamedRightly e

@@ -14,7 +14,7 @@ use Rattle.tcp_endpoint.specs.Receiving.{Receiving, receiving_up_to, read_out}
 use Rattle.tcp_endpoint.specs.Sending.{Sending, sending_from, bytes_end}
 use Rattle.tcp_endpoint.specs.Tcb.{Tcb, kept_limit, listening}
 use Rattle.tcp_endpoint.specs.Arrival.{received, received_in, in_listen, begun, refusing}
-use Rattle.tcp_endpoint.specs.Leaving.{announced, settled, with_fin_out, with_probe, with_text_sent, after_full, flushed}
+use Rattle.tcp_endpoint.specs.Leaving.{announced, with_turn_ended, with_fin_out, with_probe, with_text_sent, after_full, flushed}
 use Rattle.tcp_endpoint.specs.Turning.{after_tick, timer_ticked, waited}
 use Rattle.endpoint_laws.specs.Laws.{Bounds, IsBounded}
 use Rattle.endpoint_laws.specs.Turn.{Call, MayCall, MayUse, arrived, called, used, before_flush, turned}
@@ -173,7 +173,7 @@ listens_used local iss limit (call ∷ calls) m may still l =
 
 -- the flush sends that RST and leaves the rest
 listens_flushed : (local : Addr) (iss limit : ℕ) (u : Tcb) → Listens local iss limit u → IsListening iss limit (flushed u) × ((flushed u).local ≡ local)
-unfolding flushed settled announced after_full with_fin_out with_text_sent with_probe
+unfolding flushed with_turn_ended announced after_full with_fin_out with_text_sent with_probe
 listens_flushed local iss limit u l =
     let still : Tcb = record u { name = Listen; receiving = receiving_up_to (kept_limit limit); sending = record (sending_from iss) { held = u.sending.held }; probe = false } in
     let same : u ≡ still = λ i. record u { name = l.name i; receiving = l.receiving i; sending = l.sending i; probe = l.probe i } in

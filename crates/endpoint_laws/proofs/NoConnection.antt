@@ -17,7 +17,7 @@ use Rattle.tcp_endpoint.specs.Receiving.{window, receiving_up_to}
 use Rattle.tcp_endpoint.specs.Sending.{Sending, expires}
 use Rattle.tcp_endpoint.specs.Tcb.{Tcb, kept_limit, listening, connecting}
 use Rattle.tcp_endpoint.specs.Arrival.{ack_at, received, received_in, in_closed, in_listen, in_syn_sent, begun, answered, refusing, refusing_without_ack, killed}
-use Rattle.tcp_endpoint.specs.Leaving.{head_at, opening_segment, answer_segments, leaving, announced, is_timed, settled, with_fin_out, with_probe, with_text_sent, after_full, flushed}
+use Rattle.tcp_endpoint.specs.Leaving.{head_at, opening_segment, answer_segments, leaving, announced, is_timed, with_turn_ended, with_fin_out, with_probe, with_text_sent, after_full, flushed}
 use Rattle.tcp_endpoint.specs.Turning.{after_tick, timer_ticked, waited}
 use Rattle.endpoint_laws.specs.Laws.{ticked_interval, ticked_rest, IsTimedBy}
 use Rattle.endpoint_laws.specs.Turn.{Call, MayUse, arrived, called, used, before_flush, turned, sent_in}
@@ -109,7 +109,7 @@ call_lasts calls m closed = λ i. (
 )
 
 flushed_lasts : (u : Tcb) → (lasting (flushed u) ≡ lasting u) × ((flushed u).answer ≡ None)
-unfolding lasting flushed settled announced after_full with_fin_out with_text_sent with_probe
+unfolding lasting flushed with_turn_ended announced after_full with_fin_out with_text_sent with_probe
 flushed_lasts u = (refl, refl)
 
 closed_before_flush : (news : News) (calls : List Call) (e : Tcb) → e.name ≡ Closed → e.answer ≡ None → (before_flush news calls e).name ≡ Closed

@@ -11,7 +11,7 @@ use Rattle.tcp_endpoint.specs.Receiving.{next, window, announced_edge}
 use Rattle.tcp_endpoint.specs.Sending.{Sending, opened_by, acknowledged, fin_acked, target, sendable, sends_fin, must_run, timed, expires, ticked, with_sent, with_fin_sent}
 use Rattle.tcp_endpoint.specs.Tcb.{Tcb}
 use Rattle.tcp_endpoint.specs.Arrival.{first, ack_at, owing_if, entering, with_text_and_fin, with_fin_acked, with_first_ack, with_ack, waiting_again, received, refusing}
-use Rattle.tcp_endpoint.specs.Leaving.{or_bare, is_owed, bare_segment, full_out, leaving, probes_text, probes_fin, with_probe, with_text_sent, with_fin_out, after_full, announced, is_timed, settled, flushed}
+use Rattle.tcp_endpoint.specs.Leaving.{or_bare, is_owed, bare_segment, full_out, leaving, probes_text, probes_fin, with_probe, with_text_sent, with_fin_out, after_full, announced, is_timed, with_turn_ended, flushed}
 use Rattle.tcp_endpoint.specs.Turning.{after_tick, timer_ticked, waited, after_write}
 use Rattle.endpoint_laws.specs.Laws.{is_refused, owes, told, asks, IsBounded, IsUsual, ProbesRightly, IsShut}
 use Rattle.endpoint_laws.proofs.TakenLaw.{part_of_if, same_if, if_when, begun_is, Aside, at_ack, others_part, segment_taken}
@@ -39,7 +39,7 @@ announced_by true x y m n h = refl
 announced_by false x y m n h = absurd (false≢true h)
 
 pub told_by_flush : (e : Tcb) → has_begun e.name ≡ true → told (flushed e) ≡ (next e.receiving, announced_edge e.receiving)
-unfolding flushed settled announced after_full with_fin_out with_text_sent with_probe
+unfolding flushed with_turn_ended announced after_full with_fin_out with_text_sent with_probe
 told_by_flush e begun = announced_by (has_begun e.name) (next e.receiving) (announced_edge e.receiving) e.told_next e.told_edge begun
 
 text_part : (e : Tcb) (p : Segment) → told (with_text_and_fin e p) ≡ told e
@@ -270,7 +270,7 @@ shut_timed true a edge runs is stuck = started (a.rest == 0) a edge (runs refl) 
 shut_timed false a edge runs is stuck = record { edge = λ r. absurd (omega arith); waits = λ r. absurd (omega arith) }
 
 pub shut_by_flush : (e : Tcb) → has_begun e.name ≡ true → IsBounded e → ProbesRightly e → IsShut (flushed e).sending
-unfolding flushed settled announced after_full with_fin_out with_text_sent with_probe
+unfolding flushed with_turn_ended announced after_full with_fin_out with_text_sent with_probe
 shut_by_flush e begun b right =
     let s : Sending = e.sending in
     let after : Tcb = with_fin_out (with_text_sent (with_probe e)) in

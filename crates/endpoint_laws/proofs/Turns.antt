@@ -18,7 +18,7 @@ use Rattle.tcp_endpoint.specs.Receiving.{next}
 use Rattle.tcp_endpoint.specs.Receiving as half
 use Rattle.tcp_endpoint.specs.Sending.{is_unacknowledged}
 use Rattle.tcp_endpoint.specs.Tcb.{Tcb}
-use Rattle.tcp_endpoint.specs.Leaving.{answer_out, full_out, leaving, after_full, announced, settled, flushed}
+use Rattle.tcp_endpoint.specs.Leaving.{answer_out, full_out, leaving, after_full, announced, with_turn_ended, flushed}
 use Rattle.tcp_endpoint.specs.Leaving as left
 use Rattle.endpoint_laws.specs.Laws.{IsBounded, ProbesRightly, asks, told}
 use Rattle.endpoint_laws.specs.Turn.{Call, MayUse, IsUsualNews, IsBetweenTurns, arrived, used, before_flush}
@@ -152,7 +152,7 @@ interval_is_some news before after some = some_interval (timer.is_set_anew befor
 
 -- between two turns again
 pub between_again : (u : Tcb) → has_begun u.name ≡ true → IsBounded u → ProbesRightly u → FinIsLast u.sending → 1 ≤ (flushed u).sending.interval → IsBetweenTurns (flushed u)
-unfolding flushed settled announced after_full left.with_fin_out left.with_text_sent left.with_probe
+unfolding flushed with_turn_ended announced after_full left.with_fin_out left.with_text_sent left.with_probe
 between_again u begun bounds probes last interval = record {
   bounds = bounded_by_flush u bounds;
   told = told_by_flush u begun;
@@ -167,11 +167,11 @@ between_again u begun bounds probes last interval = record {
 }
 
 pub flushed_receives : (p : Point) (u : Tcb) → ReceivesAt p u → ReceivesAt p (flushed u)
-unfolding flushed settled announced after_full left.with_fin_out left.with_text_sent left.with_probe
+unfolding flushed with_turn_ended announced after_full left.with_fin_out left.with_text_sent left.with_probe
 flushed_receives p u r = record { cisn = r.cisn; limit = r.limit; read = r.read; long = r.long; unread = r.unread; fin = r.fin }
 
 pub flushed_remote : (u : Tcb) → (flushed u).remote ≡ u.remote
-unfolding flushed settled announced after_full left.with_fin_out left.with_text_sent left.with_probe
+unfolding flushed with_turn_ended announced after_full left.with_fin_out left.with_text_sent left.with_probe
 flushed_remote u = refl
 
 turn_leads : {State : Type 0} (service : Machine State) (news : News) (before after : Point) (e m u : Tcb) → has_begun e.name ≡ true → IsBetweenTurns e → StandsAt before e

@@ -17,7 +17,7 @@ use Rattle.tcp_endpoint.specs.Receiving.{Receiving, next, taken, window, with_se
 use Rattle.tcp_endpoint.specs.Sending.{Sending, opened_by, acknowledged, fin_acked, expires, ticked, timed}
 use Rattle.tcp_endpoint.specs.Tcb.{Tcb}
 use Rattle.tcp_endpoint.specs.Arrival.{first, ack_at, owing_if, killed, entering, refusing, with_text_and_fin, with_fin_acked, with_first_ack, with_ack, check_ack, check_syn, check_rst, repeats_fin, waiting_again, check_place, in_others, received}
-use Rattle.tcp_endpoint.specs.Leaving.{probes_text, probes_fin, with_probe, with_text_sent, with_fin_out, after_full, announced, is_timed, settled, flushed}
+use Rattle.tcp_endpoint.specs.Leaving.{probes_text, probes_fin, with_probe, with_text_sent, with_fin_out, after_full, announced, is_timed, with_turn_ended, flushed}
 use Rattle.tcp_endpoint.specs.Turning.{after_tick, timer_ticked, waited}
 use Rattle.endpoint_laws.specs.Turn.{Call, Events, IsBetweenTurns, arrived, called, used, before_flush, turned}
 use Rattle.endpoint_laws.specs.Turn.Call.{Reads, Writes, Closes}
@@ -256,7 +256,7 @@ timed_opened true s = holds_if (λ (t : Sending). t.opened ≡ s.opened) (s.rest
 timed_opened false s = refl
 
 waits_flushed : (wait : ℕ) (u : Tcb) → Waits wait u → Waits wait (flushed u)
-unfolding flushed settled announced after_full with_fin_out with_text_sent with_probe
+unfolding flushed with_turn_ended announced after_full with_fin_out with_text_sent with_probe
 waits_flushed wait u w =
     let s : Sending = after_steps (has_begun u.name) (probes_text u) (probes_fin u) u.sending in
     let opened_same : s.opened ≡ u.sending.opened =

@@ -5,7 +5,7 @@ ghost use Rattle.std.specs.Prelude.{◌≤◌};
 use crate::dice::Dice;
 use crate::rules::{
     Kept, Known, Rule, Seen, check_leaving, check_numbers, check_reset, check_used, is_behind_fin,
-    keep, own_byte, resets,
+    own_byte, require, resets,
 };
 use crate::scene::Scene;
 use crate::script::Counted;
@@ -246,9 +246,9 @@ impl Target {
         let mut read = [0u8; 150];
         let size = dice.roll(151) as usize;
         let count = self.scene.endpoint.read(&mut read[..size]);
-        keep(count <= size, Rule::Counts)?;
+        require(count <= size, Rule::Counts)?;
         for byte in &read[..count.min(size)] {
-            keep(*byte == peers_byte(self.read), Rule::ReadText)?;
+            require(*byte == peers_byte(self.read), Rule::ReadText)?;
             self.read = self.read.wrapping_add(1);
         }
         Ok(())
@@ -264,7 +264,7 @@ impl Target {
         let size = dice.roll(41) as usize;
         let count = self.scene.endpoint.write(&text[..size]);
         self.written = self.written.wrapping_add(count as u32);
-        keep(count <= size, Rule::Counts)
+        require(count <= size, Rule::Counts)
     }
 
     /// The user reads, writes a little, or closes, at some of the turns.
@@ -326,7 +326,7 @@ impl Target {
         let before = self.seen();
         self.scene.out.clear();
         self.scene.endpoint.flush(&mut self.scene.out);
-        keep(
+        require(
             self.scene.out.is_empty() && self.seen() == before,
             Rule::Silence,
         )
@@ -354,11 +354,11 @@ impl Target {
             damage(dice, &mut packet[..len]);
         }
         if let Ok(p) = read_packet(&packet[..len]) {
-            keep(!is_damaged, Rule::Damage)?;
+            require(!is_damaged, Rule::Damage)?;
             tally.note_met(self.name());
             self.take_in(p, dice)?;
         } else {
-            keep(is_damaged, Rule::Damage)?;
+            require(is_damaged, Rule::Damage)?;
             tally.refused = tally.refused.wrapping_add(1);
             self.stay()?;
         }

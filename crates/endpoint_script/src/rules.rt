@@ -76,7 +76,7 @@ impl fmt::Display for Rule {
 /// A rule is kept, or this one is broken.
 pub(crate) type Kept = Result<(), Rule>;
 
-pub(crate) fn keep(kept: bool, rule: Rule) -> Kept {
+pub(crate) fn require(kept: bool, rule: Rule) -> Kept {
     if kept { Ok(()) } else { Err(rule) }
 }
 
@@ -129,12 +129,12 @@ pub(crate) fn resets(before: Seen, first: Seq, next: Seq, head: Head) -> bool {
 
 /// A connection is reset where a segment resets, and then it is CLOSED.
 pub(crate) fn check_reset(before: Seen, after: Seen, resets: bool) -> Kept {
-    keep(
+    require(
         after.state.reset == (before.state.reset || resets),
         Rule::Reset,
     )?;
     let is_closed = after.state.name == StateName::Closed && after.room == 0;
-    keep(!after.state.reset || is_closed, Rule::Room)
+    require(!after.state.reset || is_closed, Rule::Room)
 }
 
 /// Of a segment without ACK, or with SYN or RST, no text is taken, nor behind the peer's FIN; and no acknowledgement is used, but of the
@@ -142,9 +142,9 @@ pub(crate) fn check_reset(before: Seen, after: Seen, resets: bool) -> Kept {
 pub(crate) fn check_used(before: Seen, after: Seen, flags: u8) -> Kept {
     let is_used = flags & (SYN | RST | ACK) == ACK;
     let may_take = is_used && !is_behind_fin(before.state.name);
-    keep(may_take || after.readable == before.readable, Rule::Text)?;
+    require(may_take || after.readable == before.readable, Rule::Text)?;
     let may_use = is_used || before.state.name == StateName::SynSent;
-    keep(
+    require(
         may_use || after.acked == before.acked,
         Rule::Acknowledgement,
     )
@@ -155,49 +155,49 @@ pub(crate) fn check_numbers(before: Seen, after: Seen, ack: Seq) -> Kept {
     let grows = before.acked.le(after.acked) && before.sent.le(after.sent);
     let is_told = after.acked == before.acked || after.acked == ack;
     let is_sent = after.acked.le(after.sent);
-    keep(grows && is_told && is_sent, Rule::Numbers)?;
-    keep(after.readable <= 65_535, Rule::Text)?;
+    require(grows && is_told && is_sent, Rule::Numbers)?;
+    require(after.readable <= 65_535, Rule::Text)?;
     if before.state.name != StateName::Closed {
         return Ok(());
     }
     let readable = after.readable;
-    keep(after == Seen { readable, ..before }, Rule::Closed)
+    require(after == Seen { readable, ..before }, Rule::Closed)
 }
 
 /// A RST answers alone.
 fn check_rst(p: PacketRef<'_>, count: usize) -> Kept {
     let is_alone = p.head.window == 0 && p.payload.is_empty() && count == 1;
-    keep(is_alone, Rule::RstAlone)?;
+    require(is_alone, Rule::RstAlone)?;
     let at_ack = p.head.flags == RST && p.head.ack == Seq(0);
     let behind = p.head.flags == RST | ACK && p.head.seq == Seq(0);
-    keep(at_ack || behind, Rule::RstFields)
+    require(at_ack || behind, Rule::RstFields)
 }
 
 /// Text leaves as it was written, and the FIN stands behind it.
 fn check_text(known: Known, p: PacketRef<'_>) -> Kept {
     let mut place = p.head.seq.minus(known.isn.add(1));
     for byte in p.payload {
-        keep(place < known.written, Rule::OwnText)?;
-        keep(*byte == own_byte(place), Rule::OwnText)?;
+        require(place < known.written, Rule::OwnText)?;
+        require(*byte == own_byte(place), Rule::OwnText)?;
         place = place.wrapping_add(1);
     }
     if !has(p.head.flags, FIN) {
         return Ok(());
     }
-    keep(place == known.written && p.payload.is_empty(), Rule::Fin)
+    require(place == known.written && p.payload.is_empty(), Rule::Fin)
 }
 
 /// A segment without RST in a connection.
 fn check_segment(known: Known, p: PacketRef<'_>) -> Kept {
     let is_news = p.head.ack == known.next && p.head.window == known.window;
-    keep(is_news, Rule::News)?;
+    require(is_news, Rule::News)?;
     match p.head.flags {
         SYN_ACK => {
             let opens = known.name == StateName::SynReceived && p.head.seq == known.isn;
-            keep(opens && p.payload.is_empty(), Rule::SynAck)
+            require(opens && p.payload.is_empty(), Rule::SynAck)
         }
         ACK if p.payload.is_empty() => {
-            keep(p.head.seq == known.sent && known.count == 1, Rule::Bare)
+            require(p.head.seq == known.sent && known.count == 1, Rule::Bare)
         }
         ACK | FIN_ACK => check_text(known, p),
         _ => Err(Rule::Flags),
@@ -213,7 +213,7 @@ pub(crate) fn check_leaving(known: Known, p: PacketRef<'_>) -> Kept {
         StateName::Closed | StateName::Listen => Err(Rule::Unconnected),
         StateName::SynSent => {
             let is_syn = p.head.flags == SYN && p.head.ack == Seq(0);
-            keep(is_syn && p.head.seq == known.isn, Rule::OwnSyn)
+            require(is_syn && p.head.seq == known.isn, Rule::OwnSyn)
         }
         _ => check_segment(known, p),
     }

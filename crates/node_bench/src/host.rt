@@ -87,13 +87,13 @@ impl Host {
             letters: Outbox::new(alloc)?,
             counts: Counts::NONE,
         };
-        keep(host.node.sent(), &mut host.letters, &mut host.counts);
-        host.settle(alloc)?;
+        count_and_queue(host.node.sent(), &mut host.letters, &mut host.counts);
+        host.exchange_with_log(alloc)?;
         Ok(host)
     }
 
     /// The log takes what it is sent, and the server its answers, until nothing is under way.
-    fn settle(&mut self, alloc: Global) -> Result<(), NoMemory> {
+    fn exchange_with_log(&mut self, alloc: Global) -> Result<(), NoMemory> {
         for i in 0..LETTERS {
             if i >= self.letters.len() {
                 break;
@@ -128,7 +128,7 @@ impl Host {
                 &mut self.letters,
                 &mut self.counts,
             )?;
-            self.settle(alloc)?;
+            self.exchange_with_log(alloc)?;
         }
         Ok(())
     }
@@ -155,7 +155,7 @@ impl Host {
             &mut self.letters,
             &mut self.counts,
         )?;
-        self.settle(alloc)
+        self.exchange_with_log(alloc)
     }
 
     /// The connections of so many clients are opened. Nothing of that is counted.
@@ -199,7 +199,7 @@ impl Host {
 }
 
 /// Counts what is sent, and keeps the messages to the log.
-fn keep(sent: &[OutPacket], letters: &mut Outbox, counts: &mut Counts) {
+fn count_and_queue(sent: &[OutPacket], letters: &mut Outbox, counts: &mut Counts) {
     for packet in sent {
         if packet.to() == To::Logger {
             letters.push(packet.bytes());
@@ -224,7 +224,7 @@ fn turn(
         return Err(NoMemory);
     };
     counts.turns = counts.turns.saturating_add(1);
-    keep(sent, letters, counts);
+    count_and_queue(sent, letters, counts);
     Ok(())
 }
 

@@ -18,7 +18,7 @@ use Rattle.tcp_endpoint.specs.Receiving.{Receiving, taken, next, with_text, with
 use Rattle.tcp_endpoint.specs.Sending.{Sending, IsShort, opened_by, acknowledged, moves_edge, sendable, expires, timed, with_sent, with_fin_sent}
 use Rattle.tcp_endpoint.specs.Tcb.{Tcb, listening, connecting}
 use Rattle.tcp_endpoint.specs.Arrival.{ack_at, first, owing_if, killed, received, received_in, in_closed, in_listen, begun, refusing, refusing_without_ack, answered, in_syn_sent, in_others, check_place, waiting_again, check_rst, check_syn, check_ack, with_ack, with_first_ack, with_fin_acked, with_text_and_fin}
-use Rattle.tcp_endpoint.specs.Leaving.{probes_text, probes_fin, with_probe, with_text_sent, new_fin, with_fin_out, after_full, announced, is_timed, settled, flushed}
+use Rattle.tcp_endpoint.specs.Leaving.{probes_text, probes_fin, with_probe, with_text_sent, new_fin, with_fin_out, after_full, announced, is_timed, with_turn_ended, flushed}
 use Rattle.tcp_endpoint.specs.Turning.{after_tick, timer_ticked, waited, after_read, after_write, closing, write_room}
 use Rattle.endpoint_laws.proofs.Bounding.{text_facts}
 use Rattle.endpoint_laws.proofs.SendingLaw.{held_field}
@@ -295,7 +295,7 @@ module _ (isn written read : ℕ) where
       let limits : Sending → Type 0 = λ x. HasLimits isn written read x r in both limits runs _ _ (both limits (s.rest == 0) _ _ h h) h
 
   flush_limited : (e : Tcb) → IsWithin isn written read e → IsWithin isn written read (flushed e)
-  unfolding flushed settled announced after_full
+  unfolding flushed with_turn_ended announced after_full
   flush_limited e h =
       let after : Tcb = with_fin_out (with_text_sent (with_probe e)) in
       let good : IsWithin isn written read after = fin_out_limited _ (text_sent_limited _ (probe_limited e h)) in

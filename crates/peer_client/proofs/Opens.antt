@@ -12,7 +12,7 @@ use Rattle.tcp_endpoint.specs.Receiving.{Receiving, window, receive_edge, read_o
 use Rattle.tcp_endpoint.specs.Sending.{Sending}
 use Rattle.tcp_endpoint.specs.Tcb.{Tcb, connecting, listening}
 use Rattle.tcp_endpoint.specs.Turning.{closing, write_room}
-use Rattle.tcp_endpoint.specs.Leaving.{head_at, opening_segment, again_out, again_segment, answer_out, answer_segments, probe_out, with_probe, text_out, texts, with_text_sent, fin_out, with_fin_out, full_out, after_full, is_owed, leaving, is_timed, announced, settled, flushed}
+use Rattle.tcp_endpoint.specs.Leaving.{head_at, opening_segment, again_out, again_segment, answer_out, answer_segments, probe_out, with_probe, text_out, texts, with_text_sent, fin_out, with_fin_out, full_out, after_full, is_owed, leaving, is_timed, announced, with_turn_ended, flushed}
 use Rattle.ft_model.specs.Client.{Client, IsMove, new_client, is_new, is_opening, is_ended, is_live}
 use Rattle.ft_model.specs.Client.ClientKind.{Live}
 use Rattle.ft_model.specs.Client.Move.{Syn, Refuse}
@@ -246,15 +246,15 @@ waits_leave m c h =
 
 -- and how it stands then
 syn_sent_flushed : (u : Tcb) (again : Bool) (answer : Option Head)
-    → flushed (syn_sent u again answer) ≡ settled (record (syn_sent u again answer) { sending = record u.sending { opened = false; sent = u.sending.sent + 0 } })
+    → flushed (syn_sent u again answer) ≡ with_turn_ended (record (syn_sent u again answer) { sending = record u.sending { opened = false; sent = u.sending.sent + 0 } })
 unfolding flushed after_full with_fin_out with_text_sent with_probe
 syn_sent_flushed u again answer = refl
 
-settled_waits : (m : LiveState) (c : Client) → Waits m c
-    → IsWaiting (record m { tcb = settled (record (syn_sent m.tcb m.tcb.again m.tcb.answer) { sending = record m.tcb.sending { opened = false; sent = m.tcb.sending.sent + 0 } }) })
+turn_ended_waits : (m : LiveState) (c : Client) → Waits m c
+    → IsWaiting (record m { tcb = with_turn_ended (record (syn_sent m.tcb m.tcb.again m.tcb.answer) { sending = record m.tcb.sending { opened = false; sent = m.tcb.sending.sent + 0 } }) })
     (opened_at c (receive_edge m.tcb.receiving))
-unfolding settled announced
-settled_waits m c h =
+unfolding with_turn_ended announced
+turn_ended_waits m c h =
     let d : Client = opened_at c (receive_edge m.tcb.receiving) in
     let q : Sending = record m.tcb.sending { opened = false; sent = m.tcb.sending.sent + 0 } in
     let t : Tcb = record (syn_sent m.tcb m.tcb.again m.tcb.answer) { sending = q } in
@@ -332,11 +332,11 @@ waits_end l c h =
     let w : Waits m c = supplied_waits l c h in
     let d : Client = opened_at c (receive_edge m.tcb.receiving) in
     let stays : before_flush l ≡ m = still_open l c w in
-    let after : flushed m.tcb ≡ settled (record (syn_sent m.tcb m.tcb.again m.tcb.answer) { sending = record m.tcb.sending { opened = false; sent = m.tcb.sending.sent + 0 } }) =
+    let after : flushed m.tcb ≡ with_turn_ended (record (syn_sent m.tcb m.tcb.again m.tcb.answer) { sending = record m.tcb.sending { opened = false; sent = m.tcb.sending.sent + 0 } }) =
     ap flushed (syn_sent_is m c w) ∙ syn_sent_flushed m.tcb m.tcb.again m.tcb.answer in
     record {
       later = d;
       moves = subst (λ (x : LiveState). AreMoves c (leaving x.tcb) d) (sym stays) (waits_leave m c w);
       waiting = subst (λ (x : LiveState). IsWaiting (record x { tcb = flushed x.tcb }) d) (sym stays)
-          (subst (λ (t : Tcb). IsWaiting (record m { tcb = t }) d) (sym after) (settled_waits m c w));
+          (subst (λ (t : Tcb). IsWaiting (record m { tcb = t }) d) (sym after) (turn_ended_waits m c w));
     }

@@ -8,7 +8,7 @@ use Rattle.tcp_endpoint.specs.States.{has_begun}
 use Rattle.tcp_endpoint.specs.Receiving.{Receiving, next, taken, receive_edge, announced_edge, read_out}
 use Rattle.tcp_endpoint.specs.Sending.{Sending, timed}
 use Rattle.tcp_endpoint.specs.Tcb.{Tcb}
-use Rattle.tcp_endpoint.specs.Leaving.{answer_segments, is_timed, announced, settled, flushed}
+use Rattle.tcp_endpoint.specs.Leaving.{answer_segments, is_timed, announced, with_turn_ended, flushed}
 use Rattle.tcp_endpoint.specs.Turning.{closing, write_room}
 use Rattle.ft_model.specs.Client.{Client, is_open}
 use Rattle.endpoint_laws.specs.Turn.{Call, used}
@@ -284,8 +284,8 @@ pub follows_before : (l : LiveState) (c : Client) → Stands l c → FollowsAt (
 follows_before l c h = subst FollowsAt (calls_are l) (used_follows (calls_of l) l.tcb (follows_of l c h))
 
 begun_told : (u : Tcb) (sent : ℕ) (fin : Bool) (c : Client) → has_begun u.name ≡ true
-    → Told (settled (at u sent fin)) (grown c sent (receive_edge u.receiving))
-unfolding settled announced
+    → Told (with_turn_ended (at u sent fin)) (grown c sent (receive_edge u.receiving))
+unfolding with_turn_ended announced
 begun_told u sent fin c begun = record {
   bytes = taken u.receiving;
   fin = u.receiving.fin;
@@ -295,18 +295,18 @@ begun_told u sent fin c begun = record {
   fin_taken = λ k. k;
 }
 
-settled_stands : (l : LiveState) (c : Client) (sent : ℕ) (fin : Bool) → Stands l c → has_begun (before_flush l).tcb.name ≡ true
+turn_ended_stands : (l : LiveState) (c : Client) (sent : ℕ) (fin : Bool) → Stands l c → has_begun (before_flush l).tcb.name ≡ true
     → IsWithin (before_flush l).tcb c (before_flush l).written sent fin → (before_flush l).tcb.sending.sent ≤ sent
-    → FollowsAt (settled (at (before_flush l).tcb sent fin))
-    → IsStanding (record (before_flush l) { tcb = settled (at (before_flush l).tcb sent fin) }) (grown c sent (receive_edge (before_flush l).tcb.receiving))
-unfolding settled announced
-settled_stands l c sent fin h begun w more follows =
+    → FollowsAt (with_turn_ended (at (before_flush l).tcb sent fin))
+    → IsStanding (record (before_flush l) { tcb = with_turn_ended (at (before_flush l).tcb sent fin) }) (grown c sent (receive_edge (before_flush l).tcb.receiving))
+unfolding with_turn_ended announced
+turn_ended_stands l c sent fin h begun w more follows =
     let u : Tcb = (before_flush l).tcb in
     let edge : ℕ = receive_edge u.receiving in
     let r = ready l c h in
     let q : Sending = (at u sent fin).sending in
     let runs : Bool = is_timed (at u sent fin) in
-    let t : Tcb = settled (at u sent fin) in
+    let t : Tcb = with_turn_ended (at u sent fin) in
     record {
       stands = record {
         agrees = record {
@@ -355,13 +355,13 @@ turn_ends l c h begun =
     } in
     let within : IsWithin u c w u.sending.sent u.sending.fin_sent = record { order = r.sends.order; text = r.sends.text; ended = r.sends.ended } in
     let left : Left u c w edge = leaves u c w edge begun f within r.sends.sent r.edge refl r.told in
-    let P : Tcb → Type 0 = λ v. IsStanding (record (before_flush l) { tcb = settled v }) (grown c left.sent edge) in
+    let P : Tcb → Type 0 = λ v. IsStanding (record (before_flush l) { tcb = with_turn_ended v }) (grown c left.sent edge) in
     record {
       later = grown c left.sent edge;
       moves = left.moves;
       standing = subst P (sym left.is)
-          (settled_stands l c left.sent left.fin h begun left.within left.more
-          (subst (λ (v : Tcb). FollowsAt (settled v)) left.is (flush_follows u (follows_before l c h))));
+          (turn_ended_stands l c left.sent left.fin h begun left.within left.more
+          (subst (λ (v : Tcb). FollowsAt (with_turn_ended v)) left.is (flush_follows u (follows_before l c h))));
     }
 
 -- in CLOSED nothing leaves

@@ -11,7 +11,7 @@ use Rattle.tcp_endpoint.specs.Receiving.{Receiving, read_out}
 use Rattle.tcp_endpoint.specs.Sending.{IsShort}
 use Rattle.tcp_endpoint.specs.Tcb.{Tcb}
 use Rattle.tcp_endpoint.specs.Turning.{closing}
-use Rattle.tcp_endpoint.specs.Leaving.{answer_segments, with_probe, with_text_sent, with_fin_out, after_full, announced, settled, flushed}
+use Rattle.tcp_endpoint.specs.Leaving.{answer_segments, with_probe, with_text_sent, with_fin_out, after_full, announced, with_turn_ended, flushed}
 use Rattle.ft_model.specs.Client as machine
 use Rattle.ft_model.specs.Client.{Client, is_ended}
 use Rattle.endpoint_laws.proofs.EndingLaw.{holds_if}
@@ -84,7 +84,7 @@ read_heard r c n few h = record {
 }
 
 turned_heard : (l : LiveState) (c : Client) → HasHeard l.tcb.receiving c → HasHeard (turned l).tcb.receiving c
-unfolding flushed settled announced after_full with_fin_out with_text_sent with_probe
+unfolding flushed with_turn_ended announced after_full with_fin_out with_text_sent with_probe
 turned_heard l c h =
     let m : LiveState = supplied (given_up l) in
     holds_if (λ (t : Tcb). HasHeard t.receiving c) (closes m) (closing m.tcb) m.tcb

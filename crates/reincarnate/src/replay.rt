@@ -145,14 +145,14 @@ impl<S: Service> Replay<S> {
         }
         let known = self.acked.saturating_sub(self.made);
         self.made += made;
-        keep(&mut self.output, &self.fresh, known)?;
+        hold_unacknowledged(&mut self.output, &self.fresh, known)?;
         self.closed = next == Next::Close;
         Ok(())
     }
 }
 
 /// Keeps the output of a chunk from where the client's acknowledgement ends, so many bytes on.
-fn keep(output: &mut Vec<u8>, fresh: &[u8], known: u32) -> Result<(), NoMemory>
+fn hold_unacknowledged(output: &mut Vec<u8>, fresh: &[u8], known: u32) -> Result<(), NoMemory>
     ensures items { OnOk result (output.new.items ≡ output.old.items ++ drop known fresh.now) }
     ensures few { length output.new.items ≤ length output.old.items + length fresh.now }
 {

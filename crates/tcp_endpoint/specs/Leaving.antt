@@ -146,11 +146,11 @@ announced e = record e {
 abbrev pub is_timed : Tcb → Bool
 is_timed e = (has_begun e.name || is_syn_sent e.name) && must_run e.sending
 
-unfoldable pub settled : Tcb → Tcb
-settled e = record (announced e) { sending = timed (is_timed e) e.sending }
+unfoldable pub with_turn_ended : Tcb → Tcb
+with_turn_ended e = record (announced e) { sending = timed (is_timed e) e.sending }
 
 unfoldable pub flushed : Tcb → Tcb
-flushed e = settled (after_full e)
+flushed e = with_turn_ended (after_full e)
 
 -- the packets that leave, as bytes
 unfoldable pub packets : List Segment → List (List ℕ)

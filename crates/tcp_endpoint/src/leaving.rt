@@ -7,7 +7,7 @@ ghost use Rattle.segment_codec.specs.Value.{said};
 ghost use Rattle.segment_codec.specs.Written.{segment_with};
 ghost use Rattle.tcp_endpoint.specs.Packets.{byte_count, IsReadable, AreReadable};
 ghost use Rattle.tcp_endpoint.specs.Sending.{in_flight};
-ghost use Rattle.tcp_endpoint.specs.Leaving.{head_at, opening_segment, text_at, fin_at, texts, answer_out, again_out, probe_out, with_probe, text_out, with_text_sent, new_length, fin_out, with_fin_out, is_owed, bare_segment, leaving, announced, is_timed, settled, flushed, packets, or_bare};
+ghost use Rattle.tcp_endpoint.specs.Leaving.{head_at, opening_segment, text_at, fin_at, texts, answer_out, again_out, probe_out, with_probe, text_out, with_text_sent, new_length, fin_out, with_fin_out, is_owed, bare_segment, leaving, announced, is_timed, with_turn_ended, flushed, packets, or_bare};
 
 use crate::endpoint::Endpoint;
 use crate::outbox::Outbox;
@@ -31,7 +31,7 @@ impl Endpoint {
         self.send_text(out);
         self.send_fin(out);
         self.send_owed(out);
-        self.settle();
+        self.end_turn();
     }
 
     /// The head of every segment but a RST that answers.
@@ -291,9 +291,9 @@ impl Endpoint {
     }
 
     /// The turn is over.
-    #[tactic(auto, unfolding(crate::specs::Leaving::settled, crate::specs::Leaving::announced))]
-    fn settle(&mut self)
-        ensures { self.new ≡ settled self.old }
+    #[tactic(auto, unfolding(crate::specs::Leaving::with_turn_ended, crate::specs::Leaving::announced))]
+    fn end_turn(&mut self)
+        ensures { self.new ≡ with_turn_ended self.old }
     {
         self.note_announced();
         let runs = self.is_timed();

@@ -238,7 +238,7 @@ impl Receiver {
         self.ranges(seq);
         let known = self.known(seq) as usize;
         let room = usize::from(self.window());
-        keep(&mut self.unread, part(text, known, room));
+        append(&mut self.unread, part(text, known, room));
     }
 
     /// Takes a FIN at this number, where it stands at RCV.NXT within the window.
@@ -294,7 +294,7 @@ fn part(text: &[u8], known: usize, room: usize) -> &[u8]
 
 /// Puts bytes that fit into the queue.
 #[tactic(auto, using(std::proofs::lemmas::List::take_all))]
-fn keep(queue: &mut RecvQueue, bytes: &[u8])
+fn append(queue: &mut RecvQueue, bytes: &[u8])
     requires { length queue.old + length bytes.now ≤ 65535 }
     ensures { queue.new ≡ queue.old ++ bytes.now }
 {

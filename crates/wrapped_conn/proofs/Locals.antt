@@ -9,7 +9,7 @@ use Rattle.tcp_endpoint.specs.declared.states.StateName.TheVariants.{Closed, Lis
 use Rattle.tcp_endpoint.specs.Arrival.{received, received_in, in_closed, in_listen, in_syn_sent, in_others, refusing, refusing_without_ack, begun, answered, with_text_and_fin, with_fin_acked, with_first_ack, with_ack, check_ack, check_syn, check_rst, check_place, waiting_again, first, ack_at}
 use Rattle.tcp_endpoint.specs.Receiving.{next, with_segment}
 use Rattle.tcp_endpoint.specs.Sending.{fin_acked}
-use Rattle.tcp_endpoint.specs.Leaving.{flushed, settled, announced, after_full, with_fin_out, with_text_sent, with_probe}
+use Rattle.tcp_endpoint.specs.Leaving.{flushed, with_turn_ended, announced, after_full, with_fin_out, with_text_sent, with_probe}
 use Rattle.tcp_endpoint.specs.Tcb.{Tcb}
 use Rattle.endpoint_laws.specs.Turn.{Call, called, used}
 use Rattle.endpoint_laws.specs.Turn.Call.{Reads, Writes, Closes}
@@ -92,5 +92,5 @@ used_local [] e = refl
 used_local (call ∷ calls) e = used_local calls (called call e) ∙ called_local call e
 
 pub flushed_local : (e : Tcb) → (flushed e).local ≡ e.local
-unfolding flushed settled announced after_full with_fin_out with_text_sent with_probe
+unfolding flushed with_turn_ended announced after_full with_fin_out with_text_sent with_probe
 flushed_local e = refl
