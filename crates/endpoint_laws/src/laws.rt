@@ -324,7 +324,8 @@ pub fn active_opens_connect()
         × IsTimedBy (flushed (used calls (connecting local remote iss limit))).sending 1 1 }
 {}
 
-/// It still connects, between the same addresses, after each turn that leaves it in SYN-SENT: nothing is received, and nothing but the SYN is sent.
+/// It still connects, between the same addresses, after each turn that leaves it in SYN-SENT: nothing is received, and of the own stream no unit
+/// counts as sent or acknowledged.
 pub fn connecting_goes_on()
     ensures { (iss limit : ℕ) (news : News) (calls : List Call) (e : Tcb) → IsConnecting iss limit e → MayUse calls (arrived news e)
         → (before_flush news calls e).name ≡ SynSent

@@ -5,9 +5,11 @@ use ft_io::Key;
 /// An entry without its bytes and lengths.
 #[derive(Clone, Copy, Debug, PartialEq, Eq)]
 pub struct EntryHead {
+    /// The client's address and port.
     pub key: Key,
-    /// The client's initial number, and the server's as the client knows it.
+    /// The client's initial number.
     pub cisn: u32,
+    /// The server's initial number, as the client knows it.
     pub sisn: u32,
     /// The segment size, 64 to 1,460 bytes.
     pub mss: u16,

@@ -12,6 +12,7 @@ pub const PAGE: usize = 4_096;
 /// A page of at most 4,096 bytes, with all its room.
 #[derive(Debug, Drop)]
 pub struct Page {
+    /// In room that is made once.
     bytes: Vec<u8>,
 }
 

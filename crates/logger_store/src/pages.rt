@@ -16,7 +16,9 @@ pub const PART: usize = 1_024;
 /// The bytes of an entry: full pages, and the page of the last bytes once there is one.
 #[derive(Debug, Drop)]
 pub struct Pages {
+    /// Those of 4,096 bytes, the first first.
     full: Vec<Page>,
+    /// The page behind them: 1 to 4,096 bytes.
     last: Option<Page>,
 }
 

@@ -11,15 +11,18 @@ use std::marker::Model;
 /// Equal lengths that follow one another.
 #[derive(Clone, Copy, Debug)]
 pub struct Run {
-    /// In bytes.
+    /// The length, in bytes.
     pub length: u16,
+    /// How many reads have it.
     pub count: u32,
 }
 
 /// The lengths of reads: closed runs, and the run of the last length. That run counts 0 before the first read.
 #[derive(Debug, Drop)]
 pub struct Runs {
+    /// The runs before the last, the first first.
     closed: Vec<Run>,
+    /// The run that a further read of the same length makes longer.
     last: Run,
 }
 

@@ -28,7 +28,9 @@ const ENTRY_LIMIT: u16 = 64;
 /// The log: the boot number of the newest server that has said Hello, and an entry for each connection, in the order of their opening.
 #[derive(Drop)]
 pub struct LogStore {
+    /// The newest server's boot number.
     boot: u64,
+    /// At most 64, in the order in which they were opened.
     entries: IndexMap<Key, StoredEntry>,
 }
 

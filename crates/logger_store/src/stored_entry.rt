@@ -17,35 +17,51 @@ use std::marker::Model;
 /// The numbers of a connection.
 #[derive(Clone, Copy, Debug)]
 pub struct Numbers {
+    /// The client's address and port.
     pub key: Key,
+    /// The client's initial number.
     pub cisn: u32,
+    /// The server's initial number, as the client knows it.
     pub sisn: u32,
+    /// The segment size, in bytes.
     pub mss: u16,
 }
 
 /// A part of a client's stream.
 #[derive(Clone, Copy, Debug)]
 pub struct Part<'a> {
+    /// The client's address and port.
     pub key: Key,
+    /// Where the bytes begin in the stream, in bytes.
     pub offset: u32,
+    /// The units of output that the client has acknowledged.
     pub acked: u32,
+    /// Whether the client's FIN stands behind them.
     pub fin: bool,
+    /// The bytes of text.
     pub bytes: &'a [u8],
 }
 
 /// What is logged of a connection. Its reads are counted and summed as they come.
 #[derive(Debug, Drop)]
 pub struct StoredEntry {
+    /// The key, the initial numbers and the segment size.
     numbers: Numbers,
+    /// The client's bytes, from the first on.
     bytes: Pages,
+    /// Whether the client's FIN is kept.
     fin: bool,
+    /// The lengths of the server's reads, in bytes.
     lengths: Runs,
-    /// How many reads there are, and how many bytes they took.
+    /// How many reads there are.
     reads: u32,
+    /// How many bytes they took.
     read: u32,
     /// Whether the read of length 0, which closes them, is kept.
     closed: bool,
+    /// The units of output that the client has acknowledged.
     acknowledged: u32,
+    /// Whether the connection has ended.
     done: bool,
 }
 

@@ -128,6 +128,7 @@ impl<S: Service> World<S> {
         self.clients.get(usize::from(n) - 1)
     }
 
+    /// The logger's log.
     pub fn log(&self) -> &LogStore
         ensures { result.now ≡ self.now.log }
     {
@@ -343,6 +344,7 @@ impl<S: Service> World<S> {
         Ok(())
     }
 
+    /// Does one event, however many packets were sent. After `BadEvent` the world is as before, after another end it may only be dropped.
     fn act(&mut self, alloc: Global, event: &Event) -> Result<(), StepEnd>
         ensures done { OnOk result (Does (machines S.started S.after) event.now (kept self.old) (kept self.new)) }
         ensures ends { IfErr result (Declines (machines S.started S.after) event.now (kept self.old)) }

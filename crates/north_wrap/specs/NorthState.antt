@@ -6,12 +6,12 @@ use Rattle.north_wrap.specs.RunState.{RunState, run_on, gives, given_to}
 use Rattle.north_wrap.specs.Sockets.{Reader, Writer}
 
 pub record NorthState (S : Type 0) : Type 0 where
-  pub run : RunState S
+  pub run : RunState S  -- the service, with the output that TCP wasn't given yet
   pub rest : List ℕ  -- what a restart fetched beyond the fetched reads, and isn't read
   pub last : ReadRecord  -- the last read that is known to be logged
   pub reads : List ReadRecord  -- those that aren't known to be logged
   pub read : ℕ  -- the bytes of all reads
-  pub count : ℕ  -- of all reads
+  pub count : ℕ  -- how many reads there are
   pub ended : Bool  -- whether a read of length 0 was made
   pub shut : Bool  -- whether the socket was closed
 

@@ -3,10 +3,10 @@ use Rattle.std.specs.Prelude.{ℕ, ◌+◌, ◌-◌, Bool, min, List, ◌++◌, 
 use Rattle.server_trait.specs.Service.{Served}
 
 pub record RunState (S : Type 0) : Type 0 where
-  pub service : S
+  pub service : S  -- the service's state
   pub pending : List ℕ  -- the output that TCP wasn't given yet
   pub made : ℕ  -- the bytes of all output
-  pub closed : Bool
+  pub closed : Bool  -- whether the service has closed
 
 abbrev pub served_on : {S : Type 0} → RunState S → Served S → RunState S
 served_on r served = record { service = served.next; pending = r.pending ++ served.output; made = r.made + length served.output; closed = served.closed }

@@ -28,13 +28,21 @@ const MADE_LIMIT: u32 = 15_728_640;
 /// Reads for a service, and writes for it.
 #[derive(Drop)]
 pub struct North<S: Service> {
+    /// The service, with the output that TCP wasn't given yet.
     run: ServiceRun<S>,
+    /// What a restart fetched beyond the fetched reads, and isn't read.
     rest: Rest,
+    /// The last read that is known to be logged.
     last: ReadRecord,
+    /// The reads that aren't known to be logged.
     reads: ReadRecords,
+    /// The bytes of all reads.
     read: u32,
+    /// How many reads there are.
     count: u32,
+    /// Whether a read of length 0 was made.
     ended: bool,
+    /// Whether the socket was closed.
     shut: bool,
 }
 

@@ -11,12 +11,15 @@ use std::marker::Model;
 /// A service that has run so far.
 #[derive(Drop)]
 pub(crate) struct ServiceRun<S: Service> {
+    /// The service's state.
     service: S,
-    // Output, of which the bytes below `at` are given.
+    /// Output, of which the bytes below `at` are given.
     output: Vec<u8>,
+    /// How many bytes of this output TCP was given.
     at: usize,
-    // The bytes of all output.
+    /// The bytes of all output.
     made: u32,
+    /// Whether the service has closed.
     closed: bool,
 }
 

@@ -15,10 +15,10 @@ abbrev pub IsAskable : wire.Body → Type 0
 IsAskable body = (boot : ℕ) → 1 ≤ boot → boot < 2 ^ 64 → IsSendable (record { boot = boot; body = body })
 
 pub record FetchingState (S : Type 0) : Type 0 where
-  pub boot : ℕ
-  pub kind : ℕ  -- of the service
-  pub count : ℕ  -- of the entries that the log has
-  pub newest : Option (EntryState S)
+  pub boot : ℕ  -- the server's boot number
+  pub kind : ℕ  -- the kind of its service
+  pub count : ℕ  -- how many entries the log has
+  pub newest : Option (EntryState S)  -- the entry that was fetched last, or is being fetched
   pub earlier : List (EntryState S)  -- those fetched before it, the newest first
 
 abbrev pub begun_fetching : {S : Type 0} → (boot kind count : ℕ) → FetchingState S

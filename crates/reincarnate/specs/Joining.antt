@@ -17,12 +17,12 @@ use Rattle.wrapped_conn.specs.ConnState.{ConnState}
 use Rattle.reincarnate.specs.Progress.{ReplayedState, IsSegmentSize}
 
 pub record SplicedState (S : Type 0) : Type 0 where
-  pub boot : ℕ
-  pub key : Key
-  pub local : Addr
-  pub south : SouthState
-  pub endpoint : Tcb
-  pub north : NorthState S
+  pub boot : ℕ  -- the server's boot number
+  pub key : Key  -- the client's address and port
+  pub local : Addr  -- the server's address
+  pub south : SouthState  -- the wrapper between the client and TCP
+  pub endpoint : Tcb  -- TCP, which has never seen the client
+  pub north : NorthState S  -- the wrapper between TCP and the service
 
 -- the connection that it is handed on as
 abbrev pub conn_of : {S : Type 0} → SplicedState S → ConnState S

@@ -13,11 +13,11 @@ use Rattle.reincarnate.specs.Cutting.{cuts_of, cuts_through, HaveBytes}
 use Rattle.reincarnate.specs.Replaying.{ReplayState, fed_on}
 
 pub record EntryState (S : Type 0) : Type 0 where
-  pub head : EntryHead
-  pub bytes : ℕ  -- how many are fetched
+  pub head : EntryHead  -- the entry without its bytes and lengths
+  pub bytes : ℕ  -- how many of its bytes are fetched
   pub cuts : Cuts  -- of the reads whose lengths are fetched
   pub waiting : List ℕ  -- the lengths of those that aren't replayed
-  pub replay : ReplayState S
+  pub replay : ReplayState S  -- the service, with what it still holds
 
 -- an entry of which the head alone has come
 abbrev pub begun_entry : {S : Type 0} → S → EntryHead → EntryState S
@@ -117,9 +117,9 @@ AreReady entries = AllByRecursion (λ e. lacks e ≡ lack.Nothing) entries
 
 -- an entry that is whole, with its service
 pub record ReplayedState (S : Type 0) : Type 0 where
-  pub head : EntryHead
-  pub cuts : Cuts
-  pub replay : ReplayState S
+  pub head : EntryHead  -- the entry without its bytes and lengths
+  pub cuts : Cuts  -- of all its reads
+  pub replay : ReplayState S  -- the service, with the bytes that no read took
 
 abbrev pub replayed_state : {S : Type 0} → EntryState S → ReplayedState S
 replayed_state e = record { head = e.head; cuts = e.cuts; replay = e.replay }

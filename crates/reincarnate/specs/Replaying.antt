@@ -4,8 +4,8 @@ use Rattle.std.specs.Prelude.{◌≡◌, ℕ, ◌+◌, ◌-◌, ◌^◌, Bool, t
 use Rattle.server_trait.specs.Service.{Served, Run}
 
 pub record ReplayState (S : Type 0) : Type 0 where
-  pub service : S
-  pub closed : Bool
+  pub service : S  -- the service's state
+  pub closed : Bool  -- whether the service has closed
   pub made : ℕ  -- the bytes of all output
   pub acked : ℕ  -- the units of it that the client has acknowledged
   pub pending : List ℕ  -- the output behind those

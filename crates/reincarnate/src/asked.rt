@@ -18,6 +18,7 @@ use std::marker::Model;
 /// A server that has started, and asks the logger how many entries it has. Contracts see its boot number.
 #[derive(Debug, Drop)]
 pub struct Asked {
+    /// The server's boot number.
     boot: u64,
 }
 

@@ -9,8 +9,11 @@ use logger_wire::len_at;
 /// How many reads are fetched, their bytes, and whether the closing one, of length 0, is among them.
 #[derive(Clone, Copy, Debug)]
 pub(crate) struct Cuts {
+    /// How many reads are fetched.
     pub count: u32,
+    /// Their bytes.
     pub sum: u32,
+    /// Whether the closing one, of length 0, is among them.
     pub ended: bool,
 }
 

@@ -27,8 +27,9 @@ pub enum Restored<S: Service> {
 /// The entries that are still to be restored. Contracts see them in the log's order.
 #[derive(Drop)]
 pub struct Entries<S: Service> {
+    /// The entry that was opened last.
     newest: Option<FetchedEntry<S>>,
-    // Those before it, the newest first.
+    /// Those before it, the newest first.
     earlier: Vec<FetchedEntry<S>>,
 }
 

@@ -26,10 +26,15 @@ use std::marker::Model;
 /// An entry as far as it is fetched, with a service that has replayed its reads as far as they are whole.
 #[derive(Drop)]
 pub(crate) struct FetchedEntry<S: Service> {
+    /// The entry without its bytes and lengths.
     head: EntryHead,
+    /// How many of its bytes are fetched.
     bytes: u32,
+    /// Of the reads whose lengths are fetched.
     cuts: Cuts,
+    /// The lengths of those that aren't replayed, in bytes.
     waiting: VecDeque<u16>,
+    /// The service, with what it still holds.
     replay: Replay<S>,
 }
 

@@ -27,11 +27,15 @@ use std::marker::Model;
 /// each entry, the head, the counts of what is fetched, and the service with what it still holds.
 #[derive(Drop)]
 pub struct Fetching<S: Service> {
+    /// The server's boot number.
     boot: u64,
+    /// The kind of its service.
     kind: u8,
+    /// How many entries the log has.
     count: u16,
+    /// The entry that was fetched last, or is being fetched.
     newest: Option<FetchedEntry<S>>,
-    // Those before it, the newest first.
+    /// Those before it, the newest first.
     earlier: Vec<FetchedEntry<S>>,
 }
 

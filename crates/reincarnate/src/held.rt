@@ -9,8 +9,9 @@ use std::marker::Model;
 /// Bytes that are taken off the front and added at the end. What is taken off is forgotten when more comes.
 #[derive(Drop)]
 pub(crate) struct Held {
+    /// Those that are taken off, and behind them those that wait.
     bytes: Vec<u8>,
-    // Those below `at` are taken off.
+    /// How many of them are taken off.
     at: usize,
 }
 

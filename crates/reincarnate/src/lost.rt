@@ -12,5 +12,6 @@ pub enum Stage {
 /// Memory ran out, and the state of this step was dropped.
 #[derive(Clone, Copy, Debug, PartialEq, Eq)]
 pub struct LostIn {
+    /// The step whose state was dropped.
     pub stage: Stage,
 }

@@ -20,13 +20,19 @@ const STREAM: u32 = 16_777_216;
 /// client's acknowledgement.
 #[derive(Drop)]
 pub(crate) struct Replay<S: Service> {
+    /// The service's state.
     service: S,
+    /// Whether the service has closed.
     closed: bool,
+    /// The bytes of all output.
     made: u32,
+    /// The units of output that the client has acknowledged.
     acked: u32,
+    /// The output behind those units.
     output: Vec<u8>,
-    // The output of one chunk, before it is known how much of it is needed.
+    /// The output of one chunk, before it is known how much of it is needed.
     fresh: Vec<u8>,
+    /// The bytes that are fetched and not replayed.
     held: Held,
 }
 

@@ -27,8 +27,11 @@ use std::marker::Model;
 /// An entry of the log whose reads are all replayed.
 #[derive(Drop)]
 pub struct Replayed<S: Service> {
+    /// The entry without its bytes and lengths.
     head: EntryHead,
+    /// Of all its reads.
     cuts: Cuts,
+    /// The service, with the bytes that no read took.
     replay: Replay<S>,
 }
 

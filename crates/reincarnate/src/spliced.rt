@@ -19,11 +19,17 @@ use wrapped_conn::Conn;
 /// The parts of a connection at the end of a restart: both wrappers, with a TCP between them that has never seen the client.
 #[derive(Drop)]
 pub struct Spliced<S: Service> {
+    /// The server's boot number.
     pub(crate) boot: u64,
+    /// The client's address and port.
     pub(crate) key: Key,
+    /// The server's address.
     pub(crate) local: Addr,
+    /// The wrapper between the client and TCP.
     pub(crate) south: South,
+    /// TCP, which has never seen the client.
     pub(crate) endpoint: Endpoint,
+    /// The wrapper between TCP and the service.
     pub(crate) north: North<S>,
 }
 

@@ -35,9 +35,9 @@ passed_out s segment = if has_rst segment then segment else outward s segment
 
 -- Copy: what of a segment is taken and not known to be logged, with the place in the stream where that begins
 pub record Copied : Type 0 where
-  pub offset : ℕ
-  pub text : List ℕ
-  pub fin : Bool
+  pub offset : ℕ  -- where the text begins in the client's stream, in bytes
+  pub text : List ℕ  -- the bytes
+  pub fin : Bool  -- whether the client's FIN goes with them
 
 abbrev pub copied : SouthState → Segment → Copied
 copied s segment = let start : ℕ = max s.answered (from_start (first_of s.cisn segment)) in record {

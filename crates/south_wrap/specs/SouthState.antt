@@ -6,8 +6,8 @@ use Rattle.seq_arith.specs.Number.{number_at, distance, offset_of}
 use Rattle.seq_arith.specs.Offset.{one_if}
 
 pub record SouthState : Type 0 where
-  pub cisn : ℕ
-  pub sisn : ℕ
+  pub cisn : ℕ  -- the client's initial number
+  pub sisn : ℕ  -- the server's initial number, as the client knows it
   pub delta : ℕ  -- the outer number less the inner one, modulo 2^32
   pub fetched : ℕ  -- the client's bytes that a restart fetched; else 0
   pub taken : ℕ  -- the client's bytes that are taken

@@ -15,15 +15,21 @@ pub enum Inward {
 /// client's FIN goes with it.
 #[derive(Clone, Copy, Debug, PartialEq, Eq)]
 pub struct CopyPart {
+    /// Where the text begins in the client's stream, in bytes.
     pub offset: u32,
+    /// Where it begins in the packet, in bytes.
     pub from: usize,
+    /// Where it ends there.
     pub to: usize,
+    /// Whether the client's FIN goes with it.
     pub fin: bool,
 }
 
 /// What the client is to be told: a number of its stream, and a window in bytes.
 #[derive(Clone, Copy, Debug, PartialEq, Eq)]
 pub struct AckOut {
+    /// The acknowledgement, as a number of the client's stream.
     pub ack: Seq,
+    /// In bytes, from that number on.
     pub window: u16,
 }

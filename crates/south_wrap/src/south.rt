@@ -22,15 +22,25 @@ const BUFFER: u32 = 65_535;
 /// The south wrapper of one connection. Lengths are in bytes; units are bytes and one more for a FIN.
 #[derive(Drop)]
 pub struct South {
+    /// The client's initial number.
     cisn: Seq,
+    /// The server's initial number, as the client knows it.
     sisn: Seq,
+    /// The outer number of a unit of output less the inner one, modulo 2^32.
     delta: u32,
+    /// The client's bytes that a restart fetched; else 0.
     fetched: u32,
+    /// The client's bytes that are taken.
     taken: u32,
+    /// Whether its FIN is taken.
     fin: bool,
+    /// The client's units that are known to be logged.
     answered: u32,
+    /// The bytes that the service has read.
     read: u32,
+    /// The units of output that the client acknowledged.
     una: u32,
+    /// The units of output that this incarnation's TCP has sent.
     sent: u32,
 }
 

@@ -12,6 +12,7 @@ use std::marker::Model;
 /// A queue of received bytes, at most 65,535. Contracts see the bytes, the oldest first.
 #[derive(Drop)]
 pub struct RecvQueue {
+    /// The bytes that are taken and not read, the oldest first, in room for 65,535.
     bytes: HeapCircularBuffer<u8>,
 }
 

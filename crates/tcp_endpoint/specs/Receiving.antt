@@ -5,7 +5,7 @@ use Rattle.seq_arith.specs.Arrival.{int_eq, below}
 use Rattle.seq_arith.specs.Offset.{one_if}
 
 pub record Receiving : Type 0 where
-  pub irs : ℕ  -- the peer's initial number
+  pub irs : ℕ  -- IRS: the peer's initial number
   pub read : ℕ  -- how many bytes the user has read
   pub unread : List ℕ  -- the bytes taken and not read
   pub fin : Bool  -- whether the peer's FIN is taken

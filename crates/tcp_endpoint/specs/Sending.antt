@@ -10,17 +10,17 @@ use Rattle.tcp_buffers.specs.declared.send_state.SendState.{SendState}
 use Rattle.seq_arith.specs.Offset.{one_if}
 
 pub record Sending : Type 0 where
-  pub iss : ℕ  -- the own initial number
+  pub iss : ℕ  -- ISS: the own initial number
   pub opened : Bool  -- whether the SYN is acknowledged
-  pub una : ℕ  -- SND.UNA
-  pub sent : ℕ  -- SND.NXT
+  pub una : ℕ  -- SND.UNA: the first offset that isn't acknowledged
+  pub sent : ℕ  -- SND.NXT: the next offset to be sent
   pub edge : ℕ  -- SND.UNA + SND.WND: the peer's right edge, from which on nothing may be sent
-  pub wl1 : ℕ  -- SND.WL1, as the peer's number
-  pub wl2 : ℕ  -- SND.WL2
+  pub wl1 : ℕ  -- SND.WL1: the segment that set the edge last, by the peer's number
+  pub wl2 : ℕ  -- SND.WL2: what it acknowledged, as an offset
   pub held : List ℕ  -- the bytes written and not acknowledged
   pub closed : Bool  -- whether the user has closed
-  pub fin_sent : Bool
-  pub mss : ℕ  -- the segment size
+  pub fin_sent : Bool  -- whether the FIN is sent
+  pub mss : ℕ  -- the segment size, in bytes of text
   pub interval : ℕ  -- of the timer, in ticks
   pub rest : ℕ  -- the ticks until the timer expires; 0 while it doesn't run
 

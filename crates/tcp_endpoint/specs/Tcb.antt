@@ -8,12 +8,12 @@ use Rattle.tcp_endpoint.specs.Receiving.{Receiving, receiving_up_to}
 use Rattle.tcp_endpoint.specs.Sending.{Sending, sending_from}
 
 pub record Tcb : Type 0 where
-  pub local : Addr
-  pub remote : Addr
-  pub name : StateName
-  pub reset : Bool
-  pub receiving : Receiving
-  pub sending : Sending
+  pub local : Addr  -- the own address
+  pub remote : Addr  -- the peer's address, once it is known
+  pub name : StateName  -- the state's name
+  pub reset : Bool  -- whether the peer has reset the connection
+  pub receiving : Receiving  -- the peer's stream: IRS, RCV.NXT, RCV.WND
+  pub sending : Sending  -- the own stream: ISS, SND.UNA, SND.NXT, SND.WND
   pub wait : ℕ  -- the ticks that TIME-WAIT still lasts
   pub told_next : ℕ  -- the acknowledgement last sent, ..
   pub told_edge : ℕ  -- .. and the edge last announced

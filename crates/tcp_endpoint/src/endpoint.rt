@@ -18,21 +18,31 @@ use tcp_buffers::{RecvQueue, SendQueue};
 /// two of them. Contracts see a record in offsets of the two streams.
 #[derive(Drop)]
 pub struct Endpoint {
+    /// The own address.
     pub(crate) local: Addr,
+    /// The peer's address, once it is known.
     pub(crate) remote: Addr,
+    /// The state's name.
     pub(crate) name: StateName,
+    /// Whether the peer has reset the connection.
     pub(crate) reset: bool,
+    /// What is known of the peer's stream: IRS, RCV.NXT, RCV.WND.
     pub(crate) receiver: Receiver,
+    /// What is known of the own stream: ISS, SND.UNA, SND.NXT, SND.WND.
     pub(crate) sender: Sender,
     /// The ticks that TIME-WAIT still lasts.
     pub(crate) wait: u8,
-    /// The acknowledgement and the receive edge that were sent last.
+    /// The acknowledgement that was sent last, as an offset in the peer's stream.
     pub(crate) told_next: u32,
+    /// The receive edge that was announced last, as such an offset.
     pub(crate) told_edge: u32,
-    /// What is due in this turn: a segment without data, the first unacknowledged segment again, a probe, a RST that answers.
+    /// Whether a segment without data is owed in this turn.
     pub(crate) owed: bool,
+    /// Whether the first unacknowledged segment goes out again in this turn.
     pub(crate) again: bool,
+    /// Whether a probe goes out in this turn.
     pub(crate) probe: bool,
+    /// The RST that answers in this turn.
     pub(crate) answer: Option<Head>,
 }
 

@@ -22,7 +22,9 @@ const BYTE_ROOM: usize = 120_000;
 /// At most 1,100 packets of at most 120,000 bytes in all. Contracts see their list.
 #[derive(Debug, Drop)]
 pub struct Outbox {
+    /// The bytes of all packets, one packet behind the other.
     bytes: Vec<u8>,
+    /// Where each packet ends in these bytes.
     ends: Vec<usize>,
 }
 

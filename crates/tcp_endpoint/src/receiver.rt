@@ -19,10 +19,15 @@ const MOST: u32 = 1 << 30;
 /// What is known of the peer's stream.
 #[derive(Drop)]
 pub(crate) struct Receiver {
+    /// IRS: the peer's initial number.
     irs: Seq,
+    /// How many bytes of the peer's stream the user has read.
     read: u32,
+    /// The bytes that are taken and not read. Behind them is RCV.NXT.
     unread: RecvQueue,
+    /// Whether the peer's FIN is taken, which RCV.NXT counts as one more.
     fin: bool,
+    /// The receive edge never passes this, in bytes of the peer's stream.
     limit: u32,
 }
 

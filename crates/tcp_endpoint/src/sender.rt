@@ -15,12 +15,19 @@ use tcp_buffers::{AckKind, SendQueue, SendState};
 /// What is known of the own stream.
 #[derive(Drop)]
 pub(crate) struct Sender {
+    /// ISS: the own initial number.
     iss: Seq,
+    /// Whether the SYN is acknowledged.
     opened: bool,
+    /// SND.UNA, SND.NXT, SND.WND, SND.WL1, SND.WL2, and the timer.
     numbers: SendState,
+    /// The bytes written and not acknowledged, from SND.UNA on.
     held: SendQueue,
+    /// Whether the user has closed: a FIN follows the held bytes.
     closed: bool,
+    /// Whether the FIN is sent.
     fin_sent: bool,
+    /// The segment size, in bytes of text.
     mss: u16,
 }
 

@@ -22,6 +22,7 @@ pub enum StateName {
 /// What an endpoint tells of its state.
 #[derive(Clone, Copy, Debug, PartialEq, Eq)]
 pub struct State {
+    /// The state's name (RFC 9293, 3.3.2).
     pub name: StateName,
     /// Whether the peer has reset the connection.
     pub reset: bool,

@@ -8,13 +8,13 @@ use Rattle.tcp_endpoint.specs.Tcb.{Tcb}
 use Rattle.wrapped_conn.specs.declared.stage.ConnStage.{ConnStage}
 
 pub record ConnState (S : Type 0) : Type 0 where
-  pub boot : ℕ
-  pub key : Key
-  pub local : Addr
-  pub south : SouthState
-  pub endpoint : Tcb
-  pub north : NorthState S
+  pub boot : ℕ  -- the server's boot number
+  pub key : Key  -- the client's address and port
+  pub local : Addr  -- the server's address
+  pub south : SouthState  -- the wrapper between the client and TCP
+  pub endpoint : Tcb  -- TCP
+  pub north : NorthState S  -- the wrapper between TCP and the service
   pub fetched : ℕ  -- the client's bytes that a restart fetched; else 0
   pub end_ticks : ℕ  -- the end ticks counted so far, up to four
   pub reset : Bool  -- whether the client has reset it
-  pub stage : ConnStage
+  pub stage : ConnStage  -- how far it has come

@@ -24,11 +24,17 @@ pub(crate) const STREAM: u32 = 16_777_216;
 /// One wrapped connection with the client `key` at the server's address `local`.
 #[derive(Drop)]
 pub struct Conn<S: Service> {
+    /// The server's boot number.
     pub(crate) boot: u64,
+    /// The client's address and port.
     pub(crate) key: Key,
+    /// The server's address.
     pub(crate) local: Addr,
+    /// The wrapper between the client and TCP.
     pub(crate) south: South,
+    /// TCP.
     pub(crate) endpoint: Endpoint,
+    /// The wrapper between TCP and the service.
     pub(crate) north: North<S>,
     /// The client's bytes that a restart fetched; else 0.
     pub(crate) fetched: u32,
@@ -36,6 +42,7 @@ pub struct Conn<S: Service> {
     pub(crate) end_ticks: u8,
     /// Whether the client has reset the connection.
     pub(crate) reset: bool,
+    /// How far it has come.
     pub(crate) stage: ConnStage,
 }
 

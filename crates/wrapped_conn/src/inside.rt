@@ -10,15 +10,19 @@ use server_trait::Service;
 /// The outer number less the inner one, and the numbers of a connection's point. Units count bytes, and one more for a FIN.
 #[derive(Clone, Copy, Debug, PartialEq, Eq)]
 pub struct Inside {
+    /// The outer number of a unit of output less the inner one, modulo 2^32.
     pub delta: u32,
-    /// The client's units that are taken, and those that are known to be logged.
+    /// The client's units that are taken.
     pub taken: u32,
+    /// The client's units that are known to be logged.
     pub answered: u32,
-    /// The bytes of all reads, and how many reads these are.
+    /// The bytes of all reads.
     pub read: u32,
+    /// How many reads there are.
     pub reads: u32,
-    /// The units of output that the client has acknowledged, and those that are sent.
+    /// The units of output that the client has acknowledged.
     pub una: u32,
+    /// The units of output that are sent.
     pub sent: u32,
 }
 

@@ -10,7 +10,9 @@ use tcp_endpoint::Outbox;
 /// messages.
 #[derive(Drop)]
 pub struct TurnOut {
+    /// To the client, in order.
     pub(crate) segments: Outbox,
+    /// To the logger, in order.
     pub(crate) messages: Outbox,
 }
 
