@@ -50,8 +50,8 @@ pub fn splices_stand_at_the_entry<S: Service>()
         → StandsAtEntry (machine fresh S.after) e i (spliced e.key local e.cisn (length e.bytes) e.mss i e.fin) }
     ensures parts { (fresh : S) (i : ℕ) (local : Addr) (e : Entry) (n : NorthState S) → GoesOnFrom (machine fresh S.after) e i
         → HasReplayed (machine fresh S.after) (point_of (machine fresh S.after) e) (resumed_at (machine fresh S.after) e) n
-        → PartsStand (machine fresh S.after) (resumed_at (machine fresh S.after) e) i (delta_from (machine fresh S.after) e i) (resumed_at (machine fresh S.after) e)
-        (point_of (machine fresh S.after) e) n (spliced e.key local e.cisn (length e.bytes) e.mss i e.fin) }
+        → PartsStand (machine fresh S.after) (resumed_at (machine fresh S.after) e) i (delta_from (machine fresh S.after) e i)
+        (resumed_at (machine fresh S.after) e) (point_of (machine fresh S.after) e) n (spliced e.key local e.cisn (length e.bytes) e.mss i e.fin) }
 {}
 
 /// A new connection begins with its SYN: its TCP stands at the point inside, with nothing between the numbers, and sends the law's SYN-ACK alone.
@@ -75,7 +75,8 @@ pub fn connections_end_with_their_tcp<S: Service>()
 /// From then on the connection goes on beside it: TCP answers at most with a RST, which stays inside, and only its user's reads change it.
 pub fn connections_outlive_their_tcp<S: Service>()
     ensures { (fresh : S) (boot u i delta : ℕ) (server : Addr) (news : News) (before after : Point) (calls : List Call) (e : Tcb) (sent : List Packet)
-        → StandsClosed (machine fresh S.after) u i delta before e → LiveTurn (machine fresh S.after) server boot news before after sent → ReadsOn delta news before after calls e
+        → StandsClosed (machine fresh S.after) u i delta before e → LiveTurn (machine fresh S.after) server boot news before after sent
+        → ReadsOn delta news before after calls e
         → GoesOnClosed (machine fresh S.after) server u i delta news before after calls e }
 {}
 
@@ -116,11 +117,15 @@ pub fn connections_tick_by_their_tcp<S: Service>()
 
 /// Where the north wrapper makes its calls of TCP in a lawful turn, TCP is used as `connections_turn_by_their_tcp` asks, and fed as before.
 pub fn north_feeds_tcp<S: Service>()
-    ensures { (fresh : S) (boot u i delta given : ℕ) (news : News) (before after : Point) (sent : List Packet) (old new : NorthState S) (reads : List ReadRecord) (e t : Tcb)
+    ensures { (fresh : S) (boot u i delta given : ℕ) (news : News) (before after : Point) (sent : List Packet) (old new : NorthState S)
+        (reads : List ReadRecord) (e t : Tcb)
         → StandsInside u i delta before e
         → (k : TurnsNorth (machine fresh S.after) boot u i delta news before after sent given old new reads e t)
-        → FedInside (machine fresh S.after) u i delta news before after (given_after (machine fresh S.after) before after given (arrived (news_inside delta before news) e)) new
-        (north_calls (given_text (machine fresh S.after) (before_reads before after) (write_room (arrived (news_inside delta before news) e)) given) k.turn.closes (off_socket (length old.rest) (lengths_of reads)))
+        → FedInside (machine fresh S.after) u i delta news before after
+        (given_after (machine fresh S.after) before after given (arrived (news_inside delta before news) e)) new
+        (north_calls
+        (given_text (machine fresh S.after) (before_reads before after) (write_room (arrived (news_inside delta before news) e)) given)
+        k.turn.closes (off_socket (length old.rest) (lengths_of reads)))
         e t }
 {}
 
@@ -133,12 +138,14 @@ pub fn parts_tell_the_point<S: Service>()
 
 /// Once the news of a turn have come they tell what the laws on taking and on acknowledgements lead to.
 pub fn news_tell_the_point<S: Service>()
-    ensures { (fresh : S) (u i delta given : ℕ) (news : News) (p : Point) (n : NorthState S) (e : Tcb) → PartsStand (machine fresh S.after) u i delta given p n e
+    ensures { (fresh : S) (u i delta given : ℕ) (news : News) (p : Point) (n : NorthState S) (e : Tcb)
+        → PartsStand (machine fresh S.after) u i delta given p n e
         → NewsFit p news → reset_after news p ≡ false → NewsTell delta news p n (arrived (news_inside delta p news) e) }
 {}
 
 /// A connection that its client has reset only hears what is logged, and its north wrapper with it.
 pub fn reset_connections_hear_what_is_logged<S: Service>()
     ensures { (fresh : S) (boot given : ℕ) (news : News) (before after : Point) (n : NorthState S) (sent : List Packet)
-        → NorthStands (machine fresh S.after) before given n → ResetTurn boot news before after sent → NorthStands (machine fresh S.after) after given (heard news n) }
+        → NorthStands (machine fresh S.after) before given n → ResetTurn boot news before after sent
+        → NorthStands (machine fresh S.after) after given (heard news n) }
 {}
