@@ -16,7 +16,8 @@ ghost use Rattle.endpoint_laws.specs.Laws.{IsTimedBy};
 ghost use Rattle.endpoint_laws.specs.Turn.{Call, MayUse, arrived, before_flush, turned, sent_in};
 ghost use Rattle.endpoint_laws.specs.Listening.{IsListening, brings_syn};
 ghost use Rattle.endpoint_laws.specs.Connecting.{IsConnecting};
-ghost use Rattle.endpoint_laws.specs.Unconnected.{sent_in_closed, sent_in_listen, refused_in_syn_sent, resets_in_syn_sent, state_after_syn_sent, syn_of, expires_at, interval_waiting, rest_waiting};
+ghost use Rattle.endpoint_laws.specs.Unconnected.{sent_in_closed, sent_in_listen, refused_in_syn_sent, resets_in_syn_sent, state_after_syn_sent, syn_of};
+ghost use Rattle.endpoint_laws.specs.Unconnected.{expires_at, interval_waiting, rest_waiting};
 
 /// CLOSED answers each segment but a RST with a RST, and sends nothing else.
 pub fn closed_endpoints_refuse()
