@@ -10,6 +10,7 @@ ghost use Rattle.ft_model.specs.WorkedRuns.FirstPath;
 /// the first, and stands afterwards as before.
 pub fn scripted_clients_refuse_nothing()
     ensures refusal { (later : Client) → IsMove FirstPath.opening (client_segment 4 5 0 0 []) later → ⊥ }
-    ensures offer { (later : Client) → let syn = client_segment 2 1000 0 65535 [] in IsMove (client_with hello_text) (record syn { head = record syn.head { mss = Some 1460 } }) later → ⊥ }
+    ensures offer { (later : Client)
+        → let syn = client_segment 2 1000 0 65535 [] in IsMove (client_with hello_text) (record syn { head = record syn.head { mss = Some 1460 } }) later → ⊥ }
     ensures live { IsMove (record FirstPath.opening { kind = Live }) (client_segment 4 5 0 0 []) (record FirstPath.opening { kind = Live }) }
 {}

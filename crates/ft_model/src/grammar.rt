@@ -30,7 +30,8 @@ pub fn worked_texts()
         }) }
     ensures nothing { read_text [] ≡ Err (BadLine 1 why.Place) }
     ensures comment { read_text (codes "# a comment\n\nservice echo\n # none") ≡ Err (BadLine 4 why.Word) }
-    ensures few_words { read_text (codes "service echo\nserver 192.0.2.100:7\nclient 1 192.0.2.1:40000 1000 hex:68656c6c6f\nsend x\n") ≡ Err (BadLine 4 why.Count) }
+    ensures few_words { read_text (codes "service echo\nserver 192.0.2.100:7\nclient 1 192.0.2.1:40000 1000 hex:68656c6c6f\nsend x\n")
+        ≡ Err (BadLine 4 why.Count) }
     ensures two_clients { read_text (codes "service meter\nserver 192.0.2.100:7\nclient 1 192.0.2.1:40000 1000 fill:9\nclient 2 192.0.2.1:40001 0 -\nboot 1 5000\ncrash\nboot 2 0\nflip 2 319\ntick\nfin 2\nreset 1\n")
         ≡ Ok (record {
           service = Meter;

@@ -41,7 +41,9 @@ pub fn the_log_only_grows<S: Service>()
 /// What is kept of a client is the front of its script, and all of it where its FIN is kept.
 pub fn logged_bytes_are_the_clients<S: Service>()
     ensures { (kind : ℕ) (start : World) (trace : List Moment) → Joint (machine (S.started kind) S.after) start trace
-        → AllByRecursion (λ c. AllByRecursion (λ e. key_eq e.key c.key ≡ true → IsPrefix e.bytes c.script × (e.fin ≡ true → e.bytes ≡ c.script)) (world_after start trace).log.entries) (world_after start trace).clients }
+        → AllByRecursion (λ c. AllByRecursion
+        (λ e. key_eq e.key c.key ≡ true → IsPrefix e.bytes c.script × (e.fin ≡ true → e.bytes ≡ c.script))
+        (world_after start trace).log.entries) (world_after start trace).clients }
 {}
 
 /// The lengths of the logged reads cut the logged bytes: together they are no longer, and only the last may be the closing read's 0. So the
@@ -82,7 +84,9 @@ pub fn clients_are_told_what_is_logged<S: Service>()
 /// closed.
 pub fn acknowledged_output_was_made<S: Service>()
     ensures { (kind : ℕ) (start : World) (trace : List Moment) → Joint (machine (S.started kind) S.after) start trace
-        → AllByRecursion (λ e. e.acknowledged ≤ length (run_of (machine (S.started kind) S.after) e).output + one_if (run_of (machine (S.started kind) S.after) e).closed) (world_after start trace).log.entries }
+        → AllByRecursion (λ e.
+        e.acknowledged ≤ length (run_of (machine (S.started kind) S.after) e).output + one_if (run_of (machine (S.started kind) S.after) e).closed)
+        (world_after start trace).log.entries }
 {}
 
 /// No false reset: of all RSTs that were sent so far, none goes to a client whose entry is in the log and not done. So whenever one of them is

@@ -76,7 +76,8 @@ pub fn legal_traces_are_determined<S: Service>()
 /// A schedule has an outcome: all its events are done, or one is refused, or more packets are sent than may be. It has it where it can start
 /// and its events' numbers have the sizes of their types, as every schedule that a text spells.
 pub fn schedules_have_an_outcome<S: Service>()
-    ensures { (schedule : Schedule) → IsStart (start_of schedule) → AllByRecursion FitsEvent schedule.events → HasOutcome (machines S.started S.after) schedule }
+    ensures { (schedule : Schedule) → IsStart (start_of schedule) → AllByRecursion FitsEvent schedule.events
+        → HasOutcome (machines S.started S.after) schedule }
 {}
 
 /// And it is one: never two of the three, at one event, and for one cause.
