@@ -1,6 +1,7 @@
 //! A client's bytes in pages of 4,096.
 
-ghost use Rattle.std.specs.Prelude.{[], ◌≡◌, ◌≤◌, ◌<◌, ◌+◌, ◌-◌, ◌/◌, ◌%◌, ◌^◌, ◌++◌, option_map, unwrap_or, IfSome, IfNone, IfOk, IsOk, OnOk, OnErr, length, take, drop, slice_index};
+ghost use Rattle.std.specs.Prelude.{[], ◌≡◌, ◌≤◌, ◌<◌, ◌+◌, ◌-◌, ◌/◌, ◌%◌, ◌^◌, ◌++◌, option_map, unwrap_or, IfSome, IfNone, IfOk, IsOk, OnOk, OnErr, length};
+ghost use Rattle.std.specs.Prelude.{take, drop, slice_index};
 ghost use Rattle.logger_store.specs.Pages.{page_of, room_after};
 
 use crate::page::{PAGE, Page};

@@ -73,9 +73,20 @@ impl Model for StoredEntry {
 
     ghost Value = { Entry };
 
-    ghost view = { λ e. record { key = e.numbers.key; cisn = e.numbers.cisn; sisn = e.numbers.sisn; mss = e.numbers.mss; bytes = e.bytes; fin = e.fin; lengths = e.lengths; acknowledged = e.acknowledged; done = e.done } };
+    ghost view = { λ e. record {
+      key = e.numbers.key;
+      cisn = e.numbers.cisn;
+      sisn = e.numbers.sisn;
+      mss = e.numbers.mss;
+      bytes = e.bytes;
+      fin = e.fin;
+      lengths = e.lengths;
+      acknowledged = e.acknowledged;
+      done = e.done;
+    } };
 
-    ghost invariant = { λ e. (e.reads ≡ length e.lengths) × (e.read ≡ sum e.lengths) × (e.closed ≡ list_any (λ k. k == 0) e.lengths) × IsInRange e.numbers.mss (length e.bytes) e.acknowledged × AreRead (length e.bytes) e.lengths };
+    ghost invariant = { λ e. (e.reads ≡ length e.lengths) × (e.read ≡ sum e.lengths) × (e.closed ≡ list_any (λ k. k == 0) e.lengths)
+        × IsInRange e.numbers.mss (length e.bytes) e.acknowledged × AreRead (length e.bytes) e.lengths };
 }
 
 impl StoredEntry {
