@@ -5,7 +5,8 @@ ghost use Rattle.std.specs.Prelude.{◌≡◌, ◌≤◌, ◌<◌, ◌+◌, ◌^
 ghost use Rattle.std.specs.List.{list_all};
 ghost use Rattle.seq_arith.specs.Bytes.{word_at as word_at_lem};
 ghost use Rattle.seq_arith.specs.Checksum.{checksum};
-ghost use Rattle.seq_arith.specs.MessageGrammar.{all_in_range, numbers_in, number_in, fields_of as fields_lem, fields_length, behind_at as behind_at_lem, has_length as has_length_lem, body_in, is_sound as is_sound_lem, reading_of, reading, lens_in, lens_of};
+ghost use Rattle.seq_arith.specs.MessageGrammar.{all_in_range, numbers_in, number_in, fields_of as fields_lem, fields_length, behind_at as behind_at_lem};
+ghost use Rattle.seq_arith.specs.MessageGrammar.{has_length as has_length_lem, body_in, is_sound as is_sound_lem, reading_of, reading, lens_in, lens_of};
 ghost use Rattle.logger_wire.specs.Value.{body_of as said_body, flags_of, left_over, seen, IsSendable};
 ghost use Rattle.logger_wire.specs.Tested.{tested, flags_in, left_over_in};
 

@@ -1,7 +1,9 @@
 //! The table of kinds as the code reads it: the fields of a kind, their sizes and ranges, and how long a message may be.
 
 ghost use Rattle.std.specs.Prelude.{◌≡◌, ◌≤◌, ◌<◌, ◌+◌, ◌^◌, length};
-ghost use Rattle.seq_arith.specs.MessageGrammar.{kind_number, kind_numbered, fields_of as fields_lem, width as width_lem, is_in_range as is_in_range_lem, behind_at as behind_at_lem, has_length as has_length_lem, fewest_behind as fewest_lem, most_behind as most_lem};
+ghost use Rattle.seq_arith.specs.MessageGrammar.{kind_number, kind_numbered, fields_of as fields_lem, width as width_lem, is_in_range as is_in_range_lem};
+ghost use Rattle.seq_arith.specs.MessageGrammar.{behind_at as behind_at_lem, has_length as has_length_lem, fewest_behind as fewest_lem};
+ghost use Rattle.seq_arith.specs.MessageGrammar.{most_behind as most_lem};
 
 use seq_arith::{Field, Kind};
 

@@ -4,7 +4,8 @@ ghost use Rattle.std.specs.Prelude.{◌≡◌, ◌≤◌, ◌<◌, ◌+◌, ◌%
 ghost use Rattle.std.specs.List.{list_all};
 ghost use Rattle.std.specs.Prelude.{nat_le};
 ghost use Rattle.seq_arith.specs.Checksum.{checksum};
-ghost use Rattle.seq_arith.specs.MessageGrammar.{fields_of as fields_lem, fields_length, kind_of as kind_lem, numbers_of, number_bytes, numbers_bytes, lens_in, lens_bytes, behind_of as behind_lem, message_length, header as header_lem, spelling, reading, AllFit};
+ghost use Rattle.seq_arith.specs.MessageGrammar.{fields_of as fields_lem, fields_length, kind_of as kind_lem, numbers_of, number_bytes, numbers_bytes, lens_in};
+ghost use Rattle.seq_arith.specs.MessageGrammar.{lens_bytes, behind_of as behind_lem, message_length, header as header_lem, spelling, reading, AllFit};
 ghost use Rattle.logger_wire.specs.Written.{body_bytes};
 ghost use Rattle.logger_wire.specs.Value.{body_of as said_body, message_of, flags_of, left_over, IsSendable};
 
