@@ -133,8 +133,10 @@ fn take_turn<L: Link, O: Sink>(
 ) -> Result<(), Failed>
     requires limited { IsLimited role.now.isn client.old }
     requires room { ACCEPT_ROOM ≤ length room.old }
-    ensures turned { OnOk result (HasTurned role.now.server client.old client.new (L.told link.old) (L.told link.new) (Appends (O.taken out.old) (O.taken out.new))) }
-    ensures cut_short { OnErr result (HasTurned role.now.server client.old client.new (L.told link.old) (L.told link.new) (AppendsFront (O.taken out.old) (O.taken out.new))) }
+    ensures turned { OnOk result (HasTurned role.now.server client.old client.new (L.told link.old) (L.told link.new)
+        (Appends (O.taken out.old) (O.taken out.new))) }
+    ensures cut_short { OnErr result
+        (HasTurned role.now.server client.old client.new (L.told link.old) (L.told link.new) (AppendsFront (O.taken out.old) (O.taken out.new))) }
     ensures cause { OnErr result (Rose (O.fault_count out.old) (O.fault_count out.new)) }
     ensures never_falls { O.fault_count out.old ≤ O.fault_count out.new }
 {
@@ -156,7 +158,8 @@ fn take_turns<L: Link, O: Sink>(
     requires fresh { IsFresh role.now client.old }
     requires room { ACCEPT_ROOM ≤ length room.old }
     ensures done { OnOk result ((machine : Client) → BeginsBeside client.old machine
-        → Runs client.old machine role.now.turns [] (L.told link.old) (L.told link.new) (Appends (O.taken out.old) (O.taken out.new)) (IsEndedBy ClientEnd.Closed)) }
+        → Runs client.old machine role.now.turns [] (L.told link.old) (L.told link.new) (Appends (O.taken out.old) (O.taken out.new))
+        (IsEndedBy ClientEnd.Closed)) }
     ensures stops { IfErr result (λ end. (machine : Client) → BeginsBeside client.old machine
         → RunStops client.old machine role.now.turns [] (L.told link.old) (L.told link.new) (O.taken out.old) (O.taken out.new) end) }
     ensures cause { IsErrOf result NodeEnd.WriteFault → Rose (O.fault_count out.old) (O.fault_count out.new) }
@@ -186,7 +189,8 @@ fn run_script<L: Link, O: Sink>(
     out: &mut O,
 ) -> Result<(), NodeEnd>
     requires { length script.items ≤ 2 ^ 24 }
-    ensures done { OnOk result (IsClient role.now script.items (L.told link.old) (L.told link.new) (Appends (O.taken out.old) (O.taken out.new)) (IsEndedBy ClientEnd.Closed)) }
+    ensures done { OnOk result (IsClient role.now script.items (L.told link.old) (L.told link.new) (Appends (O.taken out.old) (O.taken out.new))
+        (IsEndedBy ClientEnd.Closed)) }
     ensures stops { IfErr result (ScriptRunStops role.now script.items (L.told link.old) (L.told link.new) (O.taken out.old) (O.taken out.new)) }
     ensures bind_cause { IsErrOf result NodeEnd.LinkFault → Rose (L.bind_fault_count link.old) (L.bind_fault_count link.new) }
     ensures write_cause { IsErrOf result NodeEnd.WriteFault → Rose (O.fault_count out.old) (O.fault_count out.new) }
@@ -219,7 +223,8 @@ pub(crate) fn run_client<L: Link, I: Source, O: Sink>(
     requires { IfSome role.now.script (λ script. length (bytes_lem script) ≤ 2 ^ 24) }
     ensures done { OnOk result (RunsScript role.now (I.left input.old) (I.left input.new) (L.told link.old) (L.told link.new)
         (Appends (O.taken out.old) (O.taken out.new)) (IsEndedBy ClientEnd.Closed)) }
-    ensures stops { IfErr result (ClientStops role.now (I.left input.old) (I.left input.new) (L.told link.old) (L.told link.new) (O.taken out.old) (O.taken out.new)) }
+    ensures stops { IfErr result (ClientStops role.now (I.left input.old) (I.left input.new) (L.told link.old) (L.told link.new) (O.taken out.old)
+        (O.taken out.new)) }
     ensures read_cause { IsErrOf result NodeEnd.ReadFault → Rose (I.fault_count input.old) (I.fault_count input.new) }
     ensures bind_cause { IsErrOf result NodeEnd.LinkFault → Rose (L.bind_fault_count link.old) (L.bind_fault_count link.new) }
     ensures write_cause { IsErrOf result NodeEnd.WriteFault → Rose (O.fault_count out.old) (O.fault_count out.new) }

@@ -19,7 +19,8 @@ pub(crate) fn receive<L: Link>(
 ) -> Option<(usize, Addr)>
     requires room { 2048 ≤ length buffer.old }
     requires counts { HasRoom 1 counts.old }
-    ensures received { (r : Received) × Tells (L.told link.old) (L.told link.new) (received_as r ∷ []) × (counts.new ≡ with_calls counts.old (received_as r ∷ []))
+    ensures received { (r : Received) × Tells (L.told link.old) (L.told link.new) (received_as r ∷ [])
+        × (counts.new ≡ with_calls counts.old (received_as r ∷ []))
         × MatchOption result (IsQuiet r) (λ g. (g.0 ≤ length buffer.new) × (r ≡ datagram g.1 (take g.0 buffer.new))) }
 {
     let heard = link.recv(buffer);

@@ -26,7 +26,8 @@ fn run<L: Link, I: Source, O: Sink>(
     input: &mut I,
     out: &mut O,
 ) -> Result<(), NodeEnd>
-    ensures lives { Lives (role_of (map string_bytes words.now)) result (I.left input.old) (I.left input.new) (L.told link.old) (L.told link.new) (O.taken out.old) (O.taken out.new) }
+    ensures lives { Lives (role_of (map string_bytes words.now)) result (I.left input.old) (I.left input.new) (L.told link.old) (L.told link.new)
+        (O.taken out.old) (O.taken out.new) }
     ensures read_cause { IsErrOf result NodeEnd.ReadFault → Rose (I.fault_count input.old) (I.fault_count input.new) }
     ensures bind_cause { IsErrOf result NodeEnd.LinkFault → Rose (L.bind_fault_count link.old) (L.bind_fault_count link.new) }
     ensures write_cause { IsErrOf result NodeEnd.WriteFault → Rose (O.fault_count out.old) (O.fault_count out.new) }
@@ -53,7 +54,8 @@ pub fn node<L: Link, I: Source, O: Sink, E: Sink, P: Spawner>(
     kids: &mut P,
 ) -> Status
     // What was read, called on the link and written to out by the role of the words, and what was written to err of the end.
-    ensures ended { HasEnded (role_of (map string_bytes words.now)) (I.left input.old) (I.left input.new) (L.told link.old) (L.told link.new) (O.taken out.old) (O.taken out.new)
+    ensures ended { HasEnded (role_of (map string_bytes words.now)) (I.left input.old) (I.left input.new) (L.told link.old) (L.told link.new) (O.taken out.old)
+        (O.taken out.new)
         (E.taken err.old) (E.taken err.new) result.code }
     ensures same_kids { kids.new ≡ kids.old }
 
@@ -68,7 +70,8 @@ pub fn node<L: Link, I: Source, O: Sink, E: Sink, P: Spawner>(
     ensures logger { (role : LoggerRole) → role_of (map string_bytes words.now) ≡ Some (roles.Logger role)
         → IsStill (L.bind_fault_count link.old) (L.bind_fault_count link.new) → IsStill (O.fault_count out.old) (O.fault_count out.new)
         → IsStill (E.fault_count err.old) (E.fault_count err.new) → (result.code ≡ 0) ⊎ (result.code ≡ 3) }
-    ensures client { (role : ClientRole) (left : List ℕ) → role_of (map string_bytes words.now) ≡ Some (roles.Client role) → I.left input.old ≡ Some left → length left ≤ 2 ^ 24
+    ensures client { (role : ClientRole) (left : List ℕ) → role_of (map string_bytes words.now) ≡ Some (roles.Client role) → I.left input.old ≡ Some left
+        → length left ≤ 2 ^ 24
         → IsStill (I.fault_count input.old) (I.fault_count input.new) → IsStill (L.bind_fault_count link.old) (L.bind_fault_count link.new)
         → IsStill (O.fault_count out.old) (O.fault_count out.new)
         → IsStill (E.fault_count err.old) (E.fault_count err.new) → (result.code ≡ 0) ⊎ ((result.code ≡ 7) ⊎ ((result.code ≡ 8) ⊎ (result.code ≡ 3))) }
