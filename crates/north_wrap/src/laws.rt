@@ -13,7 +13,8 @@ use server_trait::Service;
 
 /// It begins where its service was replayed: a new one, whose service has read nothing, and one at the end of a restart alike.
 pub fn it_begins_where_it_was_replayed<S: Service>()
-    ensures { (fresh : S) (p : Point) (given : ℕ) (n : NorthState S) → HasReplayed (machine fresh S.after) p given n → NorthStands (machine fresh S.after) p given n }
+    ensures { (fresh : S) (p : Point) (given : ℕ) (n : NorthState S) → HasReplayed (machine fresh S.after) p given n
+        → NorthStands (machine fresh S.after) p given n }
 {}
 
 /// The records of a connection's reads, told one after another, are the messages that the law of reads names.
@@ -23,7 +24,8 @@ pub fn records_tell_the_reads()
 
 /// Bytes that TCP takes leave it where it stands.
 pub fn taking_leaves_it<S: Service>()
-    ensures { (fresh : S) (p : Point) (given : ℕ) (n : NorthState S) (more : List ℕ) → NorthStands (machine fresh S.after) p given n → NorthStands (machine fresh S.after) (with_taken more p) given n }
+    ensures { (fresh : S) (p : Point) (given : ℕ) (n : NorthState S) (more : List ℕ) → NorthStands (machine fresh S.after) p given n
+        → NorthStands (machine fresh S.after) (with_taken more p) given n }
 {}
 
 /// A send buffer that its turns fill, and acknowledgements empty, holds the output from what is acknowledged up to what is given.

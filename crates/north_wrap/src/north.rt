@@ -7,7 +7,9 @@ ghost use Rattle.ft_model.specs.Point.{Point, released};
 ghost use Rattle.north_wrap.specs.Standing.{NorthStands, SocketStands, NorthTurn, with_answered};
 ghost use Rattle.north_wrap.specs.RunState.{run_on};
 ghost use Rattle.north_wrap.specs.Sockets.{reader, writer};
-ghost use Rattle.north_wrap.specs.NorthState.{fresh_north, resumed_north, unstable, given_north, given_socket, shut_north, shut_socket, Turns, answered_on, Allows, record_of, chunk_of, next_length, next_at, is_free_to_read, noted, read_on, socket_on, Reads, lengths_of, is_empty};
+ghost use Rattle.north_wrap.specs.NorthState.{fresh_north, resumed_north, unstable, given_north, given_socket, shut_north, shut_socket, Turns, answered_on};
+ghost use Rattle.north_wrap.specs.NorthState.{Allows, record_of, chunk_of, next_length, next_at, is_free_to_read, noted, read_on, socket_on, Reads, lengths_of};
+ghost use Rattle.north_wrap.specs.NorthState.{is_empty};
 
 use crate::read_record::ReadRecord;
 use crate::records::ReadRecords;
@@ -159,7 +161,10 @@ impl<S: Service> North<S> {
     ) -> Result<(), NoMemory>
         requires allowed { Allows (length (K.unread sock.old)) size self.old }
         requires buffer { length chunk.old ≡ 2048 }
-        ensures state { OnOk result (self.new ≡ record self.old { run = run_on S.after self.old.run (chunk_of (K.unread sock.old) size self.old); rest = drop size self.old.rest }) }
+        ensures state { OnOk result (self.new ≡ record self.old {
+          run = run_on S.after self.old.run (chunk_of (K.unread sock.old) size self.old);
+          rest = drop size self.old.rest;
+        }) }
         ensures socket { sock.new ≡ socket_on (reader K.unread K.has_end K.after_read) size self.old sock.old }
         ensures read { self.new.read ≡ self.old.read }
         ensures rest { length self.new.rest ≤ length self.old.rest }
@@ -181,7 +186,12 @@ impl<S: Service> North<S> {
         requires fewer { length self.old.reads < 32 }
         requires within { self.old.read + size + length self.old.rest ≤ 2 ^ 24 }
         requires once { size ≡ 0 → self.old.ended ≡ false }
-        ensures state { self.new ≡ record self.old { reads = self.old.reads ++ record_of size self.old self.old.run ∷ []; read = self.old.read + size; count = self.old.count + 1; ended = self.old.ended || size == 0 } }
+        ensures state { self.new ≡ record self.old {
+          reads = self.old.reads ++ record_of size self.old self.old.run ∷ [];
+          read = self.old.read + size;
+          count = self.old.count + 1;
+          ended = self.old.ended || size == 0;
+        } }
         ensures read { result ≡ record_of size self.old self.old.run }
     {
         let read = ReadRecord {
@@ -284,8 +294,13 @@ impl<S: Service> North<S> {
     ) -> Result<(), NoMemory>
         requires una { una ≤ 2 ^ 24 + 1 }
         requires within { self.old.read + length self.old.rest + length (K.unread sock.old) ≤ 2 ^ 24 }
-        ensures turn { OnOk result (Turns S.after (reader K.unread K.has_end K.after_read) (writer K.write_room K.is_closed K.after_write K.after_close) una self.old sock.old news.new self.new sock.new) }
-        ensures law { OnOk result ((fresh : S) (p : Point) (given : ℕ) → NorthStands (machine fresh S.after) p given self.old → SocketStands p self.old (K.unread sock.old) (K.has_end sock.old) (K.is_closed sock.old) → p.una ≡ una → given ≤ released (machine fresh S.after) p → NorthTurn (machine fresh S.after) (reader K.unread K.has_end K.after_read) (writer K.write_room K.is_closed K.after_write K.after_close) p given self.old sock.old news.new self.new sock.new) }
+        ensures turn { OnOk result (Turns S.after (reader K.unread K.has_end K.after_read)
+            (writer K.write_room K.is_closed K.after_write K.after_close) una self.old sock.old news.new self.new sock.new) }
+        ensures law { OnOk result ((fresh : S) (p : Point) (given : ℕ) → NorthStands (machine fresh S.after) p given self.old
+            → SocketStands p self.old (K.unread sock.old) (K.has_end sock.old) (K.is_closed sock.old) → p.una ≡ una
+            → given ≤ released (machine fresh S.after) p
+            → NorthTurn (machine fresh S.after) (reader K.unread K.has_end K.after_read)
+            (writer K.write_room K.is_closed K.after_write K.after_close) p given self.old sock.old news.new self.new sock.new) }
         ensures bounded { self.new.read + length self.new.rest + length (K.unread sock.new) ≤ 2 ^ 24 }
     {
         self.make_turn(sock, una, news)
@@ -299,7 +314,8 @@ impl<S: Service> North<S> {
     ) -> Result<(), NoMemory>
         requires una { una ≤ 2 ^ 24 + 1 }
         requires within { self.old.read + length self.old.rest + length (K.unread sock.old) ≤ 2 ^ 24 }
-        ensures turn { OnOk result (Turns S.after (reader K.unread K.has_end K.after_read) (writer K.write_room K.is_closed K.after_write K.after_close) una self.old sock.old news.new self.new sock.new) }
+        ensures turn { OnOk result (Turns S.after (reader K.unread K.has_end K.after_read)
+            (writer K.write_room K.is_closed K.after_write K.after_close) una self.old sock.old news.new self.new sock.new) }
         ensures bounded { self.new.read + length self.new.rest + length (K.unread sock.new) ≤ 2 ^ 24 }
     {
         news.clear();
@@ -313,7 +329,8 @@ impl<S: Service> North<S> {
         ensures state { self.new ≡ answered_on count self.old }
         ensures read { self.new.read ≡ self.old.read }
         ensures rest { self.new.rest ≡ self.old.rest }
-        ensures law { (fresh : S) (p : Point) (given : ℕ) → NorthStands (machine fresh S.after) p given self.old → NorthStands (machine fresh S.after) (with_answered count p) given self.new }
+        ensures law { (fresh : S) (p : Point) (given : ℕ) → NorthStands (machine fresh S.after) p given self.old
+            → NorthStands (machine fresh S.after) (with_answered count p) given self.new }
     {
         self.note_reads(count);
     }
