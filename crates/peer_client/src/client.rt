@@ -40,7 +40,19 @@ impl Model for Client {
 
     ghost Value = { machine.Client };
 
-    ghost view = { λ c. record { kind = Scripted; key = c.key; server = c.server; isn = c.isn; script = c.script.items; phase = c.phase; sisn = c.sisn; sent = c.sent; acknowledged = c.acknowledged; accepted = c.accepted.items; edge = c.edge } };
+    ghost view = { λ c. record {
+      kind = Scripted;
+      key = c.key;
+      server = c.server;
+      isn = c.isn;
+      script = c.script.items;
+      phase = c.phase;
+      sisn = c.sisn;
+      sent = c.sent;
+      acknowledged = c.acknowledged;
+      accepted = c.accepted.items;
+      edge = c.edge;
+    } };
 
     ghost invariant = { λ c. (length c.script.items ≤ 2 ^ 24) × (c.sent ≤ 2 ^ 24 + 1) };
 }
@@ -51,7 +63,8 @@ impl Client {
     ghost use Rattle.seq_arith.specs.PacketGrammar.{reading, spelling};
     ghost use Rattle.peer_client.specs.Scripted.{Makes, Refuses};
     ghost use Rattle.ft_model.specs.Client.ClientKind.{Scripted};
-    ghost use Rattle.ft_model.specs.Client.{new_client, accepted_units as units_lem, suits_phase, suits_range, seq_of, ack_number_of, payload_of, segment_of, moved, move_of, window_of, refusal_of_move};
+    ghost use Rattle.ft_model.specs.Client.{new_client, accepted_units as units_lem, suits_phase, suits_range, seq_of, ack_number_of, payload_of, segment_of};
+    ghost use Rattle.ft_model.specs.Client.{moved, move_of, window_of, refusal_of_move};
 
     /// A client that has sent nothing. Its script has at most 2^24 bytes. It takes no memory.
     pub fn new(alloc: Global, key: Key, server: Addr, isn: u32, script: Vec<u8>) -> Client

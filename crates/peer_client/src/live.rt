@@ -7,7 +7,8 @@ ghost use Rattle.tcp_endpoint.specs.Packets.{AreReadable};
 ghost use Rattle.tcp_endpoint.specs.Sending.{IsShort};
 ghost use Rattle.tcp_endpoint.specs.States.{has_begun as begun_lem};
 ghost use Rattle.tcp_endpoint.specs.Turning.{after_read};
-ghost use Rattle.peer_client.specs.Live.{new_live, is_of, end_of, first_end, met, heard, ticked, unread, handed, given_up, supplied, closes as closes_lem, shut as shut_lem, before_flush, sent_by, turned};
+ghost use Rattle.peer_client.specs.Live.{new_live, is_of, end_of, first_end, met, heard, ticked, unread, handed, given_up, supplied, closes as closes_lem};
+ghost use Rattle.peer_client.specs.Live.{shut as shut_lem, before_flush, sent_by, turned};
 ghost use Rattle.peer_client.specs.Standing.{IsBetween, IsDue, AcksNear, AckFits, receiving, Moves, HasHeard, handed_out, outcome_of};
 ghost use Rattle.seq_arith.specs.PacketGrammar.{reading};
 ghost use Rattle.ft_model.specs.Client.{Client, new_client};
@@ -55,7 +56,15 @@ impl Model for LiveClient {
 
     ghost Value = { LiveState };
 
-    ghost view = { λ c. record { local = c.local; server = c.server; tcb = c.endpoint; script = c.script.items; written = c.written; seen = c.seen; outcome = c.outcome } };
+    ghost view = { λ c. record {
+      local = c.local;
+      server = c.server;
+      tcb = c.endpoint;
+      script = c.script.items;
+      written = c.written;
+      seen = c.seen;
+      outcome = c.outcome;
+    } };
 
     ghost invariant = { λ c. (length c.script.items ≤ 2 ^ 24) × (c.written ≤ length c.script.items) };
 }
