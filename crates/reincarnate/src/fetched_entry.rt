@@ -8,7 +8,8 @@ ghost use Rattle.ft_io.specs.Key.{key_eq};
 ghost use Rattle.reincarnate.specs.Cutting.{HaveBytes};
 ghost use Rattle.logger_store.specs.Stored.{head_value};
 ghost use Rattle.reincarnate.specs.Asking.{IsAskable};
-ghost use Rattle.reincarnate.specs.Progress.{begun_entry, lacks, asked_for, asks_bytes, asks_lengths, part_fits, lengths_fit, with_bytes, cuts_with, with_lengths, first_whole, replayed_from, replayed_state, IsSegmentSize};
+ghost use Rattle.reincarnate.specs.Progress.{begun_entry, lacks, asked_for, asks_bytes, asks_lengths, part_fits, lengths_fit, with_bytes, cuts_with};
+ghost use Rattle.reincarnate.specs.Progress.{with_lengths, first_whole, replayed_from, replayed_state, IsSegmentSize};
 
 use crate::cuts::Cuts;
 use crate::lack::Lack;
@@ -46,7 +47,13 @@ impl<S: Service> Model for FetchedEntry<S> {
 
     ghost view = { λ e. record { head = head_value e.head; bytes = e.bytes; cuts = e.cuts; waiting = e.waiting.items; replay = e.replay } };
 
-    ghost invariant = { λ e. IsSized {S = S} (record { head = head_value e.head; bytes = e.bytes; cuts = e.cuts; waiting = e.waiting.items; replay = e.replay }) };
+    ghost invariant = { λ e. IsSized {S = S} (record {
+      head = head_value e.head;
+      bytes = e.bytes;
+      cuts = e.cuts;
+      waiting = e.waiting.items;
+      replay = e.replay;
+    }) };
 }
 
 impl<S: Service> FetchedEntry<S> {

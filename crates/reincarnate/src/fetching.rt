@@ -1,6 +1,7 @@
 //! The restart while it asks for the log's entries.
 
-ghost use Rattle.std.specs.Prelude.{◌≡◌, ◌⊎◌, ◌<◌, ◌≤◌, ◌^◌, true, false, length, option_map, find, OnOk, IfOk, IfNone, IfSome, MatchOption, None, List, ◌++◌, reverse, if◌then◌else◌};
+ghost use Rattle.std.specs.Prelude.{◌≡◌, ◌⊎◌, ◌<◌, ◌≤◌, ◌^◌, true, false, length, option_map, find, OnOk, IfOk, IfNone, IfSome, MatchOption, None, List, ◌++◌};
+ghost use Rattle.std.specs.Prelude.{reverse, if◌then◌else◌};
 ghost use Rattle.std.specs.List.{AllByRecursion};
 ghost use Rattle.std.specs.Option.{option_to_list};
 ghost use Rattle.seq_arith.specs.MessageGrammar.{lens_in};
@@ -10,7 +11,8 @@ ghost use Rattle.ft_model.specs.Restart.{Fetched, wanted, question};
 ghost use Rattle.logger_wire.specs.Value.{body_of, message_of, IsSendable};
 ghost use Rattle.logger_store.specs.Stored.{head_value};
 ghost use Rattle.reincarnate.specs.Progress.{AreReady, IsSegmentSize};
-ghost use Rattle.reincarnate.specs.Asking.{IsAskable, begun_fetching, entries_of, asked_of, asked_entry, asked, entry_known, head_fits, with_head, with_newest, part_on, lens_on, answered, heard};
+ghost use Rattle.reincarnate.specs.Asking.{IsAskable, begun_fetching, entries_of, asked_of, asked_entry, asked, entry_known, head_fits, with_head, with_newest};
+ghost use Rattle.reincarnate.specs.Asking.{part_on, lens_on, answered, heard};
 ghost use Rattle.reincarnate.specs.Standing.{StandsFetching, StandsWhole, AnswerLeads, fetched_then, held_of};
 
 use crate::entries::Entries;
@@ -111,7 +113,9 @@ impl<S: Service> Fetching<S> {
     /// What is asked now, or None where nothing is missing.
     pub fn question(&self) -> Option<Msg<'_>>
         ensures value { option_map message_of result ≡ option_map (λ body. record { boot = self.now.boot; body = body }) (asked self.now) }
-        ensures law { (fetched : List Fetched) → StandsFetching (machine (S.started self.now.kind) S.after) fetched self.now → option_map message_of result ≡ option_map (λ body. record { boot = self.now.boot; body = body }) (option_map question (wanted self.now.count fetched)) }
+        ensures law { (fetched : List Fetched) → StandsFetching (machine (S.started self.now.kind) S.after) fetched self.now
+            → option_map message_of result
+            ≡ option_map (λ body. record { boot = self.now.boot; body = body }) (option_map question (wanted self.now.count fetched)) }
         ensures end { IfNone result (asked self.now ≡ None) }
         ensures sendable { IfSome result (λ m. IsSendable m) }
     {
@@ -136,7 +140,8 @@ impl<S: Service> Fetching<S> {
     /// The head of the entry of a key, or None where none of it has come.
     pub fn known(&self, key: Key) -> Option<EntryHead>
         ensures value { option_map head_value result ≡ option_map (λ e. e.head) (entry_known key self.now) }
-        ensures law { (fetched : List Fetched) → StandsFetching (machine (S.started self.now.kind) S.after) fetched self.now → option_map head_value result ≡ option_map (λ f. f.head) (find (λ f. key_eq f.head.key key) fetched) }
+        ensures law { (fetched : List Fetched) → StandsFetching (machine (S.started self.now.kind) S.after) fetched self.now
+            → option_map head_value result ≡ option_map (λ f. f.head) (find (λ f. key_eq f.head.key key) fetched) }
     {
         self.head_of(key)
     }
@@ -165,15 +170,19 @@ impl<S: Service> Fetching<S> {
     /// Takes an answer, if it fits the question. After `NoMemory` it may only be dropped.
     pub fn on_answer(&mut self, alloc: Global, m: &Msg<'_>) -> Result<bool, NoMemory>
         requires { IsSendable m.now }
-        ensures value { IfOk result (λ fits. MatchOption (heard S.started S.after (message_of m.now) self.old) ((fits ≡ false) × (self.new ≡ self.old)) (λ s. (fits ≡ true) × (self.new ≡ s))) }
-        ensures law { IfOk result (λ fits. (fetched : List Fetched) → StandsFetching (machine (S.started self.old.kind) S.after) fetched self.old → AnswerLeads (machine (S.started self.old.kind) S.after) (fetched_then self.old.boot self.old.count (message_of m.now) fetched) fits self.old self.new) }
+        ensures value { IfOk result (λ fits. MatchOption (heard S.started S.after (message_of m.now) self.old)
+            ((fits ≡ false) × (self.new ≡ self.old)) (λ s. (fits ≡ true) × (self.new ≡ s))) }
+        ensures law { IfOk result (λ fits. (fetched : List Fetched) → StandsFetching (machine (S.started self.old.kind) S.after) fetched self.old
+            → AnswerLeads (machine (S.started self.old.kind) S.after)
+            (fetched_then self.old.boot self.old.count (message_of m.now) fetched) fits self.old self.new) }
     {
         self.hear(alloc, m)
     }
 
     fn hear(&mut self, alloc: Global, m: &Msg<'_>) -> Result<bool, NoMemory>
         requires { IsSendable m.now }
-        ensures value { IfOk result (λ fits. MatchOption (heard S.started S.after (message_of m.now) self.old) ((fits ≡ false) × (self.new ≡ self.old)) (λ s. (fits ≡ true) × (self.new ≡ s))) }
+        ensures value { IfOk result (λ fits. MatchOption (heard S.started S.after (message_of m.now) self.old)
+            ((fits ≡ false) × (self.new ≡ self.old)) (λ s. (fits ≡ true) × (self.new ≡ s))) }
     {
         if m.boot != self.boot {
             return Ok(false);
@@ -184,7 +193,8 @@ impl<S: Service> Fetching<S> {
     #[tactic(auto, using(crate::proofs::Sendable::head_in_range, crate::proofs::Sendable::mss_in_range, crate::proofs::Sendable::part_in_range, crate::proofs::Sendable::lens_in_range))]
     fn on_body(&mut self, alloc: Global, m: &Msg<'_>) -> Result<bool, NoMemory>
         requires sendable { IsSendable m.now }
-        ensures value { IfOk result (λ fits. MatchOption (answered S.started S.after self.old (body_of m.now.body)) ((fits ≡ false) × (self.new ≡ self.old)) (λ s. (fits ≡ true) × (self.new ≡ s))) }
+        ensures value { IfOk result (λ fits. MatchOption (answered S.started S.after self.old (body_of m.now.body))
+            ((fits ≡ false) × (self.new ≡ self.old)) (λ s. (fits ≡ true) × (self.new ≡ s))) }
     {
         match m.body {
             Body::EntryMsg {
@@ -247,7 +257,8 @@ impl<S: Service> Fetching<S> {
     /// Bytes of the newest entry.
     fn on_part(&mut self, key: Key, offset: u32, bytes: &[u8]) -> Result<bool, NoMemory>
         requires { length bytes.now ≤ 1024 }
-        ensures { IfOk result (λ fits. MatchOption (part_on S.after key offset bytes.now self.old.newest) ((fits ≡ false) × (self.new ≡ self.old)) (λ e. (fits ≡ true) × (self.new ≡ with_newest self.old e))) }
+        ensures { IfOk result (λ fits. MatchOption (part_on S.after key offset bytes.now self.old.newest)
+            ((fits ≡ false) × (self.new ≡ self.old)) (λ e. (fits ≡ true) × (self.new ≡ with_newest self.old e))) }
     {
         match self.newest.take() {
             Some(entry) if entry.part_fits(key, offset, bytes.len()) => {
@@ -264,7 +275,8 @@ impl<S: Service> Fetching<S> {
     /// Lengths of the newest entry's reads, of two bytes each.
     fn on_lens(&mut self, key: Key, first: u32, lens: &[u8]) -> Result<bool, NoMemory>
         requires { AllByRecursion (λ n. n ≤ 2048) (lens_in lens.now) }
-        ensures { IfOk result (λ fits. MatchOption (lens_on S.after key first (lens_in lens.now) self.old.newest) ((fits ≡ false) × (self.new ≡ self.old)) (λ e. (fits ≡ true) × (self.new ≡ with_newest self.old e))) }
+        ensures { IfOk result (λ fits. MatchOption (lens_on S.after key first (lens_in lens.now) self.old.newest)
+            ((fits ≡ false) × (self.new ≡ self.old)) (λ e. (fits ≡ true) × (self.new ≡ with_newest self.old e))) }
     {
         let Some(entry) = self.newest.take() else {
             return Ok(false);
@@ -285,7 +297,8 @@ impl<S: Service> Fetching<S> {
     pub fn finish(self) -> Entries<S>
         requires { asked self ≡ None }
         ensures value { result ≡ reverse self.earlier ++ option_to_list self.newest }
-        ensures law { (fetched : List Fetched) → StandsFetching (machine (S.started self.kind) S.after) fetched self → StandsWhole (machine (S.started self.kind) S.after) (reverse fetched) result }
+        ensures law { (fetched : List Fetched) → StandsFetching (machine (S.started self.kind) S.after) fetched self
+            → StandsWhole (machine (S.started self.kind) S.after) (reverse fetched) result }
     {
         let Fetching {
             boot: _,

@@ -84,7 +84,8 @@ impl<S: Service> Replayed<S> {
         requires { 1 ≤ boot }
         ensures value { IfOk result (λ s. s ≡ spliced_from boot local isn.0 self) }
         ensures lost { IfErr result (λ e. e.stage ≡ Stage.Replayed) }
-        ensures law { IfOk result (λ s. (fresh : S) (e : Entry) → IsReplayed (machine fresh S.after) e self → IsSound (machine fresh S.after) e → IsSpliced (machine fresh S.after) e isn.0 s) }
+        ensures law { IfOk result (λ s. (fresh : S) (e : Entry) → IsReplayed (machine fresh S.after) e self → IsSound (machine fresh S.after) e
+            → IsSpliced (machine fresh S.after) e isn.0 s) }
     {
         self.join(alloc, boot, local, isn)
     }
@@ -122,7 +123,8 @@ fn south_behind(head: &EntryHead, cuts: Cuts, made: u32, isn: Seq) -> South
     requires made { made ≤ 2 ^ 24 }
     requires read { cuts.sum ≤ 2 ^ 24 }
     ensures numbers { (head.now.sisn < 2 ^ 32) × (isn.0 < 2 ^ 32) }
-    ensures value { result ≡ record (resumed_south head.now.cisn head.now.sisn head.now.length (has_end (head_value head.now)) (min head.now.acked made) isn.0) { read = cuts.sum } }
+    ensures value { result ≡ record (resumed_south head.now.cisn head.now.sisn head.now.length
+        (has_end (head_value head.now)) (min head.now.acked made) isn.0) { read = cuts.sum } }
 {
     let mut south = South::resumed(
         Seq(head.cisn),

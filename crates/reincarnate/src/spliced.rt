@@ -41,7 +41,14 @@ impl<S: Service> Model for Spliced<S> {
 
     ghost view = { λ s. record { boot = s.boot; key = s.key; local = s.local; south = s.south; endpoint = s.endpoint; north = s.north } };
 
-    ghost invariant = { λ s. IsSound (conn_of {S = S} (record { boot = s.boot; key = s.key; local = s.local; south = s.south; endpoint = s.endpoint; north = s.north })) };
+    ghost invariant = { λ s. IsSound (conn_of {S = S} (record {
+      boot = s.boot;
+      key = s.key;
+      local = s.local;
+      south = s.south;
+      endpoint = s.endpoint;
+      north = s.north;
+    })) };
 }
 
 impl<S: Service> Spliced<S> {
@@ -87,7 +94,8 @@ impl<S: Service> Spliced<S> {
     pub fn hand_on(self) -> Conn<S>
         ensures value { result ≡ conn_of self }
         ensures sound { IsSound result }
-        ensures law { (fresh : S) (e : Entry) (i : ℕ) → IsSpliced (machine fresh S.after) e i self → StandsBefore (machine fresh S.after) result (point_of (machine fresh S.after) e) }
+        ensures law { (fresh : S) (e : Entry) (i : ℕ) → IsSpliced (machine fresh S.after) e i self
+            → StandsBefore (machine fresh S.after) result (point_of (machine fresh S.after) e) }
     {
         let Spliced {
             boot,
