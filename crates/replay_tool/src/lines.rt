@@ -41,7 +41,8 @@ fn write_packet(
 ) -> Result<(), NoMemory>
     requires { IsStanding (kept world.now) }
     ensures { OnOk result ((schedule : Schedule) (events : List Asked) (trace : List Moment) (p : Packet)
-        → StandsAfter any_machine schedule events trace (kept world.now) → packet_at (packets_of schedule trace) n ≡ Some p → lines.new.items ≡ lines.old.items ++ packet_line n (reported_way schedule p) p) }
+        → StandsAfter any_machine schedule events trace (kept world.now) → packet_at (packets_of schedule trace) n ≡ Some p
+        → lines.new.items ≡ lines.old.items ++ packet_line n (reported_way schedule p) p) }
 {
     worlds_keep_what_was_sent::<AnyService>();
     let Some(way) = world.way(n) else {
@@ -64,7 +65,8 @@ fn write_packets(
     requires stands { IsStanding (kept world.now) }
     requires numbers { first + count < 2 ^ 32 }
     ensures { OnOk result ((schedule : Schedule) (events : List Asked) (trace : List Moment) (before sent : List Packet)
-        → StandsAfter any_machine schedule events trace (kept world.now) → packets_of schedule trace ≡ before ++ sent → first ≡ length before + 1 → count ≡ length sent
+        → StandsAfter any_machine schedule events trace (kept world.now) → packets_of schedule trace ≡ before ++ sent → first ≡ length before + 1
+        → count ≡ length sent
         → lines.new.items ≡ lines.old.items ++ packet_lines (clients_of schedule.server schedule.clients) first sent) }
 {
     for k in 0..count {
@@ -85,7 +87,8 @@ pub(crate) fn write_played(
     requires stands { IsStanding (kept world.now) }
     requires numbers { answer.first + answer.count < 2 ^ 32 }
     ensures { OnOk result ((schedule : Schedule) (events : List Asked) (trace : List Moment) (before sent : List Packet)
-        → StandsAfter any_machine schedule events trace (kept world.now) → packets_of schedule trace ≡ before ++ sent → answer.first ≡ length before + 1 → answer.count ≡ length sent
+        → StandsAfter any_machine schedule events trace (kept world.now) → packets_of schedule trace ≡ before ++ sent → answer.first ≡ length before + 1
+        → answer.count ≡ length sent
         → lines.new.items ≡ lines.old.items ++ (event_line n event.now ++ packet_lines (clients_of schedule.server schedule.clients) answer.first sent)) }
 {
     write_event(alloc, n, event, lines)?;

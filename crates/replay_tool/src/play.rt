@@ -88,8 +88,9 @@ fn close(
     report: &mut Report,
 ) -> Result<(), NoMemory>
     requires { length world.now.clients.items ≤ 16 }
-    ensures ok { OnOk result (report.new.held.items ≡ report.old.held.items ++ (client_lines 1 world.now.clients.items ++ (flat_map log_line world.now.log.entries
-        ++ end_line n))) }
+    ensures ok { OnOk result (report.new.held.items
+        ≡ report.old.held.items
+        ++ (client_lines 1 world.now.clients.items ++ (flat_map log_line world.now.log.entries ++ end_line n))) }
     ensures err { OnErr result (report.new.held.items ≡ report.old.held.items) }
 {
     report.lines.clear();
