@@ -22,7 +22,8 @@ pub fn line_ignores_cuts()
 /// At the end of 64 bits the line number stands still. No run is so long, so this is said of the state.
 pub fn line_number_stands_still()
     ensures state { (held : List ℕ) → (line_after (record { finished = 2 ^ 64 - 1; held = held }) (codes "\n")).next.finished ≡ 2 ^ 64 - 1 }
-    ensures output { (held : List ℕ) → held ≢ codes "quit" → (line_after (record { finished = 2 ^ 64 - 1; held = held }) (codes "\n")).output ≡ numbered (2 ^ 64 - 1) held }
+    ensures output { (held : List ℕ) → held ≢ codes "quit"
+        → (line_after (record { finished = 2 ^ 64 - 1; held = held }) (codes "\n")).output ≡ numbered (2 ^ 64 - 1) held }
 {}
 
 /// Transfer writes the same, however its input is cut.
@@ -32,6 +33,8 @@ pub fn transfer_ignores_cuts()
 
 /// Transfer gives each request before the first 0 as many bytes as it says, at most 2,047, and they are one pattern throughout.
 pub fn transfer_gives_what_is_asked()
-    ensures size { (chunks : List (List ℕ)) (ended : Bool) → NoneEmpty chunks → length (fold transfer_machine (chunks_of chunks ended)).output ≡ total_size (joined chunks) }
-    ensures pattern { (chunks : List (List ℕ)) (ended : Bool) → NoneEmpty chunks → (fold transfer_machine (chunks_of chunks ended)).output ≡ pattern 0 (total_size (joined chunks)) }
+    ensures size { (chunks : List (List ℕ)) (ended : Bool) → NoneEmpty chunks
+        → length (fold transfer_machine (chunks_of chunks ended)).output ≡ total_size (joined chunks) }
+    ensures pattern { (chunks : List (List ℕ)) (ended : Bool) → NoneEmpty chunks
+        → (fold transfer_machine (chunks_of chunks ended)).output ≡ pattern 0 (total_size (joined chunks)) }
 {}
