@@ -71,7 +71,8 @@ fn phase_word(phase: Phase) -> &'static [u8]
 
 /// Writes how a connection stands in the log. Without memory `out` stays as it was.
 pub fn write_log_line(alloc: Global, entry: &LogLine<'_>, out: &mut Vec<u8>) -> Result<(), NoMemory>
-    ensures ok { OnOk result (out.new.items ≡ out.old.items ++ entry_line entry.now.key entry.now.length entry.now.fin entry.now.acked entry.now.done entry.now.reads.now) }
+    ensures ok { OnOk result (out.new.items
+        ≡ out.old.items ++ entry_line entry.now.key entry.now.length entry.now.fin entry.now.acked entry.now.done entry.now.reads.now) }
     ensures err { OnErr result (out.new.items ≡ out.old.items) }
 {
     let mut line = LineOut::open(alloc, out);
@@ -81,7 +82,8 @@ pub fn write_log_line(alloc: Global, entry: &LogLine<'_>, out: &mut Vec<u8>) -> 
 
 #[tactic(auto, using(crate::proofs::LineLemmas::line_rules), unfolding(ft_model::specs::Report::entry_line))]
 fn put_log(entry: &LogLine<'_>, line: &mut LineOut) -> Result<(), NoMemory>
-    ensures ok { OnOk result (line.new.words ≡ line.old.words ++ entry_line entry.now.key entry.now.length entry.now.fin entry.now.acked entry.now.done entry.now.reads.now) }
+    ensures ok { OnOk result (line.new.words
+        ≡ line.old.words ++ entry_line entry.now.key entry.now.length entry.now.fin entry.now.acked entry.now.done entry.now.reads.now) }
     ensures before { line.new.before ≡ line.old.before }
 {
     line.append(b"log")?;
@@ -94,7 +96,8 @@ fn put_log(entry: &LogLine<'_>, line: &mut LineOut) -> Result<(), NoMemory>
 /// Whether a connection is over, and the lengths of its reads.
 #[tactic(auto, using(crate::proofs::LineLemmas::line_rules))]
 fn put_standing(entry: &LogLine<'_>, line: &mut LineOut) -> Result<(), NoMemory>
-    ensures ok { OnOk result (line.new.words ≡ line.old.words ++ spaced (codes "done" ∷ bit_text entry.now.done ∷ codes "reads" ∷ list_text entry.now.reads.now ∷ [])) }
+    ensures ok { OnOk result (line.new.words
+        ≡ line.old.words ++ spaced (codes "done" ∷ bit_text entry.now.done ∷ codes "reads" ∷ list_text entry.now.reads.now ∷ [])) }
     ensures before { line.new.before ≡ line.old.before }
 {
     put_bit(b" done ", entry.done, line)?;
@@ -105,7 +108,9 @@ fn put_standing(entry: &LogLine<'_>, line: &mut LineOut) -> Result<(), NoMemory>
 /// How much of a connection is logged, and how much of its output is acknowledged.
 #[tactic(auto, using(crate::proofs::LineLemmas::line_rules))]
 fn put_counts(entry: &LogLine<'_>, line: &mut LineOut) -> Result<(), NoMemory>
-    ensures ok { OnOk result (line.new.words ≡ line.old.words ++ spaced (codes "length" ∷ decimal entry.now.length ∷ codes "fin" ∷ bit_text entry.now.fin ∷ codes "acked" ∷ decimal entry.now.acked ∷ [])) }
+    ensures ok { OnOk result (line.new.words
+        ≡ line.old.words ++ spaced (codes "length" ∷ decimal entry.now.length ∷ codes "fin" ∷ bit_text entry.now.fin ∷ codes "acked" ∷ decimal entry.now.acked
+        ∷ [])) }
     ensures before { line.new.before ≡ line.old.before }
 {
     put_field(b" length ", u64::from(entry.length), line)?;

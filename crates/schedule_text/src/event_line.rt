@@ -2,7 +2,8 @@
 
 ghost use Rattle.std.specs.Prelude.{◌≡◌, ◌-◌, ◌^◌, ◌≤◌, ℕ, List, [], ◌∷◌, IfOk, MatchResult};
 ghost use Rattle.ft_model.specs.Words.{words_of};
-ghost use Rattle.ft_model.specs.Grammar.{number, boot_number, packet_number, client_number, window, long_number, boot_line, bare_line, deliver_line, flip_line, client_and_window, send_line, client_alone, event_line};
+ghost use Rattle.ft_model.specs.Grammar.{number, boot_number, packet_number, client_number, window, long_number, boot_line, bare_line, deliver_line, flip_line};
+ghost use Rattle.ft_model.specs.Grammar.{client_and_window, send_line, client_alone, event_line};
 
 use crate::spelling::read_number;
 use crate::words::next_word;
@@ -20,7 +21,8 @@ pub(crate) fn word_of(words: &[u8]) -> Result<(&[u8], &[u8]), LineWhy>
 
 /// Tests that no further word stands there.
 pub(crate) fn end_of(words: &[u8]) -> Result<(), LineWhy>
-    ensures { MatchResult result (λ _. words_of words.now ≡ []) (λ e. (first : List ℕ) × (more : List (List ℕ)) × (words_of words.now ≡ first ∷ more) × (e ≡ LineWhy.Count)) }
+    ensures { MatchResult result (λ _. words_of words.now ≡ [])
+        (λ e. (first : List ℕ) × (more : List (List ℕ)) × (words_of words.now ≡ first ∷ more) × (e ≡ LineWhy.Count)) }
 {
     match next_word(words) {
         Some(_) => Err(LineWhy::Count),

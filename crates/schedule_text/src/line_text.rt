@@ -3,7 +3,8 @@
 
 ghost use Rattle.std.specs.Prelude.{◌≡◌, ◌<◌, ◌≤◌, ◌∷◌, [], ◌++◌, codes, decimal, length, take, drop, OnOk};
 ghost use Rattle.hex.specs.Hex.{encode_lower};
-ghost use Rattle.ft_model.specs.Texts.{or_dash, behind_commas, hex_text, list_text, address_text, letter_if, flag_letters, flags_text, mss_text, bit_text, way_text};
+ghost use Rattle.ft_model.specs.Texts.{or_dash, behind_commas, hex_text, list_text, address_text, letter_if, flag_letters, flags_text, mss_text, bit_text};
+ghost use Rattle.ft_model.specs.Texts.{way_text};
 
 use crate::line_out::LineOut;
 use ft_io::NoMemory;

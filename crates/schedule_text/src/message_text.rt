@@ -172,7 +172,9 @@ fn put_standing(
     acked: u32,
     line: &mut LineOut,
 ) -> Result<(), NoMemory>
-    ensures ok { OnOk result (line.new.words ≡ line.old.words ++ spaced (codes "fin" ∷ bit_text (is_set fin) ∷ codes "done" ∷ bit_text (is_set done) ∷ codes "reads" ∷ decimal reads ∷ codes "acked" ∷ decimal acked ∷ [])) }
+    ensures ok { OnOk result (line.new.words
+        ≡ line.old.words ++ spaced (codes "fin" ∷ bit_text (is_set fin) ∷ codes "done" ∷ bit_text (is_set done) ∷ codes "reads" ∷ decimal reads ∷ codes "acked"
+        ∷ decimal acked ∷ [])) }
     ensures before { line.new.before ≡ line.old.before }
 {
     put_bit(b" fin ", fin == 1, line)?;
@@ -184,7 +186,8 @@ fn put_standing(
 /// Logged bytes.
 #[tactic(auto, using(crate::proofs::LineLemmas::line_rules))]
 fn put_part(key: Key, offset: u32, bytes: &[u8], line: &mut LineOut) -> Result<(), NoMemory>
-    ensures ok { OnOk result (line.new.words ≡ line.old.words ++ spaced (codes "key" ∷ key_text key ∷ codes "offset" ∷ decimal offset ∷ codes "bytes" ∷ hex_text bytes.now ∷ [])) }
+    ensures ok { OnOk result (line.new.words
+        ≡ line.old.words ++ spaced (codes "key" ∷ key_text key ∷ codes "offset" ∷ decimal offset ∷ codes "bytes" ∷ hex_text bytes.now ∷ [])) }
     ensures before { line.new.before ≡ line.old.before }
 {
     put_place(key, b" offset ", offset, line)?;
@@ -202,7 +205,13 @@ fn put_data(
     bytes: &[u8],
     line: &mut LineOut,
 ) -> Result<(), NoMemory>
-    ensures ok { OnOk result (line.new.words ≡ line.old.words ++ spaced (part_words (record { key = key; offset = offset; acked = acked; fin = is_set fin; bytes = bytes.now }))) }
+    ensures ok { OnOk result (line.new.words ≡ line.old.words ++ spaced (part_words (record {
+      key = key;
+      offset = offset;
+      acked = acked;
+      fin = is_set fin;
+      bytes = bytes.now;
+    }))) }
     ensures before { line.new.before ≡ line.old.before }
 {
     put_place(key, b" offset ", offset, line)?;
@@ -225,7 +234,8 @@ fn put_read(key: Key, index: u32, length: u16, line: &mut LineOut) -> Result<(),
 /// Logged lengths of reads.
 #[tactic(auto, using(crate::proofs::LineLemmas::line_rules))]
 fn put_lens(key: Key, first: u32, lens: &[u8], line: &mut LineOut) -> Result<(), NoMemory>
-    ensures ok { OnOk result (line.new.words ≡ line.old.words ++ spaced (codes "key" ∷ key_text key ∷ codes "first" ∷ decimal first ∷ codes "lens" ∷ list_text (lens_in lens.now) ∷ [])) }
+    ensures ok { OnOk result (line.new.words
+        ≡ line.old.words ++ spaced (codes "key" ∷ key_text key ∷ codes "first" ∷ decimal first ∷ codes "lens" ∷ list_text (lens_in lens.now) ∷ [])) }
     ensures before { line.new.before ≡ line.old.before }
 {
     put_place(key, b" first ", first, line)?;

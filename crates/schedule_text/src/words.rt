@@ -23,7 +23,8 @@ fn position_of(bytes: &[u8], mark: u8) -> usize
 /// The piece before a mark and what stands behind the mark, or nothing where there is no mark.
 #[tactic(auto, using(crate::proofs::Pieces::slice_split_whole, crate::proofs::Pieces::slice_split_at_mark, std::proofs::lemmas::List::take_rest))]
 pub(crate) fn next_piece(bytes: &[u8], mark: u8) -> Option<(&[u8], &[u8])>
-    ensures pieces { MatchOption result (slice_split (is mark) bytes.now ≡ bytes.now ∷ []) (λ p. slice_split (is mark) bytes.now ≡ p.0.now ∷ slice_split (is mark) p.1.now) }
+    ensures pieces { MatchOption result (slice_split (is mark) bytes.now ≡ bytes.now ∷ [])
+        (λ p. slice_split (is mark) bytes.now ≡ p.0.now ∷ slice_split (is mark) p.1.now) }
     ensures shorter { IfSome result (λ p. length p.1.now < length bytes.now) }
 {
     let end = position_of(bytes, mark);
@@ -36,7 +37,9 @@ pub(crate) fn next_piece(bytes: &[u8], mark: u8) -> Option<(&[u8], &[u8])>
 /// The whole, if no mark stands in it.
 #[tactic(auto, using(crate::proofs::Pieces::two_pieces))]
 pub(crate) fn last_piece(bytes: &[u8], mark: u8) -> Option<&[u8]>
-    ensures { MatchOption result ((first : List ℕ) × (second : List ℕ) × (more : List (List ℕ)) × (slice_split (is mark) bytes.now ≡ first ∷ second ∷ more)) (λ piece. slice_split (is mark) bytes.now ≡ piece.now ∷ []) }
+    ensures { MatchOption result
+        ((first : List ℕ) × (second : List ℕ) × (more : List (List ℕ)) × (slice_split (is mark) bytes.now ≡ first ∷ second ∷ more))
+        (λ piece. slice_split (is mark) bytes.now ≡ piece.now ∷ []) }
 {
     match next_piece(bytes, mark) {
         Some(_) => None,
