@@ -36,7 +36,9 @@ pub struct Dice {
 }
 
 impl Dice {
-    ghost use Rattle.seed_run.specs.Events.{server_event as server_lem, risky_event as risky_lem, delivery as delivery_lem, text_event as text_lem, progress as progress_lem, acknowledgement as acknowledgement_lem, client_event as client_lem, next_event as next_lem};
+    ghost use Rattle.seed_run.specs.Events.{server_event as server_lem, risky_event as risky_lem, delivery as delivery_lem, text_event as text_lem};
+    ghost use Rattle.seed_run.specs.Events.{progress as progress_lem, acknowledgement as acknowledgement_lem, client_event as client_lem};
+    ghost use Rattle.seed_run.specs.Events.{next_event as next_lem};
 
     /// A number of 31 bits.
     fn draw(&mut self) -> u32

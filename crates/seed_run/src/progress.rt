@@ -46,7 +46,8 @@ impl Progress {
         requires clients { (clients ≡ length world.now.clients.items) × (0 < clients) }
         requires totals { (n : ℕ) (c : Seen) → client_at world.now.clients.items n ≡ Some c → length c.script ≡ 1000 * n }
         requires boots { self.old.boots < 2 ^ 32 }
-        ensures drawn { record { event = result; state = self.new.dice.draws.state } ≡ next_lem self.old.dice.draws.state self.old.packets world.now.clients.items (record { is_up = is_some world.now.node; boots = self.old.boots }) }
+        ensures drawn { record { event = result; state = self.new.dice.draws.state }
+            ≡ next_lem self.old.dice.draws.state self.old.packets world.now.clients.items (record { is_up = is_some world.now.node; boots = self.old.boots }) }
         ensures counts { self.new ≡ record self.old { dice = self.new.dice } }
     {
         let server = ServerNow {
@@ -60,7 +61,11 @@ impl Progress {
     fn count(&mut self, event: &Event, answer: StepOut)
         requires packets { self.old.packets + answer.count < 2 ^ 32 }
         requires events { (self.old.boots < 2 ^ 32) × (self.old.crashes < 2 ^ 32) }
-        ensures { self.new ≡ record self.old { packets = self.old.packets + answer.count; boots = self.old.boots + one_if (is_boot event.now); crashes = self.old.crashes + one_if (is_crash event.now) } }
+        ensures { self.new ≡ record self.old {
+          packets = self.old.packets + answer.count;
+          boots = self.old.boots + one_if (is_boot event.now);
+          crashes = self.old.crashes + one_if (is_crash event.now);
+        } }
     {
         self.packets += answer.count;
         match event {

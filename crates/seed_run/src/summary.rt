@@ -44,7 +44,8 @@ fn put_field(name: &[u8], n: u64, lines: &mut Vec<u8>) -> Result<(), NoMemory>
 /// Appends what was asked, and what came of it.
 #[tactic(auto, using(std::proofs::Common::append_assoc), unfolding(crate::specs::Summary::first_line))]
 fn put_first(asked: Asked, progress: &Progress, lines: &mut Vec<u8>) -> Result<(), NoMemory>
-    ensures { OnOk result (lines.new.items ≡ lines.old.items ++ first_lem asked.seed asked.clients asked.events progress.now.packets progress.now.boots progress.now.crashes) }
+    ensures { OnOk result (lines.new.items
+        ≡ lines.old.items ++ first_lem asked.seed asked.clients asked.events progress.now.packets progress.now.boots progress.now.crashes) }
 {
     put_field(b"seed ", asked.seed, lines)?;
     put_field(b" clients ", u64::from(asked.clients), lines)?;
@@ -81,7 +82,8 @@ pub(crate) fn summarize(
     requires clients { asked.clients ≡ length world.now.clients.items }
     requires totals { (n : ℕ) (c : Seen) → client_at world.now.clients.items n ≡ Some c → length c.script ≡ 1000 * n }
     ensures { IfOk result (λ lines. lines.items
-        ≡ first_lem asked.seed asked.clients asked.events progress.now.packets progress.now.boots progress.now.crashes ++ client_results 1 world.now.clients.items) }
+        ≡ first_lem asked.seed asked.clients asked.events progress.now.packets progress.now.boots progress.now.crashes
+        ++ client_results 1 world.now.clients.items) }
 {
     let mut lines = Vec::new(alloc);
     put_first(asked, progress, &mut lines)?;
