@@ -2,7 +2,8 @@
 
 ghost use Rattle.std.specs.Prelude.{◌≡◌, ◌≤◌, ◌<◌, ◌+◌, ◌-◌, ◌*◌, ◌^◌, ◌≢◌, true, false, length, drop, slice_index, ◌∷◌, IfNone, IfSome};
 ghost use Rattle.std.specs.Option.{option_or};
-ghost use Rattle.seq_arith.specs.PacketGrammar.{ip_tests, tcp_tests, first_that_holds, segment_in, head_in, unless, reading, payload_at, options_in, has_bad_option, mss_in};
+ghost use Rattle.seq_arith.specs.PacketGrammar.{ip_tests, tcp_tests, first_that_holds, segment_in, head_in, unless, reading, payload_at, options_in};
+ghost use Rattle.seq_arith.specs.PacketGrammar.{has_bad_option, mss_in};
 ghost use Rattle.segment_codec.specs.Options.{option_rest};
 ghost use Rattle.segment_codec.specs.Value.{said, seen};
 

@@ -54,7 +54,8 @@ pub fn set_ack(head: &mut [u8], ack: Seq)
 /// Gives a packet another window, in bytes, as `set_seq` gives it another sequence number.
 pub fn set_window(head: &mut [u8], window: u16)
     requires { length head.old ≡ 40 }
-    ensures read { (rest : List ℕ) → IsOk (reading (head.old ++ rest)) → reading (head.new ++ rest) ≡ changed (with_window window) (reading (head.old ++ rest)) }
+    ensures read { (rest : List ℕ) → IsOk (reading (head.old ++ rest))
+        → reading (head.new ++ rest) ≡ changed (with_window window) (reading (head.old ++ rest)) }
     ensures summed { (rest : List ℕ) → sealed (head.old ++ rest) ≡ head.old ++ rest → head.new ++ rest ≡ sealed (put 34 (two window) (head.old ++ rest)) }
     ensures canonical { (segment : Segment) (rest : List ℕ) → head.old ++ rest ≡ spelling segment → head.new ++ rest ≡ spelling (with_window window segment) }
     ensures bytes { head.new ≡ patched_at 34 window head.old }
