@@ -1,7 +1,8 @@
 //! Laws of the words in `specs`, each the clause of a function that does nothing: what a crate above may cite. Most say that a test on
 //! numbers or on offsets stays as it is where both its sides move by one number.
 
-ghost use Rattle.std.specs.Prelude.{◌≡◌, ◌<◌, ◌≤◌, ◌+◌, ◌-◌, ◌*◌, ◌/◌, ◌%◌, ◌^◌, ℕ, ℤ, pos, ◌+ℤ◌, ◌-ℤ◌, ◌≤ℤ◌, Bool, false, List, ◌∷◌, ◌++◌, length, take, drop, nat_abs, Ok, IsErr};
+ghost use Rattle.std.specs.Prelude.{◌≡◌, ◌<◌, ◌≤◌, ◌+◌, ◌-◌, ◌*◌, ◌/◌, ◌%◌, ◌^◌, ℕ, ℤ, pos, ◌+ℤ◌, ◌-ℤ◌, ◌≤ℤ◌, Bool, false, List, ◌∷◌, ◌++◌, length, take, drop};
+ghost use Rattle.std.specs.Prelude.{nat_abs, Ok, IsErr};
 ghost use Rattle.seq_arith.specs.Number.{gap, number_at, offset_of};
 ghost use Rattle.seq_arith.specs.Arrival.{is_acceptable, below, text_between, is_new_ack, is_beyond, una_after, updates_window};
 ghost use Rattle.seq_arith.specs.Checksum.{word_sum, odd_after, check_of, Summed, with_bytes};
@@ -121,7 +122,8 @@ pub fn lengthened_packet_is_refused()
 
 /// A message with one bit inverted is refused.
 pub fn flipped_message_is_refused()
-    ensures { (bit : ℕ) (bytes : List ℕ) (message : Message) → message_reading bytes ≡ Ok message → bit < 8 * length bytes → IsErr (message_reading (flipped bit bytes)) }
+    ensures { (bit : ℕ) (bytes : List ℕ) (message : Message) → message_reading bytes ≡ Ok message → bit < 8 * length bytes
+        → IsErr (message_reading (flipped bit bytes)) }
 {}
 
 /// So is a message that lost bytes at its end.
