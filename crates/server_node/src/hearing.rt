@@ -39,9 +39,11 @@ fn tell_slot<S: Service>(
 ) -> Result<(), NoMemory>
     requires sound { IsSoundSlot slot.old }
     requires sendable { IsSendable m.now }
-    ensures turn { OnOk result ((stage : Stage) (place : Place) (kept : Kept) → m.now.boot ≡ who.boot → logged_in (message_of m.now).body ≡ Some kept → kept.key ≡ key
+    ensures turn { OnOk result ((stage : Stage) (place : Place) (kept : Kept) → m.now.boot ≡ who.boot → logged_in (message_of m.now).body ≡ Some kept
+        → kept.key ≡ key
         → SlotStands (machine (S.started who.kind) S.after) (node_of who stage) key slot.old place
-        → SlotGoes (machine (S.started who.kind) S.after) (node_of who stage) (Message_comes (message_of m.now)) key place slot.new sent.old.items sent.new.items) }
+        → SlotGoes (machine (S.started who.kind) S.after) (node_of who stage)
+        (Message_comes (message_of m.now)) key place slot.new sent.old.items sent.new.items) }
     ensures sound { OnOk result (IsSoundSlot slot.new) }
 {
     match slot {
@@ -62,9 +64,11 @@ pub(crate) fn tell_known<S: Service>(
 ) -> Result<(), NoMemory>
     requires sound { AllSound slots.old.entries }
     requires sendable { IsSendable m.now }
-    ensures turn { OnOk result ((stage : Stage) (places : List Place) (kept : Kept) → m.now.boot ≡ who.boot → logged_in (message_of m.now).body ≡ Some kept → kept.key ≡ key
+    ensures turn { OnOk result ((stage : Stage) (places : List Place) (kept : Kept) → m.now.boot ≡ who.boot → logged_in (message_of m.now).body ≡ Some kept
+        → kept.key ≡ key
         → AllStand (machine (S.started who.kind) S.after) (node_of who stage) slots.old.entries places
-        → AllSlotsGo (machine (S.started who.kind) S.after) (node_of who stage) (Message_comes (message_of m.now)) places slots.new.entries sent.old.items sent.new.items) }
+        → AllSlotsGo (machine (S.started who.kind) S.after) (node_of who stage)
+        (Message_comes (message_of m.now)) places slots.new.entries sent.old.items sent.new.items) }
     ensures sound { OnOk result (AllSound slots.new.entries) }
 {
     if let Some(slot) = slots.get_mut(&key) {
@@ -85,7 +89,8 @@ fn end_slot<S: Service>(slot: &mut Slot<S>)
 /// The end of a connection is logged.
 pub(crate) fn end_known<S: Service>(key: Key, slots: &mut IndexMap<Key, Slot<S>>)
     requires { AllSound slots.old.entries }
-    ensures turn { (service : Machine S) (node : Node) (places : List Place) (message : Message) (told : List Wire) → message ≡ record { boot = node.boot; body = EndedMsg key }
+    ensures turn { (service : Machine S) (node : Node) (places : List Place) (message : Message) (told : List Wire)
+        → message ≡ record { boot = node.boot; body = EndedMsg key }
         → AllStand service node slots.old.entries places → AllSlotsGo service node (Message_comes message) places slots.new.entries told told }
     ensures sound { AllSound slots.new.entries }
 {
@@ -144,9 +149,11 @@ pub(crate) fn open_known<S: Service>(
     requires least { 64 ≤ numbers.mss }
     requires most { numbers.mss ≤ 1460 }
     requires sound { AllSound slots.old.entries }
-    ensures turn { OnOk result ((stage : Stage) (places : List Place) (message : Message) → message ≡ record { boot = who.boot; body = OpenedMsg (numbers_of key numbers) }
+    ensures turn { OnOk result ((stage : Stage) (places : List Place) (message : Message)
+        → message ≡ record { boot = who.boot; body = OpenedMsg (numbers_of key numbers) }
         → AllStand (machine (S.started who.kind) S.after) (node_of who stage) slots.old.entries places
-        → AllSlotsGo (machine (S.started who.kind) S.after) (node_of who stage) (Message_comes message) places slots.new.entries sent.old.items sent.new.items) }
+        → AllSlotsGo (machine (S.started who.kind) S.after) (node_of who stage)
+        (Message_comes message) places slots.new.entries sent.old.items sent.new.items) }
     ensures sound { OnOk result (AllSound slots.new.entries) }
 {
     let Some(opening) = opening_at(key, slots) else {
@@ -172,7 +179,8 @@ pub(crate) fn refuse_known<S: Service>(
     requires sound { AllSound slots.old.entries }
     ensures turn { OnOk result ((stage : Stage) (places : List Place) (message : Message) → message ≡ record { boot = who.boot; body = FullMsg key }
         → AllStand (machine (S.started who.kind) S.after) (node_of who stage) slots.old.entries places
-        → AllSlotsGo (machine (S.started who.kind) S.after) (node_of who stage) (Message_comes message) places slots.new.entries sent.old.items sent.new.items) }
+        → AllSlotsGo (machine (S.started who.kind) S.after) (node_of who stage)
+        (Message_comes message) places slots.new.entries sent.old.items sent.new.items) }
     ensures sound { OnOk result (AllSound slots.new.entries) }
 {
     let Some(opening) = opening_at(key, slots) else {
@@ -197,7 +205,8 @@ pub(crate) fn hear<S: Service>(
     requires sound { AllSound slots.old.entries }
     ensures turn { OnOk result ((stage : Stage) (places : List Place) → m.now.boot ≡ who.boot
         → AllStand (machine (S.started who.kind) S.after) (node_of who stage) slots.old.entries places
-        → AllSlotsGo (machine (S.started who.kind) S.after) (node_of who stage) (Message_comes (message_of m.now)) places slots.new.entries sent.old.items sent.new.items) }
+        → AllSlotsGo (machine (S.started who.kind) S.after) (node_of who stage)
+        (Message_comes (message_of m.now)) places slots.new.entries sent.old.items sent.new.items) }
     ensures sound { OnOk result (AllSound slots.new.entries) }
 {
     match m.body {

@@ -15,5 +15,6 @@ use server_trait::Service;
 /// and the north wrapper's counts agree with it, and until the connection is over or reset its TCP is neither CLOSED nor reset, and its numbers
 /// are the point's, each less delta.
 pub fn lent_connections_tell_their_point<S: Service>()
-    ensures { (fresh : S) (server : Addr) (boot : ℕ) (p : Point) (c : ConnState S) → IsSound c → Stands (machine fresh S.after) server boot c p → TellsItsPoint (machine fresh S.after) p c }
+    ensures { (fresh : S) (server : Addr) (boot : ℕ) (p : Point) (c : ConnState S) → IsSound c → Stands (machine fresh S.after) server boot c p
+        → TellsItsPoint (machine fresh S.after) p c }
 {}

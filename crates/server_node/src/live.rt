@@ -38,7 +38,8 @@ pub(crate) fn begin_live<S: Service>(
     requires boot { 1 ≤ who.boot }
     requires least { 64 ≤ numbers.mss }
     requires most { numbers.mss ≤ 1460 }
-    ensures turn { IfOk result (λ conn. ConnGoes (machine (S.started who.kind) S.after) who.local who.boot Becomes_live (point_opened (numbers_of key numbers)) conn sent.old.items sent.new.items) }
+    ensures turn { IfOk result (λ conn. ConnGoes (machine (S.started who.kind) S.after) who.local who.boot Becomes_live
+        (point_opened (numbers_of key numbers)) conn sent.old.items sent.new.items) }
     ensures sound { IfOk result (λ conn. IsSound conn) }
 {
     let mut conn = Conn::first(

@@ -92,9 +92,11 @@ impl<S: Service> Node<S> {
         ensures turn { OnOk result ((standing : Standing) → IsNearInput (input_of input.entry) standing
             → IsSoundInput (machine (S.started self.old.who.kind) S.after) (node_of self.old.who standing) (input_of input.entry) standing
             → StageStands (machine (S.started self.old.who.kind) S.after) (node_of self.old.who standing) self.old.stage
-            → NodeGoes (machine (S.started self.old.who.kind) S.after) (node_of self.old.who standing) (input_of input.entry) self.old.who self.new.stage self.new.sent.items) }
+            → NodeGoes (machine (S.started self.old.who.kind) S.after) (node_of self.old.who standing)
+            (input_of input.entry) self.old.who self.new.stage self.new.sent.items) }
         ensures unfenced { OnOk result ((standing : Standing) → fence (node_of self.old.who standing) (input_of input.entry) ≡ None) }
-        ensures fenced { IfErr result (λ end. IsFence end (λ newer. (standing : Standing) → fence (node_of self.old.who standing) (input_of input.entry) ≡ Some newer)) }
+        ensures fenced { IfErr result (λ end. IsFence end (λ newer. (standing : Standing)
+            → fence (node_of self.old.who standing) (input_of input.entry) ≡ Some newer)) }
         ensures memory { IsErrOf result TurnEnd.NoMemory → (standing : Standing) → fence (node_of self.old.who standing) (input_of input.entry) ≡ None }
         ensures same { self.new.who ≡ self.old.who }
     {
@@ -107,13 +109,16 @@ impl<S: Service> Node<S> {
     /// One turn, which lends what it sends. After an error the node may only be dropped. A Stale of its boot that names a larger one ends it by
     /// `Fenced`, also where there is no memory left, and nothing else does.
     pub fn turn(&mut self, alloc: Global, input: Input<'_>) -> Result<&[OutPacket], TurnEnd>
-        ensures* after { sem 𝓛 (follows_so (the_row S.row S.Service) (the_row S.row S.Service) self.entry.ghost_name none (λ _ _. ⊤) (λ node. IfOk result (λ sent.
-            (node.who ≡ self.old.who) × (node.sent.items ≡ sent.now) × ((standing : Standing) → IsNearInput (input_of input.entry) standing
+        ensures* after { sem 𝓛 (follows_so (the_row S.row S.Service) (the_row S.row S.Service) self.entry.ghost_name none (λ _ _. ⊤)
+            (λ node. IfOk result (λ sent. (node.who ≡ self.old.who) × (node.sent.items ≡ sent.now) × ((standing : Standing)
+            → IsNearInput (input_of input.entry) standing
             → IsSoundInput (machine (S.started self.old.who.kind) S.after) (node_of self.old.who standing) (input_of input.entry) standing
             → StageStands (machine (S.started self.old.who.kind) S.after) (node_of self.old.who standing) self.old.stage
-            → NodeGoes (machine (S.started self.old.who.kind) S.after) (node_of self.old.who standing) (input_of input.entry) self.old.who node.stage sent.now)))) }
+            → NodeGoes (machine (S.started self.old.who.kind) S.after) (node_of self.old.who standing)
+            (input_of input.entry) self.old.who node.stage sent.now)))) }
         ensures unfenced { OnOk result ((standing : Standing) → fence (node_of self.old.who standing) (input_of input.entry) ≡ None) }
-        ensures fenced { IfErr result (λ end. IsFence end (λ newer. (standing : Standing) → fence (node_of self.old.who standing) (input_of input.entry) ≡ Some newer)) }
+        ensures fenced { IfErr result (λ end. IsFence end (λ newer. (standing : Standing)
+            → fence (node_of self.old.who standing) (input_of input.entry) ≡ Some newer)) }
         ensures memory { IsErrOf result TurnEnd.NoMemory → (standing : Standing) → fence (node_of self.old.who standing) (input_of input.entry) ≡ None }
     {
         self.advance(alloc, input)?;

@@ -170,7 +170,8 @@ pub(crate) fn admit<S: Service>(
     requires sound { AllSound slots.old.entries }
     requires strange { lookup (key_eq key) slots.old.entries ≡ None }
     ensures turn { OnOk result ((stage : Stage) (opened : ℕ) (places : List Place) (segment : Segment) → segment.head ≡ said head.now → source_of segment ≡ key
-        → is_for who.local segment ≡ true → next.old.0 ≡ initial_number who.isn opened → AllStand (machine (S.started who.kind) S.after) (node_of who stage) slots.old.entries places
+        → is_for who.local segment ≡ true → next.old.0 ≡ initial_number who.isn opened
+        → AllStand (machine (S.started who.kind) S.after) (node_of who stage) slots.old.entries places
         → Admits (machine (S.started who.kind) S.after) (node_of who stage) segment opened places next.new.0 slots.new.entries sent.old.items sent.new.items) }
     ensures sound { OnOk result (AllSound slots.new.entries) }
 {

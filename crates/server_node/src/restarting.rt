@@ -46,7 +46,8 @@ pub(crate) fn begin_fetching<S: Service>(
 ) -> Result<Stage<S>, NoMemory>
     requires boot { 1 ≤ who.boot }
     requires few { count ≤ 64 }
-    ensures turn { IfOk result (λ after. (standing : Standing) → StageGoes (machine (S.started who.kind) S.after) who [] (Fetches (machine (S.started who.kind) S.after) (node_of who standing) count [])
+    ensures turn { IfOk result (λ after. (standing : Standing)
+        → StageGoes (machine (S.started who.kind) S.after) who [] (Fetches (machine (S.started who.kind) S.after) (node_of who standing) count [])
         after sent.old.items sent.new.items) }
     ensures sound { IfOk result (λ after. IsSoundStage who after) }
 {
@@ -68,10 +69,12 @@ pub(crate) fn take_answer<S: Service>(
     requires boot { 1 ≤ who.boot }
     requires sendable { IsSendable m.now }
     requires own { IsOwn who fetching }
-    ensures turn { IfOk result (λ after. (standing : Standing) (count : ℕ) (fetched : List Fetched) → FetchingStands (machine (S.started who.kind) S.after) count fetched fetching
+    ensures turn { IfOk result (λ after. (standing : Standing) (count : ℕ) (fetched : List Fetched)
+        → FetchingStands (machine (S.started who.kind) S.after) count fetched fetching
         → IfSome (fetched_then (node_of who standing) (message_of m.now) count fetched) (AreSound (machine (S.started who.kind) S.after))
         → StageGoes (machine (S.started who.kind) S.after) who (fetched_by (node_of who standing) (Fetches_on count fetched) (Message_comes (message_of m.now)))
-        (StageTurn (machine (S.started who.kind) S.after) (node_of who standing) (Fetches_on count fetched) (Message_comes (message_of m.now))) after sent.old.items sent.new.items) }
+        (StageTurn (machine (S.started who.kind) S.after) (node_of who standing) (Fetches_on count fetched)
+        (Message_comes (message_of m.now))) after sent.old.items sent.new.items) }
     ensures sound { IfOk result (λ after. IsSoundStage who after) }
 {
     if !fetching.on_answer(alloc, m)? {
@@ -90,9 +93,11 @@ fn go_on<S: Service>(
 ) -> Result<Stage<S>, NoMemory>
     requires boot { 1 ≤ who.boot }
     requires own { IsOwn who fetching }
-    ensures turn { IfOk result (λ after. (standing : Standing) (count : ℕ) (fetched : List Fetched) → FetchingStands (machine (S.started who.kind) S.after) count fetched fetching
+    ensures turn { IfOk result (λ after. (standing : Standing) (count : ℕ) (fetched : List Fetched)
+        → FetchingStands (machine (S.started who.kind) S.after) count fetched fetching
         → AreSound (machine (S.started who.kind) S.after) fetched
-        → StageGoes (machine (S.started who.kind) S.after) who fetched (Fetches (machine (S.started who.kind) S.after) (node_of who standing) count fetched) after sent.old.items sent.new.items) }
+        → StageGoes (machine (S.started who.kind) S.after) who fetched
+        (Fetches (machine (S.started who.kind) S.after) (node_of who standing) count fetched) after sent.old.items sent.new.items) }
     ensures sound { IfOk result (λ after. IsSoundStage who after) }
 {
     if ask(alloc, who, &fetching, sent)? {
@@ -110,9 +115,11 @@ pub(crate) fn ask<S: Service>(
     sent: &mut Outgoing,
 ) -> Result<bool, NoMemory>
     requires { IsOwn who fetching.now }
-    ensures turn { OnOk result ((standing : Standing) (count : ℕ) (fetched : List Fetched) → FetchingStands (machine (S.started who.kind) S.after) count fetched fetching.now
+    ensures turn { OnOk result ((standing : Standing) (count : ℕ) (fetched : List Fetched)
+        → FetchingStands (machine (S.started who.kind) S.after) count fetched fetching.now
         → ArePut (asked (node_of who standing) (wanted count fetched)) sent.old.items sent.new.items) }
-    ensures missing { IfOk result (λ asks. (count : ℕ) (fetched : List Fetched) → FetchingStands (machine (S.started who.kind) S.after) count fetched fetching.now
+    ensures missing { IfOk result (λ asks. (count : ℕ) (fetched : List Fetched)
+        → FetchingStands (machine (S.started who.kind) S.after) count fetched fetching.now
         → asks ≡ is_some (wanted count fetched)) }
     ensures asks { IfOk result (λ asks. asks ≡ is_some (asked_of fetching.now)) }
 {
@@ -173,7 +180,8 @@ pub(crate) fn hold<S: Service>(
     requires own { IsOwn who fetching.now }
     requires accepted { IsOk (reading packet.now) }
     ensures { OnOk result ((standing : Standing) (count : ℕ) (fetched : List Fetched) (segment : Segment) → reading packet.now ≡ Ok segment
-        → FetchingStands (machine (S.started who.kind) S.after) count fetched fetching.now → ArePut (held (node_of who standing) fetched segment) sent.old.items sent.new.items) }
+        → FetchingStands (machine (S.started who.kind) S.after) count fetched fetching.now
+        → ArePut (held (node_of who standing) fetched segment) sent.old.items sent.new.items) }
 {
     let head = read_accepted(packet).head;
     if !may_be_held(who, &head) {

@@ -42,7 +42,8 @@ pub(crate) fn restore_all<S: Service>(
     sent: &mut Outgoing,
 ) -> Result<Serving<S>, NoMemory>
     requires { 1 ≤ who.boot }
-    ensures turn { IfOk result (λ serving. (standing : Standing) (fetched : List Fetched) → StandsWhole (machine (S.started who.kind) S.after) (reverse fetched) entries
+    ensures turn { IfOk result (λ serving. (standing : Standing) (fetched : List Fetched)
+        → StandsWhole (machine (S.started who.kind) S.after) (reverse fetched) entries
         → AreDistinct fetched → AreSound (machine (S.started who.kind) S.after) fetched
         → AreRestored (machine (S.started who.kind) S.after) (node_of who standing) fetched serving sent.old.items sent.new.items) }
     ensures sound { IfOk result (λ serving. AllSound serving.slots.entries) }
@@ -68,7 +69,8 @@ fn restore<S: Service>(
 ) -> Result<(), NoMemory>
     requires boot { 1 ≤ who.boot }
     requires sound { AllSound serving.old.slots.entries }
-    ensures turn { OnOk result ((standing : Standing) (f : Fetched) (fetched : List Fetched) (first : List Wire) → RestoredIs (machine (S.started who.kind) S.after) f entry
+    ensures turn { OnOk result ((standing : Standing) (f : Fetched) (fetched : List Fetched) (first : List Wire)
+        → RestoredIs (machine (S.started who.kind) S.after) f entry
         → (f.head.done ≡ false → IsSoundEntry (machine (S.started who.kind) S.after) (entry_in f)) → is_fetched f.head.key fetched ≡ false
         → AreRestored (machine (S.started who.kind) S.after) (node_of who standing) fetched serving.old first sent.old.items
         → AreRestored (machine (S.started who.kind) S.after) (node_of who standing) (f ∷ fetched) serving.new first sent.new.items) }
@@ -97,7 +99,8 @@ fn revive<S: Service>(
     requires boot { 1 ≤ who.boot }
     ensures turn { IfOk result (λ slot. (standing : Standing) (e : Entry) → IsReplayed (machine (S.started who.kind) S.after) e replayed
         → IsSoundEntry (machine (S.started who.kind) S.after) e
-        → SlotRevives (machine (S.started who.kind) S.after) (node_of who standing) e.key (Lives (point_of (machine (S.started who.kind) S.after) e)) slot sent.old.items sent.new.items) }
+        → SlotRevives (machine (S.started who.kind) S.after) (node_of who standing) e.key
+        (Lives (point_of (machine (S.started who.kind) S.after) e)) slot sent.old.items sent.new.items) }
     ensures number { IfOk result (λ slot. (fresh : S) (e : Entry) → IsReplayed (machine fresh S.after) e replayed → IsSoundEntry (machine fresh S.after) e
         → IsNumbered (machine fresh S.after) e isn.0 (conn_in (Some slot))) }
     ensures sound { IfOk result (λ slot. IsSoundSlot slot) }

@@ -51,7 +51,8 @@ pub(crate) fn serve_tick<S: Service>(
 ) -> Result<(), NoMemory>
     requires boot { 1 ≤ who.boot }
     requires sound { AllSound serving.old.slots.entries }
-    ensures turn { OnOk result ((stage : Stage) (opened : ℕ) (places : List Place) → ServingStands (machine (S.started who.kind) S.after) (node_of who stage) opened places serving.old
+    ensures turn { OnOk result ((stage : Stage) (opened : ℕ) (places : List Place)
+        → ServingStands (machine (S.started who.kind) S.after) (node_of who stage) opened places serving.old
         → ServingGoes (machine (S.started who.kind) S.after) (node_of who stage) Tick_comes opened places serving.new sent.old.items sent.new.items) }
     ensures sound { OnOk result (AllSound serving.new.slots.entries) }
 {
@@ -71,8 +72,10 @@ pub(crate) fn serve_message<S: Service>(
     requires boot { 1 ≤ who.boot }
     requires sendable { IsSendable m.now }
     requires sound { AllSound serving.old.slots.entries }
-    ensures turn { OnOk result ((stage : Stage) (opened : ℕ) (places : List Place) → m.now.boot ≡ who.boot → ServingStands (machine (S.started who.kind) S.after) (node_of who stage) opened places serving.old
-        → ServingGoes (machine (S.started who.kind) S.after) (node_of who stage) (Message_comes (message_of m.now)) opened places serving.new sent.old.items sent.new.items) }
+    ensures turn { OnOk result ((stage : Stage) (opened : ℕ) (places : List Place) → m.now.boot ≡ who.boot
+        → ServingStands (machine (S.started who.kind) S.after) (node_of who stage) opened places serving.old
+        → ServingGoes (machine (S.started who.kind) S.after) (node_of who stage)
+        (Message_comes (message_of m.now)) opened places serving.new sent.old.items sent.new.items) }
     ensures sound { OnOk result (AllSound serving.new.slots.entries) }
 {
     hear(alloc, who, m, &mut serving.slots, out, sent)
@@ -97,9 +100,11 @@ pub(crate) fn serve_packet<S: Service>(
     requires boot { 1 ≤ who.boot }
     requires accepted { IsOk (reading packet.old) }
     requires sound { AllSound serving.old.slots.entries }
-    ensures turn { OnOk result ((stage : Stage) (opened : ℕ) (places : List Place) (segment : Segment) → reading packet.old ≡ Ok segment → AllByRecursion (IsNearTo segment) places
+    ensures turn { OnOk result ((stage : Stage) (opened : ℕ) (places : List Place) (segment : Segment) → reading packet.old ≡ Ok segment
+        → AllByRecursion (IsNearTo segment) places
         → ServingStands (machine (S.started who.kind) S.after) (node_of who stage) opened places serving.old
-        → ServingGoes (machine (S.started who.kind) S.after) (node_of who stage) (Packet_comes segment) opened places serving.new sent.old.items sent.new.items) }
+        → ServingGoes (machine (S.started who.kind) S.after) (node_of who stage)
+        (Packet_comes segment) opened places serving.new sent.old.items sent.new.items) }
     ensures sound { OnOk result (AllSound serving.new.slots.entries) }
 {
     let head = read_accepted(packet).head;
@@ -129,10 +134,12 @@ fn serve_known<S: Service>(
     requires accepted { IsOk (reading packet.old) }
     requires sound { AllSound serving.old.slots.entries }
     requires known { IsSome (lookup (key_eq key) serving.old.slots.entries) }
-    ensures turn { OnOk result ((stage : Stage) (opened : ℕ) (places : List Place) (segment : Segment) → reading packet.old ≡ Ok segment → segment.head ≡ said head.now
+    ensures turn { OnOk result ((stage : Stage) (opened : ℕ) (places : List Place) (segment : Segment) → reading packet.old ≡ Ok segment
+        → segment.head ≡ said head.now
         → source_of segment ≡ key → is_for who.local segment ≡ true → AllByRecursion (IsNearTo segment) places
         → ServingStands (machine (S.started who.kind) S.after) (node_of who stage) opened places serving.old
-        → ServingGoes (machine (S.started who.kind) S.after) (node_of who stage) (Packet_comes segment) opened places serving.new sent.old.items sent.new.items) }
+        → ServingGoes (machine (S.started who.kind) S.after) (node_of who stage)
+        (Packet_comes segment) opened places serving.new sent.old.items sent.new.items) }
     ensures sound { OnOk result (AllSound serving.new.slots.entries) }
 {
     give_known(alloc, who, key, &mut serving.slots, packet, out, sent)?;
@@ -153,10 +160,12 @@ fn serve_strange<S: Service>(
     requires accepted { IsOk (reading packet.now) }
     requires sound { AllSound serving.old.slots.entries }
     requires strange { lookup (key_eq key) serving.old.slots.entries ≡ None }
-    ensures turn { OnOk result ((stage : Stage) (opened : ℕ) (places : List Place) (segment : Segment) → reading packet.now ≡ Ok segment → segment.head ≡ said head.now
+    ensures turn { OnOk result ((stage : Stage) (opened : ℕ) (places : List Place) (segment : Segment) → reading packet.now ≡ Ok segment
+        → segment.head ≡ said head.now
         → source_of segment ≡ key → is_for who.local segment ≡ true
         → ServingStands (machine (S.started who.kind) S.after) (node_of who stage) opened places serving.old
-        → ServingGoes (machine (S.started who.kind) S.after) (node_of who stage) (Packet_comes segment) opened places serving.new sent.old.items sent.new.items) }
+        → ServingGoes (machine (S.started who.kind) S.after) (node_of who stage)
+        (Packet_comes segment) opened places serving.new sent.old.items sent.new.items) }
     ensures sound { OnOk result (AllSound serving.new.slots.entries) }
 {
     refuse_unknown(alloc, who, packet, sent)?;

@@ -144,7 +144,8 @@ fn on_summary<S: Service>(
     requires sendable { IsSendable m.now }
     requires empty { sent.old.items ≡ [] }
     ensures turn { IfOk result (λ after. (standing : Standing) → m.now.boot ≡ who.boot → fence (node_of who standing) (Message_comes (message_of m.now)) ≡ None
-        → standing ≡ Asking → NodeGoes (machine (S.started who.kind) S.after) (node_of who standing) (Message_comes (message_of m.now)) who after sent.new.items) }
+        → standing ≡ Asking → NodeGoes (machine (S.started who.kind) S.after) (node_of who standing)
+        (Message_comes (message_of m.now)) who after sent.new.items) }
     ensures sound { IfOk result (λ after. IsSoundStage who after) }
 {
     let Some(count) = count_in(&m.body) else {
@@ -191,7 +192,8 @@ fn hear<S: Service>(
         → StageStands (machine (S.started who.kind) S.after) (node_of who standing) stage
         → NodeGoes (machine (S.started who.kind) S.after) (node_of who standing) (Message_comes (message_of m.now)) who after sent.new.items) }
     ensures unfenced { IfOk result (λ after. (standing : Standing) → fence (node_of who standing) (Message_comes (message_of m.now)) ≡ None) }
-    ensures fenced { IfErr result (λ end. IsFence end (λ newer. (standing : Standing) → fence (node_of who standing) (Message_comes (message_of m.now)) ≡ Some newer)) }
+    ensures fenced { IfErr result (λ end. IsFence end (λ newer. (standing : Standing)
+        → fence (node_of who standing) (Message_comes (message_of m.now)) ≡ Some newer)) }
     ensures memory { IsErrOf result TurnEnd.NoMemory → (standing : Standing) → fence (node_of who standing) (Message_comes (message_of m.now)) ≡ None }
     ensures sound { IfOk result (λ after. IsSoundStage who after) }
 {
@@ -217,7 +219,8 @@ fn on_packet<S: Service>(
     requires accepted { IsOk (reading packet.now) }
     requires sound { IsSoundStage who stage }
     requires empty { sent.old.items ≡ [] }
-    ensures turn { IfOk result (λ after. (standing : Standing) (segment : Segment) → reading packet.now ≡ Ok segment → IsNearInput (Packet_comes segment) standing
+    ensures turn { IfOk result (λ after. (standing : Standing) (segment : Segment) → reading packet.now ≡ Ok segment
+        → IsNearInput (Packet_comes segment) standing
         → StageStands (machine (S.started who.kind) S.after) (node_of who standing) stage
         → NodeGoes (machine (S.started who.kind) S.after) (node_of who standing) (Packet_comes segment) who after sent.new.items) }
     ensures sound { IfOk result (λ after. IsSoundStage who after) }
@@ -248,9 +251,11 @@ fn serve_bytes<S: Service>(
     requires boot { 1 ≤ who.boot }
     requires accepted { IsOk (reading packet.now) }
     requires sound { AllSound serving.old.slots.entries }
-    ensures turn { OnOk result ((stage : Standing) (opened : ℕ) (places : List Place) (segment : Segment) → reading packet.now ≡ Ok segment → AllByRecursion (IsNearTo segment) places
+    ensures turn { OnOk result ((stage : Standing) (opened : ℕ) (places : List Place) (segment : Segment) → reading packet.now ≡ Ok segment
+        → AllByRecursion (IsNearTo segment) places
         → ServingStands (machine (S.started who.kind) S.after) (node_of who stage) opened places serving.old
-        → ServingGoes (machine (S.started who.kind) S.after) (node_of who stage) (Packet_comes segment) opened places serving.new sent.old.items sent.new.items) }
+        → ServingGoes (machine (S.started who.kind) S.after) (node_of who stage)
+        (Packet_comes segment) opened places serving.new sent.old.items sent.new.items) }
     ensures sound { OnOk result (AllSound serving.new.slots.entries) }
 {
     let mut text = [0; 1_500];
@@ -271,7 +276,8 @@ fn copied<'a>(packet: &[u8], room: &'a mut [u8; 1_500]) -> &'a mut [u8]
 
 /// The connection of a key, while it is live.
 pub(crate) fn conn_in<S: Service>(stage: &Stage<S>, key: Key) -> Option<&Conn<S>>
-    ensures stands { (service : Machine S) (node : Node) → StageStands service node stage.now → IsConnAt service node (option_copied result) (place_in key node.stage) }
+    ensures stands { (service : Machine S) (node : Node) → StageStands service node stage.now
+        → IsConnAt service node (option_copied result) (place_in key node.stage) }
     ensures sound { (who : Incarnation) → IsSoundStage who stage.now → IfSome result (λ c. IsSound c.now) }
 {
     match stage {
