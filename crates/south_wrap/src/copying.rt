@@ -40,7 +40,8 @@ impl South {
     fn copies_fin(&self, segment: &PacketRef<'_>, first: i64, len: usize) -> bool
         requires begins { nat_abs first ≤ 2 ^ 31 }
         requires most { len ≤ 1460 }
-        ensures { result ≡ (fin_of (segment_of segment.now) && (self.now.fin && int_eq (first +ℤ pos len) (pos self.now.taken) && nat_le self.now.answered self.now.taken)) }
+        ensures { result ≡ (fin_of (segment_of segment.now)
+            && (self.now.fin && int_eq (first +ℤ pos len) (pos self.now.taken) && nat_le self.now.answered self.now.taken)) }
     {
         ends(segment) && self.is_end(first + len as i64)
     }

@@ -20,7 +20,8 @@ impl South {
         ensures answer { IfOk (reading packet.old) (λ segment. result ≡ answer_in self.old segment) }
         ensures state { self.new ≡ self.old }
         ensures read { reading packet.new ≡ changed (passed_in self.old) (reading packet.old) }
-        ensures canonical { (segment : Segment) → reading packet.old ≡ Ok segment → packet.old ≡ spelling segment → packet.new ≡ spelling (passed_in self.old segment) }
+        ensures canonical { (segment : Segment) → reading packet.old ≡ Ok segment → packet.old ≡ spelling segment
+            → packet.new ≡ spelling (passed_in self.old segment) }
     {
         let head = read_accepted(packet).head;
         if self.repeats_syn(&head) {
@@ -38,7 +39,8 @@ impl South {
         ensures answer { IfOk (reading packet.old) (λ segment. result ≡ not (has_rst segment)) }
         ensures state { self.new ≡ self.old }
         ensures read { reading packet.new ≡ changed (passed_out self.old) (reading packet.old) }
-        ensures canonical { (segment : Segment) → reading packet.old ≡ Ok segment → packet.old ≡ spelling segment → packet.new ≡ spelling (passed_out self.old segment) }
+        ensures canonical { (segment : Segment) → reading packet.old ≡ Ok segment → packet.old ≡ spelling segment
+            → packet.new ≡ spelling (passed_out self.old segment) }
     {
         let head = read_accepted(packet).head;
         if has(head.flags, RST) {

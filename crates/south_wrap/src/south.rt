@@ -64,7 +64,8 @@ impl Model for South {
       sent = s.sent;
     } };
 
-    ghost invariant = { λ s. (s.fetched ≤ 2 ^ 24) × (s.taken ≤ 2 ^ 24) × (s.answered ≤ 2 ^ 24 + 1) × (s.read ≤ 2 ^ 24) × (s.una ≤ 2 ^ 24 + 1) × (s.sent ≤ 2 ^ 25 + 1) };
+    ghost invariant = { λ s. (s.fetched ≤ 2 ^ 24) × (s.taken ≤ 2 ^ 24) × (s.answered ≤ 2 ^ 24 + 1) × (s.read ≤ 2 ^ 24) × (s.una ≤ 2 ^ 24 + 1)
+        × (s.sent ≤ 2 ^ 25 + 1) };
 }
 
 impl South {
