@@ -6,7 +6,9 @@ ghost use Rattle.segment_codec.specs.Value.{segment_of};
 ghost use Rattle.seq_arith.specs.Offset.{length_of};
 ghost use Rattle.tcp_buffers.specs.Near.{IsNearFirst};
 ghost use Rattle.tcp_endpoint.specs.Sending.{IsShort};
-ghost use Rattle.tcp_endpoint.specs.Arrival.{first, ack_at, refusing, refusing_without_ack, owing_if, killed, entering, in_closed, begun, in_listen, answered, in_syn_sent, with_text_and_fin, with_fin_acked, with_first_ack, with_ack, check_ack, check_syn, check_rst, waiting_again, check_place, in_others, received, within_ip};
+ghost use Rattle.tcp_endpoint.specs.Arrival.{first, ack_at, refusing, refusing_without_ack, owing_if, killed, entering, in_closed, begun, in_listen, answered};
+ghost use Rattle.tcp_endpoint.specs.Arrival.{in_syn_sent, with_text_and_fin, with_fin_acked, with_first_ack, with_ack, check_ack, check_syn, check_rst};
+ghost use Rattle.tcp_endpoint.specs.Arrival.{waiting_again, check_place, in_others, received, within_ip};
 
 use crate::endpoint::Endpoint;
 use crate::states::StateName;

@@ -51,7 +51,21 @@ impl Model for Endpoint {
 
     ghost Value = { Tcb };
 
-    ghost view = { λ e. record { local = e.local; remote = e.remote; name = e.name; reset = e.reset; receiving = e.receiver; sending = e.sender; wait = e.wait; told_next = e.told_next; told_edge = e.told_edge; owed = e.owed; again = e.again; probe = e.probe; answer = e.answer } };
+    ghost view = { λ e. record {
+      local = e.local;
+      remote = e.remote;
+      name = e.name;
+      reset = e.reset;
+      receiving = e.receiver;
+      sending = e.sender;
+      wait = e.wait;
+      told_next = e.told_next;
+      told_edge = e.told_edge;
+      owed = e.owed;
+      again = e.again;
+      probe = e.probe;
+      answer = e.answer;
+    } };
 }
 
 impl Endpoint {

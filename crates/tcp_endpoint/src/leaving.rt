@@ -1,13 +1,16 @@
 //! The end of a turn: what goes out, in order (RFC 9293, 3.7, 3.8.1, 3.8.6.1 and 3.10.7.4), and the timer.
 
-ghost use Rattle.std.specs.Prelude.{◌≡◌, ℕ, ◌+◌, ◌*◌, ◌-◌, ◌<◌, ◌≤◌, ◌==◌, ◌&&◌, ◌||◌, Bool, true, false, None, Some, List, [], ◌∷◌, ◌++◌, length, if◌then◌else◌};
+ghost use Rattle.std.specs.Prelude.{◌≡◌, ℕ, ◌+◌, ◌*◌, ◌-◌, ◌<◌, ◌≤◌, ◌==◌, ◌&&◌, ◌||◌, Bool, true, false, None, Some, List, [], ◌∷◌, ◌++◌, length};
+ghost use Rattle.std.specs.Prelude.{if◌then◌else◌};
 ghost use Rattle.seq_arith.specs.Packet.{Segment};
 ghost use Rattle.seq_arith.specs.PacketGrammar.{spelling};
 ghost use Rattle.segment_codec.specs.Value.{said};
 ghost use Rattle.segment_codec.specs.Written.{segment_with};
 ghost use Rattle.tcp_endpoint.specs.Packets.{byte_count, IsReadable, AreReadable};
 ghost use Rattle.tcp_endpoint.specs.Sending.{in_flight};
-ghost use Rattle.tcp_endpoint.specs.Leaving.{head_at, opening_segment, text_at, fin_at, texts, answer_out, again_out, probe_out, with_probe, text_out, with_text_sent, new_length, fin_out, with_fin_out, is_owed, bare_segment, leaving, announced, is_timed, with_turn_ended, flushed, packets, or_bare};
+ghost use Rattle.tcp_endpoint.specs.Leaving.{head_at, opening_segment, text_at, fin_at, texts, answer_out, again_out, probe_out, with_probe, text_out};
+ghost use Rattle.tcp_endpoint.specs.Leaving.{with_text_sent, new_length, fin_out, with_fin_out, is_owed, bare_segment, leaving, announced, is_timed};
+ghost use Rattle.tcp_endpoint.specs.Leaving.{with_turn_ended, flushed, packets, or_bare};
 
 use crate::endpoint::Endpoint;
 use crate::outbox::Outbox;
@@ -260,7 +263,8 @@ impl Endpoint {
         ensures sent { out.new ≡ or_bare (is_owed self.now) (spelling (bare_segment self.now)) out.old }
         ensures count { length out.new ≤ length out.old + 1 }
         ensures bytes { byte_count out.new ≤ byte_count out.old + 40 }
-        ensures readable { (full : List Segment) → out.old ≡ packets full → AreReadable full → AreReadable (or_bare (is_owed self.now) (bare_segment self.now) full) }
+        ensures readable { (full : List Segment) → out.old ≡ packets full → AreReadable full
+            → AreReadable (or_bare (is_owed self.now) (bare_segment self.now) full) }
     {
         if self.sends_bare(out) {
             let seq = self.sender.number_behind(self.sender.in_flight());

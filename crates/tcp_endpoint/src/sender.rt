@@ -1,12 +1,14 @@
 //! The sending half of a connection: the one place that compares numbers of the own stream, modulo 2^32. Contracts see offsets in the own
 //! stream, whatever its initial number.
 
-ghost use Rattle.std.specs.Prelude.{◌≡◌, ℕ, ◌+◌, ◌-◌, ◌%◌, ◌^◌, ◌<◌, ◌≤◌, ◌==◌, ◌&&◌, pos, int_le, Bool, false, true, not, List, [], ◌++◌, length, min, take, drop, if◌then◌else◌};
+ghost use Rattle.std.specs.Prelude.{◌≡◌, ℕ, ◌+◌, ◌-◌, ◌%◌, ◌^◌, ◌<◌, ◌≤◌, ◌==◌, ◌&&◌, pos, int_le, Bool, false, true, not, List, [], ◌++◌, length, min, take};
+ghost use Rattle.std.specs.Prelude.{drop, if◌then◌else◌};
 ghost use Rattle.seq_arith.specs.Number.{number_at, offset_of};
 ghost use Rattle.seq_arith.specs.Arrival.{int_eq};
 ghost use Rattle.seq_arith.specs.Packet.{segment_size};
 ghost use Rattle.tcp_buffers.specs.Near.{is_ahead};
-ghost use Rattle.tcp_endpoint.specs.Sending.{sending_from, opened_by, acknowledged, fin_acked, in_flight, is_unacknowledged, expires, ticked, must_run, timed, sendable, sends_fin, resent_length, with_sent, with_fin_sent, units_of, was_sent, NumbersFit, IsShort};
+ghost use Rattle.tcp_endpoint.specs.Sending.{sending_from, opened_by, acknowledged, fin_acked, in_flight, is_unacknowledged, expires, ticked, must_run, timed};
+ghost use Rattle.tcp_endpoint.specs.Sending.{sendable, sends_fin, resent_length, with_sent, with_fin_sent, units_of, was_sent, NumbersFit, IsShort};
 
 use seq_arith::{Seq, segment_size};
 use std::marker::Model;
@@ -153,7 +155,8 @@ impl Sender {
     pub(crate) fn on_ack(&mut self, seq: Seq, ack: Seq, window: u16) -> bool
         ensures used { IsShort self.old → result ≡ not (is_ahead self.old.sent (offset_of self.old.iss ack.0)) }
         ensures state { IsShort self.old
-            → self.new ≡ (if is_ahead self.old.sent (offset_of self.old.iss ack.0) then self.old else acknowledged self.old seq.0 (offset_of self.old.iss ack.0) window) }
+            → self.new ≡ (if is_ahead self.old.sent (offset_of self.old.iss ack.0) then self.old
+            else acknowledged self.old seq.0 (offset_of self.old.iss ack.0) window) }
     {
         fit(&self.numbers, seq, ack);
         let kind = self.numbers.on_ack(seq, ack, window);
