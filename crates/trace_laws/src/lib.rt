@@ -39,15 +39,18 @@ pub fn logged_entries_are_sound<S: Service>()
 /// the front of a sound one.
 pub fn fetched_entries_are_sound<S: Service>()
     ensures whole { (kind : ℕ) (start : World) (trace : List Moment) (node : Node) (input : Input) → Joint (machine (S.started kind) S.after) start trace
-        → (world_after start trace).node ≡ Some node → MayCome (world_after start trace) input → IsSoundInput (machine (S.started kind) S.after) node input node.stage }
+        → (world_after start trace).node ≡ Some node → MayCome (world_after start trace) input
+        → IsSoundInput (machine (S.started kind) S.after) node input node.stage }
     ensures front { (kind : ℕ) (start : World) (trace : List Moment) (node : Node) (input : Input) → Joint (machine (S.started kind) S.after) start trace
-        → (world_after start trace).node ≡ Some node → MayCome (world_after start trace) input → HasSoundFronts (machine (S.started kind) S.after) node input node.stage }
+        → (world_after start trace).node ≡ Some node → MayCome (world_after start trace) input
+        → HasSoundFronts (machine (S.started kind) S.after) node input node.stage }
 {}
 
 /// A run over the front of a sound entry is short, in whichever order bytes and lengths come: its reads that have their bytes put out at most
 /// 2^24 bytes.
 pub fn fronts_run_short<S: Service>()
-    ensures { (kind : ℕ) (f : Fetched) (lengths : List ℕ) → IsSoundFront (machine (S.started kind) S.after) f → IsPrefix lengths f.lengths → sum lengths ≤ length f.bytes
+    ensures { (kind : ℕ) (f : Fetched) (lengths : List ℕ) → IsSoundFront (machine (S.started kind) S.after) f → IsPrefix lengths f.lengths
+        → sum lengths ≤ length f.bytes
         → length (reference (machine (S.started kind) S.after) f.bytes lengths).output ≤ 2 ^ 24 }
 {}
 
@@ -81,13 +84,15 @@ pub fn premises_hold<S: Service>()
 
 /// What may leave, the output of the reads that are answered, is a front of the output of all reads.
 pub fn answered_output_is_a_front<S: Service>()
-    ensures { (kind : ℕ) (p : Point) → IsPrefix (answered_run (machine (S.started kind) S.after) p).output (whole_run (machine (S.started kind) S.after) p).output }
+    ensures { (kind : ℕ) (p : Point)
+        → IsPrefix (answered_run (machine (S.started kind) S.after) p).output (whole_run (machine (S.started kind) S.after) p).output }
 {}
 
 /// A live turn sends all that may leave, up to the client's right edge.
 pub fn turns_send_what_may_leave<S: Service>()
     ensures { (kind boot : ℕ) (server : Addr) (news : News) (before after : Point) (sent : List Packet)
-        → LiveTurn (machine (S.started kind) S.after) server boot news before after sent → min (target (machine (S.started kind) S.after) after) after.edge ≤ after.sent }
+        → LiveTurn (machine (S.started kind) S.after) server boot news before after sent
+        → min (target (machine (S.started kind) S.after) after) after.edge ≤ after.sent }
 {}
 
 /// Nearness needs its premise: in a trace with one moment in which a client sends what is no move, a packet is under way that isn't near to a
