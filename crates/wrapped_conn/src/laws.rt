@@ -32,35 +32,50 @@ pub fn joined_connections_stand_at_the_entry<S: Service>()
     ensures { (fresh : S) (boot : ℕ) (local : Addr) (e : Entry) (i : ℕ) (n : NorthState S) → GoesOnFrom (machine fresh S.after) e i
         → HasReplayed (machine fresh S.after) (point_of (machine fresh S.after) e) (resumed_at (machine fresh S.after) e) n
         → StandsBefore (machine fresh S.after)
-        (joined_conn boot e.key local (south_at (delta_from (machine fresh S.after) e i) (point_of (machine fresh S.after) e)) (spliced e.key local e.cisn (length e.bytes) e.mss i e.fin) n)
-        (point_of (machine fresh S.after) e) }
+        (joined_conn boot e.key local (south_at (delta_from (machine fresh S.after) e i) (point_of (machine fresh S.after) e))
+        (spliced e.key local e.cisn (length e.bytes) e.mss i e.fin) n) (point_of (machine fresh S.after) e) }
 {}
 
 /// The turn in which a connection becomes live: a new one from the point that its client's SYN opens, and one at the end of a restart from where its
 /// parts stand.
 pub fn connections_start_as_the_law_says<S: Service>()
-    ensures new { (fresh : S) (boot : ℕ) (local : Addr) (numbers : Numbers) (new : ConnState S) (segments messages : List (List ℕ)) → MayOpen numbers → IsSound new
+    ensures new { (fresh : S) (boot : ℕ) (local : Addr) (numbers : Numbers) (new : ConnState S) (segments messages : List (List ℕ)) → MayOpen numbers
+        → IsSound new
         → Starts S.after (first_conn boot numbers.key local numbers.cisn numbers.sisn numbers.mss fresh) new segments messages
         → Leads (machine fresh S.after) local boot Begins (point_opened numbers) new segments messages }
-    ensures joined { (fresh : S) (p : Point) (old new : ConnState S) (segments messages : List (List ℕ)) → IsSound old → IsSound new → StandsBefore (machine fresh S.after) old p
+    ensures joined { (fresh : S) (p : Point) (old new : ConnState S) (segments messages : List (List ℕ)) → IsSound old → IsSound new
+        → StandsBefore (machine fresh S.after) old p
         → Starts S.after old new segments messages → Leads (machine fresh S.after) old.local old.boot Begins p new segments messages }
 {}
 
 /// A segment's turn, also of one that resets the connection, and of one that comes after that.
 pub fn connections_receive_as_the_law_says<S: Service>()
-    ensures { (fresh : S) (p : Point) (segment : Segment) (old new : ConnState S) (segments messages : List (List ℕ)) → IsSound old → IsSound new → Stands (machine fresh S.after) old p
+    ensures { (fresh : S) (p : Point) (segment : Segment) (old new : ConnState S) (segments messages : List (List ℕ)) → IsSound old → IsSound new
+        → Stands (machine fresh S.after) old p
         → NewsFit p (Comes segment) → Receives S.after segment old new segments messages
         → Leads (machine fresh S.after) old.local old.boot (Comes segment) p new segments messages }
 {}
 
 /// The turn of a message that says how much of the connection is logged.
 pub fn connections_hear_as_the_law_says<S: Service>()
-    ensures stable { (fresh : S) (p : Point) (key : Key) (length fin reads : ℕ) (old new : ConnState S) (segments messages : List (List ℕ)) → IsSound old → IsSound new
+    ensures stable { (fresh : S) (p : Point) (key : Key) (length fin reads : ℕ) (old new : ConnState S) (segments messages : List (List ℕ)) → IsSound old
+        → IsSound new
         → Stands (machine fresh S.after) old p → IsTold S.after (StableMsg key length fin reads) old new segments messages
-        → Leads (machine fresh S.after) old.local old.boot (Logged (record { key = key; length = length; fin = is_set fin; reads = reads })) p new segments messages }
-    ensures reads { (fresh : S) (p : Point) (key : Key) (length fin reads : ℕ) (old new : ConnState S) (segments messages : List (List ℕ)) → IsSound old → IsSound new
+        → Leads (machine fresh S.after) old.local old.boot (Logged (record {
+          key = key;
+          length = length;
+          fin = is_set fin;
+          reads = reads;
+        })) p new segments messages }
+    ensures reads { (fresh : S) (p : Point) (key : Key) (length fin reads : ℕ) (old new : ConnState S) (segments messages : List (List ℕ)) → IsSound old
+        → IsSound new
         → Stands (machine fresh S.after) old p → IsTold S.after (ReadsMsg key length fin reads) old new segments messages
-        → Leads (machine fresh S.after) old.local old.boot (Logged (record { key = key; length = length; fin = is_set fin; reads = reads })) p new segments messages }
+        → Leads (machine fresh S.after) old.local old.boot (Logged (record {
+          key = key;
+          length = length;
+          fin = is_set fin;
+          reads = reads;
+        })) p new segments messages }
 {}
 
 /// A tick's turn.

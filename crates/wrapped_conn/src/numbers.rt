@@ -7,7 +7,8 @@ ghost use Rattle.seq_arith.specs.Offset.{length_of as length_of_lem};
 ghost use Rattle.segment_codec.specs.Value.{segment_of, said};
 ghost use Rattle.ft_model.specs.Copy.{from_start};
 ghost use Rattle.tcp_endpoint.specs.States.{is_closed};
-ghost use Rattle.wrapped_conn.specs.Numbers.{has_fin as has_fin_lem, is_over as is_over_lem, bytes_taken, units_taken, announced, una_units, outer_sent, sent_units, logged_units, resets, owes};
+ghost use Rattle.wrapped_conn.specs.Numbers.{has_fin as has_fin_lem, is_over as is_over_lem, bytes_taken, units_taken, announced, una_units, outer_sent};
+ghost use Rattle.wrapped_conn.specs.Numbers.{sent_units, logged_units, resets, owes};
 ghost use Rattle.wrapped_conn.specs.Sound.{IsSound};
 
 use crate::conn::{Conn, STREAM, has_fin, is_over};

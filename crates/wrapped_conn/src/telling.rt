@@ -54,7 +54,13 @@ impl<S: Service> Conn<S> {
         requires most { length bytes.now ≤ 1460 }
         requires few { length out.old ≤ 40 }
         requires short { byte_count out.old ≤ 2048 * length out.old }
-        ensures told { out.new ≡ out.old ++ spelled self.now.boot (DataMsg (record { key = self.now.key; offset = offset; acked = acked; fin = fin; bytes = bytes.now }) ∷ []) }
+        ensures told { out.new ≡ out.old ++ spelled self.now.boot (DataMsg (record {
+          key = self.now.key;
+          offset = offset;
+          acked = acked;
+          fin = fin;
+          bytes = bytes.now;
+        }) ∷ []) }
         ensures few { length out.new ≡ length out.old + 1 }
         ensures short { byte_count out.new ≤ 2048 * length out.new }
     {

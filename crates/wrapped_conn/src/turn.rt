@@ -83,7 +83,9 @@ impl<S: Service> Conn<S> {
         requires accepted { IsOk (reading packet.old) }
         requires no_segment { out.old.segments ≡ [] }
         requires no_message { out.old.messages ≡ [] }
-        ensures turn { OnOk result (IfOk (reading packet.old) (λ segment. GoesOn S.after (before_segment self.old segment) (repeats_syn self.old.south segment) (copies (una_units self.old) segment (arrived segment self.old)) (arrived segment self.old) self.new out.new.segments out.new.messages)) }
+        ensures turn { OnOk result (IfOk (reading packet.old)
+            (λ segment. GoesOn S.after (before_segment self.old segment) (repeats_syn self.old.south segment)
+            (copies (una_units self.old) segment (arrived segment self.old)) (arrived segment self.old) self.new out.new.segments out.new.messages)) }
         ensures sound { OnOk result (IsSound self.new) }
     {
         let before = self.before_segment(packet);
@@ -174,7 +176,8 @@ impl<S: Service> Conn<S> {
     /// The north wrapper's turn.
     fn serve(&mut self, alloc: Global, news: &mut ReadRecords) -> Result<(), NoMemory>
         requires sound { IsSound self.old }
-        ensures north { OnOk result (Turns S.after tcp_reader tcp_writer (una_units self.old) self.old.north self.old.endpoint news.new self.new.north (tcp_used self.old news.new)) }
+        ensures north { OnOk result (Turns S.after tcp_reader tcp_writer (una_units self.old) self.old.north self.old.endpoint news.new self.new.north
+            (tcp_used self.old news.new)) }
         ensures state { OnOk result (self.new ≡ served self.new.north news.new self.old) }
         ensures tellable { OnOk result (AreTellable news.new) }
         ensures sound { OnOk result (IsSound self.new) }
@@ -197,7 +200,8 @@ impl<S: Service> Conn<S> {
         requires no_segment { out.old.segments ≡ [] }
         requires few { length out.old.messages ≤ 1 }
         requires short { byte_count out.old.messages ≤ 2048 * length out.old.messages }
-        ensures turn { (copied : List Told) → out.old.messages ≡ spelled self.old.boot copied → OnOk result (GoesOn S.after before repeats copied self.old self.new out.new.segments out.new.messages) }
+        ensures turn { (copied : List Told) → out.old.messages ≡ spelled self.old.boot copied
+            → OnOk result (GoesOn S.after before repeats copied self.old self.new out.new.segments out.new.messages) }
         ensures sound { OnOk result (IsSound self.new) }
     {
         let mut news = ReadRecords::new();
