@@ -14,14 +14,21 @@ use std::time::Duration;
 /// How long a receive waits for a datagram, in milliseconds.
 const PATIENCE: u64 = 20;
 
+/// How many datagrams may come one behind another without a pause. Who hears without end must see time pass too: two TCPs can
+/// answer each other's segments for ever, and only a timer ends that.
+const BUSY: u32 = 1024;
+
 /// A UDP socket. A call before the first bind that succeeded is a fault, and so is a datagram of an address that isn't IPv4. A
-/// receive that hears nothing for 20 milliseconds gives `Heard::Nothing`.
+/// receive that hears nothing for 20 milliseconds gives `Heard::Nothing`, and so does each receive behind 1,024 datagrams that
+/// came without such a pause; what waits in the socket then stays there for the next.
 #[derive(Drop)]
 pub struct UdpLink<'a, R: Net> {
     net: &'a R,
     socket: Option<UdpSocket>,
     faults: u64,
     bind_faults: u64,
+    /// The datagrams heard since a receive last gave nothing.
+    unpaused: u32,
 }
 
 impl<'a, R: Net> Model for UdpLink<'a, R> {
@@ -42,6 +49,7 @@ impl<'a, R: Net> UdpLink<'a, R> {
             socket: None,
             faults: 0,
             bind_faults: 0,
+            unpaused: 0,
         }
     }
 }
@@ -84,8 +92,19 @@ impl<'a, R: Net> Link for UdpLink<'a, R> {
     }
 
     fn recv(&mut self, buf: &mut [u8]) -> Result<Heard, Failed> {
+        if self.unpaused >= BUSY {
+            self.unpaused = 0;
+            return Ok(Heard::Nothing);
+        }
         match recv_by(&self.socket, buf) {
-            Some(heard) => Ok(heard),
+            Some(Heard::Nothing) => {
+                self.unpaused = 0;
+                Ok(Heard::Nothing)
+            }
+            Some(heard) => {
+                self.unpaused += 1;
+                Ok(heard)
+            }
             None => {
                 self.faults = self.faults.saturating_add(1);
                 Err(Failed)

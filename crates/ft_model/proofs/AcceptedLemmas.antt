@@ -12,7 +12,7 @@ use Rattle.ft_model.specs.Spelling.{numeral, number_of, within, addr_of, is_hex,
 use Rattle.ft_model.specs.Grammar.Refusal.{TooLong}
 use Rattle.ft_model.specs.Grammar.{◌>>=◌, line_of, line_of_words, line_behind, line_from, may_stand, may_join, keyword_of, verb_of, names_no_service, is_printable, client_line, free_address, is_taken, service_line, server_line, event_line, client_number, long_number, Objection, no_objection, unless_objected, after_line, read_lines, read_with, read_text, with_line, is_passed_over, is_too_much, at_line}
 use Rattle.ft_model.specs.Accepted.{AreApart, IsAccepted}
-use Rattle.ft_model.specs.Schedule.{bytes_of, letters}
+use Rattle.ft_model.specs.Schedule.{bytes_of}
 use Rattle.ft_model.specs.declared.event.Event.{Event}
 use Rattle.ft_model.specs.declared.line.Draft.{Draft}
 use Rattle.ft_model.specs.declared.line.Draft.TheVariants.{Empty, Named, Begun}
@@ -28,6 +28,7 @@ use Rattle.ft_model.specs.declared.schedule.LineWhy.TheVariants as why
 use Rattle.ft_model.specs.declared.schedule.Schedule.{Schedule}
 use Rattle.ft_model.specs.declared.schedule.Script.{Script}
 use Rattle.ft_model.specs.declared.schedule.Script.TheVariants.{Bytes, Fill}
+use Rattle.ft_model.proofs.Letters.{length_letters}
 
 -- What an outcome that isn't a refusal says of the tests that gave it.
 pub bind_ok : {A B E : Type 0} (r : Result A E) (f : A → Result B E) (y : B) → (r >>= f) ≡ Ok y → (x : A) × (r ≡ Ok x) × (f x ≡ Ok y)
@@ -109,11 +110,6 @@ half [] = omega arith
 half (high ∷ []) = omega arith
 half (high ∷ low ∷ more) = omega (arith, half more)
 
-length_letters : (n : ℕ) → length (letters n) ≡ n
-unfolding letters
-length_letters zero = refl
-length_letters (suc n) = omega (arith, length-append {A = ℕ}, length_letters n)
-
 -- What the four tests of a client line gave.
 pub tested : (rn ri : Result ℕ LineWhy) (ra : Result Addr LineWhy) (rs : Result Script LineWhy) (make : ℕ → Addr → Script → ClientLine) (c : ClientLine) → (rn >>= λ n. ri >>= λ i. ra >>= λ a. rs >>= λ s. Ok (make i a s)) ≡ Ok c → (i : ℕ) × (a : Addr) × (s : Script) × (ri ≡ Ok i) × (ra ≡ Ok a) × (rs ≡ Ok s) × (make i a s ≡ c)
 tested (Ok n) (Ok i) (Ok a) (Ok s) make c e = (i, a, s, refl, refl, refl, (cc))
@@ -157,7 +153,7 @@ script_cases false false true digits (Some n) s f e = let is : Fill n ≡ s = cc
 script_cases false false true digits None s f e = absurd (cc)
 script_cases false false false digits o s f e = absurd (cc)
 
-script_bound : (word : List ℕ) (s : Script) → script_of word ≡ Some s → length (bytes_of s) ≤ 2 ^ 24
+pub script_bound : (word : List ℕ) (s : Script) → script_of word ≡ Some s → length (bytes_of s) ≤ 2 ^ 24
 unfolding script_of
 script_bound word s e = script_cases _ _ _ (drop 4 word) (number_of 1 (2 ^ 24) (drop 5 word)) s (λ n is. number_bound 1 (2 ^ 24) (drop 5 word) n is) e
 

@@ -18,6 +18,7 @@ pub mod RestartInTurns
 pub mod ClientKnowsMore
 pub mod CrashBeforeSynAck
 pub mod GrammarOnLiterals
+pub mod Letters
 pub mod AcceptedLemmas
 pub mod PlayableLemmas
 pub mod ScriptBytes

@@ -1,9 +1,11 @@
 //! A schedule as a value, and why a text spells none.
 
-ghost use Rattle.std.specs.Prelude.{◌≡◌, List, [], ◌∷◌, ◌++◌, length, OnOk, OnErr};
+ghost use Rattle.std.specs.Prelude.{◌≡◌, List, [], ◌∷◌, ◌++◌, length, IfOk, OnOk, OnErr};
+ghost use Rattle.ft_model.specs.Schedule.{letters as letters_lem, bytes_of};
 
 use crate::event::Event;
 use ft_io::{Addr, Key, NoMemory, Octets};
+use std::alloc::Global;
 use std::marker::Model;
 
 /// The services that a schedule can name.
@@ -22,6 +24,30 @@ pub enum Script {
     Bytes(Octets),
     /// So many bytes, the letters from `a` to `z` again and again.
     Fill { len: u32 },
+}
+
+impl Script {
+    /// The bytes that it stands for.
+    pub fn bytes(&self, alloc: Global) -> Result<Vec<u8>, NoMemory>
+        ensures { IfOk result (λ bytes. bytes.items ≡ bytes_of self.now) }
+    {
+        match self {
+            Script::Bytes(bytes) => Ok(Vec::from_slice(alloc, bytes.as_slice())?),
+            Script::Fill { len } => letters(alloc, *len),
+        }
+    }
+}
+
+/// The letters from `a` to `z` again and again.
+#[tactic(auto, using(crate::proofs::Letters::letters_none, crate::proofs::Letters::letters_more))]
+fn letters(alloc: Global, len: u32) -> Result<Vec<u8>, NoMemory>
+    ensures { IfOk result (λ text. text.items ≡ letters_lem len) }
+{
+    let mut text = Vec::with_capacity(alloc, len as usize)?;
+    for i in 0..len {
+        text.push(b'a' + (i % 26) as u8)?;
+    }
+    Ok(text)
 }
 
 /// A client: its address and port, its initial number and its script.

@@ -1,4 +1,3 @@
-pub mod Letters
 pub mod Peers
 pub mod Keeping
 pub mod Goings

@@ -2,11 +2,11 @@
 
 ghost use Rattle.std.specs.Prelude.{◌≡◌, ◌≤◌, ◌+◌, ◌%◌, ◌^◌, map, length, All, IfOk, IfSome, position};
 ghost use Rattle.ft_io.specs.Key.{key_eq};
-ghost use Rattle.ft_model.specs.Schedule.{kind_of as kind_lem, letters as letters_lem, bytes_of as bytes_lem, client_of as client_lem, clients_of};
+ghost use Rattle.ft_model.specs.Schedule.{kind_of as kind_lem, bytes_of as bytes_lem, client_of as client_lem, clients_of};
 ghost use Rattle.net_schedule.specs.Carried.{number_in as number_lem};
 
 use ft_io::{Addr, Key, NoMemory};
-use ft_model::{ClientLine, Script, ServiceKind};
+use ft_model::{ClientLine, ServiceKind};
 use peer_client::Client;
 use std::alloc::Global;
 
@@ -22,34 +22,12 @@ pub fn kind_of(service: ServiceKind) -> u8
     }
 }
 
-/// The first letters of the alphabet, over and over.
-#[tactic(auto, using(crate::proofs::Letters::letters_none, crate::proofs::Letters::letters_more))]
-fn letters(alloc: Global, len: u32) -> Result<Vec<u8>, NoMemory>
-    ensures { IfOk result (λ text. text.items ≡ letters_lem len) }
-{
-    let mut text = Vec::with_capacity(alloc, len as usize)?;
-    for i in 0..len {
-        text.push(97 + (i % 26) as u8)?;
-    }
-    Ok(text)
-}
-
-/// The bytes of a script.
-fn bytes_of(alloc: Global, script: &Script) -> Result<Vec<u8>, NoMemory>
-    ensures { IfOk result (λ text. text.items ≡ bytes_lem script.now) }
-{
-    match script {
-        Script::Bytes(bytes) => Ok(Vec::from_slice(alloc, bytes.as_slice())?),
-        Script::Fill { len } => letters(alloc, *len),
-    }
-}
-
 /// A client of a schedule, before anything was sent.
 fn new_client(alloc: Global, server: Addr, line: &ClientLine) -> Result<Client, NoMemory>
     requires { length (bytes_lem line.now.script) ≤ 2 ^ 24 }
     ensures { IfOk result (λ client. client ≡ client_lem server line.now) }
 {
-    let script = bytes_of(alloc, &line.script)?;
+    let script = line.script.bytes(alloc)?;
     Ok(Client::new(alloc, line.key, server, line.isn, script))
 }
 

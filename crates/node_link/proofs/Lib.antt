@@ -2,11 +2,9 @@ pub mod Calls
 pub mod ClientBeside
 pub mod ClientLimits
 pub mod ClientRunning
-pub mod ClientScripts
 pub mod Commanding
 pub mod Deciding
 pub mod Fronts
-pub mod Scripts
 pub mod Serviced
 pub mod Serving
 pub mod Walking

@@ -6,7 +6,7 @@ ghost use Rattle.ft_io.specs.Faults.{Rose};
 ghost use Rattle.ft_io.specs.Sink.{AppendsFront};
 ghost use Rattle.ft_io.specs.declared.link_call.LinkCall.{LinkCall};
 ghost use Rattle.ft_model.specs.Client.{Client};
-ghost use Rattle.ft_model.specs.Schedule.{letters as letters_lem, bytes_of as bytes_lem};
+ghost use Rattle.ft_model.specs.Schedule.{bytes_of as bytes_lem};
 ghost use Rattle.tcp_endpoint.specs.Leaving.{packets as packets_lem};
 ghost use Rattle.tcp_endpoint.specs.Sending.{IsShort};
 ghost use Rattle.peer_client.specs.Live.{sent_by, turned};
@@ -27,28 +27,6 @@ const SCRIPT_LIMIT: usize = 1 << 24;
 
 /// As many bytes as a client's TCP holds for its user.
 const ACCEPT_ROOM: usize = 65_535;
-
-/// The first letters of the alphabet, over and over.
-#[tactic(auto, using(crate::proofs::ClientScripts::letters_none, crate::proofs::ClientScripts::letters_more))]
-fn letters(alloc: Global, len: u32) -> Result<Vec<u8>, NoMemory>
-    ensures { IfOk result (λ text. text.items ≡ letters_lem len) }
-{
-    let mut text = Vec::with_capacity(alloc, len as usize)?;
-    for i in 0..len {
-        text.push(97 + (i % 26) as u8)?;
-    }
-    Ok(text)
-}
-
-/// The bytes of a script.
-fn script_bytes(alloc: Global, script: &Script) -> Result<Vec<u8>, NoMemory>
-    ensures { IfOk result (λ text. text.items ≡ bytes_lem script.now) }
-{
-    match script {
-        Script::Bytes(bytes) => Ok(Vec::from_slice(alloc, bytes.as_slice())?),
-        Script::Fill { len } => letters(alloc, *len),
-    }
-}
 
 /// Reads the whole input as a script. It takes at most one byte more than a script may have.
 fn read_script<I: Source>(alloc: Global, input: &mut I) -> Result<Vec<u8>, NodeEnd>
@@ -79,7 +57,7 @@ fn script_of<I: Source>(
     ensures no_write { IsErrOf result NodeEnd.WriteFault → ⊥ }
 {
     match script {
-        Some(script) => Ok(script_bytes(alloc, script)?),
+        Some(script) => Ok(script.bytes(alloc)?),
         None => read_script(alloc, input),
     }
 }

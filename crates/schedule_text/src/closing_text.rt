@@ -57,7 +57,7 @@ fn put_client(n: u32, phase: Phase, accepted: &[u8], line: &mut LineOut) -> Resu
 
 /// The word for a phase.
 #[tactic(auto, unfolding(ft_model::specs::Texts::phase_text))]
-fn phase_word(phase: Phase) -> &'static [u8]
+pub fn phase_word(phase: Phase) -> &'static [u8]
     ensures { result.now ≡ phase_text phase }
 {
     match phase {

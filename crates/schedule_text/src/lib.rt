@@ -1,7 +1,7 @@
 //! The texts of a run: the schedule that is read and the report that is written.
 #![tactic(auto)]
 
-pub use closing_text::{LogLine, write_client_line, write_end, write_log_line};
+pub use closing_text::{LogLine, phase_word, write_client_line, write_end, write_log_line};
 pub use end::ScheduleEnd;
 pub use event_text::write_event;
 pub use ft_model::{ClientLine, ClientLines, Events, Limit, LineWhy, Schedule, Script, Way};

@@ -13,11 +13,12 @@ use Rattle.ft_model.specs.Client.{Client, Move, received, opened_by, arrived, us
 use Rattle.ft_model.specs.Client.Move.{Syn, Text, Fin, Acknowledge, Rst, Refuse}
 use Rattle.ft_model.specs.declared.phase.Phase.TheVariants as phases
 use Rattle.ft_model.specs.Network.{Packet, destination_of}
-use Rattle.ft_model.specs.Schedule.{client_of, clients_of, letters}
+use Rattle.ft_model.specs.Schedule.{client_of, clients_of}
 use Rattle.ft_model.specs.World.{World, Moment, client_at, with_client, world_after, Joint}
 use Rattle.ft_model.proofs.Lists.{both, of_choice, all_map, all_append, all_slice_get, none_is_some, same_key}
 use Rattle.ft_model.proofs.FaithfulKept.{received_same, clients_fit}
 use Rattle.ft_model.proofs.Happened.{Happened, holds_after}
+use Rattle.ft_model.proofs.Letters.{length_letters}
 use Rattle.ft_model.proofs.Happened.Happened.{log_heard, client_heard, client_moved, server_turned, server_booted, server_down}
 use Rattle.seed_run.specs.Generated.{server_address, client_line, client_lines, after_draws}
 
@@ -154,11 +155,6 @@ all_keep service start trace first j =
     holds_after service (AllKeep start) start (λ s. record { keeps = first; keys = refl }) (λ before sent after k h. all_step service start before sent after k h) trace j
 
 -- the clients with which a generated run starts
-pub length_letters : (n : ℕ) → length (letters n) ≡ n
-unfolding letters
-length_letters zero = refl
-length_letters (suc n) = omega (arith, length-append {A = ℕ}, length_letters n)
-
 new_keeps : (state i : ℕ) → Keeps (client_of server_address (client_line state i))
 new_keeps state i = record { total = length_letters (1000 * i) ∙ ap (λ k. 1000 * k) (omega arith); within = (omega arith, omega arith) }
 

@@ -11,7 +11,7 @@ use Rattle.ft_model.specs.declared.schedule.ClientLine.{ClientLine}
 use Rattle.ft_model.proofs.Lists.{all_append, all_weaker}
 use Rattle.seq_arith.specs.Generator.{stepped}
 use Rattle.seed_run.specs.Draws.{draw}
-use Rattle.seed_run.proofs.Clients.{length_letters}
+use Rattle.ft_model.proofs.Letters.{length_letters}
 use Rattle.seed_run.specs.Generated.{server_address, client_line, client_lines, after_draws, schedule_of}
 
 pub count_lines : (state n : ℕ) → length (client_lines state n) ≡ n

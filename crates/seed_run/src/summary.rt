@@ -2,7 +2,6 @@
 
 ghost use Rattle.std.specs.Prelude.{◌≡◌, ℕ, ◌*◌, ◌++◌, Some, decimal, length, OnOk, IfOk};
 ghost use Rattle.ft_model.specs.Client.{Client as Seen};
-ghost use Rattle.ft_model.specs.Texts.{phase_text};
 ghost use Rattle.ft_model.specs.World.{client_at};
 ghost use Rattle.seed_run.specs.Summary.{first_line as first_lem, client_result, client_results};
 
@@ -10,26 +9,12 @@ use crate::asked::Asked;
 use crate::dice::STEP;
 use crate::progress::Progress;
 use ft_io::NoMemory;
-use ft_model::Phase;
 use itoa::Buffer;
 use net_schedule::World;
 use peer_client::Client;
 use sample_servers::AnyService;
+use schedule_text::phase_word;
 use std::alloc::Global;
-
-/// The word for a phase.
-#[tactic(auto, unfolding(ft_model::specs::Texts::phase_text))]
-fn phase_word(phase: Phase) -> &'static [u8]
-    ensures { result.now ≡ phase_text phase }
-{
-    match phase {
-        Phase::New => b"new",
-        Phase::Opening => b"opening",
-        Phase::Established => b"open",
-        Phase::Ended => b"ended",
-        Phase::Reset => b"reset",
-    }
-}
 
 /// Appends a text, and a number behind it.
 fn put_field(name: &[u8], n: u64, lines: &mut Vec<u8>) -> Result<(), NoMemory>
