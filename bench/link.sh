@@ -14,7 +14,7 @@ for bytes in 100 1400; do
         a=$(spent "$ours" "$bytes" "$rounds")
         mv "$work/out" "$work/said"
         b=$(spent "$work/link" "$bytes" "$rounds")
-        cmp -s "$work/said" "$work/out" || { echo "the two differ"; exit 1; }
+        [ "$(cut -d' ' -f1 "$work/said")" = "$(cat "$work/out")" ] || { echo "the two differ"; exit 1; }
         ((a < least_ours)) && least_ours=$a
         ((b < least_c)) && least_c=$b
     done
