@@ -56,7 +56,7 @@ fn at_end_of(alloc: Global, way: &Part<'_>) -> Result<Scene, Miss> {
     }
     match scene {
         Some(mut scene) => {
-            scene.settle(alloc)?;
+            scene.end_turn(alloc)?;
             Ok(scene)
         }
         None => Err(Miss::Refused(Why::NoEndpoint)),
@@ -107,9 +107,10 @@ struct Play {
 }
 
 impl Play {
-    fn settle(&mut self, alloc: Global) -> Met {
+    /// Ends the endpoint's turn, where one is opened.
+    fn end_turn(&mut self, alloc: Global) -> Met {
         match &mut self.scene {
-            Some(scene) => scene.settle(alloc),
+            Some(scene) => scene.end_turn(alloc),
             None => Ok(()),
         }
     }
@@ -117,7 +118,7 @@ impl Play {
     fn step(&mut self, alloc: Global, ways: &[Part<'_>], action: Action<'_>) -> Met {
         match action {
             Action::Open(opening) => {
-                self.settle(alloc)?;
+                self.end_turn(alloc)?;
                 self.scene = Some(Scene::new(alloc, opening)?);
                 Ok(())
             }
@@ -146,6 +147,6 @@ pub(crate) fn play_case(
         play.step(alloc, script.ways.as_slice(), step.action)
             .map_err(|miss| at_line(miss, step.line))?;
     }
-    play.settle(alloc).map_err(|miss| at_line(miss, last))?;
+    play.end_turn(alloc).map_err(|miss| at_line(miss, last))?;
     Ok(play.tally)
 }

@@ -6,7 +6,7 @@ use crate::words::Why;
 use std::alloc::{AllocError, AllocFailed, Global};
 
 /// A line that is refused, counted from 1, and why.
-#[derive(Clone, Copy, Debug, PartialEq, Eq)]
+#[derive(Clone, Copy)]
 pub(crate) struct Refused {
     pub(crate) line: u32,
     pub(crate) why: Why,

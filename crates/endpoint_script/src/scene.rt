@@ -117,7 +117,7 @@ impl Scene {
         match deed {
             Deed::Comes(segment) => self.comes(alloc, segment),
             Deed::Tick => self.tick(alloc),
-            Deed::Flush => self.settle(alloc),
+            Deed::Flush => self.end_turn(alloc),
             Deed::Close => {
                 self.endpoint.close();
                 self.is_open = true;
@@ -128,7 +128,7 @@ impl Scene {
             Deed::Peek { from, room, text } => self.peek(alloc, from, room, text),
             Deed::Leaves(segment) => self.leaves(alloc, segment),
             Deed::Segments(count) => self.segments(alloc, count),
-            Deed::Nothing => self.settle(alloc),
+            Deed::Nothing => self.end_turn(alloc),
             seen => self.shows(alloc, seen),
         }
     }
@@ -157,8 +157,8 @@ impl Scene {
         }
     }
 
-    /// The turn is over, and all that left is told.
-    pub(crate) fn settle(&mut self, alloc: Global) -> Met {
+    /// Ends the turn. All that left must be told.
+    pub(crate) fn end_turn(&mut self, alloc: Global) -> Met {
         self.flush();
         if self.told < self.out.len() {
             return Err(self.shown(alloc)?);
@@ -199,7 +199,7 @@ impl Scene {
     }
 
     fn comes(&mut self, alloc: Global, segment: Segment<'_>) -> Met {
-        self.settle(alloc)?;
+        self.end_turn(alloc)?;
         let text = segment.text.bytes(alloc)?;
         let head = self.head(segment, self.peer, self.local);
         if has(segment.flags, SYN) {
@@ -214,7 +214,7 @@ impl Scene {
     }
 
     fn tick(&mut self, alloc: Global) -> Met {
-        self.settle(alloc)?;
+        self.end_turn(alloc)?;
         self.endpoint.on_tick();
         self.is_open = true;
         Ok(())

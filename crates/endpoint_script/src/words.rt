@@ -8,7 +8,7 @@ use std::net::SocketAddrV4;
 use tcp_endpoint::{State, StateName};
 
 /// Why a line is refused.
-#[derive(Clone, Copy, Debug, PartialEq, Eq)]
+#[derive(Clone, Copy)]
 pub(crate) enum Why {
     /// It isn't UTF-8.
     Encoding,
