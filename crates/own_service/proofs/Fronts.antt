@@ -1,0 +1,40 @@
+-- However the input is cut, Tally answers the same, so a run over pieces of the bytes writes a front of the answers to all of them.
+use Rattle.std.proofs.Common.{◌≡◌, ◌∙◌, refl, sym, ap, subst, ℕ, ◌==◌, Bool, true, false, List, [], ◌∷◌, ◌++◌, length, take, drop, take-append-drop, append_assoc, arith}
+use Rattle.server_trait.specs.Service.{Run, fold_from, cut, reference}
+use Rattle.ft_model.specs.Growth.{IsPrefix}
+use Rattle.own_service.specs.declared.tally.Tally.{Tally}
+use Rattle.own_service.specs.Tally.{counted, answer, count_after, answers, tally_machine}
+
+answers-append : (count : ℕ) (xs ys : List ℕ) → answers count (xs ++ ys) ≡ answers count xs ++ answers (count_after count xs) ys
+answers-append count [] ys = refl
+answers-append count (x ∷ xs) ys =
+    ap (λ rest. answer (counted count) x ++ rest) (answers-append (counted count) xs ys)
+    ∙ sym (append_assoc (answer (counted count) x) (answers (counted count) xs) (answers (count_after (counted count) xs) ys))
+
+-- a run of Tally that stands here
+abbrev at : ℕ → List ℕ → Bool → Run Tally
+at count output closed = record { state = record { count = count }; output = output; closed = closed }
+
+-- once closed, nothing more is written
+after_close : (count : ℕ) (output : List ℕ) (chunks : List (List ℕ)) → (fold_from tally_machine (at count output true) chunks).output ≡ output
+after_close count output [] = refl
+after_close count output (chunk ∷ chunks) = after_close count output chunks
+
+front_from : (count : ℕ) (output : List ℕ) (closed : Bool) (bytes lengths : List ℕ)
+    → IsPrefix (fold_from tally_machine (at count output closed) (cut bytes lengths)).output (output ++ answers count bytes)
+front_from count output closed bytes [] = (answers count bytes, refl)
+front_from count output true bytes (n ∷ lengths) =
+    (answers count bytes, ap (λ written. written ++ answers count bytes) (after_close count output (cut bytes (n ∷ lengths))))
+front_from count output false bytes (n ∷ lengths) =
+    let piece = take n bytes in
+    let more = front_from (count_after count piece) (output ++ answers count piece) (length piece == 0) (drop n bytes) lengths in
+    (more.0, more.1 ∙ (append_assoc output (answers count piece) (answers (count_after count piece) (drop n bytes))
+    ∙ ap (λ text. output ++ text) (sym (answers-append count piece (drop n bytes)) ∙ ap (λ text. answers count text) (take-append-drop n bytes))))
+
+-- what a server that never failed has written is a front of the answers to all that the client has to say
+pub front : (bytes lengths : List ℕ) → IsPrefix (reference tally_machine bytes lengths).output (answers 0 bytes)
+unfolding reference
+front bytes lengths = front_from 0 [] false bytes lengths
+
+pub longer : (front middle whole : List ℕ) → IsPrefix front middle → IsPrefix middle whole → IsPrefix front whole
+longer front middle whole a b = (a.0 ++ b.0, sym (append_assoc front a.0 b.0) ∙ (ap (λ text. text ++ b.0) a.1 ∙ b.1))

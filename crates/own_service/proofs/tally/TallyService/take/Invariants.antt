@@ -1,0 +1,9 @@
+use Rattle.std.proofs.Common.{◌≡◌, ◌++◌, drop}
+use Rattle.own_service.specs.Tally.{count_after, answers}
+use Rattle.own_service.proofs.tally.TallyService.take.Given as goal
+
+-- the bytes that are left lead on to where the whole chunk leads
+abbrev pub invariant-loop-byte : goal.invariant-loop-byte
+invariant-loop-byte l =
+    (count_after l.self.count (drop l.byte-index l.chunk) ≡ count_after l.initial.self.count l.chunk)
+    × (l.out.items ++ answers l.self.count (drop l.byte-index l.chunk) ≡ l.initial.out.items ++ answers l.initial.self.count l.chunk)

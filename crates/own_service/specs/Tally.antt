@@ -1,0 +1,38 @@
+-- Tally: the bytes of the input are counted, and each line feed is answered by the count. The empty chunk closes.
+use Rattle.std.specs.Prelude.{ℕ, ◌+◌, ◌-◌, ◌^◌, min, List, [], ◌∷◌, ◌++◌, length, decimal, codes, ◌==◌, if◌then◌else◌}
+use Rattle.server_trait.specs.Service.{Served, Machine, machine}
+use Rattle.own_service.specs.declared.tally.Tally.{Tally}
+
+-- nothing is counted yet
+abbrev pub tally_started : Tally
+tally_started = record { count = 0 }
+
+-- one byte more. At the end of 64 bits the count stands still
+abbrev pub counted : ℕ → ℕ
+counted count = min (count + 1) (2 ^ 64 - 1)
+
+-- the count once a byte is counted in it is the answer to a line feed
+abbrev pub answer : ℕ → ℕ → List ℕ
+answer count byte = if byte == 10 then decimal count ++ codes "\n" else []
+
+-- the count behind these bytes
+abbrev pub count_after : ℕ → List ℕ → ℕ
+count_after count [] = count
+count_after count (byte ∷ bytes) = count_after (counted count) bytes
+
+-- what is answered to these bytes
+abbrev pub answers : ℕ → List ℕ → List ℕ
+answers count [] = []
+answers count (byte ∷ bytes) = answer (counted count) byte ++ answers (counted count) bytes
+
+-- what a chunk does
+abbrev pub tally_after : Tally → List ℕ → Served Tally
+tally_after tally chunk = record {
+  next = record { count = count_after tally.count chunk };
+  output = answers tally.count chunk;
+  closed = length chunk == 0;
+}
+
+-- the service as runs see it
+abbrev pub tally_machine : Machine Tally
+tally_machine = machine tally_started tally_after
