@@ -5,11 +5,25 @@ use Rattle.ft_model.specs.Growth.{IsPrefix}
 use Rattle.own_service.specs.declared.tally.Tally.{Tally}
 use Rattle.own_service.specs.Tally.{counted, answer, count_after, answers, tally_machine}
 
-answers-append : (count : ℕ) (xs ys : List ℕ) → answers count (xs ++ ys) ≡ answers count xs ++ answers (count_after count xs) ys
-answers-append count [] ys = refl
-answers-append count (x ∷ xs) ys =
-    ap (λ rest. answer (counted count) x ++ rest) (answers-append (counted count) xs ys)
+answers_append : (count : ℕ) (xs ys : List ℕ) → answers count (xs ++ ys) ≡ answers count xs ++ answers (count_after count xs) ys
+answers_append count [] ys = refl
+answers_append count (x ∷ xs) ys =
+    ap (λ rest. answer (counted count) x ++ rest) (answers_append (counted count) xs ys)
     ∙ sym (append_assoc (answer (counted count) x) (answers (counted count) xs) (answers (count_after (counted count) xs) ys))
+
+-- what is answered to a piece, and then to what is left, is what is answered to all
+pub answered_on : (done : List ℕ) (count n : ℕ) (bytes : List ℕ)
+    → (done ++ answers count (take n bytes)) ++ answers (count_after count (take n bytes)) (drop n bytes) ≡ done ++ answers count bytes
+answered_on done count n bytes =
+    append_assoc done (answers count (take n bytes)) (answers (count_after count (take n bytes)) (drop n bytes))
+    ∙ ap (λ text. done ++ text) (sym (answers_append count (take n bytes) (drop n bytes)) ∙ ap (λ text. answers count text) (take-append-drop n bytes))
+
+-- so a server that has answered all bytes but these goes on
+pub answered_next : (n : ℕ) (tally next : Tally) (before after piece later bytes all : List ℕ) → before ++ answers tally.count bytes ≡ all
+    → piece ≡ take n bytes → later ≡ drop n bytes → next ≡ record { count = count_after tally.count piece } → after ≡ before ++ answers tally.count piece
+    → after ++ answers next.count later ≡ all
+answered_next n tally next before after piece later bytes all so_far front back state output =
+    rw output (rw state (rw back (rw front (answered_on before tally.count n bytes ∙ so_far))))
 
 -- a run of Tally that stands here
 abbrev at : ℕ → List ℕ → Bool → Run Tally
@@ -28,8 +42,7 @@ front_from count output true bytes (n ∷ lengths) =
 front_from count output false bytes (n ∷ lengths) =
     let piece = take n bytes in
     let more = front_from (count_after count piece) (output ++ answers count piece) (length piece == 0) (drop n bytes) lengths in
-    (more.0, more.1 ∙ (append_assoc output (answers count piece) (answers (count_after count piece) (drop n bytes))
-    ∙ ap (λ text. output ++ text) (sym (answers-append count piece (drop n bytes)) ∙ ap (λ text. answers count text) (take-append-drop n bytes))))
+    (more.0, more.1 ∙ answered_on output count n bytes)
 
 -- what a server that never failed has written is a front of the answers to all that the client has to say
 pub front : (bytes lengths : List ℕ) → IsPrefix (reference tally_machine bytes lengths).output (answers 0 bytes)

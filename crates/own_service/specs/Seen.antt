@@ -2,8 +2,21 @@
 use Rattle.std.specs.Prelude.{List}
 use Rattle.ft_model.specs.Client.{Client}
 use Rattle.ft_model.specs.Growth.{IsPrefix}
-use Rattle.own_service.specs.Tally.{answers}
+use Rattle.ft_model.specs.Legal.{machines}
+use Rattle.ft_model.specs.World.{Moment}
+use Rattle.ft_model.specs.declared.event.Event.{Event}
+use Rattle.ft_model.specs.declared.schedule.Schedule.{Schedule}
+use Rattle.net_schedule.specs.Standing.{Kept}
+use Rattle.net_schedule.specs.Stepping.{StandsAfter}
+use Rattle.own_service.specs.declared.tally.Tally.{Tally}
+use Rattle.own_service.specs.Tally.{tally_started, tally_after, answers}
 
 -- a client has accepted a front of the answers to its script
 abbrev pub SeesAnswers : Client → Type 0
 SeesAnswers client = IsPrefix client.accepted (answers 0 client.script)
+
+-- the world stands at the end of a legal trace of events of this schedule, whose server runs Tally
+pub record IsPlayed (schedule : Schedule) (w : Kept Tally) : Type 0 where
+  pub events : List Event
+  pub trace : List Moment
+  pub stands : StandsAfter (machines (λ _. tally_started) tally_after) schedule events trace w
