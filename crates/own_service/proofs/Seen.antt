@@ -20,22 +20,24 @@ use Rattle.own_service.proofs.Fronts.{front, longer}
 
 each_sees : (log : Log) (clients : List Client) → AllByRecursion (SeesFront tally_machine log) clients → AllByRecursion SeesAnswers clients
 each_sees log [] seen = tt
-each_sees log (client ∷ clients) seen =
-    (longer client.accepted (unfailing tally_machine log client).output (answers 0 client.script) seen.0.accepted
-    (front client.script (logged_lengths client.key log)), each_sees log clients seen.1)
+each_sees log (client ∷ clients) seen = (
+  longer client.accepted (unfailing tally_machine log client).output (answers 0 client.script) seen.0.accepted
+      (front client.script (logged_lengths client.key log)),
+  each_sees log clients seen.1,
+)
 
 -- the law of the uncrashed server, of Tally
 abbrev pub Law : Type 0
 Law = (kind : ℕ) (start : World) (trace : List Moment) → Joint tally_machine start trace
     → AllByRecursion (SeesFront tally_machine (world_after start trace).log) (world_after start trace).clients
 
-pub all_see : Law → (schedule : Schedule) (w : Kept Tally) → IsPlayed schedule w → AllByRecursion SeesAnswers w.clients
-all_see law schedule w played =
+pub all_see : Law → (schedule : Schedule) (events : List Event) (w : Kept Tally) → IsPlayed schedule events w → AllByRecursion SeesAnswers w.clients
+all_see law schedule events w played =
     let seen = each_sees (world_after (start_of schedule) played.trace).log (world_after (start_of schedule) played.trace).clients
     (law (kind_of schedule.service) (start_of schedule) played.trace played.stands.legal.joint) in
     subst (AllByRecursion SeesAnswers) (sym played.stands.stands.clients) seen
 
-pub goes_on : (schedule : Schedule) (w after : Kept Tally) (event : Event) (answer : StepOut) (played : IsPlayed schedule w)
-    → Steps (machines (λ _. tally_started) tally_after) schedule played.events played.trace event answer after → IsPlayed schedule after
-goes_on schedule w after event answer played steps =
-    record { events = played.events ++ event ∷ []; trace = steps.extends.moment ∷ played.trace; stands = steps.extends.stands }
+-- a step plays one event more
+pub plays_next : (schedule : Schedule) (events : List Event) (w after : Kept Tally) (event : Event) (answer : StepOut) (played : IsPlayed schedule events w)
+    → Steps (machines (λ _. tally_started) tally_after) schedule events played.trace event answer after → IsPlayed schedule (events ++ event ∷ []) after
+plays_next schedule events w after event answer played steps = record { trace = steps.extends.moment ∷ played.trace; stands = steps.extends.stands }

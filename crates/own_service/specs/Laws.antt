@@ -21,8 +21,7 @@ length-answers-le count [] = omega arith
 length-answers-le count (byte ∷ bytes) =
     let first = length-answer-le count byte in
     let more = length-answers-le (counted count) bytes in
-    let both : length (answers count (byte ∷ bytes)) ≡ length (answer (counted count) byte) + length (answers (counted count) bytes) = length-append (answer (counted count) byte) (answers (counted count) bytes) in
-    omega arith
+    grind (arith, length-append {A = ℕ})
 
 pub length-tally_after-le : (s : Tally) (chunk : List ℕ) → length chunk ≤ 2048 → length (tally_after s chunk).output ≤ 2 ^ 20
 length-tally_after-le s chunk short = let most = length-answers-le s.count chunk in omega arith
@@ -39,10 +38,13 @@ ascii-answer count byte =
 
 ascii-answers : (count : ℕ) (bytes : List ℕ) → IsAscii (answers count bytes)
 ascii-answers count [] = λ i. omega arith
-ascii-answers count (byte ∷ bytes) = IsAscii-append (answer (counted count) byte) (answers (counted count) bytes) (ascii-answer count byte) (ascii-answers (counted count) bytes)
+ascii-answers count (byte ∷ bytes) =
+    IsAscii-append (answer (counted count) byte) (answers (counted count) bytes) (ascii-answer count byte) (ascii-answers (counted count) bytes)
 
 bytes-ascii : (text : List ℕ) → IsAscii text → AreBytes text
-bytes-ascii text ascii = recursion_from_All (λ n. n < 256) text (All-from_get_or (λ n. n < 256) text 0 (λ i within. let below = ascii i in omega arith))
+bytes-ascii text ascii =
+    recursion_from_All (λ n. n < 256) text (All-from_get_or (λ n. n < 256) text 0 (λ i within. let below = ascii i in omega arith))
 
 pub bytes-tally : WritesBytes tally_machine
-bytes-tally = bytes_fold tally_machine Anything tt (λ s chunk _ _. (bytes-ascii (answers s.count chunk) (ascii-answers s.count chunk), tt))
+bytes-tally =
+    bytes_fold tally_machine Anything tt (λ s chunk _ _. (bytes-ascii (answers s.count chunk) (ascii-answers s.count chunk), tt))

@@ -15,8 +15,7 @@ use Rattle.own_service.specs.Tally.{tally_started, tally_after, answers}
 abbrev pub SeesAnswers : Client → Type 0
 SeesAnswers client = IsPrefix client.accepted (answers 0 client.script)
 
--- the world stands at the end of a legal trace of events of this schedule, whose server runs Tally
-pub record IsPlayed (schedule : Schedule) (w : Kept Tally) : Type 0 where
-  pub events : List Event
+-- the world stands at the end of a legal trace of these events of a schedule, whose server runs Tally
+pub record IsPlayed (schedule : Schedule) (events : List Event) (w : Kept Tally) : Type 0 where
   pub trace : List Moment
   pub stands : StandsAfter (machines (λ _. tally_started) tally_after) schedule events trace w

@@ -11,7 +11,7 @@ tally_started = record { count = 0 }
 abbrev pub counted : ℕ → ℕ
 counted count = min (count + 1) (2 ^ 64 - 1)
 
--- the count once a byte is counted in it is the answer to a line feed
+-- the count that a line feed makes is its answer. Any other byte has none
 abbrev pub answer : ℕ → ℕ → List ℕ
 answer count byte = if byte == 10 then decimal count ++ codes "\n" else []
 
@@ -27,11 +27,7 @@ answers count (byte ∷ bytes) = answer (counted count) byte ++ answers (counted
 
 -- what a chunk does
 abbrev pub tally_after : Tally → List ℕ → Served Tally
-tally_after tally chunk = record {
-  next = record { count = count_after tally.count chunk };
-  output = answers tally.count chunk;
-  closed = length chunk == 0;
-}
+tally_after tally chunk = record { next = record { count = count_after tally.count chunk }; output = answers tally.count chunk; closed = length chunk == 0 }
 
 -- the service as runs see it
 abbrev pub tally_machine : Machine Tally

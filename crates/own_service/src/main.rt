@@ -6,7 +6,7 @@ ghost use Rattle.std.specs.Prelude.{◌≡◌, ◌≤◌, length, IfOk, IfSome};
 ghost use Rattle.std.specs.List.{AllByRecursion};
 ghost use Rattle.ft_model.specs.Playable.{IsPlayable};
 ghost use Rattle.net_schedule.specs.Keeping.{kept};
-ghost use Rattle.own_service.specs.Seen.{SeesAnswers};
+ghost use Rattle.own_service.specs.Seen.{IsPlayed, SeesAnswers};
 ghost use Rattle.own_service.specs.Tally.{answers};
 
 use ft_io::{NoMemory, ReadSource, read_to_limit};
@@ -17,8 +17,7 @@ use net_schedule::World;
 use schedule_text::{Schedule, read_schedule};
 use server_trait::{CHUNK_LIMIT, Service};
 use std::alloc::Global;
-use std::io;
-use std::str;
+use std::{io, str};
 use tally::Tally;
 
 mod tally;
@@ -56,12 +55,13 @@ fn read(alloc: Global, text: &[u8]) -> Option<Schedule>
     }
 }
 
-/// The world at the end of a schedule. Whatever is lost or repeated there, and whenever the server crashes, what a client has accepted is a front of
-/// Tally's answers to all that it has to say.
+/// The world at the end of a schedule: all its events are played. Whatever they lose or repeat, and whenever the server crashes, what a client has
+/// accepted is a front of the answers to its script.
 fn play(alloc: Global, schedule: &Schedule) -> Option<World<Tally>>
     requires playable { IsPlayable schedule.now }
     requires few { length schedule.now.clients ≤ 16 }
-    ensures { IfSome result (λ w. AllByRecursion SeesAnswers (kept w).clients) }
+    ensures played { IfSome result (λ w. IsPlayed schedule.now schedule.now.events (kept w)) }
+    ensures seen { IfSome result (λ w. AllByRecursion SeesAnswers (kept w).clients) }
 {
     clients_see_an_unfailing_server::<Tally>();
     let Ok(mut world) = World::new(alloc, schedule) else {
@@ -99,11 +99,7 @@ fn script_of(line: &ClientLine) -> &[u8] {
 }
 
 /// Two lines for each client.
-fn tell(
-    alloc: Global,
-    schedule: &Schedule,
-    world: &World<Tally>,
-) -> Result<String, NoMemory> {
+fn tell(alloc: Global, schedule: &Schedule, world: &World<Tally>) -> Result<String, NoMemory> {
     let mut lines = String::new(alloc);
     for (n, line) in (1..=16).zip(schedule.clients.as_slice()) {
         if let Some(client) = world.client(n) {
@@ -111,7 +107,7 @@ fn tell(
             let answers = unfailing(alloc, script_of(line))?;
             let answers = str::from_utf8(&answers).unwrap_or("no text");
             lines.push_str(format!(in alloc; "client {n} accepted {accepted:?}\n")?.as_str())?;
-            lines.push_str(format!(in alloc; "never failing    {answers:?}\n")?.as_str())?;
+            lines.push_str(format!(in alloc; "without a crash   {answers:?}\n")?.as_str())?;
         }
     }
     Ok(lines)

@@ -45,14 +45,13 @@ impl Service for Tally {
     }
 
     fn take(&mut self, chunk: &[u8], out: &mut Vec<u8>) -> Result<Next, NoMemory> {
+        if chunk.is_empty() {
+            return Ok(Next::Close);
+        }
         for byte in chunk {
             self.take_byte(*byte, out)?;
         }
-        Ok(if chunk.is_empty() {
-            Next::Close
-        } else {
-            Next::Go
-        })
+        Ok(Next::Go)
     }
 
     ghost closes = { λ _. Prim.search rules };
