@@ -1,9 +1,9 @@
--- However the input is cut, Tally answers the same, so a run over pieces of the bytes writes a front of the answers to all of them.
+-- However the input is cut, Counter answers the same, so a run over pieces of the bytes writes a front of the answers to all of them.
 use Rattle.std.proofs.Common.{◌≡◌, ◌∙◌, refl, sym, ap, subst, ℕ, ◌==◌, Bool, true, false, List, [], ◌∷◌, ◌++◌, length, take, drop, take-append-drop, append_assoc, arith}
 use Rattle.server_trait.specs.Service.{Run, fold_from, cut, reference}
 use Rattle.ft_model.specs.Growth.{IsPrefix}
-use Rattle.own_service.specs.declared.tally.Tally.{Tally}
-use Rattle.own_service.specs.Tally.{counted, answer, count_after, answers, tally_machine}
+use Rattle.own_service.specs.declared.counter.Counter.{Counter}
+use Rattle.own_service.specs.Counter.{counted, answer, count_after, answers, counter_machine}
 
 answers_append : (count : ℕ) (xs ys : List ℕ) → answers count (xs ++ ys) ≡ answers count xs ++ answers (count_after count xs) ys
 answers_append count [] ys = refl
@@ -19,23 +19,23 @@ answered_on done count n bytes =
     ∙ ap (λ text. done ++ text) (sym (answers_append count (take n bytes) (drop n bytes)) ∙ ap (λ text. answers count text) (take-append-drop n bytes))
 
 -- so a server that has answered all bytes but these goes on
-pub answered_next : (n : ℕ) (tally next : Tally) (before after piece later bytes all : List ℕ) → before ++ answers tally.count bytes ≡ all
-    → piece ≡ take n bytes → later ≡ drop n bytes → next ≡ record { count = count_after tally.count piece } → after ≡ before ++ answers tally.count piece
+pub answered_next : (n : ℕ) (counter next : Counter) (before after piece later bytes all : List ℕ) → before ++ answers counter.count bytes ≡ all
+    → piece ≡ take n bytes → later ≡ drop n bytes → next ≡ record { count = count_after counter.count piece } → after ≡ before ++ answers counter.count piece
     → after ++ answers next.count later ≡ all
-answered_next n tally next before after piece later bytes all so_far front back state output =
-    rw output (rw state (rw back (rw front (answered_on before tally.count n bytes ∙ so_far))))
+answered_next n counter next before after piece later bytes all so_far front back state output =
+    rw output (rw state (rw back (rw front (answered_on before counter.count n bytes ∙ so_far))))
 
--- a run of Tally that stands here
-abbrev at : ℕ → List ℕ → Bool → Run Tally
+-- a run of Counter that stands here
+abbrev at : ℕ → List ℕ → Bool → Run Counter
 at count output closed = record { state = record { count = count }; output = output; closed = closed }
 
 -- once closed, nothing more is written
-after_close : (count : ℕ) (output : List ℕ) (chunks : List (List ℕ)) → (fold_from tally_machine (at count output true) chunks).output ≡ output
+after_close : (count : ℕ) (output : List ℕ) (chunks : List (List ℕ)) → (fold_from counter_machine (at count output true) chunks).output ≡ output
 after_close count output [] = refl
 after_close count output (chunk ∷ chunks) = after_close count output chunks
 
 front_from : (count : ℕ) (output : List ℕ) (closed : Bool) (bytes lengths : List ℕ)
-    → IsPrefix (fold_from tally_machine (at count output closed) (cut bytes lengths)).output (output ++ answers count bytes)
+    → IsPrefix (fold_from counter_machine (at count output closed) (cut bytes lengths)).output (output ++ answers count bytes)
 front_from count output closed bytes [] = (answers count bytes, refl)
 front_from count output true bytes (n ∷ lengths) =
     (answers count bytes, ap (λ written. written ++ answers count bytes) (after_close count output (cut bytes (n ∷ lengths))))
@@ -45,7 +45,7 @@ front_from count output false bytes (n ∷ lengths) =
     (more.0, more.1 ∙ answered_on output count n bytes)
 
 -- what a server that never failed has written is a front of the answers to all that the client has to say
-pub front : (bytes lengths : List ℕ) → IsPrefix (reference tally_machine bytes lengths).output (answers 0 bytes)
+pub front : (bytes lengths : List ℕ) → IsPrefix (reference counter_machine bytes lengths).output (answers 0 bytes)
 unfolding reference
 front bytes lengths = front_from 0 [] false bytes lengths
 

@@ -1,4 +1,4 @@
--- From the law of the uncrashed server to what clients of Tally see.
+-- From the law of the uncrashed server to what clients of Counter see.
 use Rattle.std.proofs.Common.{◌≡◌, ℕ, sym, subst, List, [], ◌∷◌, ◌++◌}
 use Rattle.std.specs.List.{AllByRecursion}
 use Rattle.net_schedule.specs.Standing.{Kept}
@@ -13,31 +13,31 @@ use Rattle.ft_model.specs.Schedule.{kind_of}
 use Rattle.ft_model.specs.World.{World, Moment, Joint, world_after}
 use Rattle.ft_model.specs.declared.event.Event.{Event}
 use Rattle.ft_model.specs.declared.schedule.Schedule.{Schedule}
-use Rattle.own_service.specs.declared.tally.Tally.{Tally}
-use Rattle.own_service.specs.Tally.{tally_started, tally_after, answers, tally_machine}
+use Rattle.own_service.specs.declared.counter.Counter.{Counter}
+use Rattle.own_service.specs.Counter.{counter_started, counter_after, answers, counter_machine}
 use Rattle.own_service.specs.Seen.{SeesAnswers, IsPlayed}
 use Rattle.own_service.proofs.Fronts.{front, longer}
 
-each_sees : (log : Log) (clients : List Client) → AllByRecursion (SeesFront tally_machine log) clients → AllByRecursion SeesAnswers clients
+each_sees : (log : Log) (clients : List Client) → AllByRecursion (SeesFront counter_machine log) clients → AllByRecursion SeesAnswers clients
 each_sees log [] seen = tt
 each_sees log (client ∷ clients) seen = (
-  longer client.accepted (unfailing tally_machine log client).output (answers 0 client.script) seen.0.accepted
+  longer client.accepted (unfailing counter_machine log client).output (answers 0 client.script) seen.0.accepted
       (front client.script (logged_lengths client.key log)),
   each_sees log clients seen.1,
 )
 
--- the law of the uncrashed server, of Tally
+-- the law of the uncrashed server, of Counter
 abbrev pub Law : Type 0
-Law = (kind : ℕ) (start : World) (trace : List Moment) → Joint tally_machine start trace
-    → AllByRecursion (SeesFront tally_machine (world_after start trace).log) (world_after start trace).clients
+Law = (kind : ℕ) (start : World) (trace : List Moment) → Joint counter_machine start trace
+    → AllByRecursion (SeesFront counter_machine (world_after start trace).log) (world_after start trace).clients
 
-pub all_see : Law → (schedule : Schedule) (events : List Event) (w : Kept Tally) → IsPlayed schedule events w → AllByRecursion SeesAnswers w.clients
+pub all_see : Law → (schedule : Schedule) (events : List Event) (w : Kept Counter) → IsPlayed schedule events w → AllByRecursion SeesAnswers w.clients
 all_see law schedule events w played =
     let seen = each_sees (world_after (start_of schedule) played.trace).log (world_after (start_of schedule) played.trace).clients
     (law (kind_of schedule.service) (start_of schedule) played.trace played.stands.legal.joint) in
     subst (AllByRecursion SeesAnswers) (sym played.stands.stands.clients) seen
 
 -- a step plays one event more
-pub plays_next : (schedule : Schedule) (events : List Event) (w after : Kept Tally) (event : Event) (answer : StepOut) (played : IsPlayed schedule events w)
-    → Steps (machines (λ _. tally_started) tally_after) schedule events played.trace event answer after → IsPlayed schedule (events ++ event ∷ []) after
+pub plays_next : (schedule : Schedule) (events : List Event) (w after : Kept Counter) (event : Event) (answer : StepOut) (played : IsPlayed schedule events w)
+    → Steps (machines (λ _. counter_started) counter_after) schedule events played.trace event answer after → IsPlayed schedule (events ++ event ∷ []) after
 plays_next schedule events w after event answer played steps = record { trace = steps.extends.moment ∷ played.trace; stands = steps.extends.stands }

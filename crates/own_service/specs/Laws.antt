@@ -1,4 +1,4 @@
--- What the trait asks of each service, of Tally: what is written at a chunk is short, and is bytes.
+-- What the trait asks of each service, of Counter: what is written at a chunk is short, and is bytes.
 use Rattle.std.proofs.Common.{◌≡◌, ℕ, zero, suc, ◌+◌, ◌-◌, ◌*◌, ◌^◌, ◌<◌, ◌≤◌, ◌==◌, Bool, true, false, List, [], ◌∷◌, ◌++◌, length, min, arith, length-append}
 use Rattle.std.specs.Prelude.{decimal, codes, IsAscii, if◌then◌else◌}
 use Rattle.std.specs.List.{All}
@@ -7,8 +7,8 @@ use Rattle.std.proofs.lemmas.Str.{IsAscii-append}
 use Rattle.std.proofs.lemmas.List.Elements.{All-from_get_or, recursion_from_All}
 use Rattle.server_trait.specs.Service.{AreBytes, WritesBytes}
 use Rattle.sample_servers.specs.WrittenBytes.{Anything, bytes_fold}
-use Rattle.own_service.specs.declared.tally.Tally.{Tally}
-use Rattle.own_service.specs.Tally.{counted, answer, answers, tally_after, tally_machine}
+use Rattle.own_service.specs.declared.counter.Counter.{Counter}
+use Rattle.own_service.specs.Counter.{counted, answer, answers, counter_after, counter_machine}
 
 -- a byte is answered by at most 20 digits and a line feed
 length-answer-le : (count byte : ℕ) → length (answer (counted count) byte) ≤ 21
@@ -23,8 +23,8 @@ length-answers-le count (byte ∷ bytes) =
     let more = length-answers-le (counted count) bytes in
     grind (arith, length-append {A = ℕ})
 
-pub length-tally_after-le : (s : Tally) (chunk : List ℕ) → length chunk ≤ 2048 → length (tally_after s chunk).output ≤ 2 ^ 20
-length-tally_after-le s chunk short = let most = length-answers-le s.count chunk in omega arith
+pub length-counter_after-le : (s : Counter) (chunk : List ℕ) → length chunk ≤ 2048 → length (counter_after s chunk).output ≤ 2 ^ 20
+length-counter_after-le s chunk short = let most = length-answers-le s.count chunk in omega arith
 
 ascii-if : (b : Bool) (text : List ℕ) → IsAscii text → IsAscii (if b then text else [])
 ascii-if true text ascii = ascii
@@ -45,6 +45,6 @@ bytes-ascii : (text : List ℕ) → IsAscii text → AreBytes text
 bytes-ascii text ascii =
     recursion_from_All (λ n. n < 256) text (All-from_get_or (λ n. n < 256) text 0 (λ i within. let below = ascii i in omega arith))
 
-pub bytes-tally : WritesBytes tally_machine
-bytes-tally =
-    bytes_fold tally_machine Anything tt (λ s chunk _ _. (bytes-ascii (answers s.count chunk) (ascii-answers s.count chunk), tt))
+pub bytes-counter : WritesBytes counter_machine
+bytes-counter =
+    bytes_fold counter_machine Anything tt (λ s chunk _ _. (bytes-ascii (answers s.count chunk) (ascii-answers s.count chunk), tt))

@@ -1,3 +1,3 @@
-pub mod Tally
+pub mod Counter
 pub mod Laws
 pub mod Seen

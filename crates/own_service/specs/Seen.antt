@@ -1,4 +1,4 @@
--- What clients of Tally see in the world of a schedule.
+-- What clients of Counter see in the world of a schedule.
 use Rattle.std.specs.Prelude.{List}
 use Rattle.ft_model.specs.Client.{Client}
 use Rattle.ft_model.specs.Growth.{IsPrefix}
@@ -8,14 +8,14 @@ use Rattle.ft_model.specs.declared.event.Event.{Event}
 use Rattle.ft_model.specs.declared.schedule.Schedule.{Schedule}
 use Rattle.net_schedule.specs.Standing.{Kept}
 use Rattle.net_schedule.specs.Stepping.{StandsAfter}
-use Rattle.own_service.specs.declared.tally.Tally.{Tally}
-use Rattle.own_service.specs.Tally.{tally_started, tally_after, answers}
+use Rattle.own_service.specs.declared.counter.Counter.{Counter}
+use Rattle.own_service.specs.Counter.{counter_started, counter_after, answers}
 
 -- a client has accepted a front of the answers to its script
 abbrev pub SeesAnswers : Client → Type 0
 SeesAnswers client = IsPrefix client.accepted (answers 0 client.script)
 
--- the world stands at the end of a legal trace of these events of a schedule, whose server runs Tally
-pub record IsPlayed (schedule : Schedule) (events : List Event) (w : Kept Tally) : Type 0 where
+-- the world stands at the end of a legal trace of these events of a schedule, whose server runs Counter
+pub record IsPlayed (schedule : Schedule) (events : List Event) (w : Kept Counter) : Type 0 where
   pub trace : List Moment
-  pub stands : StandsAfter (machines (λ _. tally_started) tally_after) schedule events trace w
+  pub stands : StandsAfter (machines (λ _. counter_started) counter_after) schedule events trace w

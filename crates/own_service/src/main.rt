@@ -7,8 +7,9 @@ ghost use Rattle.std.specs.List.{AllByRecursion};
 ghost use Rattle.ft_model.specs.Playable.{IsPlayable};
 ghost use Rattle.net_schedule.specs.Keeping.{kept};
 ghost use Rattle.own_service.specs.Seen.{IsPlayed, SeesAnswers};
-ghost use Rattle.own_service.specs.Tally.{answers};
+ghost use Rattle.own_service.specs.Counter.{answers};
 
+use counter::Counter;
 use ft_io::{NoMemory, ReadSource, read_to_limit};
 use ft_model::grammar::{accepted_schedules_can_be_played, accepted_schedules_keep_the_limits};
 use ft_model::headline::clients_see_an_unfailing_server;
@@ -18,9 +19,8 @@ use schedule_text::{Schedule, read_schedule};
 use server_trait::{CHUNK_LIMIT, Service};
 use std::alloc::Global;
 use std::{io, str};
-use tally::Tally;
 
-mod tally;
+mod counter;
 
 /// The most bytes of a schedule that is read.
 const TEXT_LIMIT: usize = 1 << 20;
@@ -57,13 +57,13 @@ fn read(alloc: Global, text: &[u8]) -> Option<Schedule>
 
 /// The world at the end of a schedule: all its events are played. Whatever they lose or repeat, and whenever the server crashes, what a client has
 /// accepted is a front of the answers to its script.
-fn play(alloc: Global, schedule: &Schedule) -> Option<World<Tally>>
+fn play(alloc: Global, schedule: &Schedule) -> Option<World<Counter>>
     requires playable { IsPlayable schedule.now }
     requires few { length schedule.now.clients ≤ 16 }
     ensures played { IfSome result (λ w. IsPlayed schedule.now schedule.now.events (kept w)) }
     ensures seen { IfSome result (λ w. AllByRecursion SeesAnswers (kept w).clients) }
 {
-    clients_see_an_unfailing_server::<Tally>();
+    clients_see_an_unfailing_server::<Counter>();
     let Ok(mut world) = World::new(alloc, schedule) else {
         return None;
     };
@@ -79,12 +79,12 @@ fn play(alloc: Global, schedule: &Schedule) -> Option<World<Tally>>
 fn unfailing(alloc: Global, script: &[u8]) -> Result<Vec<u8>, NoMemory>
     ensures { IfOk result (λ out. out.items ≡ answers 0 script.now) }
 {
-    let mut tally = Tally::fresh(alloc, 0);
+    let mut counter = Counter::fresh(alloc, 0);
     let mut out = Vec::new(alloc);
     let mut rest = script;
     while !rest.is_empty() {
         let (piece, later) = rest.split_at(rest.len().min(CHUNK_LIMIT));
-        tally.take(piece, &mut out)?;
+        counter.take(piece, &mut out)?;
         rest = later;
     }
     Ok(out)
@@ -99,7 +99,7 @@ fn script_of(line: &ClientLine) -> &[u8] {
 }
 
 /// Two lines for each client.
-fn tell(alloc: Global, schedule: &Schedule, world: &World<Tally>) -> Result<String, NoMemory> {
+fn tell(alloc: Global, schedule: &Schedule, world: &World<Counter>) -> Result<String, NoMemory> {
     let mut lines = String::new(alloc);
     for (n, line) in (1..=16).zip(schedule.clients.as_slice()) {
         if let Some(client) = world.client(n) {

@@ -1,7 +1,7 @@
-//! Tally, a service of one's own. Its state is a number, which a crash loses and the log brings back.
+//! Counter, a service of one's own. Its state is a number, which a crash loses and the log brings back.
 
 ghost use Rattle.std.specs.Prelude.{◌≡◌, ℕ, ◌^◌, ◌≤◌, List, [], ◌++◌, length, true, OnOk};
-ghost use Rattle.own_service.specs.Tally.{counted, answer};
+ghost use Rattle.own_service.specs.Counter.{counted, answer};
 
 use ft_io::NoMemory;
 use itoa::Buffer;
@@ -11,11 +11,11 @@ use std::alloc::Global;
 /// The service that counts the bytes of its input. It answers each line feed with the count up to and with it, in decimal, and a line feed.
 /// At 2^64 - 1 the count stands still. The end of input closes.
 #[derive(Clone, Copy, Debug, PartialEq, Eq)]
-pub struct Tally {
+pub struct Counter {
     count: u64,
 }
 
-impl Tally {
+impl Counter {
     // Counts one byte, and answers it.
     fn take_byte(&mut self, byte: u8, out: &mut Vec<u8>) -> Result<(), NoMemory>
         ensures state { OnOk result (self.new.count ≡ counted self.old.count) }
@@ -31,17 +31,17 @@ impl Tally {
     }
 }
 
-impl Service for Tally {
+impl Service for Counter {
     ghost use Rattle.std.proofs.Common.{rules};
-    ghost use Rattle.own_service.specs.Tally.{tally_started, tally_after};
-    ghost use Rattle.own_service.specs.Laws.{length-tally_after-le, bytes-tally};
+    ghost use Rattle.own_service.specs.Counter.{counter_started, counter_after};
+    ghost use Rattle.own_service.specs.Laws.{length-counter_after-le, bytes-counter};
 
-    ghost started = { λ _. tally_started };
+    ghost started = { λ _. counter_started };
 
-    ghost after = { tally_after };
+    ghost after = { counter_after };
 
-    fn fresh(_alloc: Global, _kind: u8) -> Tally {
-        Tally { count: 0 }
+    fn fresh(_alloc: Global, _kind: u8) -> Counter {
+        Counter { count: 0 }
     }
 
     fn take(&mut self, chunk: &[u8], out: &mut Vec<u8>) -> Result<Next, NoMemory> {
@@ -56,7 +56,7 @@ impl Service for Tally {
 
     ghost closes = { λ _. Prim.search rules };
 
-    ghost is_short = { length-tally_after-le };
+    ghost is_short = { length-counter_after-le };
 
-    ghost writes_bytes = { λ _. bytes-tally };
+    ghost writes_bytes = { λ _. bytes-counter };
 }

@@ -1,11 +1,11 @@
--- Tally: the bytes of the input are counted, and each line feed is answered by the count. The empty chunk closes.
+-- Counter: the bytes of the input are counted, and each line feed is answered by the count. The empty chunk closes.
 use Rattle.std.specs.Prelude.{ℕ, ◌+◌, ◌-◌, ◌^◌, min, List, [], ◌∷◌, ◌++◌, length, decimal, codes, ◌==◌, if◌then◌else◌}
 use Rattle.server_trait.specs.Service.{Served, Machine, machine}
-use Rattle.own_service.specs.declared.tally.Tally.{Tally}
+use Rattle.own_service.specs.declared.counter.Counter.{Counter}
 
 -- nothing is counted yet
-abbrev pub tally_started : Tally
-tally_started = record { count = 0 }
+abbrev pub counter_started : Counter
+counter_started = record { count = 0 }
 
 -- one byte more. At the end of 64 bits the count stands still
 abbrev pub counted : ℕ → ℕ
@@ -26,9 +26,9 @@ answers count [] = []
 answers count (byte ∷ bytes) = answer (counted count) byte ++ answers (counted count) bytes
 
 -- what a chunk does
-abbrev pub tally_after : Tally → List ℕ → Served Tally
-tally_after tally chunk = record { next = record { count = count_after tally.count chunk }; output = answers tally.count chunk; closed = length chunk == 0 }
+abbrev pub counter_after : Counter → List ℕ → Served Counter
+counter_after counter chunk = record { next = record { count = count_after counter.count chunk }; output = answers counter.count chunk; closed = length chunk == 0 }
 
 -- the service as runs see it
-abbrev pub tally_machine : Machine Tally
-tally_machine = machine tally_started tally_after
+abbrev pub counter_machine : Machine Counter
+counter_machine = machine counter_started counter_after
