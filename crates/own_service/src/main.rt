@@ -11,9 +11,9 @@ ghost use Rattle.own_service.specs.Counter.{answers};
 
 use counter::Counter;
 use ft_io::{NoMemory, ReadSource, read_to_limit};
+use ft_model::Script;
 use ft_model::grammar::{accepted_schedules_can_be_played, accepted_schedules_keep_the_limits};
 use ft_model::headline::clients_see_an_unfailing_server;
-use ft_model::{ClientLine, Script};
 use net_schedule::World;
 use schedule_text::{Schedule, read_schedule};
 use server_trait::{CHUNK_LIMIT, Service};
@@ -90,21 +90,13 @@ fn unfailing(alloc: Global, script: &[u8]) -> Result<Vec<u8>, NoMemory>
     Ok(out)
 }
 
-/// The script of a client, but for letters without a line feed, to which nothing is answered.
-fn script_of(line: &ClientLine) -> &[u8] {
-    match &line.script {
-        Script::Bytes(bytes) => bytes.as_slice(),
-        Script::Fill { .. } => &[],
-    }
-}
-
-/// Two lines for each client.
+/// Two lines for each client whose script is written out: what it has accepted, and what it is answered without a crash.
 fn tell(alloc: Global, schedule: &Schedule, world: &World<Counter>) -> Result<String, NoMemory> {
     let mut lines = String::new(alloc);
     for (n, line) in (1..=16).zip(schedule.clients.as_slice()) {
-        if let Some(client) = world.client(n) {
+        if let (Some(client), Script::Bytes(script)) = (world.client(n), &line.script) {
             let accepted = str::from_utf8(client.accepted()).unwrap_or("no text");
-            let answers = unfailing(alloc, script_of(line))?;
+            let answers = unfailing(alloc, script.as_slice())?;
             let answers = str::from_utf8(&answers).unwrap_or("no text");
             lines.push_str(format!(in alloc; "client {n} accepted {accepted:?}\n")?.as_str())?;
             lines.push_str(format!(in alloc; "without a crash   {answers:?}\n")?.as_str())?;
