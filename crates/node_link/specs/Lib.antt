@@ -10,6 +10,8 @@ pub mod LoggerTurns
 pub mod Logging
 pub mod Options
 pub mod Outcome
+pub mod Pair
+pub mod PairParts
 pub mod Ranges
 pub mod Received
 pub mod Roles

@@ -2,6 +2,7 @@
 #![tactic(auto)]
 
 pub use counts::Counts;
+pub use pair::{ChildName, PairEnd, PairRole, PairStep};
 pub use role::{ClientRole, LoggerRole, Role, ServerRole, read_role};
 pub use status::{NodeEnd, Status};
 pub use top::node;
@@ -10,6 +11,7 @@ mod client;
 mod counts;
 mod logger;
 mod options;
+mod pair;
 mod receiving;
 mod role;
 mod server;
