@@ -1,5 +1,5 @@
-//! `ftnode`: a server, a logger or a client of FT-TCP as a process over UDP. All is done by `node`; here are the words, the socket, the standard
-//! input, the standard output, the standard error, and the processes.
+//! `ftnode`: a server, a logger or a client of FT-TCP as a process over UDP, or a pair of servers beside a logger and a client, each a process of its own. All
+//! is done by `node`; here are the words, the socket, the standard input, the standard output, the standard error, and the processes.
 #![tactic(auto)]
 
 use ft_io::{ProcessSpawner, ReadSource, UdpLink, WriteSink};

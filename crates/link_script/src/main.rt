@@ -139,6 +139,7 @@ fn ask(alloc: Global, text: &str, said: &mut Vec<u8>) -> Result<(), NoMemory> {
         Some(Role::Server(_)) => "server",
         Some(Role::Logger(_)) => "logger",
         Some(Role::Client(_)) => "client",
+        Some(Role::Pair(_)) => "pair",
     };
     say(name, said)
 }

@@ -253,6 +253,7 @@ module _ (role : ClientRole) (script : List ℕ) (client : LiveState) (before mi
   script_stops out_old out_new ends.LinkFault runs = absurd (runs (first_machine role script) (begins_beside role script client short made due))
   script_stops out_old out_new (ends.Fenced newer) runs = absurd (runs (first_machine role script) (begins_beside role script client short made due))
   script_stops out_old out_new ends.ReadFault runs = absurd (runs (first_machine role script) (begins_beside role script client short made due))
+  script_stops out_old out_new ends.ChildFault runs = absurd (runs (first_machine role script) (begins_beside role script client short made due))
 
 -- nothing was done
 pub does_nothing : (told : Option (List LinkCall)) (out : Option (List ℕ)) → DoesNothing told told out out

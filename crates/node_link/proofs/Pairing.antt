@@ -9,12 +9,12 @@ use Rattle.ft_io.specs.Told.{Tells}
 use Rattle.ft_io.specs.Sink.{AppendsFront}
 use Rattle.node_link.specs.declared.pair.Children.{Children}
 use Rattle.node_link.specs.declared.pair.ChildName.{ChildName}
-use Rattle.node_link.specs.declared.pair.PairRole.{PairRole}
+use Rattle.node_link.specs.declared.role.PairRole.{PairRole}
 use Rattle.node_link.specs.declared.pair.PairStep.{PairStep}
 use Rattle.node_link.specs.declared.pair.PairStep.TheVariants.{Start, Wait}
-use Rattle.node_link.specs.declared.pair.PairEnd.{PairEnd}
-use Rattle.node_link.specs.declared.pair.PairEnd.TheVariants as ends
-use Rattle.node_link.specs.Pair.{status_line, steps_of, StepsTell, IsPair, StepsStop, PairStops}
+use Rattle.node_link.specs.declared.pair.PairFault.{PairFault}
+use Rattle.node_link.specs.declared.pair.PairFault.TheVariants as faults
+use Rattle.node_link.specs.Pair.{status_line, steps_of, StepsTell, IsPair, StepsStop}
 use Rattle.node_link.specs.PairParts.{StartDone, IsCounted, FitsStep, count_after, FitSteps, WaitDone, WaitStops, StepDone, StepStops}
 use Rattle.node_link.proofs.Calls.{tells_on, tells_none}
 use Rattle.node_link.proofs.Fronts.{front_behind}
@@ -104,10 +104,9 @@ module _ (steps : List PairStep) (i before : ℕ) (step : PairStep) (children : 
       more_by_one (Start words) n = omega arith
       more_by_one (Wait child name) n = omega arith
 
-  pub step_stops : (new : Option (List SpawnCall)) (out_new : Option (List ℕ)) (end : PairEnd) → StepStops step children started mid new out_mid out_new end
-      → StepsStop steps before old new out_old out_new end
-  step_stops new out_new ends.NoMemory h = h
-  step_stops new out_new ends.ChildFault h = (
+  pub step_stops : (new : Option (List SpawnCall)) (out_new : Option (List ℕ)) (fault : PairFault) → StepStops step children started mid new out_mid out_new fault
+      → StepsStop steps before old new out_old out_new fault
+  step_stops new out_new faults.Child h = (
     i,
     record {
       calls = g.pair.calls;
@@ -117,7 +116,7 @@ module _ (steps : List PairStep) (i before : ℕ) (step : PairStep) (children : 
       written = subst (λ (o : Option (List ℕ)). Appends out_old o g.pair.lines) (sym h.1) g.pair.written;
     },
   )
-  step_stops new out_new ends.WriteFault h = (
+  step_stops new out_new faults.Write h = (
     i + 1,
     later_pair new (AppendsFront out_mid out_new) (AppendsFront out_old out_new) (λ l m w k. front_behind out_old out_mid out_new l m w k) h,
   )
@@ -163,10 +162,10 @@ start_done step words children after started started_new old new out is c d =
       counted = record { among = omega (arith, c.among, d.next, d.count); last = λ some. d.last };
     })
 
-pub start_stops : (step : PairStep) (children : Children) (started : ℕ) (old new : Option (List SpawnCall)) (out : Option (List ℕ)) (end : PairEnd) → end ≡ ends.ChildFault
-    → Tells old new [] → StepStops step children started old new out out end
-start_stops step children started old new out end is t =
-    subst (λ (e : PairEnd). StepStops step children started old new out out e) (sym is) (t, refl)
+pub start_stops : (step : PairStep) (children : Children) (started : ℕ) (old new : Option (List SpawnCall)) (out : Option (List ℕ)) (fault : PairFault) → fault ≡ faults.Child
+    → Tells old new [] → StepStops step children started old new out out fault
+start_stops step children started old new out fault is t =
+    subst (λ (f : PairFault). StepStops step children started old new out out e) (sym is) (t, refl)
 
 -- the number of the child that a wait is for
 pub number_is : (step : PairStep) (child : ℕ) (name : ChildName) (children : Children) (started : ℕ) → step ≡ Wait child name → IsCounted children started
@@ -190,11 +189,10 @@ wait_done step child name children started started_new old new Writes is c f sam
     })
 
 pub wait_stops : (step : PairStep) (child : ℕ) (name : ChildName) (children : Children) (started : ℕ) (old new : Option (List SpawnCall)) (out_old out_new : Option (List ℕ))
-    (end : PairEnd) → step ≡ Wait child name → IsCounted children started → FitsStep children.count step
-    → WaitStops (children.last - (children.count - child)) name old new out_old out_new end → StepStops step children started old new out_old out_new end
-wait_stops step child name children started old new out_old out_new ends.NoMemory is c f w = w
-wait_stops step child name children started old new out_old out_new ends.ChildFault is c f w = w
-wait_stops step child name children started old new out_old out_new ends.WriteFault is c f w =
+    (fault : PairFault) → step ≡ Wait child name → IsCounted children started → FitsStep children.count step
+    → WaitStops (children.last - (children.count - child)) name old new out_old out_new fault → StepStops step children started old new out_old out_new fault
+wait_stops step child name children started old new out_old out_new faults.Child is c f w = w
+wait_stops step child name children started old new out_old out_new faults.Write is c f w =
     let n = number_is step child name children started is c f in
     let number : children.last - (children.count - child) ≡ (started - children.count) + child = omega (arith, n.0, n.1, n.2, n.3) in
     subst (λ (s : PairStep). IsPair (s ∷ []) (started - children.count) old new (AppendsFront out_old out_new)) (sym is)
@@ -204,9 +202,3 @@ wait_stops step child name children started old new out_old out_new ends.WriteFa
 pub steps_fit : (role : PairRole) → FitSteps 0 (steps_of role)
 steps_fit role =
     (tt, (tt, (tt, ((omega arith, omega arith), (tt, ((omega arith, omega arith), ((omega arith, omega arith), ((omega arith, omega arith), tt))))))))
-
-pub pair_stops : (role : PairRole) (before : ℕ) (old new : Option (List SpawnCall)) (out_old out_new : Option (List ℕ)) (end : PairEnd)
-    → StepsStop (steps_of role) before old new out_old out_new end → PairStops role before old new out_old out_new end
-pair_stops role before old new out_old out_new ends.NoMemory h = absurd h
-pair_stops role before old new out_old out_new ends.ChildFault h = h
-pair_stops role before old new out_old out_new ends.WriteFault h = h

@@ -261,6 +261,7 @@ server_stops role before mid new counts out_old out_new (ends.Fenced newer) b s 
 server_stops role before mid new counts out_old out_new ends.Reset b s t = absurd t
 server_stops role before mid new counts out_old out_new ends.Spent b s t = absurd t
 server_stops role before mid new counts out_old out_new ends.ReadFault b s t = absurd t
+server_stops role before mid new counts out_old out_new ends.ChildFault b s t = absurd t
 
 -- one that its turns ended
 pub server_lost : (role : ServerRole) (before mid new : Option (List LinkCall)) (out : Option (List ℕ)) → Tells before mid (Bound role.local ∷ []) → ServeStops role mid new end.NoMemory

@@ -173,6 +173,7 @@ logger_stops role before mid new counts out_old out_new (ends.Fenced newer) b s 
 logger_stops role before mid new counts out_old out_new ends.Reset b s t = absurd t
 logger_stops role before mid new counts out_old out_new ends.Spent b s t = absurd t
 logger_stops role before mid new counts out_old out_new ends.ReadFault b s t = absurd t
+logger_stops role before mid new counts out_old out_new ends.ChildFault b s t = absurd t
 
 pub on_ok : {P Q : Type 0} (r : Result (Unit {0}) NodeEnd) → (P → Q) → OnOk r P → OnOk r Q
 on_ok (Ok x) f p = f p

@@ -5,7 +5,7 @@ use Rattle.std.specs.Io.KnownBytes.{Appends}
 use Rattle.ft_io.specs.Faults.{Rose}
 use Rattle.ft_io.specs.Sink.{AppendsFront}
 use Rattle.node_link.specs.declared.status.NodeEnd.{NodeEnd}
-use Rattle.node_link.specs.declared.status.NodeEnd.TheVariants.{Usage, NoMemory, LinkFault, WriteFault, Fenced, Reset, Spent, ReadFault}
+use Rattle.node_link.specs.declared.status.NodeEnd.TheVariants.{Usage, NoMemory, LinkFault, WriteFault, Fenced, Reset, Spent, ReadFault, ChildFault}
 
 abbrev pub code_of : NodeEnd → ℕ
 code_of Usage = 2
@@ -16,6 +16,7 @@ code_of (Fenced newer) = 6
 code_of Reset = 7
 code_of Spent = 8
 code_of ReadFault = 9
+code_of ChildFault = 10
 
 abbrev pub fence_text : ℕ → List ℕ
 fence_text newer = codes "ftnode: fenced by boot " ++ (decimal newer ++ codes "\n")
@@ -30,6 +31,7 @@ text_of (Fenced newer) = fence_text newer
 text_of Reset = codes "ftnode: reset\n"
 text_of Spent = codes "ftnode: spent\n"
 text_of ReadFault = codes "ftnode: read fault\n"
+text_of ChildFault = codes "ftnode: child fault\n"
 
 -- the line is written whole and the status is the end's; or that write failed, and the status is that of a fault of a sink
 abbrev pub TellsEnd : NodeEnd → (err_old err_new : Option (List ℕ)) → (faults_old faults_new : ℕ) → (code : ℕ) → Type 0

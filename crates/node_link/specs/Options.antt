@@ -6,7 +6,7 @@ use Rattle.clap.specs.Lexer.{long_of, short_of}
 use Rattle.clap.specs.Matches.{found_of, first_value}
 use Rattle.clap.specs.declared.parser.matches.ArgMatches.{ArgMatches}
 use Rattle.node_link.specs.declared.options.OptionName.{OptionName}
-use Rattle.node_link.specs.declared.options.OptionName.TheVariants.{Local, Logger, Server, Service, Boot, Isn, Turns, Script}
+use Rattle.node_link.specs.declared.options.OptionName.TheVariants.{Local, Logger, Server, Service, Boot, Isn, Turns, Script, Program, Base, First, Second}
 
 abbrev pub Text : Type 0
 Text = List ℕ
@@ -25,6 +25,10 @@ name_of Boot = codes "boot"
 name_of Isn = codes "isn"
 name_of Turns = codes "turns"
 name_of Script = codes "script"
+name_of Program = codes "program"
+name_of Base = codes "base"
+name_of First = codes "first"
+name_of Second = codes "second"
 
 -- an option that its role can't do without
 abbrev pub is_required : OptionName → Bool

@@ -1,18 +1,20 @@
 -- A pair of servers beside a logger and a client: which programs are started and waited for, in which order, and what is written.
-use Rattle.std.specs.Prelude.{◌≡◌, ℕ, ◌+◌, ◌-◌, ◌<◌, ◌≤◌, ℤ, Option, List, [], ◌∷◌, ◌++◌, codes, take, string_bytes}
+use Rattle.std.specs.Prelude.{◌≡◌, ℕ, ◌+◌, ℤ, Option, List, [], ◌∷◌, ◌++◌, codes, take}
 use Rattle.std.specs.Fmt.{decimal, signed_decimal}
 use Rattle.std.specs.Io.KnownBytes.{Appends}
 use Rattle.ft_io.specs.declared.spawn_call.SpawnCall.{SpawnCall}
 use Rattle.ft_io.specs.declared.spawn_call.SpawnCall.TheVariants.{Started, Ended}
 use Rattle.ft_io.specs.Told.{Tells}
 use Rattle.ft_io.specs.Sink.{AppendsFront}
-use Rattle.node_link.specs.declared.pair.PairRole.{PairRole}
+use Rattle.node_link.specs.declared.role.PairRole.{PairRole}
 use Rattle.node_link.specs.declared.pair.ChildName.{ChildName}
 use Rattle.node_link.specs.declared.pair.ChildName.TheVariants.{Server, Logger, Client}
 use Rattle.node_link.specs.declared.pair.PairStep.{PairStep}
 use Rattle.node_link.specs.declared.pair.PairStep.TheVariants.{Start, Wait}
-use Rattle.node_link.specs.declared.pair.PairEnd.{PairEnd}
-use Rattle.node_link.specs.declared.pair.PairEnd.TheVariants.{NoMemory, ChildFault, WriteFault}
+use Rattle.node_link.specs.declared.pair.PairFault.{PairFault}
+use Rattle.node_link.specs.declared.pair.PairFault.TheVariants.{Child, Write}
+use Rattle.node_link.specs.declared.status.NodeEnd.{NodeEnd}
+use Rattle.node_link.specs.declared.status.NodeEnd.TheVariants.{NoMemory, WriteFault, ChildFault}
 
 abbrev pub name_of : ChildName → List ℕ
 name_of Server = codes "server"
@@ -25,16 +27,16 @@ address_at port = codes "127.0.0.1:" ++ decimal port
 -- the words of each start: the program, its role, and each option with its value behind it
 abbrev pub logger_start : PairRole → List (List ℕ)
 logger_start role =
-    string_bytes role.program ∷ codes "logger" ∷ codes "--local" ∷ address_at (role.base + 1) ∷ codes "--turns" ∷ decimal role.turns ∷ []
+    role.program ∷ codes "logger" ∷ codes "--local" ∷ address_at (role.base + 1) ∷ codes "--turns" ∷ decimal role.turns ∷ []
 
 abbrev pub server_start : PairRole → (boot isn turns : ℕ) → List (List ℕ)
 server_start role boot isn turns =
-    string_bytes role.program ∷ codes "server" ∷ codes "--local" ∷ address_at role.base ∷ codes "--logger" ∷ address_at (role.base + 1)
+    role.program ∷ codes "server" ∷ codes "--local" ∷ address_at role.base ∷ codes "--logger" ∷ address_at (role.base + 1)
     ∷ codes "--service" ∷ codes "echo" ∷ codes "--boot" ∷ decimal boot ∷ codes "--isn" ∷ decimal isn ∷ codes "--turns" ∷ decimal turns ∷ []
 
 abbrev pub client_start : PairRole → List (List ℕ)
 client_start role =
-    string_bytes role.program ∷ codes "client" ∷ codes "--local" ∷ address_at (role.base + 2) ∷ codes "--server" ∷ address_at role.base
+    role.program ∷ codes "client" ∷ codes "--local" ∷ address_at (role.base + 2) ∷ codes "--server" ∷ address_at role.base
     ∷ codes "--isn" ∷ decimal 1000 ∷ codes "--turns" ∷ decimal role.turns ∷ codes "--script" ∷ codes "fill:5000" ∷ []
 
 -- the children are numbered in the order of their starts: the logger, the first server, the client, the second server
@@ -69,14 +71,14 @@ pub record IsPair (steps : List PairStep) (before : ℕ) (old new : Option (List
   pub tells : Tells old new calls
   pub written : Writes lines
 
--- how steps stop early: some first ones were done, and the next call failed; or the last of them told a status that was written in front alone
-abbrev pub StepsStop : List PairStep → ℕ → (old new : Option (List SpawnCall)) → (out_old out_new : Option (List ℕ)) → PairEnd → Type 0
-StepsStop steps before old new out_old out_new NoMemory = ⊥
-StepsStop steps before old new out_old out_new ChildFault = (count : ℕ) × IsPair (take count steps) before old new (Appends out_old out_new)
-StepsStop steps before old new out_old out_new WriteFault = (count : ℕ) × IsPair (take count steps) before old new (AppendsFront out_old out_new)
+-- how steps stop early: some first ones were done, and the next call failed; or the last of them told a status of which only a front was written
+abbrev pub StepsStop : List PairStep → ℕ → (old new : Option (List SpawnCall)) → (out_old out_new : Option (List ℕ)) → PairFault → Type 0
+StepsStop steps before old new out_old out_new Child = (count : ℕ) × IsPair (take count steps) before old new (Appends out_old out_new)
+StepsStop steps before old new out_old out_new Write = (count : ℕ) × IsPair (take count steps) before old new (AppendsFront out_old out_new)
 
--- how a pair stops early: memory is wanting before the first start
-abbrev pub PairStops : PairRole → ℕ → (old new : Option (List SpawnCall)) → (out_old out_new : Option (List ℕ)) → PairEnd → Type 0
+-- how a pair stops early: where memory is wanting, before the first start
+abbrev pub PairStops : PairRole → ℕ → (old new : Option (List SpawnCall)) → (out_old out_new : Option (List ℕ)) → NodeEnd → Type 0
 PairStops role before old new out_old out_new NoMemory = Tells old new [] × (out_new ≡ out_old)
-PairStops role before old new out_old out_new ChildFault = StepsStop (steps_of role) before old new out_old out_new ChildFault
-PairStops role before old new out_old out_new WriteFault = StepsStop (steps_of role) before old new out_old out_new WriteFault
+PairStops role before old new out_old out_new ChildFault = StepsStop (steps_of role) before old new out_old out_new Child
+PairStops role before old new out_old out_new WriteFault = StepsStop (steps_of role) before old new out_old out_new Write
+PairStops role before old new out_old out_new _ = ⊥

@@ -9,8 +9,8 @@ use Rattle.node_link.specs.declared.pair.Children.{Children}
 use Rattle.node_link.specs.declared.pair.ChildName.{ChildName}
 use Rattle.node_link.specs.declared.pair.PairStep.{PairStep}
 use Rattle.node_link.specs.declared.pair.PairStep.TheVariants.{Start, Wait}
-use Rattle.node_link.specs.declared.pair.PairEnd.{PairEnd}
-use Rattle.node_link.specs.declared.pair.PairEnd.TheVariants.{NoMemory, ChildFault, WriteFault}
+use Rattle.node_link.specs.declared.pair.PairFault.{PairFault}
+use Rattle.node_link.specs.declared.pair.PairFault.TheVariants.{Child, Write}
 use Rattle.node_link.specs.Pair.{status_line, IsPair}
 
 -- so many children of these steps are among all that were started, and the last one has the last number
@@ -44,10 +44,9 @@ pub record WaitDone (number : ℕ) (name : ChildName) (old new : Option (List Sp
   pub tells : Tells old new (Ended number status ∷ [])
   pub written : Writes (status_line name status)
 
-abbrev pub WaitStops : ℕ → ChildName → (old new : Option (List SpawnCall)) → (out_old out_new : Option (List ℕ)) → PairEnd → Type 0
-WaitStops number name old new out_old out_new NoMemory = ⊥
-WaitStops number name old new out_old out_new ChildFault = Tells old new [] × (out_new ≡ out_old)
-WaitStops number name old new out_old out_new WriteFault = WaitDone number name old new (AppendsFront out_old out_new)
+abbrev pub WaitStops : ℕ → ChildName → (old new : Option (List SpawnCall)) → (out_old out_new : Option (List ℕ)) → PairFault → Type 0
+WaitStops number name old new out_old out_new Child = Tells old new [] × (out_new ≡ out_old)
+WaitStops number name old new out_old out_new Write = WaitDone number name old new (AppendsFront out_old out_new)
 
 -- a step was done
 pub record StepDone (step : PairStep) (children_old children_new : Children) (started_old started_new : ℕ) (old new : Option (List SpawnCall)) (Writes : List ℕ → Type 0) : Type 0 where
@@ -56,7 +55,6 @@ pub record StepDone (step : PairStep) (children_old children_new : Children) (st
   pub started : started_new ≡ (started_old - children_old.count) + children_new.count
   pub counted : IsCounted children_new started_new
 
-abbrev pub StepStops : PairStep → Children → ℕ → (old new : Option (List SpawnCall)) → (out_old out_new : Option (List ℕ)) → PairEnd → Type 0
-StepStops step children started old new out_old out_new NoMemory = ⊥
-StepStops step children started old new out_old out_new ChildFault = Tells old new [] × (out_new ≡ out_old)
-StepStops step children started old new out_old out_new WriteFault = IsPair (step ∷ []) (started - children.count) old new (AppendsFront out_old out_new)
+abbrev pub StepStops : PairStep → Children → ℕ → (old new : Option (List SpawnCall)) → (out_old out_new : Option (List ℕ)) → PairFault → Type 0
+StepStops step children started old new out_old out_new Child = Tells old new [] × (out_new ≡ out_old)
+StepStops step children started old new out_old out_new Write = IsPair (step ∷ []) (started - children.count) old new (AppendsFront out_old out_new)

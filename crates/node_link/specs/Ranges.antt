@@ -5,7 +5,7 @@ use Rattle.ft_model.specs.declared.schedule.Script.{Script}
 use Rattle.node_link.specs.declared.role.ServerRole.{ServerRole}
 use Rattle.node_link.specs.declared.role.ClientRole.{ClientRole}
 use Rattle.node_link.specs.declared.role.Role.{Role}
-use Rattle.node_link.specs.declared.role.Role.TheVariants.{Server, Logger, Client}
+use Rattle.node_link.specs.declared.role.Role.TheVariants.{Server, Logger, Client, Pair}
 
 -- a boot number is at least 1, and no role has more than a million turns
 pub record ServerInRange (role : ServerRole) : Type 0 where
@@ -24,3 +24,4 @@ abbrev pub InRange : Role → Type 0
 InRange (Server role) = ServerInRange role
 InRange (Logger role) = role.turns ≤ 1000000
 InRange (Client role) = ClientInRange role
+InRange (Pair role) = role.base ≤ 65533

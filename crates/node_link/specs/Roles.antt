@@ -1,5 +1,5 @@
 -- A role as words: its name, and behind it its options. Each value has the spelling that it has in a schedule's text.
-use Rattle.std.specs.Prelude.{ℕ, ◌^◌, ◌-◌, Option, Some, None, option_map, List, [], ◌∷◌, codes, if◌then◌else◌}
+use Rattle.std.specs.Prelude.{ℕ, ◌^◌, ◌-◌, Bool, true, false, not, Option, Some, None, option_map, List, [], ◌∷◌, codes, if◌then◌else◌, ◌==◌}
 use Rattle.std.specs.Option.{option_and_then}
 use Rattle.std.specs.Str.{bytes_eq}
 use Rattle.ft_io.specs.declared.Addr.{Addr}
@@ -11,8 +11,9 @@ use Rattle.node_link.specs.declared.options.OptionName.TheVariants as option
 use Rattle.node_link.specs.declared.role.ServerRole.{ServerRole}
 use Rattle.node_link.specs.declared.role.LoggerRole.{LoggerRole}
 use Rattle.node_link.specs.declared.role.ClientRole.{ClientRole}
+use Rattle.node_link.specs.declared.role.PairRole.{PairRole}
 use Rattle.node_link.specs.declared.role.Role.{Role}
-use Rattle.node_link.specs.declared.role.Role.TheVariants.{Server, Logger, Client}
+use Rattle.node_link.specs.declared.role.Role.TheVariants.{Server, Logger, Client, Pair}
 use Rattle.node_link.specs.Options.{Text, Use, allowed_uses, value_of}
 
 -- the values of options, where their words spell them
@@ -32,6 +33,17 @@ script_in (Some word) = option_map Some (script_of word)
 
 abbrev pub script_at : List Use → OptionName → Option (Option Script)
 script_at uses o = script_in (value_of uses o)
+
+-- a program is a word that isn't empty and doesn't begin with `-`
+abbrev pub is_program : Text → Bool
+is_program [] = false
+is_program (first ∷ rest) = not (first == 45)
+
+abbrev pub program_of : Text → Option Text
+program_of word = if is_program word then Some word else None
+
+abbrev pub program_at : List Use → OptionName → Option Text
+program_at uses o = option_and_then program_of (value_of uses o)
 
 abbrev pub isn_in : List Use → Option ℕ
 isn_in uses = number_at 0 (2 ^ 32 - 1) uses option.Isn
@@ -64,6 +76,16 @@ abbrev pub client_in : List Use → Option ClientRole
 client_in uses =
     client_from (addr_at uses option.Local) (addr_at uses option.Server) (isn_in uses) (turns_in uses) (script_at uses option.Script)
 
+abbrev pub pair_from : Option Text → Option ℕ → Option ℕ → Option ℕ → Option ℕ → Option PairRole
+pair_from (Some program) (Some base) (Some first) (Some second) (Some turns) =
+    Some (record { program = program; base = base; first = first; second = second; turns = turns })
+pair_from _ _ _ _ _ = None
+
+-- the two ports behind the base are ports too
+abbrev pub pair_in : List Use → Option PairRole
+pair_in uses =
+    pair_from (program_at uses option.Program) (number_at 1 65533 uses option.Base) (number_at 1 1000000 uses option.First) (number_at 1 1000000 uses option.Second) (turns_in uses)
+
 -- the options of each role
 abbrev pub server_options : List OptionName
 server_options = option.Local ∷ option.Logger ∷ option.Service ∷ option.Boot ∷ option.Isn ∷ option.Turns ∷ []
@@ -74,6 +96,9 @@ logger_options = option.Local ∷ option.Turns ∷ []
 abbrev pub client_options : List OptionName
 client_options = option.Local ∷ option.Server ∷ option.Isn ∷ option.Turns ∷ option.Script ∷ []
 
+abbrev pub pair_options : List OptionName
+pair_options = option.Program ∷ option.Base ∷ option.First ∷ option.Second ∷ option.Turns ∷ []
+
 unfoldable pub server_of : List Text → Option Role
 server_of words = option_map Server (option_and_then server_in (allowed_uses server_options words))
 
@@ -83,6 +108,9 @@ logger_of words = option_map Logger (option_and_then logger_in (allowed_uses log
 unfoldable pub client_of : List Text → Option Role
 client_of words = option_map Client (option_and_then client_in (allowed_uses client_options words))
 
+unfoldable pub pair_of : List Text → Option Role
+pair_of words = option_map Pair (option_and_then pair_in (allowed_uses pair_options words))
+
 -- the role that words ask for, where they are allowed
 unfoldable pub role_of : List Text → Option Role
 role_of [] = None
@@ -90,4 +118,9 @@ role_of (name ∷ words) =
     if bytes_eq name (codes "server") then server_of words
     else (if bytes_eq name (codes "logger") then logger_of words
     else (if bytes_eq name (codes "client") then client_of words
-    else None))
+    else (if bytes_eq name (codes "pair") then pair_of words
+    else None)))
+
+abbrev pub is_pair : Option Role → Bool
+is_pair (Some (Pair role)) = true
+is_pair _ = false

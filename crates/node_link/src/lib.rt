@@ -1,9 +1,10 @@
-//! `node`: the top call of `ftnode`. By its words it is a server, a logger or a client of FT-TCP (INFOCOM 2001), over a network of datagrams.
+//! `node`: the top call of `ftnode`. By its words it is a server, a logger or a client of FT-TCP (INFOCOM 2001), over a network of datagrams,
+//! or it starts a pair of servers with a logger and a client, each a program of its own.
 #![tactic(auto)]
 
 pub use counts::Counts;
-pub use pair::{ChildName, PairEnd, PairRole, PairStep};
-pub use role::{ClientRole, LoggerRole, Role, ServerRole, read_role};
+pub use program::Program;
+pub use role::{ClientRole, LoggerRole, PairRole, Role, ServerRole, read_role};
 pub use status::{NodeEnd, Status};
 pub use top::node;
 
@@ -12,6 +13,7 @@ mod counts;
 mod logger;
 mod options;
 mod pair;
+mod program;
 mod receiving;
 mod role;
 mod server;

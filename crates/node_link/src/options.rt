@@ -25,6 +25,10 @@ pub(crate) enum OptionName {
     Isn,
     Turns,
     Script,
+    Program,
+    Base,
+    First,
+    Second,
 }
 
 impl OptionName {
@@ -41,6 +45,10 @@ impl OptionName {
             OptionName::Isn => "isn",
             OptionName::Turns => "turns",
             OptionName::Script => "script",
+            OptionName::Program => "program",
+            OptionName::Base => "base",
+            OptionName::First => "first",
+            OptionName::Second => "second",
         }
     }
 

@@ -10,28 +10,15 @@ ghost use Rattle.ft_io.specs.Told.{Tells};
 ghost use Rattle.node_link.specs.Pair.{name_of, status_text as text_lem, status_line, address_at, logger_start, server_start, client_start, steps_of, IsPair, StepsStop, PairStops};
 ghost use Rattle.node_link.specs.PairParts.{StartDone, IsCounted, FitsStep, FitSteps, WaitDone, WaitStops, StepDone, StepStops};
 
+use crate::role::PairRole;
+use crate::status::NodeEnd;
 use ft_io::{Failed, NoMemory, Sink, Spawner, Words, write_all};
 use itoa::Buffer;
 use std::alloc::Global;
 
-/// The values of a pair's options.
-#[derive(Debug, Drop)]
-pub struct PairRole {
-    /// The program of every child.
-    pub program: String,
-    /// The server's port, from 1 to 65,533. The next one is the logger's, and the one behind that the client's.
-    pub base: u16,
-    /// The turns of the first server.
-    pub first: u32,
-    /// The turns of the second server.
-    pub second: u32,
-    /// The turns of the logger, and of the client.
-    pub turns: u32,
-}
-
 /// What a child is.
 #[derive(Clone, Copy, Debug, PartialEq, Eq)]
-pub enum ChildName {
+pub(crate) enum ChildName {
     Server,
     Logger,
     Client,
@@ -63,33 +50,20 @@ impl ChildName {
 
 /// A step of a pair.
 #[derive(Debug, Drop)]
-pub enum PairStep {
+pub(crate) enum PairStep {
     /// A program is started by these words.
     Start(Words),
     /// The nth child, from 1, is waited for, and its status is told.
     Wait { child: u32, name: ChildName },
 }
 
-/// How a pair ends that wasn't done to its end.
+/// What stops the steps of a pair early.
 #[derive(Clone, Copy, Debug, PartialEq, Eq)]
-pub enum PairEnd {
-    /// Nothing was started yet.
-    NoMemory,
+pub(crate) enum PairFault {
     /// A start or a wait failed.
-    ChildFault,
+    Child,
     /// A write failed.
-    WriteFault,
-}
-
-impl From<NoMemory> for PairEnd {
-    ghost use Rattle.std.specs.Prelude.{◌≡◌};
-    ghost use Rattle.node_link.specs.declared.pair.PairEnd.TheVariants as ends;
-
-    ghost from_gives = { λ _ e. e ≡ ends.NoMemory };
-
-    fn from(_error: NoMemory) -> PairEnd {
-        PairEnd::NoMemory
-    }
+    Write,
 }
 
 /// Appends two words, as an option and its value.
@@ -255,15 +229,15 @@ struct Children {
 }
 
 /// Starts a child.
-fn start<P: Spawner>(words: &Words, children: &mut Children, kids: &mut P) -> Result<(), PairEnd>
+fn start<P: Spawner>(words: &Words, children: &mut Children, kids: &mut P) -> Result<(), PairFault>
     requires { children.old.count ≤ 8 }
     ensures done { OnOk result (StartDone words.now children.old children.new (P.started kids.old) (P.started kids.new) (P.told kids.old) (P.told kids.new)) }
-    ensures stops { IfErr result (λ end. (end ≡ PairEnd.ChildFault) × Tells (P.told kids.old) (P.told kids.new) []) }
+    ensures stops { IfErr result (λ end. (end ≡ PairFault.Child) × Tells (P.told kids.old) (P.told kids.new) []) }
     ensures cause { OnErr result (Rose (P.fault_count kids.old) (P.fault_count kids.new)) }
     ensures never_falls { P.fault_count kids.old ≤ P.fault_count kids.new }
 {
     match kids.start(words.as_slice()) {
-        Err(Failed) => Err(PairEnd::ChildFault),
+        Err(Failed) => Err(PairFault::Child),
         Ok(number) => {
             children.last = number;
             children.count += 1;
@@ -278,21 +252,21 @@ fn wait<P: Spawner, O: Sink>(
     name: ChildName,
     kids: &mut P,
     out: &mut O,
-) -> Result<(), PairEnd>
+) -> Result<(), PairFault>
     requires from_one { 1 ≤ number }
     requires started { number ≤ P.started kids.old }
     ensures same_children { P.started kids.new ≡ P.started kids.old }
     ensures done { OnOk result (WaitDone number name (P.told kids.old) (P.told kids.new) (Appends (O.taken out.old) (O.taken out.new))) }
     ensures stops { IfErr result (WaitStops number name (P.told kids.old) (P.told kids.new) (O.taken out.old) (O.taken out.new)) }
-    ensures child_cause { IsErrOf result PairEnd.ChildFault → Rose (P.fault_count kids.old) (P.fault_count kids.new) }
-    ensures write_cause { IsErrOf result PairEnd.WriteFault → Rose (O.fault_count out.old) (O.fault_count out.new) }
+    ensures child_cause { IsErrOf result PairFault.Child → Rose (P.fault_count kids.old) (P.fault_count kids.new) }
+    ensures write_cause { IsErrOf result PairFault.Write → Rose (O.fault_count out.old) (O.fault_count out.new) }
     ensures child_faults { P.fault_count kids.old ≤ P.fault_count kids.new }
     ensures write_faults { O.fault_count out.old ≤ O.fault_count out.new }
 {
     match kids.wait(number) {
-        Err(Failed) => Err(PairEnd::ChildFault),
+        Err(Failed) => Err(PairFault::Child),
         Ok(status) => match tell_status(out, name, status) {
-            Err(Failed) => Err(PairEnd::WriteFault),
+            Err(Failed) => Err(PairFault::Write),
             Ok(()) => Ok(()),
         },
     }
@@ -304,15 +278,15 @@ fn take_step<P: Spawner, O: Sink>(
     children: &mut Children,
     kids: &mut P,
     out: &mut O,
-) -> Result<(), PairEnd>
+) -> Result<(), PairFault>
     requires counted { IsCounted children.old (P.started kids.old) }
     requires fits { FitsStep children.old.count step.now }
     requires few { children.old.count ≤ 8 }
     ensures done { OnOk result (StepDone step.now children.old children.new (P.started kids.old) (P.started kids.new) (P.told kids.old) (P.told kids.new)
         (Appends (O.taken out.old) (O.taken out.new))) }
     ensures stops { IfErr result (StepStops step.now children.old (P.started kids.old) (P.told kids.old) (P.told kids.new) (O.taken out.old) (O.taken out.new)) }
-    ensures child_cause { IsErrOf result PairEnd.ChildFault → Rose (P.fault_count kids.old) (P.fault_count kids.new) }
-    ensures write_cause { IsErrOf result PairEnd.WriteFault → Rose (O.fault_count out.old) (O.fault_count out.new) }
+    ensures child_cause { IsErrOf result PairFault.Child → Rose (P.fault_count kids.old) (P.fault_count kids.new) }
+    ensures write_cause { IsErrOf result PairFault.Write → Rose (O.fault_count out.old) (O.fault_count out.new) }
     ensures child_faults { P.fault_count kids.old ≤ P.fault_count kids.new }
     ensures write_faults { O.fault_count out.old ≤ O.fault_count out.new }
 {
@@ -332,13 +306,13 @@ fn take_steps<P: Spawner, O: Sink>(
     steps: &[PairStep],
     kids: &mut P,
     out: &mut O,
-) -> Result<(), PairEnd>
+) -> Result<(), PairFault>
     requires fit { FitSteps 0 steps.now }
     requires few { length steps.now ≤ 8 }
     ensures done { OnOk result (IsPair steps.now (P.started kids.old) (P.told kids.old) (P.told kids.new) (Appends (O.taken out.old) (O.taken out.new))) }
     ensures stops { IfErr result (StepsStop steps.now (P.started kids.old) (P.told kids.old) (P.told kids.new) (O.taken out.old) (O.taken out.new)) }
-    ensures child_cause { IsErrOf result PairEnd.ChildFault → Rose (P.fault_count kids.old) (P.fault_count kids.new) }
-    ensures write_cause { IsErrOf result PairEnd.WriteFault → Rose (O.fault_count out.old) (O.fault_count out.new) }
+    ensures child_cause { IsErrOf result PairFault.Child → Rose (P.fault_count kids.old) (P.fault_count kids.new) }
+    ensures write_cause { IsErrOf result PairFault.Write → Rose (O.fault_count out.old) (O.fault_count out.new) }
 {
     let mut children = Children { count: 0, last: 0 };
     for step in steps {
@@ -353,13 +327,17 @@ pub(crate) fn run_pair<P: Spawner, O: Sink>(
     role: &PairRole,
     kids: &mut P,
     out: &mut O,
-) -> Result<(), PairEnd>
+) -> Result<(), NodeEnd>
     requires { role.now.base ≤ 65533 }
     ensures done { OnOk result (IsPair (steps_of role.now) (P.started kids.old) (P.told kids.old) (P.told kids.new) (Appends (O.taken out.old) (O.taken out.new))) }
     ensures stops { IfErr result (PairStops role.now (P.started kids.old) (P.told kids.old) (P.told kids.new) (O.taken out.old) (O.taken out.new)) }
-    ensures child_cause { IsErrOf result PairEnd.ChildFault → Rose (P.fault_count kids.old) (P.fault_count kids.new) }
-    ensures write_cause { IsErrOf result PairEnd.WriteFault → Rose (O.fault_count out.old) (O.fault_count out.new) }
+    ensures child_cause { IsErrOf result NodeEnd.ChildFault → Rose (P.fault_count kids.old) (P.fault_count kids.new) }
+    ensures write_cause { IsErrOf result NodeEnd.WriteFault → Rose (O.fault_count out.old) (O.fault_count out.new) }
 {
     let steps = steps(alloc, role)?;
-    take_steps(&steps, kids, out)
+    match take_steps(&steps, kids, out) {
+        Ok(()) => Ok(()),
+        Err(PairFault::Child) => Err(NodeEnd::ChildFault),
+        Err(PairFault::Write) => Err(NodeEnd::WriteFault),
+    }
 }

@@ -3,10 +3,11 @@
 ghost use Rattle.std.specs.Prelude.{◌≡◌, ◌≤◌, List, map, string_bytes, IfOk, IfSome};
 ghost use Rattle.node_link.specs.Options.{Use, HasValues};
 ghost use Rattle.node_link.specs.Ranges.{ServerInRange, IsShort, ClientInRange, InRange};
-ghost use Rattle.node_link.specs.Roles.{addr_at as addr_lem, number_at as number_lem, service_at as service_lem, script_at as script_lem};
-ghost use Rattle.node_link.specs.Roles.{server_in, logger_in, client_in, server_of, logger_of, client_of, role_of};
+ghost use Rattle.node_link.specs.Roles.{addr_at as addr_lem, number_at as number_lem, service_at as service_lem, script_at as script_lem, program_at as program_lem};
+ghost use Rattle.node_link.specs.Roles.{server_in, logger_in, client_in, pair_in, server_of, logger_of, client_of, pair_of, role_of};
 
 use crate::options::{OptionName, read_options};
+use crate::program::Program;
 use clap::ArgMatches;
 use ft_io::{Addr, NoMemory};
 use ft_model::{Script, ServiceKind};
@@ -31,6 +32,17 @@ const CLIENT_OPTIONS: [OptionName; 5] = [
     OptionName::Turns,
     OptionName::Script,
 ];
+
+const PAIR_OPTIONS: [OptionName; 5] = [
+    OptionName::Program,
+    OptionName::Base,
+    OptionName::First,
+    OptionName::Second,
+    OptionName::Turns,
+];
+
+/// The last port for a pair's server: the two behind it are the logger's and the client's.
+const LAST_BASE: u64 = 65_533;
 
 /// The most turns of a role.
 const TURN_LIMIT: u64 = 1_000_000;
@@ -70,12 +82,28 @@ pub struct ClientRole {
     pub script: Option<Script>,
 }
 
+/// Two servers, one behind the other, with a logger and a client, each a program of its own.
+#[derive(Debug, Drop)]
+pub struct PairRole {
+    /// The program of every child.
+    pub program: Program,
+    /// The server's port, 1 to 65,533. The next one is the logger's, and the one behind that the client's.
+    pub base: u16,
+    /// The turns of the first server, 1 to 1,000,000.
+    pub first: u32,
+    /// The turns of the second server, 1 to 1,000,000.
+    pub second: u32,
+    /// The turns of the logger, and of the client, 1 to 1,000,000.
+    pub turns: u32,
+}
+
 /// What one process is to be.
 #[derive(Debug, Drop)]
 pub enum Role {
     Server(ServerRole),
     Logger(LoggerRole),
     Client(ClientRole),
+    Pair(PairRole),
 }
 
 fn addr_at(matches: &ArgMatches<'_>, option: OptionName) -> Option<Addr>
@@ -111,6 +139,20 @@ fn script_at(
     };
     match read_script(alloc, word.as_bytes())? {
         Some(script) => Ok(Some(Some(script))),
+        None => Ok(None),
+    }
+}
+
+/// The program. None stands for a word that names none.
+fn program_at(
+    alloc: Global,
+    matches: &ArgMatches<'_>,
+    option: OptionName,
+) -> Result<Option<Program>, NoMemory>
+    ensures { IfOk result (λ program. (uses : List Use) → HasValues uses matches.now → program ≡ program_lem uses option) }
+{
+    match matches.get_str(option.word()) {
+        Some(word) => Program::read(alloc, word),
         None => Ok(None),
     }
 }
@@ -161,6 +203,27 @@ fn client_with(matches: &ArgMatches<'_>, script: Option<Option<Script>>) -> Opti
     })
 }
 
+fn pair_role(alloc: Global, matches: &ArgMatches<'_>) -> Result<Option<PairRole>, NoMemory>
+    ensures range { IfOk result (λ role. IfSome role (λ r. r.base ≤ 65533)) }
+    ensures value { IfOk result (λ role. (uses : List Use) → HasValues uses matches.now → role ≡ pair_in uses) }
+{
+    let program = program_at(alloc, matches, OptionName::Program)?;
+    Ok(pair_with(matches, program))
+}
+
+fn pair_with(matches: &ArgMatches<'_>, program: Option<Program>) -> Option<PairRole>
+    ensures range { IfSome result (λ role. role.base ≤ 65533) }
+    ensures value { (uses : List Use) → HasValues uses matches.now → program ≡ program_lem uses OptionName.Program → result ≡ pair_in uses }
+{
+    Some(PairRole {
+        program: program?,
+        base: number_at(matches, OptionName::Base, 1, LAST_BASE)? as u16,
+        first: number_at(matches, OptionName::First, 1, TURN_LIMIT)? as u32,
+        second: number_at(matches, OptionName::Second, 1, TURN_LIMIT)? as u32,
+        turns: number_at(matches, OptionName::Turns, 1, TURN_LIMIT)? as u32,
+    })
+}
+
 #[tactic(auto, unfolding(crate::specs::Roles::server_of))]
 fn read_server(alloc: Global, words: &[String]) -> Result<Option<Role>, NoMemory>
     ensures role { IfOk result (λ role. role ≡ server_of (map string_bytes words.now)) }
@@ -197,6 +260,20 @@ fn read_client(alloc: Global, words: &[String]) -> Result<Option<Role>, NoMemory
     }
 }
 
+#[tactic(auto, unfolding(crate::specs::Roles::pair_of))]
+fn read_pair(alloc: Global, words: &[String]) -> Result<Option<Role>, NoMemory>
+    ensures role { IfOk result (λ role. role ≡ pair_of (map string_bytes words.now)) }
+    ensures range { IfOk result (λ role. IfSome role InRange) }
+{
+    let Some(matches) = read_options(alloc, &PAIR_OPTIONS, words)? else {
+        return Ok(None);
+    };
+    match pair_role(alloc, &matches)? {
+        Some(role) => Ok(Some(Role::Pair(role))),
+        None => Ok(None),
+    }
+}
+
 /// Reads a role from the words: its name, and behind it its options in any order, each as `--NAME VALUE` or `--NAME=VALUE`. None where the words
 /// aren't allowed.
 #[tactic(auto, unfolding(crate::specs::Roles::role_of))]
@@ -211,6 +288,7 @@ pub fn read_role(alloc: Global, words: &[String]) -> Result<Option<Role>, NoMemo
         "server" => read_server(alloc, words),
         "logger" => read_logger(alloc, words),
         "client" => read_client(alloc, words),
+        "pair" => read_pair(alloc, words),
         _ => Ok(None),
     }
 }

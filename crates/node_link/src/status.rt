@@ -29,6 +29,8 @@ pub enum NodeEnd {
     Spent,
     /// A read of the input failed.
     ReadFault,
+    /// A start of a pair's child, or a wait for one, failed.
+    ChildFault,
 }
 
 impl From<NoMemory> for NodeEnd {

@@ -37,6 +37,7 @@ fn write_end<E: Sink>(err: &mut E, end: NodeEnd) -> Result<(), Failed>
         NodeEnd::Reset => write_all(err, b"ftnode: reset\n"),
         NodeEnd::Spent => write_all(err, b"ftnode: spent\n"),
         NodeEnd::ReadFault => write_all(err, b"ftnode: read fault\n"),
+        NodeEnd::ChildFault => write_all(err, b"ftnode: child fault\n"),
     }
 }
 
@@ -52,6 +53,7 @@ fn code(end: NodeEnd) -> u8
         NodeEnd::Reset => 7,
         NodeEnd::Spent => 8,
         NodeEnd::ReadFault => 9,
+        NodeEnd::ChildFault => 10,
     }
 }
 

@@ -1,16 +1,18 @@
 //! The top call.
 
-ghost use Rattle.std.specs.Prelude.{◌≡◌, ◌≤◌, ◌^◌, ◌⊎◌, ℕ, List, length, map, string_bytes, None, Some, Ok, Err, OnOk, IfErr, IsErrOf};
+ghost use Rattle.std.specs.Prelude.{◌≡◌, ◌≤◌, ◌^◌, ◌⊎◌, ℕ, List, length, map, string_bytes, None, Some, Ok, Err, OnOk, IfErr, IsErrOf, false};
 ghost use Rattle.ft_io.specs.Faults.{Rose};
 ghost use Rattle.node_link.specs.declared.role.ServerRole.{ServerRole};
 ghost use Rattle.node_link.specs.declared.role.ClientRole.{ClientRole};
 ghost use Rattle.node_link.specs.declared.role.LoggerRole.{LoggerRole};
+ghost use Rattle.node_link.specs.declared.role.PairRole.{PairRole};
 ghost use Rattle.node_link.specs.declared.role.Role.TheVariants as roles;
 ghost use Rattle.node_link.specs.Outcome.{Lives, HasEnded, IsStill};
-ghost use Rattle.node_link.specs.Roles.{role_of};
+ghost use Rattle.node_link.specs.Roles.{role_of, is_pair};
 
 use crate::client::run_client;
 use crate::logger::run_logger;
+use crate::pair::run_pair;
 use crate::role::{Role, read_role};
 use crate::server::run_server;
 use crate::status::{NodeEnd, Status};
@@ -19,31 +21,36 @@ use ft_io::{Link, Sink, Source, Spawner};
 use std::alloc::Global;
 
 /// Does what the words ask for.
-fn run<L: Link, I: Source, O: Sink>(
+fn run<L: Link, I: Source, O: Sink, P: Spawner>(
     alloc: Global,
     words: &[String],
     link: &mut L,
     input: &mut I,
     out: &mut O,
+    kids: &mut P,
 ) -> Result<(), NodeEnd>
     ensures lives { Lives (role_of (map string_bytes words.now)) result (I.left input.old) (I.left input.new) (L.told link.old) (L.told link.new)
-        (O.taken out.old) (O.taken out.new) }
+        (P.started kids.old) (P.told kids.old) (P.told kids.new) (O.taken out.old) (O.taken out.new) }
+    ensures same_kids { is_pair (role_of (map string_bytes words.now)) ≡ false → kids.new ≡ kids.old }
     ensures read_cause { IsErrOf result NodeEnd.ReadFault → Rose (I.fault_count input.old) (I.fault_count input.new) }
     ensures bind_cause { IsErrOf result NodeEnd.LinkFault → Rose (L.bind_fault_count link.old) (L.bind_fault_count link.new) }
     ensures write_cause { IsErrOf result NodeEnd.WriteFault → Rose (O.fault_count out.old) (O.fault_count out.new) }
+    ensures child_cause { IsErrOf result NodeEnd.ChildFault → Rose (P.fault_count kids.old) (P.fault_count kids.new) }
 {
     match read_role(alloc, words)? {
         None => Err(NodeEnd::Usage),
         Some(Role::Server(role)) => run_server(alloc, &role, link, out),
         Some(Role::Logger(role)) => run_logger(alloc, &role, link, out),
         Some(Role::Client(role)) => run_client(alloc, &role, link, input, out),
+        Some(Role::Pair(role)) => run_pair(alloc, &role, kids, out),
     }
 }
 
-/// `ftnode` with these words: a server, a logger or a client of FT-TCP over the link. What ended it early stands in `err`. The status is 0 where all
-/// was done: the turns of a server or a logger, and both ends of a client's connection; 2 where the words aren't allowed or the client's input is longer
-/// than a stream, 3 for want of memory, 4 where the bind failed, 5 for a fault of a sink, 6 where a newer server fenced this one, 7 where the client was
-/// reset, 8 where its turns ended before, and 9 for a fault of the source.
+/// `ftnode` with these words: a server, a logger or a client of FT-TCP over the link, or a pair, which starts these as programs of their own. What ended it
+/// early stands in `err`. The status is 0 where all was done: the turns of a server or a logger, both ends of a client's connection, the waits of a pair; 2
+/// where the words aren't allowed or the client's input is longer than a stream, 3 for want of memory, 4 where the bind failed, 5 for a fault of a sink, 6
+/// where a newer server fenced this one, 7 where the client was reset, 8 where its turns ended before, 9 for a fault of the source, and 10 where a start or a
+/// wait of a pair failed.
 pub fn node<L: Link, I: Source, O: Sink, E: Sink, P: Spawner>(
     alloc: Global,
     words: &[String],
@@ -53,15 +60,15 @@ pub fn node<L: Link, I: Source, O: Sink, E: Sink, P: Spawner>(
     err: &mut E,
     kids: &mut P,
 ) -> Status
-    // What was read, called on the link and written to out by the role of the words, and what was written to err of the end.
-    ensures ended { HasEnded (role_of (map string_bytes words.now)) (I.left input.old) (I.left input.new) (L.told link.old) (L.told link.new) (O.taken out.old)
-        (O.taken out.new)
-        (E.taken err.old) (E.taken err.new) result.code }
-    ensures same_kids { kids.new ≡ kids.old }
+    // What was read, called on the link and on kids, and written to out by the role of the words, and what was written to err of the end.
+    ensures ended { HasEnded (role_of (map string_bytes words.now)) (I.left input.old) (I.left input.new) (L.told link.old) (L.told link.new)
+        (P.started kids.old) (P.told kids.old) (P.told kids.new) (O.taken out.old) (O.taken out.new) (E.taken err.old) (E.taken err.new) result.code }
+    ensures same_kids { is_pair (role_of (map string_bytes words.now)) ≡ false → kids.new ≡ kids.old }
 
     ensures read_fault { result.code ≡ 9 → Rose (I.fault_count input.old) (I.fault_count input.new) }
     ensures link_fault { result.code ≡ 4 → Rose (L.bind_fault_count link.old) (L.bind_fault_count link.new) }
     ensures write_fault { result.code ≡ 5 → Rose (O.fault_count out.old) (O.fault_count out.new) ⊎ Rose (E.fault_count err.old) (E.fault_count err.new) }
+    ensures child_fault { result.code ≡ 10 → Rose (P.fault_count kids.old) (P.fault_count kids.new) }
 
     // Where the words are allowed, the bind succeeded and no sink failed, only a fence or want of memory ends a role early.
     ensures server { (role : ServerRole) → role_of (map string_bytes words.now) ≡ Some (roles.Server role)
@@ -75,8 +82,13 @@ pub fn node<L: Link, I: Source, O: Sink, E: Sink, P: Spawner>(
         → IsStill (I.fault_count input.old) (I.fault_count input.new) → IsStill (L.bind_fault_count link.old) (L.bind_fault_count link.new)
         → IsStill (O.fault_count out.old) (O.fault_count out.new)
         → IsStill (E.fault_count err.old) (E.fault_count err.new) → (result.code ≡ 0) ⊎ ((result.code ≡ 7) ⊎ ((result.code ≡ 8) ⊎ (result.code ≡ 3))) }
+
+    // Where the words are allowed, and neither a start, nor a wait, nor a sink failed, only want of memory ends a pair early.
+    ensures pair { (role : PairRole) → role_of (map string_bytes words.now) ≡ Some (roles.Pair role)
+        → IsStill (P.fault_count kids.old) (P.fault_count kids.new) → IsStill (O.fault_count out.old) (O.fault_count out.new)
+        → IsStill (E.fault_count err.old) (E.fault_count err.new) → (result.code ≡ 0) ⊎ (result.code ≡ 3) }
 {
-    match run(alloc, words, link, input, out) {
+    match run(alloc, words, link, input, out, kids) {
         Ok(()) => Status { code: 0 },
         Err(end) => tell(err, end),
     }

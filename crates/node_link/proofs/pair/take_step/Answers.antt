@@ -22,6 +22,6 @@ returns-in-Wait-clause-done g c =
 pub returns-in-Wait-clause-stops : goal.returns-in-Wait-clause-stops
 returns-in-Wait-clause-stops g c =
     on_err c.wait.result
-    (λ end w. wait_stops c.args.step.now c.in-Wait.child c.in-Wait.name c.args.children.now (g.P.Spawner.started c.args.kids.now) (g.P.Spawner.told c.args.kids.now)
-    (g.P.Spawner.told c.wait.new.kids) (g.O.Sink.taken c.args.out.now) (g.O.Sink.taken c.wait.new.out) end c.in-Wait.is c.requires.counted c.requires.fits w)
+    (λ fault w. wait_stops c.args.step.now c.in-Wait.child c.in-Wait.name c.args.children.now (g.P.Spawner.started c.args.kids.now) (g.P.Spawner.told c.args.kids.now)
+    (g.P.Spawner.told c.wait.new.kids) (g.O.Sink.taken c.args.out.now) (g.O.Sink.taken c.wait.new.out) fault c.in-Wait.is c.requires.counted c.requires.fits w)
     c.wait.ensures.stops

@@ -1,0 +1,50 @@
+//! The program of a pair's children.
+
+ghost use Rattle.std.specs.Prelude.{◌≡◌, IfOk};
+ghost use Rattle.node_link.specs.Roles.{is_program as is_program_lem, program_of};
+
+use ft_io::NoMemory;
+use std::alloc::Global;
+use std::marker::Model;
+
+/// The word by which a program is started. It isn't empty and doesn't begin with `-`.
+#[derive(Debug, Drop)]
+pub struct Program {
+    word: String,
+}
+
+impl Model for Program {
+    ghost use Rattle.std.specs.Prelude.{List, ℕ, string_bytes};
+
+    ghost Value = { List ℕ };
+
+    ghost view = { λ p. string_bytes p.word };
+}
+
+fn is_program(word: &[u8]) -> bool
+    ensures { result ≡ is_program_lem word.now }
+{
+    match word {
+        [] => false,
+        [first, ..] => *first != b'-',
+    }
+}
+
+impl Program {
+    /// The program of this word, or none where the word is empty or begins with `-`.
+    pub(crate) fn read(alloc: Global, word: &str) -> Result<Option<Program>, NoMemory>
+        ensures { IfOk result (λ program. program ≡ program_of word.now) }
+    {
+        if !is_program(word.as_bytes()) {
+            return Ok(None);
+        }
+        let word = String::from_str(alloc, word)?;
+        Ok(Some(Program { word }))
+    }
+
+    pub fn as_str(&self) -> &str
+        ensures { result.now ≡ self.now }
+    {
+        self.word.as_str()
+    }
+}
