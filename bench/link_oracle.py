@@ -1,8 +1,8 @@
 #!/usr/bin/env python3
 """Writes link_script's script and what it has to print: link_oracle.py SCRIPT PRINTED.
 
-The expected lines follow the written rules alone: which command lines are allowed stands in a table made by hand, and the logger, and the server before it
-has a connection, are played by the short models below, with the messages' bytes made here."""
+The expected lines follow the written rules alone: which command lines are allowed stands in a table made by hand, and the logger, the server before it has a
+connection, and the pair are played by the short models below, with the messages' bytes made here."""
 import random
 import sys
 
@@ -49,6 +49,7 @@ assert summary(1, 0) == "465401020012b89600000000000000010000"
 LOGGER = "logger --local 127.0.0.1:7040 --turns 3"
 SERVER = "server --local 127.0.0.1:7007 --logger 127.0.0.1:7008 --service echo --boot 1 --isn 5000 --turns 6"
 CLIENT = "client --local 127.0.0.1:7010 --server 127.0.0.1:7007 --isn 1000 --turns 9"
+PAIR = "pair --program ftnode --base 7007 --first 40 --second 500 --turns 600"
 L, S, C = "logger ", "server ", "client "
 
 
@@ -84,9 +85,17 @@ for name, value in (("boot", "0"), ("boot", "18446744073709551616"), ("isn", "42
 for text in ("''", "hex:", "hex:6", "hex:6g", "fill:0", "fill:16777217", "fill:", "text", "--"):
     refused.append(CLIENT + " --script " + text)
 refused += [CLIENT + " --script", CLIENT + " --script=", without(SERVER, "turns") + " --turns=0"]
+refused += ["pair", "Pair" + PAIR[4:], PAIR + " --script -", PAIR + " --local 127.0.0.1:7007", PAIR + " --program ftnode", PAIR + " --base=7007", PAIR + " ftnode"]
+refused += [without(PAIR, name) for name in ("program", "base", "first", "second", "turns")]
+# a program is not empty and doesn't begin with a hyphen
+refused += [without(PAIR, "program") + " --program" + text for text in ("", " ''", "=", " -", "=-", " -x", "=-x", " --", "=--", " --x", "=--program")]
+for name, last in (("base", 65533), ("first", 1000000), ("second", 1000000), ("turns", 1000000)):
+    refused += [without(PAIR, name) + f" --{name} {value}" for value in ("0", last + 1, "''", "-1", "1~")]
 allowed = [(LOGGER, "logger"), ("logger --turns=3 --local=127.0.0.1:7040", "logger"), ("logger --turns 0000001000000 --local=127.0.0.1:7040", "logger")]
 allowed += [(SERVER, "server"), ("server --turns=6 --isn=5000 --boot=1 --service=echo --logger=127.0.0.1:7008 --local=127.0.0.1:7007", "server")]
 allowed += [(CLIENT, "client"), (CLIENT + " --script -", "client"), ("client --script=hex:68656C6c6f" + CLIENT[6:], "client"), (CLIENT + " --script=fill:16777216", "client")]
+allowed += [(PAIR, "pair"), ("pair --turns=600 --second=500 --first=40 --base=7007 --program=ftnode", "pair")]
+allowed += [("pair --program=a=b --base 65533 --first 1000000 --second 1000000 --turns 1000000", "pair"), (without(PAIR, "program") + " --program ~-", "pair")]
 
 line("# words that ask for no role", "# words that ask for no role")
 for words in refused:
@@ -280,6 +289,65 @@ script.append("run logger")
 printed.extend(["status 2", "ftnode: usage"])
 script.extend(["fail error 1", "run logger"])
 printed.extend(["status 5"])
+
+
+# A pair: each step is a start, or the child that is waited for with the line's first word
+def pair(program, base, first, second, turns, statuses, child=0, write=0, error=0, bind=0):
+    server_at, logger_at, client_at = (f"127.0.0.1:{port}" for port in (base, base + 1, base + 2))
+
+    def serves(boot, isn, count):
+        return f"{program} server --local {server_at} --logger {logger_at} --service echo --boot {boot} --isn {isn} --turns {count}"
+
+    steps = [f"{program} logger --local {logger_at} --turns {turns}", serves(1, 5000, first)]
+    steps += [f"{program} client --local {client_at} --server {server_at} --isn 1000 --turns {turns} --script fill:5000"]
+    steps += [(2, "server"), serves(2, 900000, second), (3, "client"), (4, "server"), (1, "logger")]
+    for status in statuses:
+        script.append(f"child {status}")
+    for call, number in (("child", child), ("write", write), ("error", error), ("bind", bind)):
+        if number:
+            script.append(f"fail {call} {number}")
+    script.append(f"run pair --program {program} --base {base} --first {first} --second {second} --turns {turns}")
+    status, out, calls, ended = 0, "", [], list(statuses) + [0] * 4
+    for number, step in enumerate(steps, 1):
+        if number == child:
+            status = 10
+            break
+        if isinstance(step, str):
+            calls.append("started " + step)
+            continue
+        calls.append(f"ended {step[0]} {ended[step[0] - 1]}")
+        # a line is three writes, of which each may fail
+        pieces = [step[1] + " status ", str(ended[step[0] - 1]), "\n"]
+        out += "".join(pieces[: write - 1] if write else pieces)
+        if write:
+            status = 5
+            break
+    if status == 10 and error:
+        status = 5
+    # what is written has its own line feeds, or none where a write failed
+    told = out + ("ftnode: child fault\n" if status == 10 else "") + "".join(call + "\n" for call in calls)
+    printed.extend([f"status {status}", *told.splitlines()])
+
+
+line("# a pair whose children end with 0, and with its first wait failing", "# a pair whose children end with 0, and with its first wait failing")
+given = ("ftnode", 7007, 40, 500, 600)
+pair(*given, [0, 0, 0, 0])
+pair(*given, [0, 0, 0, 0], child=4)
+line("# each start and each wait of a pair in turn", "# each start and each wait of a pair in turn")
+for n in range(1, 10):
+    pair(*given, [1, 2, 3, 4], child=n)
+line("# other statuses, words and faults of a pair", "# other statuses, words and faults of a pair")
+pair(*given, [])
+pair(*given, [255, -2147483648, 2147483647])
+pair("/opt/ft~tcp/ftnode", 65533, 1000000, 999999, 1, [0, 10, 100, 1000, 9])
+pair("=", 1, 1, 1, 1000000, [7])
+pair(*given, [5, 6, 7, 8], bind=1)
+for n in range(1, 4):
+    pair(*given, [5, 6, 7, 8], write=n)
+pair(*given, [], child=1, error=1)
+pair(*given, [], error=1)
+script.extend(["fail child 1", "run pair"])
+printed.extend(["status 2", "ftnode: usage"])
 
 open(sys.argv[1], "w").write("\n".join(script) + "\n")
 open(sys.argv[2], "w").write("\n".join(printed) + "\n")

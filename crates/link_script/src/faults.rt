@@ -11,6 +11,7 @@ pub struct Faults {
     pub read: u32,
     pub write: u32,
     pub error: u32,
+    pub child: u32,
 }
 
 impl Faults {
@@ -22,6 +23,7 @@ impl Faults {
             read: 0,
             write: 0,
             error: 0,
+            child: 0,
         }
     }
 
@@ -36,6 +38,7 @@ impl Faults {
             b"read" => self.read = number,
             b"write" => self.write = number,
             b"error" => self.error = number,
+            b"child" => self.child = number,
             _ => (),
         }
     }

@@ -5,10 +5,11 @@
 //! - `ask WORDS` prints which role the words ask for. In words `~` stands for a space, and `''` for an empty word;
 //! - `come FROM HEX` adds a datagram to what comes to the next run, and `nothing` a silence;
 //! - `input HEX` is the input of the next run;
-//! - `fail CALL N` makes the call with number N, from 1, of the next run fail: CALL is `bind`, `send`, `receive`, `read`, `write` or `error`, the last two on
-//!   out and err;
-//! - `run WORDS` runs `node`, and prints its status, what it wrote to out and to err, and the calls that the link tells; `brief WORDS` prints of these calls
-//!   only how many were receives and how many sends.
+//! - `child N` gives the next child of the next run the status N; it is 0 where none is given;
+//! - `fail CALL N` makes the call with number N, from 1, of the next run fail: CALL is `bind`, `send`, `receive`, `read`, `write`, `error` or `child`: the
+//!   writes are on out and err, and starts of children and waits for them have one numbering;
+//! - `run WORDS` runs `node`, and prints its status, what it wrote to out and to err, and the calls that the link and the spawner tell; `brief WORDS` prints of
+//!   the link's calls only how many were receives and how many sends.
 #![tactic(auto)]
 
 use faults::Faults;
@@ -20,6 +21,7 @@ use schedule_text::read_addr;
 use std::alloc::Global;
 use std::{io, mem};
 
+mod children;
 mod faults;
 mod run;
 
@@ -27,6 +29,7 @@ fn main(rt: HostRuntime) -> io::Result<()> {
     let mut script = Script {
         arrivals: Vec::new(rt.alloc()),
         input: Vec::new(rt.alloc()),
+        statuses: Vec::new(rt.alloc()),
         faults: Faults::none(),
         said: Vec::new(rt.alloc()),
     };
@@ -42,11 +45,12 @@ fn main(rt: HostRuntime) -> io::Result<()> {
     Ok(())
 }
 
-/// What comes to the next run and is its input, which of its calls fail, and what was printed so far.
+/// What comes to the next run and is its input, how its children end, which of its calls fail, and what was printed so far.
 #[derive(Drop)]
 struct Script {
     arrivals: Vec<Arrival>,
     input: Vec<u8>,
+    statuses: Vec<i32>,
     faults: Faults,
     said: Vec<u8>,
 }
@@ -63,6 +67,7 @@ impl Script {
                 self.arrivals.push(Arrival::Nothing)?;
                 Ok(())
             }
+            b"child" => self.end_child(rest),
             b"fail" => {
                 self.faults.add(rest);
                 Ok(())
@@ -80,6 +85,7 @@ impl Script {
         let setting = Setting {
             arrivals: mem::replace(&mut self.arrivals, Vec::new(alloc)),
             input: mem::replace(&mut self.input, Vec::new(alloc)),
+            statuses: mem::replace(&mut self.statuses, Vec::new(alloc)),
             faults: mem::replace(&mut self.faults, Faults::none()),
             is_brief,
         };
@@ -95,6 +101,17 @@ impl Script {
             }
             Err(FromHexError::OutOfMemory) => Err(NoMemory),
             Err(_) => say("no input", &mut self.said),
+        }
+    }
+
+    /// Gives the next child a status.
+    fn end_child(&mut self, text: &str) -> Result<(), NoMemory> {
+        match text.parse::<i32>() {
+            Ok(status) => {
+                self.statuses.push(status)?;
+                Ok(())
+            }
+            Err(_) => say("no status", &mut self.said),
         }
     }
 

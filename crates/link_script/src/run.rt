@@ -1,5 +1,6 @@
-//! One run of `node` over a link in memory.
+//! One run of `node` over a link and a spawner in memory.
 
+use crate::children::say_children;
 use crate::faults::Faults;
 use crate::say;
 use ft_io::{Addr, Arrival, LinkCall, MemLink, MemSink, MemSource, MemSpawner, NoMemory};
@@ -11,6 +12,7 @@ use std::alloc::Global;
 pub struct Setting {
     pub arrivals: Vec<Arrival>,
     pub input: Vec<u8>,
+    pub statuses: Vec<i32>,
     pub faults: Faults,
     pub is_brief: bool,
 }
@@ -22,6 +24,7 @@ struct Finished {
     link: MemLink,
     out: MemSink,
     err: MemSink,
+    kids: MemSpawner,
 }
 
 /// A list of this number alone.
@@ -43,8 +46,8 @@ fn run_between(
     mut input: MemSource,
     mut out: MemSink,
     mut err: MemSink,
+    mut kids: MemSpawner,
 ) -> Finished {
-    let mut kids = MemSpawner::new(alloc, Vec::new(alloc), Vec::new(alloc));
     let status = node(
         alloc, words, &mut link, &mut input, &mut out, &mut err, &mut kids,
     );
@@ -53,6 +56,7 @@ fn run_between(
         link,
         out,
         err,
+        kids,
     }
 }
 
@@ -66,16 +70,18 @@ pub fn run(
     let Setting {
         arrivals,
         input,
+        statuses,
         faults,
         is_brief,
     } = setting;
     let input = MemSource::new(input, only(alloc, faults.read)?);
     let out = MemSink::new(alloc, only(alloc, faults.write)?);
     let err = MemSink::new(alloc, only(alloc, faults.error)?);
+    let kids = MemSpawner::new(alloc, statuses, only(alloc, faults.child)?);
     let link = link_of(alloc, arrivals, faults)?;
     say_run(
         alloc,
-        &run_between(alloc, words, link, input, out, err),
+        &run_between(alloc, words, link, input, out, err, kids),
         is_brief,
         said,
     )
@@ -93,16 +99,15 @@ fn say_run(
     say(line.as_str(), said)?;
     said.extend_from_slice(ran.out.written())?;
     said.extend_from_slice(ran.err.written())?;
-    match ran.link.told() {
-        None => say("nothing told", said),
-        Some(calls) => {
-            if is_brief {
-                say_counts(alloc, calls, said)
-            } else {
-                say_calls(alloc, calls, said)
-            }
-        }
+    let (Some(calls), Some(children)) = (ran.link.told(), ran.kids.told()) else {
+        return say("nothing told", said);
+    };
+    if is_brief {
+        say_counts(alloc, calls, said)?;
+    } else {
+        say_calls(alloc, calls, said)?;
     }
+    say_children(alloc, children, said)
 }
 
 /// Says how many calls were receives, and how many sends.
