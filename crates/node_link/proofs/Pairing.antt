@@ -162,11 +162,6 @@ start_done step words children after started started_new old new out is c d =
       counted = record { among = omega (arith, c.among, d.next, d.count); last = λ some. d.last };
     })
 
-pub start_stops : (step : PairStep) (children : Children) (started : ℕ) (old new : Option (List SpawnCall)) (out : Option (List ℕ)) (fault : PairFault) → fault ≡ faults.Child
-    → Tells old new [] → StepStops step children started old new out out fault
-start_stops step children started old new out fault is t =
-    subst (λ (f : PairFault). StepStops step children started old new out out e) (sym is) (t, refl)
-
 -- the number of the child that a wait is for
 pub number_is : (step : PairStep) (child : ℕ) (name : ChildName) (children : Children) (started : ℕ) → step ≡ Wait child name → IsCounted children started
     → FitsStep children.count step

@@ -14,3 +14,9 @@ returns-in-ReadFault-clause-whole g c = rw c.in-ReadFault.is c.write_all-in-Read
 
 pub returns-in-ReadFault-clause-front : goal.returns-in-ReadFault-clause-front
 returns-in-ReadFault-clause-front g c = rw c.in-ReadFault.is c.write_all-in-ReadFault.ensures.front
+
+pub returns-in-ChildFault-clause-whole : goal.returns-in-ChildFault-clause-whole
+returns-in-ChildFault-clause-whole g c = rw c.in-ChildFault.is c.write_all-in-ChildFault.ensures.whole
+
+pub returns-in-ChildFault-clause-front : goal.returns-in-ChildFault-clause-front
+returns-in-ChildFault-clause-front g c = rw c.in-ChildFault.is c.write_all-in-ChildFault.ensures.front
