@@ -108,6 +108,7 @@ module _ (steps : List PairStep) (i before : ℕ) (step : PairStep) (children : 
       → StepsStop steps before old new out_old out_new fault
   step_stops new out_new faults.Child h = (
     i,
+    within,
     record {
       calls = g.pair.calls;
       lines = g.pair.lines;

@@ -16,34 +16,36 @@ use Rattle.node_link.specs.Logging.{IsLogger, LoggerStops}
 use Rattle.node_link.specs.Pair.{steps_of, IsPair, PairStops}
 use Rattle.node_link.specs.ServerLife.{IsServer, ServerStops}
 
--- nothing was read, called on the link or the spawner, or written to out
-abbrev pub HasDoneNothing : (left_old left_new : Option (List ℕ)) → (old new : Option (List LinkCall)) → (kids_old kids_new : Option (List SpawnCall))
-    → (out_old out_new : Option (List ℕ)) → Type 0
-HasDoneNothing left_old left_new old new kids_old kids_new out_old out_new = (left_new ≡ left_old) × (new ≡ old) × (kids_new ≡ kids_old) × (out_new ≡ out_old)
+-- what a process is given, as far as it tells: what its source has left, the calls on its link, how many children its spawner has started and the calls
+-- on it, and what out has taken
+pub record Given : Type 0 where
+  pub left : Option (List ℕ)
+  pub calls : Option (List LinkCall)
+  pub started : ℕ
+  pub spawned : Option (List SpawnCall)
+  pub out : Option (List ℕ)
 
--- what a role did; the client alone reads the input, and a pair alone calls the spawner, with so many children started before
-abbrev pub LivesAs : Role → Result (Unit {0}) NodeEnd → (left_old left_new : Option (List ℕ)) → (old new : Option (List LinkCall)) → (started : ℕ)
-    → (kids_old kids_new : Option (List SpawnCall)) → (out_old out_new : Option (List ℕ)) → Type 0
-LivesAs (Server role) (Ok _) left_old left_new old new started kids_old kids_new out_old out_new = (left_new ≡ left_old) × IsServer role old new (Appends out_old out_new)
-LivesAs (Server role) (Err end) left_old left_new old new started kids_old kids_new out_old out_new = (left_new ≡ left_old) × ServerStops role old new out_old out_new end
-LivesAs (Logger role) (Ok _) left_old left_new old new started kids_old kids_new out_old out_new = (left_new ≡ left_old) × IsLogger role old new (Appends out_old out_new)
-LivesAs (Logger role) (Err end) left_old left_new old new started kids_old kids_new out_old out_new = (left_new ≡ left_old) × LoggerStops role old new out_old out_new end
-LivesAs (Client role) (Ok _) left_old left_new old new started kids_old kids_new out_old out_new =
-    RunsScript role left_old left_new old new (Appends out_old out_new) (IsEndedBy Closed)
-LivesAs (Client role) (Err end) left_old left_new old new started kids_old kids_new out_old out_new = ClientStops role left_old left_new old new out_old out_new end
-LivesAs (Pair role) (Ok _) left_old left_new old new started kids_old kids_new out_old out_new =
-    (left_new ≡ left_old) × (new ≡ old) × IsPair (steps_of role) started kids_old kids_new (Appends out_old out_new)
-LivesAs (Pair role) (Err end) left_old left_new old new started kids_old kids_new out_old out_new =
-    (left_new ≡ left_old) × (new ≡ old) × PairStops role started kids_old kids_new out_old out_new end
+-- nothing was read, called on the link or on the spawner, or written to out
+abbrev pub HasDoneNothing : (before after : Given) → Type 0
+HasDoneNothing before after = (after.left ≡ before.left) × (after.calls ≡ before.calls) × (after.spawned ≡ before.spawned) × (after.out ≡ before.out)
+
+-- what a role did. The client alone reads the input, and a pair alone starts children, and calls nothing on the link
+abbrev pub LivesAs : Role → Result (Unit {0}) NodeEnd → (before after : Given) → Type 0
+LivesAs (Server role) (Ok _) before after = (after.left ≡ before.left) × IsServer role before.calls after.calls (Appends before.out after.out)
+LivesAs (Server role) (Err end) before after = (after.left ≡ before.left) × ServerStops role before.calls after.calls before.out after.out end
+LivesAs (Logger role) (Ok _) before after = (after.left ≡ before.left) × IsLogger role before.calls after.calls (Appends before.out after.out)
+LivesAs (Logger role) (Err end) before after = (after.left ≡ before.left) × LoggerStops role before.calls after.calls before.out after.out end
+LivesAs (Client role) (Ok _) before after = RunsScript role before.left after.left before.calls after.calls (Appends before.out after.out) (IsEndedBy Closed)
+LivesAs (Client role) (Err end) before after = ClientStops role before.left after.left before.calls after.calls before.out after.out end
+LivesAs (Pair role) (Ok _) before after =
+    (after.left ≡ before.left) × (after.calls ≡ before.calls) × IsPair (steps_of role) before.started before.spawned after.spawned (Appends before.out after.out)
+LivesAs (Pair role) (Err end) before after =
+    (after.left ≡ before.left) × (after.calls ≡ before.calls) × PairStops role before.started before.spawned after.spawned before.out after.out end
 
 -- by the role that the words ask for. Words that aren't allowed are told as such, and memory may be wanting to read them
-abbrev pub Lives : Option Role → Result (Unit {0}) NodeEnd → (left_old left_new : Option (List ℕ)) → (old new : Option (List LinkCall)) → (started : ℕ)
-    → (kids_old kids_new : Option (List SpawnCall)) → (out_old out_new : Option (List ℕ)) → Type 0
-Lives None end left_old left_new old new started kids_old kids_new out_old out_new =
-    ((end ≡ Err Usage) ⊎ (end ≡ Err NoMemory)) × HasDoneNothing left_old left_new old new kids_old kids_new out_old out_new
-Lives (Some role) end left_old left_new old new started kids_old kids_new out_old out_new =
-    LivesAs role end left_old left_new old new started kids_old kids_new out_old out_new
-    ⊎ ((end ≡ Err NoMemory) × HasDoneNothing left_old left_new old new kids_old kids_new out_old out_new)
+abbrev pub Lives : Option Role → Result (Unit {0}) NodeEnd → (before after : Given) → Type 0
+Lives None end before after = ((end ≡ Err Usage) ⊎ (end ≡ Err NoMemory)) × HasDoneNothing before after
+Lives (Some role) end before after = LivesAs role end before after ⊎ ((end ≡ Err NoMemory) × HasDoneNothing before after)
 
 -- the status of an end, and what is written of it to err: the whole line, or a front of it at 5
 abbrev pub IsTold : Result (Unit {0}) NodeEnd → (err_old err_new : Option (List ℕ)) → (code : ℕ) → Type 0
@@ -52,10 +54,9 @@ IsTold (Err end) err_old err_new code =
     ((code ≡ code_of end) × Appends err_old err_new (text_of end)) ⊎ ((code ≡ 5) × AppendsFront err_old err_new (text_of end))
 
 -- what was done and what was told agree
-pub record HasEnded (role : Option Role) (left_old left_new : Option (List ℕ)) (old new : Option (List LinkCall)) (started : ℕ) (kids_old kids_new : Option (List SpawnCall))
-    (out_old out_new err_old err_new : Option (List ℕ)) (code : ℕ) : Type 0 where
+pub record HasEnded (role : Option Role) (before after : Given) (err_old err_new : Option (List ℕ)) (code : ℕ) : Type 0 where
   pub end : Result (Unit {0}) NodeEnd
-  pub lives : Lives role end left_old left_new old new started kids_old kids_new out_old out_new
+  pub lives : Lives role end before after
   pub told : IsTold end err_old err_new code
 
 -- a count of faults doesn't rise

@@ -1,5 +1,5 @@
 -- A pair of servers beside a logger and a client: which programs are started and waited for, in which order, and what is written.
-use Rattle.std.specs.Prelude.{◌≡◌, ℕ, ◌+◌, ℤ, Option, List, [], ◌∷◌, ◌++◌, codes, take}
+use Rattle.std.specs.Prelude.{◌≡◌, ℕ, ◌+◌, ◌<◌, ℤ, Option, List, [], ◌∷◌, ◌++◌, codes, take, length}
 use Rattle.std.specs.Fmt.{decimal, signed_decimal}
 use Rattle.std.specs.Io.KnownBytes.{Appends}
 use Rattle.ft_io.specs.declared.spawn_call.SpawnCall.{SpawnCall}
@@ -60,8 +60,8 @@ StepTells before (Wait child name) calls line = (status : ℤ) × (calls ≡ End
 abbrev pub StepsTell : ℕ → List PairStep → List SpawnCall → List ℕ → Type 0
 StepsTell before [] calls lines = (calls ≡ []) × (lines ≡ [])
 StepsTell before (step ∷ steps) calls lines =
-    (first : List SpawnCall) × (line : List ℕ) × (later : List SpawnCall) × (more : List ℕ) × StepTells before step first line × StepsTell before steps later more
-    × (calls ≡ first ++ later) × (lines ≡ line ++ more)
+    (first : List SpawnCall) × (line : List ℕ) × (later : List SpawnCall) × (more : List ℕ)
+    × StepTells before step first line × StepsTell before steps later more × (calls ≡ first ++ later) × (lines ≡ line ++ more)
 
 -- these steps were done
 pub record IsPair (steps : List PairStep) (before : ℕ) (old new : Option (List SpawnCall)) (Writes : List ℕ → Type 0) : Type 0 where
@@ -73,7 +73,8 @@ pub record IsPair (steps : List PairStep) (before : ℕ) (old new : Option (List
 
 -- how steps stop early: some first ones were done, and the next call failed; or the last of them told a status of which only a front was written
 abbrev pub StepsStop : List PairStep → ℕ → (old new : Option (List SpawnCall)) → (out_old out_new : Option (List ℕ)) → PairFault → Type 0
-StepsStop steps before old new out_old out_new Child = (count : ℕ) × IsPair (take count steps) before old new (Appends out_old out_new)
+StepsStop steps before old new out_old out_new Child =
+    (count : ℕ) × (count < length steps) × IsPair (take count steps) before old new (Appends out_old out_new)
 StepsStop steps before old new out_old out_new Write = (count : ℕ) × IsPair (take count steps) before old new (AppendsFront out_old out_new)
 
 -- how a pair stops early: where memory is wanting, before the first start

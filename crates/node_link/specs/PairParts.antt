@@ -32,7 +32,8 @@ FitSteps count [] = Unit {0}
 FitSteps count (step ∷ steps) = FitsStep count step × FitSteps (count_after count step) steps
 
 -- a child was started
-pub record StartDone (words : List (List ℕ)) (children_old children_new : Children) (started_old started_new : ℕ) (old new : Option (List SpawnCall)) : Type 0 where
+pub record StartDone (words : List (List ℕ)) (children_old children_new : Children) (started_old started_new : ℕ)
+    (old new : Option (List SpawnCall)) : Type 0 where
   pub tells : Tells old new (Started words ∷ [])
   pub next : started_new ≡ started_old + 1
   pub count : children_new.count ≡ children_old.count + 1
@@ -49,7 +50,8 @@ WaitStops number name old new out_old out_new Child = Tells old new [] × (out_n
 WaitStops number name old new out_old out_new Write = WaitDone number name old new (AppendsFront out_old out_new)
 
 -- a step was done
-pub record StepDone (step : PairStep) (children_old children_new : Children) (started_old started_new : ℕ) (old new : Option (List SpawnCall)) (Writes : List ℕ → Type 0) : Type 0 where
+pub record StepDone (step : PairStep) (children_old children_new : Children) (started_old started_new : ℕ)
+    (old new : Option (List SpawnCall)) (Writes : List ℕ → Type 0) : Type 0 where
   pub pair : IsPair (step ∷ []) (started_old - children_old.count) old new Writes
   pub count : children_new.count ≡ count_after children_old.count step
   pub started : started_new ≡ (started_old - children_old.count) + children_new.count

@@ -84,7 +84,8 @@ pair_from _ _ _ _ _ = None
 -- the two ports behind the base are ports too
 abbrev pub pair_in : List Use → Option PairRole
 pair_in uses =
-    pair_from (program_at uses option.Program) (number_at 1 65533 uses option.Base) (number_at 1 1000000 uses option.First) (number_at 1 1000000 uses option.Second) (turns_in uses)
+    pair_from (program_at uses option.Program) (number_at 1 65533 uses option.Base)
+    (number_at 1 1000000 uses option.First) (number_at 1 1000000 uses option.Second) (turns_in uses)
 
 -- the options of each role
 abbrev pub server_options : List OptionName

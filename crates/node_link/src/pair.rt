@@ -7,7 +7,8 @@ ghost use Rattle.std.specs.Io.KnownBytes.{Appends};
 ghost use Rattle.ft_io.specs.Faults.{Rose};
 ghost use Rattle.ft_io.specs.Sink.{AppendsFront};
 ghost use Rattle.ft_io.specs.Told.{Tells};
-ghost use Rattle.node_link.specs.Pair.{name_of, status_text as text_lem, status_line, address_at, logger_start, server_start, client_start, steps_of, IsPair, StepsStop, PairStops};
+ghost use Rattle.node_link.specs.Pair.{name_of, status_text as text_lem, status_line, address_at, logger_start, server_start, client_start, steps_of};
+ghost use Rattle.node_link.specs.Pair.{IsPair, StepsStop, PairStops};
 ghost use Rattle.node_link.specs.PairParts.{StartDone, IsCounted, FitsStep, FitSteps, WaitDone, WaitStops, StepDone, StepStops};
 
 use crate::role::PairRole;
@@ -53,8 +54,8 @@ impl ChildName {
 pub(crate) enum PairStep {
     /// A program is started by these words.
     Start(Words),
-    /// The nth child, from 1, is waited for, and its status is told.
-    Wait { child: u32, name: ChildName },
+    /// The child of this number, from 1 in the order of the starts, is waited for, and its status is told by this name.
+    Wait(u32, ChildName),
 }
 
 /// What stops the steps of a pair early.
@@ -178,23 +179,11 @@ fn steps(alloc: Global, role: &PairRole) -> Result<[PairStep; 8], NoMemory>
         PairStep::Start(logger),
         PairStep::Start(first),
         PairStep::Start(client),
-        PairStep::Wait {
-            child: 2,
-            name: ChildName::Server,
-        },
+        PairStep::Wait(2, ChildName::Server),
         PairStep::Start(second),
-        PairStep::Wait {
-            child: 3,
-            name: ChildName::Client,
-        },
-        PairStep::Wait {
-            child: 4,
-            name: ChildName::Server,
-        },
-        PairStep::Wait {
-            child: 1,
-            name: ChildName::Logger,
-        },
+        PairStep::Wait(3, ChildName::Client),
+        PairStep::Wait(4, ChildName::Server),
+        PairStep::Wait(1, ChildName::Logger),
     ])
 }
 
@@ -284,7 +273,8 @@ fn take_step<P: Spawner, O: Sink>(
     requires few { children.old.count ≤ 8 }
     ensures done { OnOk result (StepDone step.now children.old children.new (P.started kids.old) (P.started kids.new) (P.told kids.old) (P.told kids.new)
         (Appends (O.taken out.old) (O.taken out.new))) }
-    ensures stops { IfErr result (StepStops step.now children.old (P.started kids.old) (P.told kids.old) (P.told kids.new) (O.taken out.old) (O.taken out.new)) }
+    ensures stops { IfErr result (StepStops step.now children.old (P.started kids.old) (P.told kids.old) (P.told kids.new)
+        (O.taken out.old) (O.taken out.new)) }
     ensures child_cause { IsErrOf result PairFault.Child → Rose (P.fault_count kids.old) (P.fault_count kids.new) }
     ensures write_cause { IsErrOf result PairFault.Write → Rose (O.fault_count out.old) (O.fault_count out.new) }
     ensures child_faults { P.fault_count kids.old ≤ P.fault_count kids.new }
@@ -292,7 +282,7 @@ fn take_step<P: Spawner, O: Sink>(
 {
     match step {
         PairStep::Start(words) => start(words, children, kids),
-        PairStep::Wait { child, name } => wait(
+        PairStep::Wait(child, name) => wait(
             children.last - (children.count - *child),
             *name,
             kids,
@@ -329,7 +319,8 @@ pub(crate) fn run_pair<P: Spawner, O: Sink>(
     out: &mut O,
 ) -> Result<(), NodeEnd>
     requires { role.now.base ≤ 65533 }
-    ensures done { OnOk result (IsPair (steps_of role.now) (P.started kids.old) (P.told kids.old) (P.told kids.new) (Appends (O.taken out.old) (O.taken out.new))) }
+    ensures done { OnOk result (IsPair (steps_of role.now) (P.started kids.old) (P.told kids.old) (P.told kids.new)
+        (Appends (O.taken out.old) (O.taken out.new))) }
     ensures stops { IfErr result (PairStops role.now (P.started kids.old) (P.told kids.old) (P.told kids.new) (O.taken out.old) (O.taken out.new)) }
     ensures child_cause { IsErrOf result NodeEnd.ChildFault → Rose (P.fault_count kids.old) (P.fault_count kids.new) }
     ensures write_cause { IsErrOf result NodeEnd.WriteFault → Rose (O.fault_count out.old) (O.fault_count out.new) }

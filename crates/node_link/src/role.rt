@@ -3,7 +3,8 @@
 ghost use Rattle.std.specs.Prelude.{◌≡◌, ◌≤◌, List, map, string_bytes, IfOk, IfSome};
 ghost use Rattle.node_link.specs.Options.{Use, HasValues};
 ghost use Rattle.node_link.specs.Ranges.{ServerInRange, IsShort, ClientInRange, InRange};
-ghost use Rattle.node_link.specs.Roles.{addr_at as addr_lem, number_at as number_lem, service_at as service_lem, script_at as script_lem, program_at as program_lem};
+ghost use Rattle.node_link.specs.Roles.{addr_at as addr_lem, number_at as number_lem, service_at as service_lem, script_at as script_lem};
+ghost use Rattle.node_link.specs.Roles.{program_at as program_lem};
 ghost use Rattle.node_link.specs.Roles.{server_in, logger_in, client_in, pair_in, server_of, logger_of, client_of, pair_of, role_of};
 
 use crate::options::{OptionName, read_options};

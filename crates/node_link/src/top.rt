@@ -29,8 +29,9 @@ fn run<L: Link, I: Source, O: Sink, P: Spawner>(
     out: &mut O,
     kids: &mut P,
 ) -> Result<(), NodeEnd>
-    ensures lives { Lives (role_of (map string_bytes words.now)) result (I.left input.old) (I.left input.new) (L.told link.old) (L.told link.new)
-        (P.started kids.old) (P.told kids.old) (P.told kids.new) (O.taken out.old) (O.taken out.new) }
+    ensures lives { Lives (role_of (map string_bytes words.now)) result
+        (record { left = I.left input.old; calls = L.told link.old; started = P.started kids.old; spawned = P.told kids.old; out = O.taken out.old })
+        (record { left = I.left input.new; calls = L.told link.new; started = P.started kids.new; spawned = P.told kids.new; out = O.taken out.new }) }
     ensures same_kids { is_pair (role_of (map string_bytes words.now)) ≡ false → kids.new ≡ kids.old }
     ensures read_cause { IsErrOf result NodeEnd.ReadFault → Rose (I.fault_count input.old) (I.fault_count input.new) }
     ensures bind_cause { IsErrOf result NodeEnd.LinkFault → Rose (L.bind_fault_count link.old) (L.bind_fault_count link.new) }
@@ -61,8 +62,10 @@ pub fn node<L: Link, I: Source, O: Sink, E: Sink, P: Spawner>(
     kids: &mut P,
 ) -> Status
     // What was read, called on the link and on kids, and written to out by the role of the words, and what was written to err of the end.
-    ensures ended { HasEnded (role_of (map string_bytes words.now)) (I.left input.old) (I.left input.new) (L.told link.old) (L.told link.new)
-        (P.started kids.old) (P.told kids.old) (P.told kids.new) (O.taken out.old) (O.taken out.new) (E.taken err.old) (E.taken err.new) result.code }
+    ensures ended { HasEnded (role_of (map string_bytes words.now))
+        (record { left = I.left input.old; calls = L.told link.old; started = P.started kids.old; spawned = P.told kids.old; out = O.taken out.old })
+        (record { left = I.left input.new; calls = L.told link.new; started = P.started kids.new; spawned = P.told kids.new; out = O.taken out.new })
+        (E.taken err.old) (E.taken err.new) result.code }
     ensures same_kids { is_pair (role_of (map string_bytes words.now)) ≡ false → kids.new ≡ kids.old }
 
     ensures read_fault { result.code ≡ 9 → Rose (I.fault_count input.old) (I.fault_count input.new) }
