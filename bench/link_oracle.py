@@ -85,7 +85,8 @@ for name, value in (("boot", "0"), ("boot", "18446744073709551616"), ("isn", "42
 for text in ("''", "hex:", "hex:6", "hex:6g", "fill:0", "fill:16777217", "fill:", "text", "--"):
     refused.append(CLIENT + " --script " + text)
 refused += [CLIENT + " --script", CLIENT + " --script=", without(SERVER, "turns") + " --turns=0"]
-refused += ["pair", "Pair" + PAIR[4:], PAIR + " --script -", PAIR + " --local 127.0.0.1:7007", PAIR + " --program ftnode", PAIR + " --base=7007", PAIR + " ftnode"]
+refused += ["pair", "Pair" + PAIR[4:], PAIR + " ftnode", PAIR + " --script -", PAIR + " --local 127.0.0.1:7007"]
+refused += [PAIR + " --program ftnode", PAIR + " --base=7007"]
 refused += [without(PAIR, name) for name in ("program", "base", "first", "second", "turns")]
 # a program is not empty and doesn't begin with a hyphen
 refused += [without(PAIR, "program") + " --program" + text for text in ("", " ''", "=", " -", "=-", " -x", "=-x", " --", "=--", " --x", "=--program")]

@@ -21,6 +21,7 @@ impl Model for Program {
     ghost view = { λ p. string_bytes p.word };
 }
 
+/// Whether a word names a program.
 fn is_program(word: &[u8]) -> bool
     ensures { result ≡ is_program_lem word.now }
 {
@@ -42,6 +43,7 @@ impl Program {
         Ok(Some(Program { word }))
     }
 
+    /// The word.
     pub fn as_str(&self) -> &str
         ensures { result.now ≡ self.now }
     {
