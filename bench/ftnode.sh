@@ -1,10 +1,11 @@
 #!/usr/bin/env bash
 # Real processes over UDP on this machine's loopback, as LLVM builds them: a client that sends `fill:SIZE` (15,000,000 bytes unless one is given) and reads
 # its echo, through `server` and `logger`. Printed are the bytes a second, and of server and logger the counts of their calls, the processor time a datagram
-# that came, and the most memory held; and the processor time of a C loop that sends and receives datagrams of 1,400 bytes (bench/link.c). Then a transfer of
+# that came, and the most memory held; the processor time of a C loop that sends and receives datagrams of 1,400 bytes (bench/link.c); and the server's
+# datagrams a second beside those of a C process that echoes (bench/echo.c). Then a transfer of
 # 1,000,000 bytes whose server is killed (kill -9) three times meanwhile, two seconds apart, and started again with the next boot number.
 # Each time the client has to end with 0 and its bytes to be the script's.
-#     bench/ftnode.sh [SIZE] [PORT]        three ports from PORT (7200) on, and three from ten above
+#     bench/ftnode.sh [SIZE] [PORT]        seven ports from PORT (7200) on, and three from ten above
 set -eu
 . "$(dirname "$0")/common.sh"
 size=${1:-15000000} base=${2:-7200}
@@ -49,6 +50,32 @@ told() {
     done
 }
 
+# The server of the first run, whose client took so many nanoseconds, beside a C process that sends back what a partner sends it: datagrams of 400 bytes, as
+# long as the server's are on average, with one under way, so that each waits for the other, and with 45, as many segments as the window has. A datagram
+# counts where it comes and where it is sent.
+beside_echo() {
+    local ahead begun spun port=$((base + 5))
+    gcc -O2 -Wall -o "$work/echo" bench/echo.c
+    for ahead in 1 45; do
+        begun=$(date +%s%N)
+        command time -o "$work/echo.time" -f '%U %S' "$work/echo" "$port" 200000 >"$work/echo.out" &
+        last=$!
+        pids+=("$last")
+        sleep 0.2
+        "$work/echo" "$port" 200000 400 "$ahead" >"$work/partner.out" &
+        wait "$last"
+        spun=$(($(date +%s%N) - begun - 200000000))
+        wait $!
+        echo "$(cat "$work/serverA.out") $(tail -1 "$work/serverA.time") $1 $(cat "$work/echo.out") $(tail -1 "$work/echo.time") $spun" >"$work/row"
+        awk -v ahead="$ahead" '{
+            ours = $4 + $6; our_us = ($11 + $12) * 1e6 / ours; our_rate = ours * 1e9 / $14
+            theirs = 2 * $15; their_us = ($16 + $17) * 1e6 / theirs; their_rate = theirs * 1e9 / $18
+            printf "C echo, %d under way: %d datagrams a second, %.2f us of processor each; server: %d, %.2f us; ", ahead, their_rate, their_us, our_rate, our_us
+            printf "as many as C: %.2f, in a second of the processor %.2f\n", our_rate / their_rate, their_us / our_us
+        }' "$work/row"
+    done
+}
+
 # So many turns as the run wants, and some that are idle (20 ms each): for each segment of the client about five datagrams come to the server, and three to
 # the logger
 server_turns=$((size / 1460 * 54 / 10 + 300))
@@ -73,6 +100,7 @@ told A
 
 gcc -O2 -Wall -o "$work/link" bench/link.c
 awk -v ms="$(spent "$work/link" 1400 200000)" 'BEGIN { printf "the C loop: %.1f us of processor for a datagram of 1,400 bytes sent and received\n", ms / 200 }'
+beside_echo "$((ended - begun))"
 
 # killed and started again
 base=$((base + 10)) size=1000000
