@@ -2,8 +2,8 @@
 # Real processes over UDP on this machine's loopback, as LLVM builds them: a client that sends `fill:SIZE` (15,000,000 bytes unless one is given) and reads
 # its echo, through `server` and `logger`. Printed are the bytes a second, and of server and logger the counts of their calls, the processor time a datagram
 # that came, and the most memory held; the processor time of a C loop that sends and receives datagrams of 1,400 bytes (bench/link.c); and the server's
-# datagrams a second beside those of a C process that echoes (bench/echo.c). Then a transfer of
-# 1,000,000 bytes whose server is killed (kill -9) three times meanwhile, two seconds apart, and started again with the next boot number.
+# datagrams a second beside those of a C process that echoes (bench/echo.c). Then a transfer of 1,000,000 bytes whose server is killed (kill -9) when a quarter,
+# a half and three quarters of them have come back, and started again with the next boot number.
 # Each time the client has to end with 0 and its bytes to be the script's.
 #     bench/ftnode.sh [SIZE] [PORT]        seven ports from PORT (7200) on, and three from ten above
 set -eu
@@ -110,20 +110,23 @@ sleep 0.2
 server B1 1 1000000
 server_pid=$last
 begun=$(date +%s%N)
+# The client writes into a pipe: behind what is read from it only what the pipe holds can come, however fast the transfer is
+mkfifo "$work/clientB.out"
 client B
 client_pid=$last
-while kill -0 "$client_pid" 2>/dev/null && [ ! -s "$work/clientB.out" ]; do sleep 0.005; done
+exec 3<"$work/clientB.out"
 for boot in 2 3 4; do
-    kill -0 "$client_pid" 2>/dev/null || { echo "the client ended before boot $boot"; exit 1; }
-    echo "killed when $(stat -c %s "$work/clientB.out") bytes had come back"
+    head -c $((size / 4)) <&3 >>"$work/back"
+    echo "killed when $(stat -c %s "$work/back") bytes had come back"
     pkill -9 -P "$server_pid" || true
     wait "$server_pid" 2>/dev/null || true
     server "B$boot" "$boot" 1000000
     server_pid=$last
-    sleep 2
 done
+cat <&3 >>"$work/back"
 status=0
 wait "$client_pid" || status=$?
+mv "$work/back" "$work/clientB.out"
 ended=$(date +%s%N)
 awk -v n="$size" -v ns=$((ended - begun)) 'BEGIN { printf "%d bytes each way with three kills: %.1f s\n", n, ns / 1e9 }'
 same B "$status"

@@ -8,6 +8,7 @@ ours="$PWD/crates/link_bench/out/link_bench"
 gcc -O2 -Wall -o "$work/link" bench/link.c
 
 rounds=200000
+machine
 for bytes in 100 1400; do
     least_ours=999999 least_c=999999
     for _ in 1 2 3 4 5 6 7; do

@@ -4,7 +4,6 @@
 # having printed a front of that.
 set -eu
 . "$(dirname "$0")/common.sh"
-
 build log_script <crates/log_script/stdin
 cd crates/log_script
 program=$PWD/out/log_script

@@ -4,7 +4,6 @@
 # words are made, before `replay` is called, with status 1 and std's own error. The refusing malloc is a library that is loaded before libc.
 set -eu
 . "$(dirname "$0")/common.sh"
-
 build ftreplay run <crates/ftreplay/stdin
 cd crates/ftreplay
 program=$PWD/out/ftreplay

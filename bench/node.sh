@@ -7,21 +7,11 @@
 # that is loaded before libc and tells each call. Of each the least processor time of 5 runs, taken in turn, less that of a run that only opens the
 # connections. Then the memory that a live connection holds, by the most that runs with 64 connections and with one hold.
 set -eu
-cd "$(dirname "$0")/.."
-(cd crates/node_bench && rt run -- 1 1 64 1 0 >/dev/null 2>&1)
+. "$(dirname "$0")/common.sh"
+build node_bench 1 1 64 1 0
 program="$PWD/crates/node_bench/out/node_bench"
-work=$(mktemp -d)
-trap 'rm -rf "$work"' EXIT
 gcc -O2 -Wall -o "$work/packets" bench/packets.c
 gcc -O2 -Wall -shared -fPIC -o "$work/refuse.so" bench/refuse.c -ldl
-
-# user and system time of a run, in milliseconds
-TIMEFORMAT='%U %S'
-spent() {
-    local user system
-    read -r user system < <({ { time "$@" >"$work/out"; } 2>&1; } | tr -d .)
-    echo $((10#$user + 10#$system))
-}
 
 # how often a run asks for memory, and how much it holds at most, in KiB
 asked() {
@@ -62,7 +52,7 @@ ticks() {
     }'
 }
 
-printf '%s processors, %s, load %s\n' "$(nproc)" "$(lscpu | sed -n 's/^Model name: *//p')" "$(cut -d' ' -f1 /proc/loadavg)"
+machine
 for clients in 1 16 64; do
     all=102400
     row "64 bytes" "$clients" 64 $all "$((3 * all)) turns, $((3 * all)) packets to clients $((64 * all)) bytes of text, $((2 * all)) messages to the log"

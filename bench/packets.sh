@@ -27,6 +27,7 @@ row() {
     }'
 }
 
+machine
 row "packets of 40 bytes read" packet_bench packets "40 200000" $((64 * 200000))
 row "packets of 1500 bytes read" packet_bench packets "1500 20000" $((64 * 20000))
 row "fields of packets of 40 bytes set" packet_bench packets "40 300000 set" $((3 * 64 * 300000))

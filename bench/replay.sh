@@ -6,7 +6,6 @@
 # loop of fprintf of the same lines (gcc -O2); and the reading of a schedule of 8 MiB. Of each the least processor time of 7 turns.
 set -eu
 . "$(dirname "$0")/common.sh"
-
 build ftreplay run <crates/ftreplay/stdin
 program=$PWD/crates/ftreplay/out/ftreplay
 

@@ -3,10 +3,8 @@
 # runs. Echo, Line and Meter read 256 MiB of lines of 64 bytes, and Transfer reads 1 MiB of requests for 2,047 bytes each.
 set -eu
 . "$(dirname "$0")/common.sh"
-
 build service_bench echo <crates/service_bench/stdin
 program=$PWD/crates/service_bench/out/service_bench
-
 inputs=$work
 
 yes 'a line of sixty-three bytes, and with its line feed sixty-four.' | head -c 268435456 >"$inputs/lines"
