@@ -1,11 +1,12 @@
 #!/usr/bin/env bash
-# A crash that nobody notices: logger, server and client on the loopback. The server is killed with kill -9 in the middle of a transfer, when the first third has
-# come back, and started again; what the client got back is compared with what it sent. It takes 1 to 40 seconds, and wants a built ftnode:
-#     examples/crash.sh [PROGRAM] [BYTES]        PROGRAM is crates/ftnode/out/ftnode, BYTES 1,000,000, where nothing is said
+# A crash that nobody notices: logger, server and client on the loopback. The client asks the service Transfer REQUESTS times for 2,047 bytes. When a third of them
+# has come the server is killed with kill -9, and started again; what the client has in the end is compared with what a server that never failed sends.
+# It takes 1 to 20 seconds, and wants a built ftnode:
+#     examples/crash.sh [PROGRAM] [REQUESTS]        PROGRAM is crates/ftnode/out/ftnode, REQUESTS 250, at most 8,000, where nothing is said
 set -u
 cd "$(dirname "$0")/.." || exit 2
-program=${1:-crates/ftnode/out/ftnode} bytes=${2:-1000000}
-server=127.0.0.1:7007 logger=127.0.0.1:7008 client=127.0.0.1:7009
+program=${1:-crates/ftnode/out/ftnode} requests=${2:-250}
+bytes=$((requests * 2047)) server=127.0.0.1:7007 logger=127.0.0.1:7008 client=127.0.0.1:7009
 room=$(mktemp -d) started=()
 [ -x "$program" ] || { echo "crash: there is no program $program; build it: (cd crates/ftnode && rt run)" >&2; exit 2; }
 
@@ -21,26 +22,27 @@ start() { # NAME WORD..: starts a role
     started+=("$!")
 }
 
-head -c "$bytes" /dev/urandom >"$room/sent"
+for ((i = 0; i < requests; i++)); do printf '\000\000\007\377'; done >"$room/asked"
+python3 -c "import sys; sys.stdout.buffer.write(bytes(i % 251 for i in range($bytes)))" >"$room/wanted"
 start logger logger --local $logger --turns 1000000
-start server1 server --local $server --logger $logger --service echo --boot 1 --isn 5000 --turns 1000000
+start server1 server --local $server --logger $logger --service transfer --boot 1 --isn 5000 --turns 1000000
 first=${started[-1]}
 # The client writes into a pipe: behind the third that is read from it only what the pipe holds can come, however fast the transfer is.
 mkfifo "$room/pipe"
-"$program" client --local $client --server $server --isn 1000 --turns 1000000 <"$room/sent" >"$room/pipe" 2>"$room/client.err" &
+"$program" client --local $client --server $server --isn 1000 --turns 1000000 <"$room/asked" >"$room/pipe" 2>"$room/client.err" &
 running=$!
 started+=("$running")
 exec 3<"$room/pipe"
-head -c $((bytes / 3)) <&3 >"$room/back"
+head -c $((bytes / 3)) <&3 >"$room/came"
 kill -0 "$first" 2>/dev/null || { echo "crash: the server ended by itself: $(cat "$room"/server1.*)" >&2; exit 1; }
 { kill -9 "$first"; wait "$first"; } 2>/dev/null
-at=$(stat -c %s "$room/back")
+at=$(stat -c %s "$room/came")
 sleep 0.5
-start server2 server --local $server --logger $logger --service echo --boot 2 --isn 900000 --turns 1000000
-cat <&3 >>"$room/back"
+start server2 server --local $server --logger $logger --service transfer --boot 2 --isn 900000 --turns 1000000
+cat <&3 >>"$room/came"
 wait $running
 status=$?
-echo "the server was killed when $at of $bytes bytes had come back, and started again with boot 2; the client's status is $status"
+echo "the server was killed when $at of $bytes bytes had come, and started again with boot 2; the client's status is $status"
 [ $status = 0 ] || { cat "$room"/*.err >&2; exit 1; }
-cmp "$room/sent" "$room/back" || exit 1
-echo "crash: all $bytes bytes came back, in order"
+cmp "$room/wanted" "$room/came" || exit 1
+echo "crash: all $bytes bytes came, in order"
