@@ -1,5 +1,6 @@
 -- From the law of the uncrashed server to what clients of Counter see.
-use Rattle.std.proofs.Common.{◌≡◌, ℕ, sym, subst, List, [], ◌∷◌, ◌++◌}
+use Rattle.std.proofs.Common.{◌≡◌, ℕ, ◌+◌, ◌<◌, sym, subst, List, [], ◌∷◌, length, take, get_or}
+use Rattle.std.proofs.lemmas.List.{take_more}
 use Rattle.std.specs.List.{AllByRecursion}
 use Rattle.net_schedule.specs.Standing.{Kept}
 use Rattle.net_schedule.specs.Stepping.{Steps}
@@ -38,6 +39,12 @@ all_see law schedule events w played =
     subst (AllByRecursion SeesAnswers) (sym played.stands.stands.clients) seen
 
 -- a step plays one event more
-pub plays_next : (schedule : Schedule) (events : List Event) (w after : Kept Counter) (event : Event) (answer : StepOut) (played : IsPlayed schedule events w)
-    → Steps (machines (λ _. counter_started) counter_after) schedule events played.trace event answer after → IsPlayed schedule (events ++ event ∷ []) after
-plays_next schedule events w after event answer played steps = record { trace = steps.extends.moment ∷ played.trace; stands = steps.extends.stands }
+pub plays_next : (schedule : Schedule) (items : List Event) (i : ℕ) (d : Event) (w after : Kept Counter) (answer : StepOut)
+    → items ≡ schedule.events → i < length items → (played : IsPlayed schedule (take i schedule.events) w)
+    → Steps (machines (λ _. counter_started) counter_after) schedule (take i schedule.events) played.trace (get_or items i d) answer after
+    → IsPlayed schedule (take (i + 1) schedule.events) after
+plays_next schedule items i d w after answer same within played steps =
+    let next : Steps (machines (λ _. counter_started) counter_after) schedule (take i schedule.events) played.trace (get_or schedule.events i d) answer after =
+    subst (λ es. Steps (machines (λ _. counter_started) counter_after) schedule (take i schedule.events) played.trace (get_or es i d) answer after) same steps in
+    subst (λ es. IsPlayed schedule es after) (sym (take_more schedule.events i d (subst (λ es. i < length es) same within)))
+    (record { trace = next.extends.moment ∷ played.trace; stands = next.extends.stands })

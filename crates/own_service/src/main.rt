@@ -68,9 +68,9 @@ fn play(alloc: Global, schedule: &Schedule) -> Option<World<Counter>>
         return None;
     };
     for event in schedule.events.as_slice() {
-        if world.step(alloc, event).is_err() {
+        let Ok(_) = world.step(alloc, event) else {
             return None;
-        }
+        };
     }
     Some(world)
 }
