@@ -1,5 +1,5 @@
 -- However the input is cut, Counter answers the same, so a run over pieces of the bytes writes a front of the answers to all of them.
-use Rattle.std.proofs.Common.{◌≡◌, ◌∙◌, refl, sym, ap, subst, ℕ, ◌==◌, Bool, true, false, List, [], ◌∷◌, ◌++◌, length, take, drop, take-append-drop, append_assoc, arith}
+use Rattle.std.proofs.Common.{◌≡◌, ◌∙◌, refl, sym, ap, ℕ, ◌==◌, Bool, true, false, List, [], ◌∷◌, ◌++◌, length, take, drop, take-append-drop, append_assoc}
 use Rattle.server_trait.specs.Service.{Run, fold_from, cut, reference}
 use Rattle.ft_model.specs.Growth.{IsPrefix}
 use Rattle.own_service.specs.declared.counter.Counter.{Counter}
