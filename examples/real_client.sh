@@ -16,9 +16,11 @@ command -v ip >/dev/null || missing "the command ip is missing (package iproute2
 command -v python3 >/dev/null || missing "python3 is missing"
 
 clean_up() {
-    { for process in "${started[@]}"; do kill -9 "$process"; done; wait; } 2>/dev/null
-    ip netns del "$inside" 2>/dev/null
-    ip netns del "$outside" 2>/dev/null
+    exec 2>/dev/null
+    for process in "${started[@]}"; do kill -9 "$process"; done
+    wait
+    ip netns del "$inside"
+    ip netns del "$outside"
     rm -rf "$room"
 }
 trap clean_up EXIT
