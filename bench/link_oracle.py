@@ -350,5 +350,8 @@ pair(*given, [], error=1)
 script.extend(["fail child 1", "run pair"])
 printed.extend(["status 2", "ftnode: usage"])
 
-open(sys.argv[1], "w").write("\n".join(script) + "\n")
-open(sys.argv[2], "w").write("\n".join(printed) + "\n")
+if len(sys.argv) != 3:
+    sys.exit("link_oracle.py SCRIPT PRINTED")
+for name, lines in zip(sys.argv[1:], (script, printed)):
+    with open(name, "w", encoding="utf-8") as file:
+        file.write("\n".join(lines) + "\n")
