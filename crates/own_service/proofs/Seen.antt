@@ -44,7 +44,9 @@ pub plays_next : (schedule : Schedule) (items : List Event) (i : ℕ) (d : Event
     → Steps (machines (λ _. counter_started) counter_after) schedule (take i schedule.events) played.trace (get_or items i d) answer after
     → IsPlayed schedule (take (i + 1) schedule.events) after
 plays_next schedule items i d w after answer same within played steps =
-    let next : Steps (machines (λ _. counter_started) counter_after) schedule (take i schedule.events) played.trace (get_or schedule.events i d) answer after =
-    subst (λ es. Steps (machines (λ _. counter_started) counter_after) schedule (take i schedule.events) played.trace (get_or es i d) answer after) same steps in
+    let next : Steps (machines (λ _. counter_started) counter_after) schedule (take i schedule.events) played.trace (get_or schedule.events i d)
+    answer after =
+    subst (λ es. Steps (machines (λ _. counter_started) counter_after) schedule (take i schedule.events) played.trace (get_or es i d) answer after)
+    same steps in
     subst (λ es. IsPlayed schedule es after) (sym (take_more schedule.events i d (subst (λ es. i < length es) same within)))
     (record { trace = next.extends.moment ∷ played.trace; stands = next.extends.stands })

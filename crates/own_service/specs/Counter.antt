@@ -27,7 +27,8 @@ answers count (byte ∷ bytes) = answer (counted count) byte ++ answers (counted
 
 -- what a chunk does
 abbrev pub counter_after : Counter → List ℕ → Served Counter
-counter_after counter chunk = record { next = record { count = count_after counter.count chunk }; output = answers counter.count chunk; closed = length chunk == 0 }
+counter_after counter chunk =
+    record { next = record { count = count_after counter.count chunk }; output = answers counter.count chunk; closed = length chunk == 0 }
 
 -- the service as runs see it
 abbrev pub counter_machine : Machine Counter
