@@ -12,7 +12,7 @@ use Rattle.ft_model.specs.News.{News}
 use Rattle.ft_model.specs.News.News.{Comes, Logged, Ticks, Begins}
 use Rattle.ft_model.specs.Network.{Packet}
 use Rattle.ft_model.specs.Taken.{counts, taken_after, fin_after}
-use Rattle.ft_model.specs.Sending.{counted_after, acknowledged_after, edge_after, wl2_after, sent_at_once, sent_after, acknowledged_by, window_by}
+use Rattle.ft_model.specs.Sending.{syn_acked_after, acknowledged_after, edge_after, wl2_after, sent_at_once, sent_after, acknowledged_by, window_by}
 use Rattle.ft_model.specs.Timer.{probes, expires}
 use Rattle.ft_model.specs.Connection.{LiveTurn}
 use Rattle.connection_laws.specs.Inside.{GoesOn}
@@ -42,10 +42,10 @@ unfolding acknowledged_after edge_after wl2_after
 by_ack u i delta segment true h p g f =
     let l : Lowers u p.sent (ack_of p.sisn segment) (ack_of i (inward (south_at delta p) segment)) = lowers u i delta p segment g f.ack (f.near h) in
     let c : Bool = counts p segment in
-    let m : Bool = moves c p.counted p.una p.wl1 p.wl2 (first_of p.cisn segment) (ack_of p.sisn segment) p.sent in
+    let m : Bool = moves c p.syn_acked p.una p.wl1 p.wl2 (first_of p.cisn segment) (ack_of p.sisn segment) p.sent in
     let rises = una_rises (c && int_le (pos 0) (ack_of p.sisn segment)) p.una (nat_abs (ack_of p.sisn segment)) p.sent g.order in
     let from : m ≡ true → u ≤ acknowledged_by p segment =
-    (λ t. (used_by u p.una p.sent c p.counted p.wl1 p.wl2 segment.head.window (first_of p.cisn segment) (ack_of p.sisn segment) (ack_of i (inward (south_at delta p) segment)) g.una g.order (λ h. (g.unopened h).0) l t).from) in
+    (λ t. (used_by u p.una p.sent c p.syn_acked p.wl1 p.wl2 segment.head.window (first_of p.cisn segment) (ack_of p.sisn segment) (ack_of i (inward (south_at delta p) segment)) g.una g.order (λ h. (g.syn_unacked h).0) l t).from) in
     record {
       una = omega (arith, rises.0, g.una);
       most = rises.1;
@@ -72,20 +72,20 @@ off_left false b h = (refl, h)
 
 -- until an acknowledgement counts nothing changes
 record Same (news : News) (p : Point) : Type 0 where
-  counted : p.counted ≡ false
+  syn_acked : p.syn_acked ≡ false
   taken : taken_after news p ≡ p.taken
   fin : fin_after news p ≡ p.fin
   edge : edge_after news p ≡ p.edge
 
-same : (i : ℕ) (news : News) (p : Point) → counted_after news p ≡ false → Same news p
-unfolding counted_after taken_after fin_after edge_after
+same : (i : ℕ) (news : News) (p : Point) → syn_acked_after news p ≡ false → Same news p
+unfolding syn_acked_after taken_after fin_after edge_after
 same i (Comes segment) p h =
-    let k = off_left p.counted (counts p segment) h in
+    let k = off_left p.syn_acked (counts p segment) h in
     let m : Moves (Comes segment) p 0 i Begins = stays_inside 0 i p segment k.1 in
-    record { counted = k.0; taken = sym m.taken; fin = sym m.fin; edge = sym (minus_none p.edge (edge_after (Comes segment) p) m.edge) }
-same i (Logged kept) p h = record { counted = h; taken = refl; fin = refl; edge = refl }
-same i Ticks p h = record { counted = h; taken = refl; fin = refl; edge = refl }
-same i Begins p h = record { counted = h; taken = refl; fin = refl; edge = refl }
+    record { syn_acked = k.0; taken = sym m.taken; fin = sym m.fin; edge = sym (minus_none p.edge (edge_after (Comes segment) p) m.edge) }
+same i (Logged kept) p h = record { syn_acked = h; taken = refl; fin = refl; edge = refl }
+same i Ticks p h = record { syn_acked = h; taken = refl; fin = refl; edge = refl }
+same i Begins p h = record { syn_acked = h; taken = refl; fin = refl; edge = refl }
 
 none_sent : (t : ℕ) → max 0 (min t 0) + 0 ≡ 0
 none_sent t = omega arith
@@ -111,11 +111,11 @@ goes_on_again service server boot u i delta news p q sent g f l few =
       sent = few;
       edge = omega (arith, l.edge, s.edge);
       wl2 = omega (arith, l.wl2, s.wl2);
-      unopened = λ h.
-          let k : Same news p = same i news p (sym l.counted ∙ h) in
-          let o = g.unopened k.counted in
+      syn_unacked = λ h.
+          let k : Same news p = same i news p (sym l.syn_acked ∙ h) in
+          let o = g.syn_unacked k.syn_acked in
           let edge : q.edge ≡ 0 = l.edge ∙ k.edge ∙ o.2 in
-          let probe : probes news p ≡ false = off_middle (expires news p) p.counted (not (nat_lt p.una p.sent)) k.counted in (
+          let probe : probes news p ≡ false = off_middle (expires news p) p.syn_acked (not (nat_lt p.una p.sent)) k.syn_acked in (
             o.0,
             l.sent_units ∙ (λ j. max (o.1 j) (min (target service q) (edge j)) + (if probe j then 1 else 0)) ∙ none_sent (target service q),
             edge,

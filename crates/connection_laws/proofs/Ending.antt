@@ -59,7 +59,7 @@ same_of a b h = grind (arith, h)
 record IsThrough (s : Sending) (released_inside : ℕ) (closed : Bool) : Type 0 where
   acknowledged : s.una ≡ s.sent
   some : 1 ≤ s.sent
-  opened : s.opened ≡ true
+  syn_acked : s.syn_acked ≡ true
   written : released_inside ≡ s.sent - 1
   closed_is : closed ≡ true
 
@@ -71,16 +71,16 @@ end_at : (f : Bool) (sent n : ℕ) → f ≡ true → (if f then sent - 1 else n
 end_at true sent n h = refl
 end_at false sent n h = absurd (false≢true h)
 
-through : {State : Type 0} (service : Machine State) (p : Point) (s : Sending) (acked : Bool) → (s.fin_sent && s.una == s.sent) ≡ true → FinIsLast s → (s.opened ≡ false → s.sent ≡ 0)
+through : {State : Type 0} (service : Machine State) (p : Point) (s : Sending) (acked : Bool) → (s.fin_sent && s.una == s.sent) ≡ true → FinIsLast s → (s.syn_acked ≡ false → s.sent ≡ 0)
     → HasWrittenAll service p s ⊎ HasFilled service p s → IsThrough s (released service p) (answered_run service p).closed
-through service p s acked over last unopened written =
+through service p s acked over last syn_unacked written =
     let parts = both_of s.fin_sent (s.una == s.sent) over in
     let ends = last parts.0 in
     let all : HasWrittenAll service p s = ⊎_elim (λ h. h) (λ h. absurd (false≢true (sym h.open_still ∙ ends.0))) written in
     record {
       acknowledged = same_of s.una s.sent parts.1;
       some = ends.1;
-      opened = opened_by s.opened s.sent unopened ends.1;
+      syn_acked = opened_by s.syn_acked s.sent syn_unacked ends.1;
       written = all.written ∙ end_at s.fin_sent s.sent (s.una + length s.held) parts.0;
       closed_is = all.closed ∙ ends.0;
     }
@@ -182,7 +182,7 @@ ends_inside service boot u i delta news p q calls e sent st named unreset_p off 
     let bounds : IsBounded w = bounded_used calls m l.may came.fin_last came.bounds in
     let over = both_of w.receiving.fin (w.sending.fin_sent && w.sending.una == w.sending.sent) end.over in
     let h : IsThrough w.sending (released (swallowing u service) (inside u i q)) (answered_run (swallowing u service) (inside u i q)).closed =
-    through (swallowing u service) (inside u i q) w.sending true over.1 last bounds.unopened l.used.written in
+    through (swallowing u service) (inside u i q) w.sending true over.1 last bounds.syn_unacked l.used.written in
     let released_is : released service q - u ≡ w.sending.sent - 1 = sym (inside_released service u i q) ∙ h.written in
     let closed : (answered_run service q).closed ≡ true = sym (ap (λ r. r.closed) (inside_runs service u i q)) ∙ h.closed_is in
     let una_is : q.una - u ≡ w.sending.sent = end.sends.una ∙ h.acknowledged in
@@ -191,9 +191,9 @@ ends_inside service boot u i delta news p q calls e sent st named unreset_p off 
     let all_sent : q.sent ≡ target service q = target_is (answered_run service q).closed (released service q) q.una q.sent closed past acknowledged in
     let before_sent : p.sent - u ≡ w.sending.sent = st.stands.sent ∙ sym (a.sends.sent ∙ came.sent) in
     let before : p.sent ≡ q.sent = outside_before u p.sent q.sent w.sending.sent before_sent end.sent h.some in
-    let counted : q.counted ≡ true = end.sends.counted ∙ h.opened in
+    let syn_acked : q.syn_acked ≡ true = end.sends.syn_acked ∙ h.syn_acked in
     let e_sent : e.sending.sent ≡ w.sending.sent = sym (a.sends.sent ∙ came.sent) in
-    let e_opened : e.sending.opened ≡ true = opened_by e.sending.opened e.sending.sent st.between.bounds.unopened (omega (arith, e_sent, h.some)) in
+    let e_syn_acked : e.sending.syn_acked ≡ true = opened_by e.sending.syn_acked e.sending.sent st.between.bounds.syn_unacked (omega (arith, e_sent, h.some)) in
     let fin_before : p.fin ≡ true = st.stands.receives.fin ∙ taken_before inner calls e st.begun named l.may over.0 l.ended in
     let fin_sent : e.sending.fin_sent ≡ true = sym (a.sends.fin_sent ∙ (news_keep inner e st.begun st.between.bounds usual).fin_sent) ∙ (both_of w.sending.fin_sent (w.sending.una == w.sending.sent) over.1).0 in
     let at_tick : is_tick news ≡ true → (p.rest == 1) ≡ false =
@@ -202,7 +202,7 @@ ends_inside service boot u i delta news p q calls e sent st named unreset_p off 
     let una : e.sending.una ≡ e.sending.sent = sym st.stands.sends.una ∙ less_same u q.una p.una w.sending.sent una_above st.goes_on.una same una_is ∙ sym e_sent in
     ap (λ n. n == 1) st.stands.rest
     ∙ stands_by e.sending.rest (must_run e.sending) st.between.runs
-    (runs_not e.sending.opened e.sending.fin_sent e.sending.una e.sending.sent (e.sending.una + length e.sending.held + one_if e.sending.closed) e_opened fin_sent una) in
+    (runs_not e.sending.syn_acked e.sending.fin_sent e.sending.una e.sending.sent (e.sending.una + length e.sending.held + one_if e.sending.closed) e_syn_acked fin_sent una) in
     let fin : q.fin ≡ true = end.receives.fin ∙ over.0 in
     let r : ReceivesAt (inside u i q) (flushed w) = flushed_receives (inside u i q) w end.receives in
     record {
@@ -216,7 +216,7 @@ ends_inside service boot u i delta news p q calls e sent st named unreset_p off 
         fin_last = last_flushed w bounds last;
         counts = record {
           iss = flush_keeps (λ (s : Sending). s.iss) w (record { sends = λ s n. refl; ends = λ s. refl; times = λ s x y. refl }) ∙ sym end.sends.sisn;
-          opened = flush_keeps (λ (s : Sending). s.opened) w (record { sends = λ s n. refl; ends = λ s. refl; times = λ s x y. refl }) ∙ h.opened;
+          syn_acked = flush_keeps (λ (s : Sending). s.syn_acked) w (record { sends = λ s n. refl; ends = λ s. refl; times = λ s x y. refl }) ∙ h.syn_acked;
           una = end.sends.una ∙ sym (flush_keeps (λ (s : Sending). s.una) w (record { sends = λ s n. refl; ends = λ s. refl; times = λ s x y. refl }));
           sent = end.sent ∙ sym (closed_sent w l.ended);
           above = una_above;
@@ -227,13 +227,13 @@ ends_inside service boot u i delta news p q calls e sent st named unreset_p off 
         };
         receives = record { cisn = r.cisn; limit = r.limit; read = r.read; long = r.long; unread = r.unread; fin = r.fin };
         over = λ j. fin j && lt_by (released service q) q.una past j;
-        counted = counted;
+        syn_acked = syn_acked;
         acknowledged = acknowledged;
         all_sent = all_sent;
-        still = t.goes.rest ∙ rest_stops service news p q counted acknowledged all_sent;
+        still = t.goes.rest ∙ rest_stops service news p q syn_acked acknowledged all_sent;
       };
       silent = end.silent;
-      counted = st.stands.sends.counted ∙ opened_by e.sending.opened e.sending.sent st.between.bounds.unopened (omega (arith, e_sent, h.some));
+      syn_acked = st.stands.sends.syn_acked ∙ opened_by e.sending.syn_acked e.sending.sent st.between.bounds.syn_unacked (omega (arith, e_sent, h.some));
       taken = λ j. length ((t.goes.taken ∙ taken_stays news p fin_before) j) + one_if ((fin ∙ sym fin_before) j);
       segments = quiet_sends service e.local news p q (record {
         opens = opens_not u i delta p e news calls t.later st.begun l.may l.ended;

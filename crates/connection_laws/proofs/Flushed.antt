@@ -48,10 +48,10 @@ end_steps begun pt pf s unsent ends =
     (λ h. same_if pf (with_fin_sent s) s (bytes_end s) (λ k. fin_end s.fin_sent s.sent (s.una + length s.held) (ends k).0 (ends k).1) (λ k. refl)) in
     let texted_end : bytes_end texted ≡ bytes_end probed =
     sent_end probed.fin_sent probed.sent (if begun then sendable probed else 0) (probed.una + length probed.held)
-    (λ h. none_sendable begun probed.opened probed.fin_sent (min (probed.una + length probed.held) probed.edge - probed.sent) h) in
+    (λ h. none_sendable begun probed.syn_acked probed.fin_sent (min (probed.una + length probed.held) probed.edge - probed.sent) h) in
     same_if (begun && sends_fin texted) (with_fin_sent texted) texted (bytes_end s)
     (λ h.
-    let test = fin_test begun texted.opened texted.closed texted.fin_sent (nat_lt texted.sent texted.edge) texted.sent (texted.una + length texted.held) h in
+    let test = fin_test begun texted.syn_acked texted.closed texted.fin_sent (nat_lt texted.sent texted.edge) texted.sent (texted.una + length texted.held) h in
     fin_end texted.fin_sent texted.sent (texted.una + length texted.held) test.0 test.1 ∙ texted_end ∙ probed_end)
     (λ h. texted_end ∙ probed_end)
 
@@ -94,5 +94,5 @@ end_flushed u b =
     let s : Sending = u.sending in
     end_timed _ (after_steps (has_begun u.name) (probes_text u) (probes_fin u) u.sending)
     ∙ end_steps (has_begun u.name) (probes_text u) (probes_fin u) s
-    (λ h. unsent_of u.probe (has_begun u.name) s.opened s.fin_sent (nat_lt (s.sent - s.una) (length s.held)) h)
-    (λ h. ends_of u.probe (has_begun u.name) s.opened s.fin_sent s.closed s.una (length s.held) s.sent b.order b.flight h)
+    (λ h. unsent_of u.probe (has_begun u.name) s.syn_acked s.fin_sent (nat_lt (s.sent - s.una) (length s.held)) h)
+    (λ h. ends_of u.probe (has_begun u.name) s.syn_acked s.fin_sent s.closed s.una (length s.held) s.sent b.order b.flight h)

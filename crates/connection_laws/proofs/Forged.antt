@@ -10,7 +10,7 @@ use Rattle.ft_model.specs.Offset.{one_if, first_of, ack_of, text_of, length_of}
 use Rattle.ft_model.specs.Point.{Point, taken_units, receive_edge, room, target}
 use Rattle.ft_model.specs.News.News.{Comes}
 use Rattle.ft_model.specs.Taken.{accepts, counts, continues, taken_after, fin_after, end_of}
-use Rattle.ft_model.specs.Sending.{counted_after, acknowledged_after, edge_after, wl1_after, wl2_after, sent_at_once, sent_after, acknowledged_by}
+use Rattle.ft_model.specs.Sending.{syn_acked_after, acknowledged_after, edge_after, wl1_after, wl2_after, sent_at_once, sent_after, acknowledged_by}
 use Rattle.ft_model.specs.Timer.{must_run, interval_after, rest_after}
 use Rattle.endpoint_laws.specs.Standing.{MeetsLaws}
 use Rattle.connection_laws.proofs.Swallowed.{drop_none}
@@ -38,8 +38,8 @@ pub record IsFresh (p : Point) : Type 0 where
   pub wl2 : p.wl2 ≡ 0
   pub lengths : p.lengths ≡ []
   pub fetched : p.fetched ≡ length p.taken
-  pub wl1 : p.counted ≡ true → p.wl1 ≡ pos (length p.taken)
-  pub timer : (p.counted ≡ true → (p.rest ≡ 0) × (p.interval ≡ 1)) × (p.counted ≡ false → p.rest ≡ 1)
+  pub wl1 : p.syn_acked ≡ true → p.wl1 ≡ pos (length p.taken)
+  pub timer : (p.syn_acked ≡ true → (p.rest ≡ 0) × (p.interval ≡ 1)) × (p.syn_acked ≡ false → p.rest ≡ 1)
 
 take_none : (n : ℕ) → take {A = ℕ} n [] ≡ []
 take_none zero = refl
@@ -79,7 +79,7 @@ forged_counts p segment fin f s few =
     let accepted : is_acceptable (taken_units p) (room p) (first_of p.cisn segment) (length_of segment) ≡ true =
     (λ j. is_acceptable (n + (if f.fin j then 1 else 0)) (room p) (s.first j) (len j)) ∙ ap (λ m. is_acceptable m (room p) (pos n) (if fin then 1 else 0)) (plus_none n)
     ∙ acceptable_if fin n (room p) some in
-    let low : (p.counted || int_le (pos 0) (ack_of p.sisn segment)) ≡ true = ap (λ z. p.counted || int_le (pos 0) z) s.back ∙ at_start p.counted in
+    let low : (p.syn_acked || int_le (pos 0) (ack_of p.sisn segment)) ≡ true = ap (λ z. p.syn_acked || int_le (pos 0) z) s.back ∙ at_start p.syn_acked in
     λ j. s.ack j && not (s.syn j) && not (s.rst j) && accepted j && low j
 
 either : {A : Type 0} (b : Bool) (x y : A) → x ≡ y → (if b then x else y) ≡ y
@@ -126,7 +126,7 @@ forged_fin_is p segment false f s few =
 
 -- the point after it
 abbrev pub after_forged : Bool → Point → Point
-after_forged fin p = record p { counted = true; fin = fin; answered = length p.taken + one_if fin; wl1 = pos (length p.taken); interval = 1; rest = 0 }
+after_forged fin p = record p { syn_acked = true; fin = fin; answered = length p.taken + one_if fin; wl1 = pos (length p.taken); interval = 1; rest = 0 }
 
 or_true : (b : Bool) → true ≡ (b || true)
 or_true true = refl
@@ -162,27 +162,27 @@ wl2_none false = refl
 
 pub forged_laws : (p : Point) (segment : Segment) (fin : Bool) → IsFresh p → IsForged p segment fin → (fin ≡ true → length p.taken < 2 ^ 24)
     → MeetsLaws silent (Comes segment) p (after_forged fin p)
-unfolding counted_after acknowledged_after edge_after wl1_after wl2_after sent_after sent_at_once interval_after rest_after must_run
+unfolding syn_acked_after acknowledged_after edge_after wl1_after wl2_after sent_after sent_at_once interval_after rest_after must_run
 forged_laws p segment fin f s few =
     let c : counts p segment ≡ true = forged_counts p segment fin f s few in
     let start : int_le (pos 0) (pos 0) ≡ true = at_start false in
     let m : (counts p segment && int_le (pos 0) (ack_of p.sisn segment)) ≡ true = (λ j. c j && int_le (pos 0) (s.back j)) ∙ start in
     let w : Bool = updates_window p.una p.wl1 p.wl2 (first_of p.cisn segment) (acknowledged_by p segment) in
-    let moves : Bool = (counts p segment && int_le (pos 0) (ack_of p.sisn segment)) && (not p.counted || w) in
-    let anew : true ≡ (p.rest == 0 || (nat_lt p.una p.una || (true && not p.counted))) = starts_by p.counted p.rest p.una (λ h. (f.timer.0 h).0) in
+    let moves : Bool = (counts p segment && int_le (pos 0) (ack_of p.sisn segment)) && (not p.syn_acked || w) in
+    let anew : true ≡ (p.rest == 0 || (nat_lt p.una p.una || (true && not p.syn_acked))) = starts_by p.syn_acked p.rest p.una (λ h. (f.timer.0 h).0) in
     record {
       same = record { key = refl; cisn = refl; sisn = refl; mss = refl; fetched = refl };
       taken = sym (forged_taken p segment fin s);
       fin = sym (forged_fin_is p segment fin f s few);
-      counted = or_true p.counted ∙ sym (ap (λ b. p.counted || b) c);
+      syn_acked = or_true p.syn_acked ∙ sym (ap (λ b. p.syn_acked || b) c);
       una = f.una ∙ sym ((λ j. if counts p segment && int_le (pos 0) (ack_of p.sisn segment) then una_after (f.una j) (min (nat_abs (s.back j)) (f.sent j)) else f.una j)
           ∙ acknowledged_none (counts p segment && int_le (pos 0) (ack_of p.sisn segment)));
       edge = f.edge ∙ sym ((λ j. if moves then min (nat_abs (s.back j)) (f.sent j) + min 65535 (s.window j + nat_abs (s.back j) - min (nat_abs (s.back j)) (f.sent j)) else f.edge j)
           ∙ edge_none moves);
-      wl1 = sym (wl1_by p.counted (first_of p.cisn segment) p.wl1 (pos (length p.taken)) (counts p segment && int_le (pos 0) (ack_of p.sisn segment)) w s.first f.wl1 m);
+      wl1 = sym (wl1_by p.syn_acked (first_of p.cisn segment) p.wl1 (pos (length p.taken)) (counts p segment && int_le (pos 0) (ack_of p.sisn segment)) w s.first f.wl1 m);
       wl2 = f.wl2 ∙ sym ((λ j. if moves then min (nat_abs (s.back j)) (f.sent j) else f.wl2 j) ∙ wl2_none moves);
       sent = f.sent ∙ at_once_none (target silent (after_forged fin p)) ∙ sym (λ j. max (f.sent j) (min (target silent (after_forged fin p)) (f.edge j)) + 0);
       interval = λ j. if anew j then 1 else p.interval;
       rest = sym (λ j. if nat_lt (f.una j) (max (f.sent j) (length (run_is p f.lengths j).output + (if (run_is p f.lengths j).closed then 1 else 0)))
-          then (if (p.rest == 0 || (nat_lt p.una p.una || (true && not p.counted))) || false then interval_after (Comes segment) p (after_forged fin p) else p.rest) else 0);
+          then (if (p.rest == 0 || (nat_lt p.una p.una || (true && not p.syn_acked))) || false then interval_after (Comes segment) p (after_forged fin p) else p.rest) else 0);
     }

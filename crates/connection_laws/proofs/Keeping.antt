@@ -6,7 +6,7 @@ use Rattle.seq_arith.specs.Offset.{one_if}
 use Rattle.ft_model.specs.News.{News}
 use Rattle.ft_model.specs.News.News.{Comes, Logged, Ticks, Begins}
 use Rattle.tcp_endpoint.specs.States.{has_begun}
-use Rattle.tcp_endpoint.specs.Sending.{Sending, acknowledged, opened_by, bytes_end, expires, ticked}
+use Rattle.tcp_endpoint.specs.Sending.{Sending, acknowledged, with_syn_acked, bytes_end, expires, ticked}
 use Rattle.tcp_endpoint.specs.Tcb.{Tcb}
 use Rattle.tcp_endpoint.specs.Arrival.{ack_at}
 use Rattle.tcp_endpoint.specs.Turning.{after_tick, timer_ticked, waited}
@@ -34,8 +34,8 @@ kept_acked : (s : Sending) (seq : ℕ) (ack : ℤ) (window : ℕ) → Keeps s (a
 unfolding acknowledged
 kept_acked s seq ack window = record { held = let_go (is_new_ack s.una s.sent ack) (nat_abs ack) s.una s.held; fin_sent = refl; closed = refl; sent = refl }
 
-kept_opened : (s : Sending) (seq window : ℕ) → s.sent ≡ 0 → Keeps s (opened_by s seq window)
-kept_opened s seq window none =
+kept_syn_acked : (s : Sending) (seq window : ℕ) → s.sent ≡ 0 → Keeps s (with_syn_acked s seq window)
+kept_syn_acked s seq window none =
     let e : 0 ≡ 0 - s.una = omega arith in record { held = ap (λ k. drop k s.held) e; fin_sent = refl; closed = refl; sent = sym none }
 
 kept_if : (s : Sending) (b : Bool) (x y : Sending) → (b ≡ true → Keeps s x) → (b ≡ false → Keeps s y) → Keeps s (if b then x else y)
@@ -52,9 +52,9 @@ unfolding after_tick timer_ticked waited
 news_keep (Comes segment) e begun bounds usual =
     subst (λ (m : Sending). Keeps e.sending m) (sym (sending_is e segment begun bounds usual))
     (kept_if e.sending (counts e segment) (used_by e segment) e.sending
-    (λ h. kept_if e.sending e.sending.opened (acknowledged e.sending segment.head.seq (ack_at e segment) segment.head.window) (opened_by e.sending segment.head.seq segment.head.window)
+    (λ h. kept_if e.sending e.sending.syn_acked (acknowledged e.sending segment.head.seq (ack_at e segment) segment.head.window) (with_syn_acked e.sending segment.head.seq segment.head.window)
     (λ o. kept_acked e.sending segment.head.seq (ack_at e segment) segment.head.window)
-    (λ o. kept_opened e.sending segment.head.seq segment.head.window (bounds.unopened o)))
+    (λ o. kept_syn_acked e.sending segment.head.seq segment.head.window (bounds.syn_unacked o)))
     (λ h. kept_same e.sending))
 news_keep (Logged kept) e begun bounds usual = kept_same e.sending
 news_keep Ticks e begun bounds usual = kept_ticked e.sending

@@ -77,7 +77,7 @@ pub record Sends {State : Type 0} (service : Machine State) (news inner : News) 
   pub una : u ≤ q.una
   pub edge : u ≤ q.edge
   pub given : u ≤ released service q
-  pub unopened : q.counted ≡ false → u ≡ 0
+  pub syn_unacked : q.syn_acked ≡ false → u ≡ 0
 
 at_once : (u a t e : ℕ) → u ≤ a → max (a - u) (min (t - u) (e - u)) ≡ max a (min t e) - u
 at_once u a t e h = omega (arith, h)
@@ -153,8 +153,8 @@ first_is service server news inner p q u i delta s =
     ap (λ n. un == n) rel ∙ same_less u q.una (released service q) s.una s.given in
     let long : resent_length (swallowing u service) (inside u i p) (inside u i q) ≡ resent_length service p q =
     (λ j. min q.mss (min (min (p.sent - u) (rel j) - un) (max 1 (q.edge - u - un)))) ∙ length_less u q.mss p.sent (released service q) q.una q.edge s.una s.given s.sent in
-    choose out (not q.counted) (syn_ack server (inside u i q) ∷ []) _ _ _
-    (λ n. one_is out (syn_ack server (inside u i q)) (syn_ack server q) (opening_is server u i delta q (s.unopened (not_true q.counted n)) s.shift s.sisn))
+    choose out (not q.syn_acked) (syn_ack server (inside u i q) ∷ []) _ _ _
+    (λ n. one_is out (syn_ack server (inside u i q)) (syn_ack server q) (opening_is server u i delta q (s.syn_unacked (not_true q.syn_acked n)) s.shift s.sisn))
     (λ n. ap (λ b. map out (if b then fin_if_closed (swallowing u service) server (inside u i q)
     else text_at (swallowing u service) server (inside u i q) un (resent_length (swallowing u service) (inside u i p) (inside u i q)) ∷ [])) all
     ∙ choose out (q.una == released service q) _ _ _ _ (λ k. fin_if_is service server u i delta q s.shift s.given)
@@ -178,11 +178,11 @@ resent_is : {State : Type 0} (service : Machine State) (server : Addr) (news inn
 unfolding resent
 resent_is service server news inner p q u i delta s =
     let out : Segment → Segment = outward (south_at delta q) in
-    let waits : (not q.counted || nat_lt (q.una - u) (p.sent - u)) ≡ (not q.counted || nat_lt q.una p.sent) = ap (λ b. not q.counted || b) (lt_less u q.una p.sent s.una) in
+    let waits : (not q.syn_acked || nat_lt (q.una - u) (p.sent - u)) ≡ (not q.syn_acked || nat_lt q.una p.sent) = ap (λ b. not q.syn_acked || b) (lt_less u q.una p.sent s.una) in
     (λ j. map out (if s.expires j then (if waits j then first_unacknowledged (swallowing u service) server (inside u i p) (inside u i q)
     else probe (swallowing u service) server (inside u i p) (inside u i q)) else []))
     ∙ choose out (expires news p) _ [] _ []
-    (λ h. choose out (not q.counted || nat_lt q.una p.sent) _ _ _ _ (λ k. first_is service server news inner p q u i delta s) (λ k. probe_is service server news inner p q u i delta s))
+    (λ h. choose out (not q.syn_acked || nat_lt q.una p.sent) _ _ _ _ (λ k. first_is service server news inner p q u i delta s) (λ k. probe_is service server news inner p q u i delta s))
     (λ h. refl)
 
 new_less : (u a r s : ℕ) → u ≤ s → min (a - u) (r - u) - (s - u) ≡ min a r - s
@@ -255,8 +255,8 @@ unfolding resent new_texts new_fin
 full_quiet service server news p q =
     append_quiet (resent service server news p q) (new_texts service server p q ++ new_fin service server p q)
     (either_quiet (expires news p) _ []
-    (either_quiet (not q.counted || nat_lt q.una p.sent) _ _
-    (either_quiet (not q.counted) _ _ refl (either_quiet (q.una == released service q) _ _ (fin_quiet service server q) refl))
+    (either_quiet (not q.syn_acked || nat_lt q.una p.sent) _ _
+    (either_quiet (not q.syn_acked) _ _ refl (either_quiet (q.una == released service q) _ _ (fin_quiet service server q) refl))
     (either_quiet (nat_lt p.sent (released service q)) _ _ refl (fin_quiet service server q))) refl)
     (append_quiet (new_texts service server p q) (new_fin service server p q)
     (texts_quiet service server q (new_length service p q) p.sent (new_length service p q))

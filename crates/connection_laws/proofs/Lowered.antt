@@ -118,32 +118,32 @@ una_inside u una sent true ack inner a b (inr (inr (inl h))) = rw (h.negative, h
 una_inside u una sent true ack inner a b (inr (inr (inr h))) = rw (h.negative, h.inside) refl
 
 -- whether the window is used
-abbrev pub moves : (c counted : Bool) (una : ℕ) (wl1 : ℤ) (wl2 : ℕ) (first ack : ℤ) (sent : ℕ) → Bool
-moves c counted una wl1 wl2 first ack sent = (c && int_le (pos 0) ack) && (not counted || updates_window una wl1 wl2 first (min (nat_abs ack) sent))
+abbrev pub moves : (c syn_acked : Bool) (una : ℕ) (wl1 : ℤ) (wl2 : ℕ) (first ack : ℤ) (sent : ℕ) → Bool
+moves c syn_acked una wl1 wl2 first ack sent = (c && int_le (pos 0) ack) && (not syn_acked || updates_window una wl1 wl2 first (min (nat_abs ack) sent))
 
-moves_same : (c counted : Bool) (una una' : ℕ) (wl1 : ℤ) (wl2 wl2' : ℕ) (first ack ack' : ℤ) (sent sent' : ℕ) → int_le (pos 0) ack' ≡ int_le (pos 0) ack
+moves_same : (c syn_acked : Bool) (una una' : ℕ) (wl1 : ℤ) (wl2 wl2' : ℕ) (first ack ack' : ℤ) (sent sent' : ℕ) → int_le (pos 0) ack' ≡ int_le (pos 0) ack
     → nat_le una' (min (nat_abs ack') sent') ≡ nat_le una (min (nat_abs ack) sent) → nat_le wl2' (min (nat_abs ack') sent') ≡ nat_le wl2 (min (nat_abs ack) sent)
-    → moves c counted una' wl1 wl2' first ack' sent' ≡ moves c counted una wl1 wl2 first ack sent
-moves_same c counted una una' wl1 wl2 wl2' first ack ack' sent sent' s a b =
-    λ j. (c && s j) && (not counted || (a j && (int_lt wl1 first || (int_eq wl1 first && b j))))
+    → moves c syn_acked una' wl1 wl2' first ack' sent' ≡ moves c syn_acked una wl1 wl2 first ack sent
+moves_same c syn_acked una una' wl1 wl2 wl2' first ack ack' sent sent' s a b =
+    λ j. (c && s j) && (not syn_acked || (a j && (int_lt wl1 first || (int_eq wl1 first && b j))))
 
-some_left : (counted : Bool) (u k : ℕ) → (counted ≡ false → u ≡ 0) → k < u → not counted ≡ false
+some_left : (syn_acked : Bool) (u k : ℕ) → (syn_acked ≡ false → u ≡ 0) → k < u → not syn_acked ≡ false
 some_left true u k h l = refl
 some_left false u k h l = absurd (omega (arith, h refl, l))
 
-pub moves_inside : (u una sent : ℕ) (c counted : Bool) (wl1 : ℤ) (wl2 : ℕ) (first ack inner : ℤ) → u ≤ una → una ≤ sent → u ≤ wl2 → (counted ≡ false → u ≡ 0)
-    → Lowers u sent ack inner → moves c counted (una - u) wl1 (wl2 - u) first inner (sent - u) ≡ moves c counted una wl1 wl2 first ack sent
-moves_inside u una sent c counted wl1 wl2 first ack inner a b w o (inl h) =
-    moves_same c counted una (una - u) wl1 wl2 (wl2 - u) first ack inner sent (sent - u) (rw (h.is, h.to) (grind (arith, ints)))
+pub moves_inside : (u una sent : ℕ) (c syn_acked : Bool) (wl1 : ℤ) (wl2 : ℕ) (first ack inner : ℤ) → u ≤ una → una ≤ sent → u ≤ wl2 → (syn_acked ≡ false → u ≡ 0)
+    → Lowers u sent ack inner → moves c syn_acked (una - u) wl1 (wl2 - u) first inner (sent - u) ≡ moves c syn_acked una wl1 wl2 first ack sent
+moves_inside u una sent c syn_acked wl1 wl2 first ack inner a b w o (inl h) =
+    moves_same c syn_acked una (una - u) wl1 wl2 (wl2 - u) first ack inner sent (sent - u) (rw (h.is, h.to) (grind (arith, ints)))
     (rw (h.is, h.to) (grind (arith, ints, h.over, a, b))) (rw (h.is, h.to) (grind (arith, ints, h.over, a, b, w)))
-moves_inside u una sent c counted wl1 wl2 first ack inner a b w o (inr (inl h)) =
-    moves_same c counted una (una - u) wl1 wl2 (wl2 - u) first ack inner sent (sent - u) (rw (h.is, h.to) (grind (arith, ints)))
+moves_inside u una sent c syn_acked wl1 wl2 first ack inner a b w o (inr (inl h)) =
+    moves_same c syn_acked una (una - u) wl1 wl2 (wl2 - u) first ack inner sent (sent - u) (rw (h.is, h.to) (grind (arith, ints)))
     (rw (h.is, h.to) (grind (arith, ints, h.from, h.most, a, b))) (rw (h.is, h.to) (grind (arith, ints, h.from, h.most, a, b, w)))
-moves_inside u una sent c counted wl1 wl2 first ack inner a b w o (inr (inr (inl h))) =
+moves_inside u una sent c syn_acked wl1 wl2 first ack inner a b w o (inr (inr (inl h))) =
     off c (int_le (pos 0) inner) _ h.negative
-    ∙ sym (off_behind c (int_le (pos 0) ack) (not counted) (nat_le una (min (nat_abs ack) sent)) _ (some_left counted u h.k o h.under)
+    ∙ sym (off_behind c (int_le (pos 0) ack) (not syn_acked) (nat_le una (min (nat_abs ack) sent)) _ (some_left syn_acked u h.k o h.under)
     (rw h.is (grind (arith, ints, h.under, h.most, a))))
-moves_inside u una sent c counted wl1 wl2 first ack inner a b w o (inr (inr (inr h))) =
+moves_inside u una sent c syn_acked wl1 wl2 first ack inner a b w o (inr (inr (inr h))) =
     off c (int_le (pos 0) inner) _ h.inside ∙ sym (off c (int_le (pos 0) ack) _ h.negative)
 
 -- where it is used, the acknowledgement is one that counts, and the window reaches as far
@@ -152,47 +152,47 @@ pub record Used (u sent window inner_window : ℕ) (ack inner : ℤ) : Type 0 wh
   pub from : u ≤ min (nat_abs ack) sent
   pub window_is : min 65535 (inner_window + nat_abs inner - min (nat_abs inner) (sent - u)) ≡ min 65535 (window + nat_abs ack - min (nat_abs ack) sent)
 
-pub used_by : (u una sent : ℕ) (c counted : Bool) (wl1 : ℤ) (wl2 window : ℕ) (first ack inner : ℤ) → u ≤ una → una ≤ sent → (counted ≡ false → u ≡ 0)
-    → Lowers u sent ack inner → moves c counted una wl1 wl2 first ack sent ≡ true
+pub used_by : (u una sent : ℕ) (c syn_acked : Bool) (wl1 : ℤ) (wl2 window : ℕ) (first ack inner : ℤ) → u ≤ una → una ≤ sent → (syn_acked ≡ false → u ≡ 0)
+    → Lowers u sent ack inner → moves c syn_acked una wl1 wl2 first ack sent ≡ true
     → Used u sent window (if int_lt (pos sent) ack then min 65535 (window + (nat_abs ack - sent)) else window) ack inner
-used_by u una sent c counted wl1 wl2 window first ack inner a b o (inl h) m = record {
+used_by u una sent c syn_acked wl1 wl2 window first ack inner a b o (inl h) m = record {
   ack_is = rw (h.is, h.to) (grind (arith, ints, h.over, a, b));
   from = rw h.is (grind (arith, ints, h.over, a, b));
   window_is = rw (h.is, h.to) (grind (arith, ints, h.over, a, b));
 }
-used_by u una sent c counted wl1 wl2 window first ack inner a b o (inr (inl h)) m = record {
+used_by u una sent c syn_acked wl1 wl2 window first ack inner a b o (inr (inl h)) m = record {
   ack_is = rw (h.is, h.to) (grind (arith, ints, h.from, h.most, a, b));
   from = rw h.is (grind (arith, ints, h.from, h.most, a, b));
   window_is = rw (h.is, h.to) (grind (arith, ints, h.from, h.most, a, b));
 }
-used_by u una sent c counted wl1 wl2 window first ack inner a b o (inr (inr (inl h))) m =
-    absurd (false≢true (sym (off_behind c (int_le (pos 0) ack) (not counted) (nat_le una (min (nat_abs ack) sent)) _ (some_left counted u h.k o h.under)
+used_by u una sent c syn_acked wl1 wl2 window first ack inner a b o (inr (inr (inl h))) m =
+    absurd (false≢true (sym (off_behind c (int_le (pos 0) ack) (not syn_acked) (nat_le una (min (nat_abs ack) sent)) _ (some_left syn_acked u h.k o h.under)
     (rw h.is (grind (arith, ints, h.under, h.most, a)))) ∙ m))
-used_by u una sent c counted wl1 wl2 window first ack inner a b o (inr (inr (inr h))) m = absurd (false≢true (sym (off c (int_le (pos 0) ack) _ h.negative) ∙ m))
+used_by u una sent c syn_acked wl1 wl2 window first ack inner a b o (inr (inr (inr h))) m = absurd (false≢true (sym (off c (int_le (pos 0) ack) _ h.negative) ∙ m))
 
 when : (m : Bool) (x y edge u : ℕ) → (m ≡ true → x ≡ y - u) → (if m then x else edge - u) ≡ (if m then y else edge) - u
 when true x y edge u h = h refl
 when false x y edge u h = refl
 
 -- the right edge and SND.WL2
-pub edge_inside : (u una sent : ℕ) (c counted : Bool) (wl1 : ℤ) (wl2 window edge : ℕ) (first ack inner : ℤ) → u ≤ una → una ≤ sent → (counted ≡ false → u ≡ 0)
+pub edge_inside : (u una sent : ℕ) (c syn_acked : Bool) (wl1 : ℤ) (wl2 window edge : ℕ) (first ack inner : ℤ) → u ≤ una → una ≤ sent → (syn_acked ≡ false → u ≡ 0)
     → Lowers u sent ack inner
-    → (if moves c counted una wl1 wl2 first ack sent then min (nat_abs inner) (sent - u)
+    → (if moves c syn_acked una wl1 wl2 first ack sent then min (nat_abs inner) (sent - u)
     + min 65535 ((if int_lt (pos sent) ack then min 65535 (window + (nat_abs ack - sent)) else window) + nat_abs inner - min (nat_abs inner) (sent - u)) else edge - u)
-    ≡ (if moves c counted una wl1 wl2 first ack sent then min (nat_abs ack) sent + min 65535 (window + nat_abs ack - min (nat_abs ack) sent) else edge) - u
-edge_inside u una sent c counted wl1 wl2 window edge first ack inner a b o l =
-    when (moves c counted una wl1 wl2 first ack sent) _ _ edge u
-    (λ m. let h = used_by u una sent c counted wl1 wl2 window first ack inner a b o l m in (λ j. h.ack_is j + h.window_is j) ∙ omega (arith, h.from))
+    ≡ (if moves c syn_acked una wl1 wl2 first ack sent then min (nat_abs ack) sent + min 65535 (window + nat_abs ack - min (nat_abs ack) sent) else edge) - u
+edge_inside u una sent c syn_acked wl1 wl2 window edge first ack inner a b o l =
+    when (moves c syn_acked una wl1 wl2 first ack sent) _ _ edge u
+    (λ m. let h = used_by u una sent c syn_acked wl1 wl2 window first ack inner a b o l m in (λ j. h.ack_is j + h.window_is j) ∙ omega (arith, h.from))
 
-pub wl2_inside : (u una sent : ℕ) (c counted : Bool) (wl1 : ℤ) (wl2 : ℕ) (first ack inner : ℤ) → u ≤ una → una ≤ sent → (counted ≡ false → u ≡ 0) → Lowers u sent ack inner
-    → (if moves c counted una wl1 wl2 first ack sent then min (nat_abs inner) (sent - u) else wl2 - u)
-    ≡ (if moves c counted una wl1 wl2 first ack sent then min (nat_abs ack) sent else wl2) - u
-wl2_inside u una sent c counted wl1 wl2 first ack inner a b o l =
-    when (moves c counted una wl1 wl2 first ack sent) _ _ wl2 u (λ m. (used_by u una sent c counted wl1 wl2 0 first ack inner a b o l m).ack_is)
+pub wl2_inside : (u una sent : ℕ) (c syn_acked : Bool) (wl1 : ℤ) (wl2 : ℕ) (first ack inner : ℤ) → u ≤ una → una ≤ sent → (syn_acked ≡ false → u ≡ 0) → Lowers u sent ack inner
+    → (if moves c syn_acked una wl1 wl2 first ack sent then min (nat_abs inner) (sent - u) else wl2 - u)
+    ≡ (if moves c syn_acked una wl1 wl2 first ack sent then min (nat_abs ack) sent else wl2) - u
+wl2_inside u una sent c syn_acked wl1 wl2 first ack inner a b o l =
+    when (moves c syn_acked una wl1 wl2 first ack sent) _ _ wl2 u (λ m. (used_by u una sent c syn_acked wl1 wl2 0 first ack inner a b o l m).ack_is)
 
 -- the first acknowledgement counts where it names an offset, on either side
-pub counts_inside : (u sent : ℕ) (counted : Bool) (ack inner : ℤ) → (counted ≡ false → u ≡ 0) → Lowers u sent ack inner
-    → (counted || int_le (pos 0) inner) ≡ (counted || int_le (pos 0) ack)
+pub counts_inside : (u sent : ℕ) (syn_acked : Bool) (ack inner : ℤ) → (syn_acked ≡ false → u ≡ 0) → Lowers u sent ack inner
+    → (syn_acked || int_le (pos 0) inner) ≡ (syn_acked || int_le (pos 0) ack)
 counts_inside u sent true ack inner o l = refl
 counts_inside u sent false ack inner o (inl h) = rw (h.is, h.to) (grind (arith, ints))
 counts_inside u sent false ack inner o (inr (inl h)) = rw (h.is, h.to) (grind (arith, ints))

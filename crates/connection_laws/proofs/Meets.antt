@@ -12,7 +12,7 @@ use Rattle.ft_model.specs.News.{News}
 use Rattle.ft_model.specs.News.News.{Comes, Logged, Ticks, Begins}
 use Rattle.ft_model.specs.Network.{Packet}
 use Rattle.ft_model.specs.Taken.{accepts, counts, taken_after, fin_after, end_of}
-use Rattle.ft_model.specs.Sending.{counted_after, acknowledged_after, edge_after, wl1_after, wl2_after, sent_at_once, sent_after, acknowledged_by, window_by}
+use Rattle.ft_model.specs.Sending.{syn_acked_after, acknowledged_after, edge_after, wl1_after, wl2_after, sent_at_once, sent_after, acknowledged_by, window_by}
 use Rattle.ft_model.specs.Timer.{must_run, interval_after, rest_after, is_tick, expires, probes, is_set_anew}
 use Rattle.ft_model.specs.Segments.{repeats_syn}
 use Rattle.ft_model.specs.Connection.{LiveTurn}
@@ -29,7 +29,7 @@ use Rattle.connection_laws.proofs.Lowered.{Lowers, lowers, moves, una_inside, mo
 pub record Moves (news : News) (p : Point) (u i : ℕ) (inner : News) : Type 0 where
   pub taken : taken_after inner (inside u i p) ≡ taken_after news p
   pub fin : fin_after inner (inside u i p) ≡ fin_after news p
-  pub counted : counted_after inner (inside u i p) ≡ counted_after news p
+  pub syn_acked : syn_acked_after inner (inside u i p) ≡ syn_acked_after news p
   pub una : acknowledged_after inner (inside u i p) ≡ acknowledged_after news p - u
   pub edge : edge_after inner (inside u i p) ≡ edge_after news p - u
   pub wl1 : wl1_after inner (inside u i p) ≡ wl1_after news p
@@ -43,7 +43,7 @@ counts_is : (u i delta : ℕ) (p : Point) (segment : Segment) → GoesOn u i del
 unfolding counts accepts
 counts_is u i delta p segment g l =
     ap (λ b. has_ack segment && not (has_syn segment) && not (has_rst segment) && accepts p segment && b)
-    (counts_inside u p.sent p.counted (ack_of p.sisn segment) (ack_of i (inward (south_at delta p) segment)) (λ h. (g.unopened h).0) l)
+    (counts_inside u p.sent p.syn_acked (ack_of p.sisn segment) (ack_of i (inward (south_at delta p) segment)) (λ h. (g.syn_unacked h).0) l)
 
 taken_is : (p q : Point) (segment inner : Segment) (c d : Bool) → c ≡ d
     → (if c && not p.fin && int_le (first_of p.cisn segment) (pos (length p.taken))
@@ -56,29 +56,29 @@ taken_is p q segment inner c d same = ap (λ (b : Bool).
 
 comes_inside : (u i delta : ℕ) (p : Point) (segment : Segment) → GoesOn u i delta p
     → Lowers u p.sent (ack_of p.sisn segment) (ack_of i (inward (south_at delta p) segment)) → Moves (Comes segment) p u i (Comes (inward (south_at delta p) segment))
-unfolding taken_after fin_after counted_after acknowledged_after edge_after wl1_after wl2_after
+unfolding taken_after fin_after syn_acked_after acknowledged_after edge_after wl1_after wl2_after
 comes_inside u i delta p segment g l =
     let inner : Segment = inward (south_at delta p) segment in
     let ack : ℤ = ack_of p.sisn segment in
     let first : ℤ = first_of p.cisn segment in
     let c : counts (inside u i p) inner ≡ counts p segment = counts_is u i delta p segment g l in
-    let o : p.counted ≡ false → u ≡ 0 = λ h. (g.unopened h).0 in
+    let o : p.syn_acked ≡ false → u ≡ 0 = λ h. (g.syn_unacked h).0 in
     let t : taken_after (Comes inner) (inside u i p) ≡ taken_after (Comes segment) p = taken_is p p segment segment (counts (inside u i p) inner) (counts p segment) c in
-    let m : moves (counts (inside u i p) inner) p.counted (p.una - u) p.wl1 (p.wl2 - u) first (ack_of i inner) (p.sent - u)
-    ≡ moves (counts p segment) p.counted p.una p.wl1 p.wl2 first ack p.sent =
-    (λ j. moves (c j) p.counted (p.una - u) p.wl1 (p.wl2 - u) first (ack_of i inner) (p.sent - u))
-    ∙ moves_inside u p.una p.sent (counts p segment) p.counted p.wl1 p.wl2 first ack (ack_of i inner) g.una g.order g.wl2 o l in
+    let m : moves (counts (inside u i p) inner) p.syn_acked (p.una - u) p.wl1 (p.wl2 - u) first (ack_of i inner) (p.sent - u)
+    ≡ moves (counts p segment) p.syn_acked p.una p.wl1 p.wl2 first ack p.sent =
+    (λ j. moves (c j) p.syn_acked (p.una - u) p.wl1 (p.wl2 - u) first (ack_of i inner) (p.sent - u))
+    ∙ moves_inside u p.una p.sent (counts p segment) p.syn_acked p.wl1 p.wl2 first ack (ack_of i inner) g.una g.order g.wl2 o l in
     record {
       taken = t;
       fin = λ j. p.fin || (c j && not p.fin && int_le first (pos (length p.taken)) && fin_of segment && int_eq (end_of p segment) (pos (length (t j))) && nat_lt (length (t j)) (receive_edge p));
-      counted = λ j. p.counted || c j;
+      syn_acked = λ j. p.syn_acked || c j;
       una = (λ j. if c j && int_le (pos 0) (ack_of i inner) then una_after (p.una - u) (min (nat_abs (ack_of i inner)) (p.sent - u)) else p.una - u)
           ∙ una_inside u p.una p.sent (counts p segment) ack (ack_of i inner) g.una g.order l;
       edge = (λ j. if m j then acknowledged_by (inside u i p) inner + window_by (inside u i p) inner else p.edge - u)
-          ∙ edge_inside u p.una p.sent (counts p segment) p.counted p.wl1 p.wl2 segment.head.window p.edge first ack (ack_of i inner) g.una g.order o l;
+          ∙ edge_inside u p.una p.sent (counts p segment) p.syn_acked p.wl1 p.wl2 segment.head.window p.edge first ack (ack_of i inner) g.una g.order o l;
       wl1 = λ j. if m j then first else p.wl1;
       wl2 = (λ j. if m j then acknowledged_by (inside u i p) inner else p.wl2 - u)
-          ∙ wl2_inside u p.una p.sent (counts p segment) p.counted p.wl1 p.wl2 first ack (ack_of i inner) g.una g.order o l;
+          ∙ wl2_inside u p.una p.sent (counts p segment) p.syn_acked p.wl1 p.wl2 first ack (ack_of i inner) g.una g.order o l;
       expires = refl;
       ticks = refl;
     }
@@ -95,26 +95,26 @@ none_of false r c d = refl
 pub nothing_counts : (p : Point) (segment : Segment) → has_syn segment ≡ true → counts p segment ≡ false
 unfolding counts
 nothing_counts p segment h =
-    ap (λ b. has_ack segment && not b && not (has_rst segment) && accepts p segment && (p.counted || int_le (pos 0) (ack_of p.sisn segment))) h
-    ∙ none_of (has_ack segment) (not (has_rst segment)) (accepts p segment) (p.counted || int_le (pos 0) (ack_of p.sisn segment))
+    ap (λ b. has_ack segment && not b && not (has_rst segment) && accepts p segment && (p.syn_acked || int_le (pos 0) (ack_of p.sisn segment))) h
+    ∙ none_of (has_ack segment) (not (has_rst segment)) (accepts p segment) (p.syn_acked || int_le (pos 0) (ack_of p.sisn segment))
 
 or_none : (x : Bool) → x ≡ (x || false)
 or_none true = refl
 or_none false = refl
 
 pub stays_inside : (u i : ℕ) (p : Point) (segment : Segment) → counts p segment ≡ false → Moves (Comes segment) p u i Begins
-unfolding taken_after fin_after counted_after acknowledged_after edge_after wl1_after wl2_after
+unfolding taken_after fin_after syn_acked_after acknowledged_after edge_after wl1_after wl2_after
 stays_inside u i p segment c =
     let none : ℤ = first_of p.cisn segment in
     let t : p.taken ≡ taken_after (Comes segment) p = sym (taken_is p p segment segment (counts p segment) false c) in
     record {
       taken = t;
       fin = or_none p.fin ∙ sym (λ j. p.fin || (c j && not p.fin && int_le none (pos (length p.taken)) && fin_of segment && int_eq (end_of p segment) (pos (length (sym t j))) && nat_lt (length (sym t j)) (receive_edge p)));
-      counted = or_none p.counted ∙ sym (λ j. p.counted || c j);
+      syn_acked = or_none p.syn_acked ∙ sym (λ j. p.syn_acked || c j);
       una = sym (λ j. (if c j && int_le (pos 0) (ack_of p.sisn segment) then una_after p.una (acknowledged_by p segment) else p.una) - u);
-      edge = sym (λ j. (if moves (c j) p.counted p.una p.wl1 p.wl2 none (ack_of p.sisn segment) p.sent then acknowledged_by p segment + window_by p segment else p.edge) - u);
-      wl1 = sym (λ j. if moves (c j) p.counted p.una p.wl1 p.wl2 none (ack_of p.sisn segment) p.sent then none else p.wl1);
-      wl2 = sym (λ j. (if moves (c j) p.counted p.una p.wl1 p.wl2 none (ack_of p.sisn segment) p.sent then acknowledged_by p segment else p.wl2) - u);
+      edge = sym (λ j. (if moves (c j) p.syn_acked p.una p.wl1 p.wl2 none (ack_of p.sisn segment) p.sent then acknowledged_by p segment + window_by p segment else p.edge) - u);
+      wl1 = sym (λ j. if moves (c j) p.syn_acked p.una p.wl1 p.wl2 none (ack_of p.sisn segment) p.sent then none else p.wl1);
+      wl2 = sym (λ j. (if moves (c j) p.syn_acked p.una p.wl1 p.wl2 none (ack_of p.sisn segment) p.sent then acknowledged_by p segment else p.wl2) - u);
       expires = refl;
       ticks = refl;
     }
@@ -131,13 +131,13 @@ none_ack false r c d e h = refl
 pub unacknowledged : (p : Point) (segment : Segment) → has_ack segment ≡ false → counts p segment ≡ false
 unfolding counts
 unacknowledged p segment h =
-    none_ack (has_ack segment) (not (has_syn segment)) (not (has_rst segment)) (accepts p segment) (p.counted || int_le (pos 0) (ack_of p.sisn segment)) h
+    none_ack (has_ack segment) (not (has_syn segment)) (not (has_rst segment)) (accepts p segment) (p.syn_acked || int_le (pos 0) (ack_of p.sisn segment)) h
 
 pub minus_none : (a b : ℕ) → a - 0 ≡ b - 0 → a ≡ b
 minus_none a b h = omega (arith, h)
 
 idle_inside : (u i delta : ℕ) (p : Point) (segment : Segment) → has_ack segment ≡ false → Moves (Comes segment) p u i (Comes (inward (south_at delta p) segment))
-unfolding taken_after fin_after counted_after acknowledged_after edge_after wl1_after wl2_after
+unfolding taken_after fin_after syn_acked_after acknowledged_after edge_after wl1_after wl2_after
 idle_inside u i delta p segment h =
     let q : Point = inside u i p in
     let a : Moves (Comes segment) p u i Begins = stays_inside u i p segment (unacknowledged p segment h) in
@@ -145,7 +145,7 @@ idle_inside u i delta p segment h =
     record {
       taken = sym b.taken ∙ a.taken;
       fin = sym b.fin ∙ a.fin;
-      counted = sym b.counted ∙ a.counted;
+      syn_acked = sym b.syn_acked ∙ a.syn_acked;
       una = minus_none _ (p.una - u) (sym b.una) ∙ a.una;
       edge = minus_none _ (p.edge - u) (sym b.edge) ∙ a.edge;
       wl1 = sym b.wl1 ∙ a.wl1;
@@ -167,11 +167,11 @@ by_repeat u i delta p segment true h g f =
 by_repeat u i delta p segment false h g f = comes_any u i delta p segment (has_ack segment) refl g f
 
 pub moves_inside_all : (u i delta : ℕ) (p : Point) (news : News) → GoesOn u i delta p → NewsFit p news → Moves news p u i (news_inside delta p news)
-unfolding taken_after fin_after counted_after acknowledged_after edge_after wl1_after wl2_after
+unfolding taken_after fin_after syn_acked_after acknowledged_after edge_after wl1_after wl2_after
 moves_inside_all u i delta p (Comes segment) g f = by_repeat u i delta p segment (repeats_syn p segment) refl g f
-moves_inside_all u i delta p (Logged kept) g f = record { taken = refl; fin = refl; counted = refl; una = refl; edge = refl; wl1 = refl; wl2 = refl; expires = refl; ticks = refl }
-moves_inside_all u i delta p Ticks g f = record { taken = refl; fin = refl; counted = refl; una = refl; edge = refl; wl1 = refl; wl2 = refl; expires = refl; ticks = refl }
-moves_inside_all u i delta p Begins g f = record { taken = refl; fin = refl; counted = refl; una = refl; edge = refl; wl1 = refl; wl2 = refl; expires = refl; ticks = refl }
+moves_inside_all u i delta p (Logged kept) g f = record { taken = refl; fin = refl; syn_acked = refl; una = refl; edge = refl; wl1 = refl; wl2 = refl; expires = refl; ticks = refl }
+moves_inside_all u i delta p Ticks g f = record { taken = refl; fin = refl; syn_acked = refl; una = refl; edge = refl; wl1 = refl; wl2 = refl; expires = refl; ticks = refl }
+moves_inside_all u i delta p Begins g f = record { taken = refl; fin = refl; syn_acked = refl; una = refl; edge = refl; wl1 = refl; wl2 = refl; expires = refl; ticks = refl }
 
 -- differences
 pub lt_less : (u a b : ℕ) → u ≤ a → nat_lt (a - u) (b - u) ≡ nat_lt a b
@@ -192,17 +192,17 @@ laws_inside service server boot u i delta news p q sent g f above given l =
     let inner : News = news_inside delta p news in
     let m : Moves news p u i inner = moves_inside_all u i delta p news g f in
     let target_is : target (swallowing u service) (inside u i q) ≡ target service q - u = inside_target service u i q given in
-    let probe : probes inner (inside u i p) ≡ probes news p = (λ j. m.expires j && p.counted && not (lt_less u p.una p.sent g.una j)) in
-    let anew : is_set_anew (inside u i p) (inside u i q) ≡ is_set_anew p q = (λ j. p.rest == 0 || (lt_less u p.una q.una g.una j || (q.counted && not p.counted))) in
+    let probe : probes inner (inside u i p) ≡ probes news p = (λ j. m.expires j && p.syn_acked && not (lt_less u p.una p.sent g.una j)) in
+    let anew : is_set_anew (inside u i p) (inside u i q) ≡ is_set_anew p q = (λ j. p.rest == 0 || (lt_less u p.una q.una g.una j || (q.syn_acked && not p.syn_acked))) in
     let runs : must_run (swallowing u service) (inside u i q) ≡ must_run service q =
-    (λ j. not q.counted || nat_lt (q.una - u) (max (q.sent - u) (target_is j))) ∙ ap (λ b. not q.counted || b) (runs_less u q.una q.sent (target service q) above) in
+    (λ j. not q.syn_acked || nat_lt (q.una - u) (max (q.sent - u) (target_is j))) ∙ ap (λ b. not q.syn_acked || b) (runs_less u q.una q.sent (target service q) above) in
     let ticks : interval_after inner (inside u i p) (inside u i q) ≡ interval_after news p q =
     λ j. if anew j then 1 else (if m.expires j then min 64 (2 * p.interval) else p.interval) in
     record {
       same = record { key = l.same.key; cisn = l.same.cisn; sisn = refl; mss = l.same.mss; fetched = l.same.fetched };
       taken = l.taken ∙ sym m.taken;
       fin = l.fin ∙ sym m.fin;
-      counted = l.counted ∙ sym m.counted;
+      syn_acked = l.syn_acked ∙ sym m.syn_acked;
       una = ap (λ n. n - u) l.una ∙ sym m.una;
       edge = ap (λ n. n - u) l.edge ∙ sym m.edge;
       wl1 = l.wl1 ∙ sym m.wl1;

@@ -14,7 +14,7 @@ use Rattle.ft_model.specs.News.{News}
 use Rattle.ft_model.specs.News.News.{Comes, Logged, Ticks, Begins}
 use Rattle.ft_model.specs.Answered.{reads_answered_after}
 use Rattle.ft_model.specs.Taken.{counts, takes_fin, taken_after, fin_after}
-use Rattle.ft_model.specs.Sending.{counted_after, acknowledges, acknowledged_after, sent_at_once, sent_after}
+use Rattle.ft_model.specs.Sending.{syn_acked_after, acknowledges, acknowledged_after, sent_at_once, sent_after}
 use Rattle.ft_model.specs.Timer.{is_tick, must_run, expires, rest_after, interval_after, is_set_anew}
 use Rattle.ft_model.specs.Segments.{opens_with}
 use Rattle.ft_model.specs.Opening.{is_syn}
@@ -84,12 +84,12 @@ fin_stays (Logged kept) p h = h
 fin_stays Ticks p h = h
 fin_stays Begins p h = h
 
-pub counted_stays : (news : News) (p : Point) → p.counted ≡ true → counted_after news p ≡ true
-unfolding counted_after
-counted_stays (Comes segment) p h = ap (λ b. b || counts p segment) h
-counted_stays (Logged kept) p h = h
-counted_stays Ticks p h = h
-counted_stays Begins p h = h
+pub syn_acked_stays : (news : News) (p : Point) → p.syn_acked ≡ true → syn_acked_after news p ≡ true
+unfolding syn_acked_after
+syn_acked_stays (Comes segment) p h = ap (λ b. b || counts p segment) h
+syn_acked_stays (Logged kept) p h = h
+syn_acked_stays Ticks p h = h
+syn_acked_stays Begins p h = h
 
 una_same : (b : Bool) (una ack sent : ℕ) → una ≡ sent → (if b then una_after una (min ack sent) else una) ≡ una
 una_same true una ack sent h = grind (arith, h)
@@ -112,11 +112,11 @@ off_third true false n m true h = refl
 off_third false b n m true h = refl
 off_third a b n m false h = absurd (false≢true h)
 
-pub opens_not : (news : News) (p : Point) → p.fin ≡ true → p.counted ≡ true → opens_with news p ≡ false
-opens_not (Comes segment) p fin counted = off_third (is_syn segment) (segment.head.seq == p.cisn) (length p.taken) p.una p.fin fin
-opens_not (Logged kept) p fin counted = refl
-opens_not Ticks p fin counted = refl
-opens_not Begins p fin counted = ap not counted
+pub opens_not : (news : News) (p : Point) → p.fin ≡ true → p.syn_acked ≡ true → opens_with news p ≡ false
+opens_not (Comes segment) p fin syn_acked = off_third (is_syn segment) (segment.head.seq == p.cisn) (length p.taken) p.una p.fin fin
+opens_not (Logged kept) p fin syn_acked = refl
+opens_not Ticks p fin syn_acked = refl
+opens_not Begins p fin syn_acked = ap not syn_acked
 
 never_one : (b : Bool) (rest : ℕ) → rest ≡ 0 → (b && rest == 1) ≡ false
 never_one true rest h = grind (arith, h)
@@ -141,10 +141,10 @@ both_of false b h = absurd (false≢true h)
 no_need : (una sent t : ℕ) → una ≡ sent → sent ≡ t → nat_lt una (max sent t) ≡ false
 no_need una sent t a b = grind (arith, a, b)
 
-pub rest_stops : {State : Type 0} (service : Machine State) (news : News) (p q : Point) → q.counted ≡ true → q.una ≡ q.sent → q.sent ≡ target service q → rest_after service news p q ≡ 0
+pub rest_stops : {State : Type 0} (service : Machine State) (news : News) (p q : Point) → q.syn_acked ≡ true → q.una ≡ q.sent → q.sent ≡ target service q → rest_after service news p q ≡ 0
 unfolding rest_after must_run
-rest_stops service news p q counted una sent =
-    λ j. if not (counted j) || no_need q.una q.sent (target service q) una sent j
+rest_stops service news p q syn_acked una sent =
+    λ j. if not (syn_acked j) || no_need q.una q.sent (target service q) una sent j
     then (if is_set_anew p q || expires news p then interval_after news p q else (if is_tick news then p.rest - 1 else p.rest))
     else 0
 
@@ -152,7 +152,7 @@ rest_stops service news p q counted una sent =
 pub record IsStill (e m : Tcb) : Type 0 where
   pub receiving : m.receiving ≡ e.receiving
   pub iss : m.sending.iss ≡ e.sending.iss
-  pub opened : m.sending.opened ≡ e.sending.opened
+  pub syn_acked : m.sending.syn_acked ≡ e.sending.syn_acked
   pub una : m.sending.una ≡ e.sending.una
   pub keeps : Keeps e.sending m.sending
   pub kept : m.reset ≡ e.reset
@@ -172,7 +172,7 @@ still_halves : (e m : Tcb) → m.receiving ≡ e.receiving → m.sending ≡ e.s
 still_halves e m r s k = record {
   receiving = r;
   iss = ap (λ (x : Sending). x.iss) s;
-  opened = ap (λ (x : Sending). x.opened) s;
+  syn_acked = ap (λ (x : Sending). x.syn_acked) s;
   una = ap (λ (x : Sending). x.una) s;
   keeps = subst (λ (x : Sending). Keeps e.sending x) (sym s) (kept_same e.sending);
   kept = k;
@@ -199,7 +199,7 @@ still (Logged kept) e closed = still_halves e e refl refl refl
 still Ticks e closed = record {
   receiving = refl;
   iss = part_ticked (λ x. x.iss) e.sending (sending.expires e.sending) (λ a b. refl);
-  opened = part_ticked (λ x. x.opened) e.sending (sending.expires e.sending) (λ a b. refl);
+  syn_acked = part_ticked (λ x. x.syn_acked) e.sending (sending.expires e.sending) (λ a b. refl);
   una = part_ticked (λ x. x.una) e.sending (sending.expires e.sending) (λ a b. refl);
   keeps = kept_ticked e.sending;
   kept = refl;
@@ -220,7 +220,7 @@ pub closed_sent : (w : Tcb) → has_begun w.name ≡ false → (flushed w).sendi
 unfolding flushed with_turn_ended announced after_full with_fin_out with_text_sent with_probe
 closed_sent w off =
     let s : Sending = w.sending in
-    let none : probes w ≡ false = off_second_of w.probe (has_begun w.name) s.opened (not s.fin_sent) off in
+    let none : probes w ≡ false = off_second_of w.probe (has_begun w.name) s.syn_acked (not s.fin_sent) off in
     timed_sent _ (after_steps (has_begun w.name) (probes_text w) (probes_fin w) s)
     ∙ (λ j. (after_steps (off j) (none j && nat_lt (s.sent - s.una) (length s.held)) (none j && not (nat_lt (s.sent - s.una) (length s.held)) && s.closed) s).sent)
     ∙ none_more s.sent
@@ -245,7 +245,7 @@ outlives service server boot u i delta news p q calls e sent st l reads =
     let closed : (answered_run service p).closed ≡ true = closed_of (answered_run service p).closed (released service p) p.una p.sent over.1 st.acknowledged st.all_sent in
     let taken : q.taken ≡ p.taken = l.taken ∙ taken_stays news p over.0 in
     let fin : q.fin ≡ true = l.fin ∙ fin_stays news p over.0 in
-    let counted : q.counted ≡ true = l.counted ∙ counted_stays news p st.counted in
+    let syn_acked : q.syn_acked ≡ true = l.syn_acked ∙ syn_acked_stays news p st.syn_acked in
     let una : q.una ≡ p.una = l.una ∙ una_stays news p st.acknowledged in
     let run_is : answered_run service q ≡ reference service p.taken (take q.reads_answered (p.lengths ++ l.reads.news)) =
     λ j. reference service (taken j) (take q.reads_answered (l.reads.lengths j)) in
@@ -257,7 +257,7 @@ outlives service server boot u i delta news p q calls e sent st l reads =
     let all : target service q ≡ target service p = λ j. out j + one_if ((closed_then ∙ sym closed) j) in
     let still_p : expires news p ≡ false = stands_still news p st.still in
     let sent_is : q.sent ≡ p.sent =
-    l.sent_units ∙ (λ j. max p.sent (min (all j) q.edge) + one_if (still_p j && p.counted && not (nat_lt p.una p.sent))) ∙ sent_same p.sent (target service p) q.edge st.all_sent in
+    l.sent_units ∙ (λ j. max p.sent (min (all j) q.edge) + one_if (still_p j && p.syn_acked && not (nat_lt p.una p.sent))) ∙ sent_same p.sent (target service p) q.edge st.all_sent in
     let una_sent : q.una ≡ q.sent = una ∙ st.acknowledged ∙ sym sent_is in
     let sent_all : q.sent ≡ target service q = sent_is ∙ st.all_sent ∙ sym all in
     let past : released service q + 1 ≤ p.sent = grind (arith, out, over.1, st.acknowledged) in
@@ -289,7 +289,7 @@ outlives service server boot u i delta news p q calls e sent st l reads =
         receives = flushed_receives q w at;
         counts = record {
           iss = flush_keeps (λ (x : Sending). x.iss) w (record { sends = λ x n. refl; ends = λ x. refl; times = λ x y z. refl }) ∙ a.sends.iss ∙ s.iss ∙ st.counts.iss;
-          opened = flush_keeps (λ (x : Sending). x.opened) w (record { sends = λ x n. refl; ends = λ x. refl; times = λ x y z. refl }) ∙ a.sends.opened ∙ s.opened ∙ st.counts.opened;
+          syn_acked = flush_keeps (λ (x : Sending). x.syn_acked) w (record { sends = λ x n. refl; ends = λ x. refl; times = λ x y z. refl }) ∙ a.sends.syn_acked ∙ s.syn_acked ∙ st.counts.syn_acked;
           una = ap (λ k. k - u) una ∙ st.counts.una
               ∙ sym (flush_keeps (λ (x : Sending). x.una) w (record { sends = λ x n. refl; ends = λ x. refl; times = λ x y z. refl }) ∙ a.sends.una ∙ s.una);
           sent = ap (λ k. k - u) sent_is ∙ st.counts.sent ∙ sym (closed_sent w (ap has_begun (sym (flushed_name w) ∙ stays.0)) ∙ a.sends.sent ∙ s.keeps.sent);
@@ -300,13 +300,13 @@ outlives service server boot u i delta news p q calls e sent st l reads =
           delta_fits = st.counts.delta_fits;
         };
         over = λ j. fin j && (ap (λ n. nat_lt n q.una) out ∙ ap (λ n. nat_lt (released service p) n) una ∙ over.1) j;
-        counted = counted;
+        syn_acked = syn_acked;
         acknowledged = una_sent;
         all_sent = sent_all;
-        still = l.rest ∙ rest_stops service news p q counted una_sent sent_all;
+        still = l.rest ∙ rest_stops service news p q syn_acked una_sent sent_all;
       };
       silent = ap (passed delta q) (closed_answers_law inner calls e st.name st.answer) ∙ refusals_stay delta q e.local inner;
-      counted = st.counted;
+      syn_acked = st.syn_acked;
       taken = λ j. length (taken j) + one_if ((fin ∙ sym over.0) j);
-      segments = quiet_sends service server news p q (record { opens = opens_not news p over.0 st.counted; expires = still_p; past = past });
+      segments = quiet_sends service server news p q (record { opens = opens_not news p over.0 st.syn_acked; expires = still_p; past = past });
     }

@@ -58,4 +58,4 @@ over_is service u i delta given p e st named fed all =
     acked_is s.fin_sent u s.una s.sent (length s.held) (released service p) given fed.until fed.low (λ h. all (st.between.fin_last h).0) (λ h. (st.between.fin_last h).1) st.between.bounds.order in
     (λ j. st.stands.receives.fin j && nat_lt (released service p) (una j))
     ∙ ap (λ b. e.receiving.fin && b) acked
-    ∙ waits e.name s.opened s.closed e.receiving.fin (fin_acked s) st.begun named (unsent s.fin_sent s.closed (s.una == s.sent) (λ h. (st.between.fin_last h).0))
+    ∙ waits e.name s.syn_acked s.closed e.receiving.fin (fin_acked s) st.begun named (unsent s.fin_sent s.closed (s.una == s.sent) (λ h. (st.between.fin_last h).0))

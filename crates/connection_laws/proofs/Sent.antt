@@ -19,7 +19,7 @@ use Rattle.ft_model.specs.Taken.{accepts, counts, taken_after, fin_after}
 use Rattle.ft_model.specs.Owed.{is_refused, owes, owes_acceptable, asks}
 use Rattle.ft_model.specs.Owed as outer
 use Rattle.ft_model.specs.Reads.{Makes, MakesReads, next_read, next_length, may_read}
-use Rattle.ft_model.specs.Sending.{edge_after, sent_at_once, counted_after}
+use Rattle.ft_model.specs.Sending.{edge_after, sent_at_once, syn_acked_after}
 use Rattle.ft_model.specs.Segments.{texts, new_length, fin_if_closed}
 use Rattle.ft_model.specs.Refusal.{rst_at_ack}
 use Rattle.ft_model.specs.Opening.{is_syn}
@@ -58,8 +58,8 @@ same_sign u sent ack inner o (inr (inl h)) = rw (h.is, h.to) (grind (arith, ints
 same_sign u sent ack inner o (inr (inr (inl h))) = absurd (omega (arith, o, h.under))
 same_sign u sent ack inner o (inr (inr (inr h))) = h.inside ∙ sym h.negative
 
-refused_by : (u sent : ℕ) (counted has : Bool) (ack inner : ℤ) → (counted ≡ false → u ≡ 0) → Lowers u sent ack inner
-    → (not counted && has && int_lt inner (pos 0)) ≡ (not counted && has && int_lt ack (pos 0))
+refused_by : (u sent : ℕ) (syn_acked has : Bool) (ack inner : ℤ) → (syn_acked ≡ false → u ≡ 0) → Lowers u sent ack inner
+    → (not syn_acked && has && int_lt inner (pos 0)) ≡ (not syn_acked && has && int_lt ack (pos 0))
 refused_by u sent true has ack inner o l = refl
 refused_by u sent false has ack inner o l =
     ap (λ b. true && has && b) (lt_le inner ∙ ap not (same_sign u sent ack inner (o refl) l) ∙ sym (lt_le ack))
@@ -72,11 +72,11 @@ none_middle false b c h = refl
 refused_any : (u i delta : ℕ) (p : Point) (segment : Segment) (b : Bool) → has_ack segment ≡ b → GoesOn u i delta p → Fits p segment
     → is_refused (inside u i p) (inward (south_at delta p) segment) ≡ is_refused p segment
 refused_any u i delta p segment true h g f =
-    refused_by u p.sent p.counted (has_ack segment) (ack_of p.sisn segment) (ack_of i (inward (south_at delta p) segment)) (λ o. (g.unopened o).0)
+    refused_by u p.sent p.syn_acked (has_ack segment) (ack_of p.sisn segment) (ack_of i (inward (south_at delta p) segment)) (λ o. (g.syn_unacked o).0)
     (lowers u i delta p segment g f.ack (f.near h))
 refused_any u i delta p segment false h g f =
-    none_middle (not p.counted) (has_ack segment) (int_lt (ack_of i (inward (south_at delta p) segment)) (pos 0)) h
-    ∙ sym (none_middle (not p.counted) (has_ack segment) (int_lt (ack_of p.sisn segment) (pos 0)) h)
+    none_middle (not p.syn_acked) (has_ack segment) (int_lt (ack_of i (inward (south_at delta p) segment)) (pos 0)) h
+    ∙ sym (none_middle (not p.syn_acked) (has_ack segment) (int_lt (ack_of p.sisn segment) (pos 0)) h)
 
 refused_is : (u i delta : ℕ) (p : Point) (segment : Segment) → GoesOn u i delta p → Fits p segment
     → is_refused (inside u i p) (inward (south_at delta p) segment) ≡ is_refused p segment
@@ -236,11 +236,11 @@ refused_turn : {State : Type 0} (service : Machine State) (server : Addr) (boot 
 unfolding owes counts answered_after taken_after fin_after edge_after
 refused_turn service server boot segment p q sent u i delta g r l =
     let f = four_of (accepts p segment) (has_rst segment) (has_syn segment) (is_refused p segment) r in
-    let k = three_of p.counted (has_ack segment) (int_lt (ack_of p.sisn segment) (pos 0)) f.3 in
-    let o = g.unopened k.0 in
+    let k = three_of p.syn_acked (has_ack segment) (int_lt (ack_of p.sisn segment) (pos 0)) f.3 in
+    let o = g.syn_unacked k.0 in
     let low : int_le (pos 0) (ack_of p.sisn segment) ≡ false = not_both (int_le (pos 0) (ack_of p.sisn segment)) (sym (lt_le (ack_of p.sisn segment)) ∙ k.1) in
     let none : counts p segment ≡ false =
-    off_last (has_ack segment) (not (has_syn segment)) (not (has_rst segment)) (accepts p segment) (p.counted || int_le (pos 0) (ack_of p.sisn segment))
+    off_last (has_ack segment) (not (has_syn segment)) (not (has_rst segment)) (accepts p segment) (p.syn_acked || int_le (pos 0) (ack_of p.sisn segment))
     ((λ j. k.0 j || int_le (pos 0) (ack_of p.sisn segment)) ∙ low) in
     let m : Moves (Comes segment) p 0 i Begins = stays_inside 0 i p segment none in
     let taken : q.taken ≡ p.taken = l.taken ∙ sym m.taken in
@@ -285,12 +285,12 @@ left_none : (a b : Bool) → (a || b) ≡ false → a ≡ false
 left_none true b h = h
 left_none false b h = refl
 
-pub still_unopened : (news : News) (p : Point) → counted_after news p ≡ false → p.counted ≡ false
-unfolding counted_after
-still_unopened (Comes segment) p h = left_none p.counted (counts p segment) h
-still_unopened (Logged kept) p h = h
-still_unopened Ticks p h = h
-still_unopened Begins p h = h
+pub still_syn_unacked : (news : News) (p : Point) → syn_acked_after news p ≡ false → p.syn_acked ≡ false
+unfolding syn_acked_after
+still_syn_unacked (Comes segment) p h = left_none p.syn_acked (counts p segment) h
+still_syn_unacked (Logged kept) p h = h
+still_syn_unacked Ticks p h = h
+still_syn_unacked Begins p h = h
 
 sends : {State : Type 0} (service : Machine State) (server : Addr) (boot : ℕ) (news : News) (p q : Point) (sent : List Packet) (u i delta : ℕ)
     → Turns service server boot news p q sent u i delta → GoesOn u i delta p → GoesOn u i delta q → Sends service news (news_inside delta p news) p q u i delta
@@ -302,7 +302,7 @@ sends service server boot news p q sent u i delta t before after = record {
   una = after.una;
   edge = after.edge;
   given = t.given;
-  unopened = λ h. (before.unopened (still_unopened news p (sym t.goes.counted ∙ h))).0;
+  syn_unacked = λ h. (before.syn_unacked (still_syn_unacked news p (sym t.goes.syn_acked ∙ h))).0;
 }
 
 none_if : (b : Bool) (x : Segment) → b ≡ false → (if b then x ∷ [] else []) ≡ []

@@ -253,7 +253,7 @@ at_entry service local e i t g st =
       sends = record {
         sisn = st.sends.sisn;
         mss = size_stays e.mss g.least g.most ∙ st.sends.mss;
-        counted = st.sends.counted;
+        syn_acked = st.sends.syn_acked;
         una = less_self u ∙ st.sends.una;
         edge = less_self u ∙ st.sends.edge;
         wl1 = st.sends.wl1;
@@ -299,7 +299,7 @@ goes_on_from service e i g = record {
   sent = omega (arith, g.small);
   edge = omega arith;
   wl2 = omega arith;
-  unopened = λ h. absurd (false≢true (sym h));
+  syn_unacked = λ h. absurd (false≢true (sym h));
 }
   where
     back_again : (u i sisn : ℕ) → i < 2 ^ 32 → (i + ((sisn + u) % 2 ^ 32 + 2 ^ 32 - i) % 2 ^ 32) % 2 ^ 32 ≡ (sisn + u) % 2 ^ 32

@@ -10,9 +10,9 @@ use Rattle.ft_model.specs.News.News.{Comes, Logged, Ticks, Begins}
 use Rattle.tcp_buffers.specs.Near.{is_ahead}
 use Rattle.tcp_endpoint.specs.declared.states.StateName.{StateName}
 use Rattle.tcp_endpoint.specs.declared.states.StateName.TheVariants.{Closed, Listen, SynSent, SynReceived, Established, FinWait1, FinWait2, CloseWait, Closing, LastAck, TimeWait}
-use Rattle.tcp_endpoint.specs.States.{opened, after_fin, after_fin_acked, has_begun}
+use Rattle.tcp_endpoint.specs.States.{after_syn_acked, after_fin, after_fin_acked, has_begun}
 use Rattle.tcp_endpoint.specs.Receiving.{next, window, with_segment}
-use Rattle.tcp_endpoint.specs.Sending.{acknowledged, opened_by, fin_acked}
+use Rattle.tcp_endpoint.specs.Sending.{acknowledged, with_syn_acked, fin_acked}
 use Rattle.tcp_endpoint.specs.Tcb.{Tcb}
 use Rattle.tcp_endpoint.specs.Arrival.{first, ack_at, owing_if, killed, entering, refusing, with_text_and_fin, with_fin_acked, with_first_ack, with_ack, check_ack, check_syn, check_rst, waiting_again, check_place, in_others, received}
 use Rattle.tcp_endpoint.specs.Turning.{after_tick, timer_ticked, waited}
@@ -56,9 +56,9 @@ acked_begun Closing o c f a begun h off = refl
 acked_begun LastAck o c f a begun h off = absurd (false≢true (sym off ∙ h.2))
 acked_begun TimeWait o c f a begun h off = refl
 
-opened_begun : (closed : Bool) → has_begun (opened closed) ≡ true
-opened_begun true = refl
-opened_begun false = refl
+syn_acked_begun : (closed : Bool) → has_begun (after_syn_acked closed) ≡ true
+syn_acked_begun true = refl
+syn_acked_begun false = refl
 
 newly : (f' f : Bool) → f ≡ false → (f' && not f) ≡ false → f' ≡ false
 newly true true off h = absurd (false≢true (sym off))
@@ -87,15 +87,15 @@ later_opens e p begun acked off =
 first_opens : (e : Tcb) (p : Segment) → e.receiving.fin ≡ false → IsOpenWith (with_first_ack e p)
 unfolding with_first_ack refusing
 first_opens e p off =
-    let m : Tcb = record e { name = opened e.sending.closed; sending = opened_by e.sending p.head.seq p.head.window } in
+    let m : Tcb = record e { name = after_syn_acked e.sending.closed; sending = with_syn_acked e.sending p.head.seq p.head.window } in
     holds_if IsOpenWith (int_eq (ack_at e p) (pos 0)) (with_text_and_fin m p) (refusing e p)
-    (λ h. text_opens m p (opened_begun e.sending.closed) off) (λ h. not_taken (refusing e p) off)
+    (λ h. text_opens m p (syn_acked_begun e.sending.closed) off) (λ h. not_taken (refusing e p) off)
 
 ack_opens : (e : Tcb) (p : Segment) → has_begun e.name ≡ true → has_begun (after_fin_acked e.name) ≡ true → e.receiving.fin ≡ false → IsOpenWith (check_ack e p)
 unfolding check_ack
 ack_opens e p begun acked off =
-    holds_if IsOpenWith (has_ack p) (if e.sending.opened then with_ack e p else with_first_ack e p) e
-    (λ is. holds_if IsOpenWith e.sending.opened (with_ack e p) (with_first_ack e p) (λ o. later_opens e p begun acked off) (λ o. first_opens e p off))
+    holds_if IsOpenWith (has_ack p) (if e.sending.syn_acked then with_ack e p else with_first_ack e p) e
+    (λ is. holds_if IsOpenWith e.sending.syn_acked (with_ack e p) (with_first_ack e p) (λ o. later_opens e p begun acked off) (λ o. first_opens e p off))
     (λ none. not_taken e off)
 
 rst_opens : (e : Tcb) (p : Segment) → has_begun e.name ≡ true → has_begun (after_fin_acked e.name) ≡ true → e.receiving.fin ≡ false → IsOpenWith (check_rst e p)
@@ -118,7 +118,7 @@ opens_with_news : (news : News) (e : Tcb) → has_begun e.name ≡ true → IsNa
 unfolding received after_tick timer_ticked waited
 opens_with_news (Comes p) e begun named off =
     subst IsOpenWith (sym (begun_is e.name e p begun))
-    (segment_opens e p begun (acked_begun e.name e.sending.opened e.sending.closed e.receiving.fin (fin_acked e.sending) begun named off) off)
+    (segment_opens e p begun (acked_begun e.name e.sending.syn_acked e.sending.closed e.receiving.fin (fin_acked e.sending) begun named off) off)
 opens_with_news (Logged kept) e begun named off = not_taken e off
 opens_with_news Ticks e begun named off = λ k. absurd (false≢true (sym off ∙ k))
 opens_with_news Begins e begun named off = not_taken e off

@@ -9,7 +9,7 @@ use Rattle.server_trait.specs.Service.{Machine}
 use Rattle.ft_model.specs.Ending.{reset_after}
 use Rattle.ft_model.specs.News.{News}
 use Rattle.ft_model.specs.Point.{Point, answered_run, released, made}
-use Rattle.ft_model.specs.Sending.{counted_after, acknowledged_after}
+use Rattle.ft_model.specs.Sending.{syn_acked_after, acknowledged_after}
 use Rattle.ft_model.proofs.Services.{prefix_length}
 use Rattle.tcp_endpoint.specs.declared.states.StateName.{StateName}
 use Rattle.tcp_endpoint.specs.declared.states.StateName.TheVariants.{Closed, Listen, SynSent, SynReceived, Established, FinWait1, FinWait2, CloseWait, Closing, LastAck, TimeWait}
@@ -36,9 +36,9 @@ use Rattle.connection_laws.specs.Telling.{raised_by, units_before, tells_fin, ac
 use Rattle.connection_laws.proofs.Meets.{Moves, moves_inside_all}
 use Rattle.connection_laws.proofs.Again.{stays}
 use Rattle.connection_laws.proofs.Numbers.{behind, sent_behind}
-use Rattle.connection_laws.proofs.Sent.{still_unopened}
+use Rattle.connection_laws.proofs.Sent.{still_syn_unacked}
 use Rattle.connection_laws.proofs.Whole.{usual_news}
-use Rattle.connection_laws.proofs.Outliving.{IsStill, still, taken_stays, fin_stays, una_stays, counted_stays, both_of}
+use Rattle.connection_laws.proofs.Outliving.{IsStill, still, taken_stays, fin_stays, una_stays, syn_acked_stays, both_of}
 use Rattle.connection_laws.proofs.Ending.{unreset}
 use Rattle.connection_laws.proofs.Over.{over_is}
 use Rattle.connection_laws.proofs.Together.{begun_open}
@@ -59,8 +59,8 @@ bytes_by all fetched read unread north a b = omega (arith, a, b)
 at_syn : (i delta sisn u : ℕ) → (i + delta) % 2 ^ 32 ≡ (sisn + u) % 2 ^ 32 → u ≡ 0 → delta < 2 ^ 32 → i < 2 ^ 32 → sisn < 2 ^ 32 → i ≡ distance sisn delta
 at_syn i delta sisn u shift none a b c = omega (arith, shift, none, a, b, c)
 
-acked_by : (counted opened : Bool) (iss una i delta sisn u units : ℕ) → counted ≡ opened → iss ≡ i → una ≡ units - u → (i + delta) % 2 ^ 32 ≡ (sisn + u) % 2 ^ 32 → u ≤ units → delta < 2 ^ 32
-    → i < 2 ^ 32 → sisn < 2 ^ 32 → (counted ≡ false → u ≡ 0) → (if opened then number_at iss una else iss) ≡ distance (acked_at counted sisn units) delta
+acked_by : (syn_acked inner_acked : Bool) (iss una i delta sisn u units : ℕ) → syn_acked ≡ inner_acked → iss ≡ i → una ≡ units - u → (i + delta) % 2 ^ 32 ≡ (sisn + u) % 2 ^ 32 → u ≤ units → delta < 2 ^ 32
+    → i < 2 ^ 32 → sisn < 2 ^ 32 → (syn_acked ≡ false → u ≡ 0) → (if inner_acked then number_at iss una else iss) ≡ distance (acked_at syn_acked sisn units) delta
 acked_by true true iss una i delta sisn u units c s a shift above d_fits i_fits fits none = (λ j. number_at (s j) (a j)) ∙ behind i delta sisn u units shift above d_fits
 acked_by true false iss una i delta sisn u units c s a shift above d_fits i_fits fits none = absurd (false≢true (sym c))
 acked_by false true iss una i delta sisn u units c s a shift above d_fits i_fits fits none = absurd (false≢true c)
@@ -90,7 +90,7 @@ syn_units sisn fits =
     let d : distance sisn ((sisn + 1) % 2 ^ 32) ≡ 2 ^ 32 - 1 = omega (arith, fits) in
     λ j. from_start (if nat_lt (d j) (2 ^ 31) then pos (d j) else negsuc (2 ^ 32 - 1 - d j))
 
-acked_units_at : (counted : Bool) (sisn delta number k : ℕ) → number ≡ distance (acked_at counted sisn k) delta → delta < 2 ^ 32 → k < 2 ^ 31 → sisn < 2 ^ 32 → (counted ≡ false → k ≡ 0)
+acked_units_at : (syn_acked : Bool) (sisn delta number k : ℕ) → number ≡ distance (acked_at syn_acked sisn k) delta → delta < 2 ^ 32 → k < 2 ^ 31 → sisn < 2 ^ 32 → (syn_acked ≡ false → k ≡ 0)
     → units_before sisn (raised_by delta number) ≡ k
 acked_units_at true sisn delta number k is fits small s_fits none = units_at sisn delta number k is fits small
 acked_units_at false sisn delta number k is fits small s_fits none =
@@ -119,11 +119,11 @@ few_closed service u i delta given p n e st c =
     let less : released service p ≤ made service p = prefix_length _ _ (answered_front service p).output in
     few_by (answered_run service p).closed p.sent (released service p) n.run.made c.all_sent (omega (arith, less, st.north.run.made))
 
-acked_open : (u i delta : ℕ) (p : Point) (e : Tcb) → StandsOpen u i delta p e → acked_number e ≡ distance (acked_at p.counted p.sisn p.una) delta
+acked_open : (u i delta : ℕ) (p : Point) (e : Tcb) → StandsOpen u i delta p e → acked_number e ≡ distance (acked_at p.syn_acked p.sisn p.una) delta
 acked_open u i delta p e o =
     let g = o.stands.goes_on in
     let s = o.stands.stands.sends in
-    acked_by p.counted e.sending.opened e.sending.iss e.sending.una i delta p.sisn u p.una s.counted (sym s.sisn) (sym s.una) g.shift g.una g.delta_fits g.i_fits g.sisn (λ h. (g.unopened h).0)
+    acked_by p.syn_acked e.sending.syn_acked e.sending.iss e.sending.una i delta p.sisn u p.una s.syn_acked (sym s.sisn) (sym s.una) g.shift g.una g.delta_fits g.i_fits g.sisn (λ h. (g.syn_unacked h).0)
 
 tell_open : {S : Type 0} (service : Machine S) (u i delta given : ℕ) (p : Point) (n : NorthState S) (e : Tcb) → PartsStand service u i delta given p n e → StandsOpen u i delta p e
     → PartsTell service delta p n e
@@ -133,14 +133,14 @@ tell_open service u i delta given p n e st o =
     let is_open : is_closed e.name ≡ false = begun_open e.name o.stands.begun in
     record {
       taken = bytes_by (length p.taken) p.fetched e.receiving.read (length e.receiving.unread) n.read r.long (ap (max p.fetched) st.north.read ∙ r.read);
-      fin = r.fin ∙ fin_by_name e.name e.sending.opened e.sending.closed e.receiving.fin (fin_acked e.sending) o.stands.begun o.named ∙ sym (off_or (has_taken_fin e.name) (is_closed e.name) is_open);
+      fin = r.fin ∙ fin_by_name e.name e.sending.syn_acked e.sending.closed e.receiving.fin (fin_acked e.sending) o.stands.begun o.named ∙ sym (off_or (has_taken_fin e.name) (is_closed e.name) is_open);
       over = over_is service u i delta given p e o.stands o.named st.feeds (all_given service u i delta given p n e st) ∙ sym (off_or (is_time_wait e.name) (is_closed e.name) is_open);
       sent = sent_behind u i delta p e o.stands;
       acked = acked_open u i delta p e o;
       sent_outside = ap (raised_by delta) (sent_behind u i delta p e o.stands) ∙ outside (number_at p.sisn p.sent) delta (omega arith) g.delta_fits;
       sent_units = units_at p.sisn delta (sent_number e) p.sent (sent_behind u i delta p e o.stands) g.delta_fits (omega (arith, g.sent));
-      acked_units = acked_units_at p.counted p.sisn delta (acked_number e) p.una (acked_open u i delta p e o) g.delta_fits (omega (arith, g.order, g.sent)) g.sisn
-          (λ h. let s : p.sent ≡ 0 = (g.unopened h).1 in omega (arith, s, g.order));
+      acked_units = acked_units_at p.syn_acked p.sisn delta (acked_number e) p.una (acked_open u i delta p e o) g.delta_fits (omega (arith, g.order, g.sent)) g.sisn
+          (λ h. let s : p.sent ≡ 0 = (g.syn_unacked h).1 in omega (arith, s, g.order));
       order = g.order;
       few = few_open service u i delta given p n e st o;
     }
@@ -158,9 +158,9 @@ tell_closed service u i delta given p n e st c =
     let sent : sent_number e ≡ distance (number_at p.sisn p.sent) delta =
     (λ j. if closed_listens_not e.name c.name j then e.sending.iss else number_at (k.iss j) (sym k.sent j))
     ∙ behind i delta p.sisn u p.sent k.shift (omega (arith, k.above, c.acknowledged)) k.delta_fits in
-    let acked : acked_number e ≡ distance (acked_at p.counted p.sisn p.una) delta =
-    (λ j. if k.opened j then number_at (k.iss j) (sym k.una j) else e.sending.iss) ∙ behind i delta p.sisn u p.una k.shift k.above k.delta_fits
-    ∙ (λ j. distance (acked_at (sym c.counted j) p.sisn p.una) delta) in
+    let acked : acked_number e ≡ distance (acked_at p.syn_acked p.sisn p.una) delta =
+    (λ j. if k.syn_acked j then number_at (k.iss j) (sym k.una j) else e.sending.iss) ∙ behind i delta p.sisn u p.una k.shift k.above k.delta_fits
+    ∙ (λ j. distance (acked_at (sym c.syn_acked j) p.sisn p.una) delta) in
     let small : p.sent < 2 ^ 31 = small_sent u p.sent e.sending.sent e.sending.fin_sent k.small k.sent c.bounds.sent in
     record {
       taken = bytes_by (length p.taken) p.fetched e.receiving.read (length e.receiving.unread) n.read r.long (ap (max p.fetched) st.north.read ∙ r.read);
@@ -170,7 +170,7 @@ tell_closed service u i delta given p n e st c =
       acked = acked;
       sent_outside = ap (raised_by delta) sent ∙ outside (number_at p.sisn p.sent) delta (omega arith) k.delta_fits;
       sent_units = units_at p.sisn delta (sent_number e) p.sent sent k.delta_fits small;
-      acked_units = acked_units_at p.counted p.sisn delta (acked_number e) p.una acked k.delta_fits (omega (arith, small, c.acknowledged)) k.sisn (λ h. absurd (false≢true (sym h ∙ c.counted)));
+      acked_units = acked_units_at p.syn_acked p.sisn delta (acked_number e) p.una acked k.delta_fits (omega (arith, small, c.acknowledged)) k.sisn (λ h. absurd (false≢true (sym h ∙ c.syn_acked)));
       order = omega (arith, c.acknowledged);
       few = few_closed service u i delta given p n e st c;
     }
@@ -208,11 +208,11 @@ named_of_placed TimeWait o c f a begun h = h
 fin_told : (inner : News) (e : Tcb) (b : Bool) → has_begun (arrived inner e).name ≡ b → FollowsAt (arrived inner e) → (arrived inner e).receiving.fin ≡ tells_fin (arrived inner e)
 fin_told inner e true begun f =
     let m : Tcb = arrived inner e in
-    fin_by_name m.name m.sending.opened m.sending.closed m.receiving.fin (fin_acked m.sending) begun (named_of_placed m.name m.sending.opened m.sending.closed m.receiving.fin (fin_acked m.sending) begun f.placed)
+    fin_by_name m.name m.sending.syn_acked m.sending.closed m.receiving.fin (fin_acked m.sending) begun (named_of_placed m.name m.sending.syn_acked m.sending.closed m.receiving.fin (fin_acked m.sending) begun f.placed)
     ∙ sym (off_or (has_taken_fin m.name) (is_closed m.name) (begun_open m.name begun))
 fin_told inner e false ended f =
     let m : Tcb = arrived inner e in
-    let c = closed_of_placed m.name m.sending.opened m.sending.closed m.receiving.fin (fin_acked m.sending) ended f.placed in
+    let c = closed_of_placed m.name m.sending.syn_acked m.sending.closed m.receiving.fin (fin_acked m.sending) ended f.placed in
     c.1 ∙ sym (on_or (has_taken_fin m.name) (is_closed m.name) c.0)
 
 news_open : {S : Type 0} (service : Machine S) (u i delta given : ℕ) (news : News) (p : Point) (n : NorthState S) (e : Tcb) → PartsStand service u i delta given p n e → NewsFit p news
@@ -226,15 +226,15 @@ news_open service u i delta given news p n e st fits off o =
     let moves : Moves news p u i inner = moves_inside_all u i delta p news g fits in
     let rises = stays u i delta news p g fits in
     let follows : FollowsAt m = unreset_follows inner [] e o.stands.begun o.stands.between o.named (unreset u i delta p e news o.stands st.unreset fits off) in
-    let acked : acked_number m ≡ distance (acked_at (counted_after news p) p.sisn (acknowledged_after news p)) delta =
-    acked_by (counted_after news p) m.sending.opened m.sending.iss m.sending.una i delta p.sisn u (acknowledged_after news p) (sym moves.counted ∙ came.sends.counted) (sym came.sends.sisn)
-    (sym (sym moves.una ∙ came.sends.una)) g.shift rises.una g.delta_fits g.i_fits g.sisn (λ h. (g.unopened (still_unopened news p h)).0) in
+    let acked : acked_number m ≡ distance (acked_at (syn_acked_after news p) p.sisn (acknowledged_after news p)) delta =
+    acked_by (syn_acked_after news p) m.sending.syn_acked m.sending.iss m.sending.una i delta p.sisn u (acknowledged_after news p) (sym moves.syn_acked ∙ came.sends.syn_acked) (sym came.sends.sisn)
+    (sym (sym moves.una ∙ came.sends.una)) g.shift rises.una g.delta_fits g.i_fits g.sisn (λ h. (g.syn_unacked (still_syn_unacked news p h)).0) in
     record {
       taken = ap length (sym moves.taken) ∙ bytes_by _ p.fetched m.receiving.read (length m.receiving.unread) n.read came.receives.long (ap (max p.fetched) st.north.read ∙ came.receives.read);
       fin = sym moves.fin ∙ came.receives.fin ∙ fin_told inner e (has_begun m.name) refl follows;
       acked = acked;
-      acked_units = acked_units_at (counted_after news p) p.sisn delta (acked_number m) (acknowledged_after news p) acked g.delta_fits (omega (arith, rises.most, g.sent)) g.sisn
-          (λ h. let s : p.sent ≡ 0 = (g.unopened (still_unopened news p h)).1 in omega (arith, s, rises.most));
+      acked_units = acked_units_at (syn_acked_after news p) p.sisn delta (acked_number m) (acknowledged_after news p) acked g.delta_fits (omega (arith, rises.most, g.sent)) g.sisn
+          (λ h. let s : p.sent ≡ 0 = (g.syn_unacked (still_syn_unacked news p h)).1 in omega (arith, s, rises.most));
       few = omega (arith, rises.most, few_open service u i delta given p n e st o);
     }
 
@@ -248,9 +248,9 @@ news_closed service u i delta given news p n e st c =
     let fin : p.fin ≡ true = (both_of p.fin (nat_lt (released service p) p.una) c.over).0 in
     let closed : is_closed m.name ≡ true = ap is_closed (sym (flushed_name m) ∙ (closed_stays_law inner [] e c.name c.answer).0) in
     let una : acknowledged_after news p ≡ p.una = una_stays news p c.acknowledged in
-    let acked : acked_number m ≡ distance (acked_at (counted_after news p) p.sisn (acknowledged_after news p)) delta =
-    (λ j. if (s.opened ∙ k.opened) j then number_at ((s.iss ∙ k.iss) j) ((s.una ∙ sym k.una) j) else m.sending.iss) ∙ behind i delta p.sisn u p.una k.shift k.above k.delta_fits
-    ∙ (λ j. distance (acked_at (sym (counted_stays news p c.counted) j) p.sisn (sym una j)) delta) in
+    let acked : acked_number m ≡ distance (acked_at (syn_acked_after news p) p.sisn (acknowledged_after news p)) delta =
+    (λ j. if (s.syn_acked ∙ k.syn_acked) j then number_at ((s.iss ∙ k.iss) j) ((s.una ∙ sym k.una) j) else m.sending.iss) ∙ behind i delta p.sisn u p.una k.shift k.above k.delta_fits
+    ∙ (λ j. distance (acked_at (sym (syn_acked_stays news p c.syn_acked) j) p.sisn (sym una j)) delta) in
     let small : p.sent < 2 ^ 31 = small_sent u p.sent e.sending.sent e.sending.fin_sent k.small k.sent c.bounds.sent in
     record {
       taken = ap length (taken_stays news p fin)
@@ -258,8 +258,8 @@ news_closed service u i delta given news p n e st c =
           (ap (max p.fetched) st.north.read ∙ c.receives.read ∙ (λ j. (sym s.receiving j).read + p.fetched));
       fin = fin_stays news p fin ∙ sym (on_or (has_taken_fin m.name) (is_closed m.name) closed);
       acked = acked;
-      acked_units = acked_units_at (counted_after news p) p.sisn delta (acked_number m) (acknowledged_after news p) acked k.delta_fits (omega (arith, small, una, c.acknowledged)) k.sisn
-          (λ h. absurd (false≢true (sym h ∙ counted_stays news p c.counted)));
+      acked_units = acked_units_at (syn_acked_after news p) p.sisn delta (acked_number m) (acknowledged_after news p) acked k.delta_fits (omega (arith, small, una, c.acknowledged)) k.sisn
+          (λ h. absurd (false≢true (sym h ∙ syn_acked_stays news p c.syn_acked)));
       few = omega (arith, una, c.acknowledged, few_closed service u i delta given p n e st c);
     }
 

@@ -67,7 +67,7 @@ goes service server boot news p ks makes = record {
   answered = refl;
   reads_answered = refl;
   reads = record { news = ks; lengths = refl; makes = makes };
-  counted = refl;
+  syn_acked = refl;
   una = refl;
   edge = refl;
   wl1 = refl;
@@ -232,7 +232,7 @@ pub record IsServed {S : Type 0} (service : Machine S) (u i delta given given' :
 record IsDone {S : Type 0} (service : Machine S) (server : Addr) (u i delta : ℕ) (news : News) (p q : Point) (w : Tcb) : Type 0 where
   tcp : StandsOpen u i delta q (flushed w) ⊎ StandsClosed service u i delta q (flushed w)
   segments : leaves_with service server delta news p q w ≡ segments_of service server news p q
-  closed : is_closed w.name ≡ true → (p.counted ≡ true) × (taken_units q ≡ taken_units p)
+  closed : is_closed w.name ≡ true → (p.syn_acked ≡ true) × (taken_units q ≡ taken_units p)
 
 done_open : {S : Type 0} (service : Machine S) (boot u i delta given given' : ℕ) (news : News) (p q : Point) (old new : NorthState S) (calls : List Call) (e : Tcb) (sent : List Packet) (b : Bool)
     → IsServed service u i delta given given' news p q old new calls e → LiveTurn service e.local boot news p q sent → StandsOpen u i delta p e
@@ -258,7 +258,7 @@ done_open service boot u i delta given given' news p q old new calls e sent fals
     record {
       tcp = inr t.stands;
       segments = closed_leaves service e.local delta news p q w (sym (flushed_name w) ∙ t.stands.name) (ap (passed delta q) t.silent) (no_repeat news p none) t.segments;
-      closed = λ h. (t.counted, t.taken);
+      closed = λ h. (t.syn_acked, t.taken);
     }
 
 done_closed : {S : Type 0} (service : Machine S) (boot u i delta given given' : ℕ) (news : News) (p q : Point) (old new : NorthState S) (calls : List Call) (e : Tcb) (sent : List Packet)
@@ -270,8 +270,8 @@ done_closed service boot u i delta given given' news p q old new calls e sent s 
     outlives service e.local boot u i delta news p q calls e sent st l (record { may = s.by.may; read = s.by.is_used.read }) in
     record {
       tcp = inr t.stands;
-      segments = closed_leaves service e.local delta news p q w (sym (flushed_name w) ∙ t.stands.name) t.silent (no_repeat news p (opens_not news p (both_of p.fin (nat_lt (released service p) p.una) st.over).0 st.counted)) t.segments;
-      closed = λ h. (t.counted, t.taken);
+      segments = closed_leaves service e.local delta news p q w (sym (flushed_name w) ∙ t.stands.name) t.silent (no_repeat news p (opens_not news p (both_of p.fin (nat_lt (released service p) p.una) st.over).0 st.syn_acked)) t.segments;
+      closed = λ h. (t.syn_acked, t.taken);
     }
 
 finish : {S : Type 0} (service : Machine S) (boot u i delta given given' : ℕ) (news : News) (p q : Point) (ks : List ℕ) (old new : NorthState S) (calls : List Call) (e t : Tcb)

@@ -18,7 +18,7 @@ use Rattle.connection_laws.specs.Passing.{news_inside, passed}
 -- TCP counts its output from u on, under the initial number i, which is delta below the client's number of the same unit
 pub record CountsFrom (u i delta : ℕ) (p : Point) (e : Tcb) : Type 0 where
   pub iss : e.sending.iss ≡ i
-  pub opened : e.sending.opened ≡ true
+  pub syn_acked : e.sending.syn_acked ≡ true
   pub una : p.una - u ≡ e.sending.una
   pub sent : p.sent - u ≡ e.sending.sent
   pub above : u ≤ p.una
@@ -39,7 +39,7 @@ pub record StandsClosed {State : Type 0} (service : Machine State) (u i delta : 
   pub receives : ReceivesAt p e
   pub counts : CountsFrom u i delta p e
   pub over : is_over service p ≡ true
-  pub counted : p.counted ≡ true
+  pub syn_acked : p.syn_acked ≡ true
   pub acknowledged : p.una ≡ p.sent
   pub all_sent : p.sent ≡ target service p
   pub still : p.rest ≡ 0
@@ -59,7 +59,7 @@ pub record LeavesInside {State : Type 0} (service : Machine State) (u i delta : 
 pub record EndsInside {State : Type 0} (service : Machine State) (u i delta : ℕ) (news : News) (p q : Point) (calls : List Call) (e : Tcb) : Type 0 where
   pub stands : StandsClosed service u i delta q (turned (news_inside delta p news) calls e)
   pub silent : sent_in (news_inside delta p news) calls e ≡ []
-  pub counted : p.counted ≡ true
+  pub syn_acked : p.syn_acked ≡ true
   pub taken : taken_units q ≡ taken_units p
   pub segments : SendsAlone service e.local news p q
 
@@ -72,6 +72,6 @@ pub record ReadsOn (delta : ℕ) (news : News) (p q : Point) (calls : List Call)
 pub record GoesOnClosed {State : Type 0} (service : Machine State) (server : Addr) (u i delta : ℕ) (news : News) (p q : Point) (calls : List Call) (e : Tcb) : Type 0 where
   pub stands : StandsClosed service u i delta q (turned (news_inside delta p news) calls e)
   pub silent : passed delta q (sent_in (news_inside delta p news) calls e) ≡ []
-  pub counted : p.counted ≡ true
+  pub syn_acked : p.syn_acked ≡ true
   pub taken : taken_units q ≡ taken_units p
   pub segments : SendsAlone service server news p q

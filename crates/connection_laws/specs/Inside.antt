@@ -35,4 +35,4 @@ pub record GoesOn (u i delta : ℕ) (p : Point) : Type 0 where
   pub edge : u ≤ p.edge
   pub wl2 : u ≤ p.wl2
   -- until an acknowledgement has counted nothing is taken, sent or fetched
-  pub unopened : p.counted ≡ false → (u ≡ 0) × (p.sent ≡ 0) × (p.edge ≡ 0) × (p.taken ≡ []) × (p.fin ≡ false) × (p.fetched ≡ 0)
+  pub syn_unacked : p.syn_acked ≡ false → (u ≡ 0) × (p.sent ≡ 0) × (p.edge ≡ 0) × (p.taken ≡ []) × (p.fin ≡ false) × (p.fetched ≡ 0)

@@ -73,4 +73,4 @@ pub record PartsTurn {S : Type 0} (service : Machine S) (server : Addr) (boot u 
   pub rest : PartsRest service u i delta given after new (flushed t)
   pub segments : leaves_with service server delta news before after t ≡ segments_of service server news before after
   -- where TCP is CLOSED then, an acknowledgement had counted, and nothing is taken
-  pub closed : is_closed t.name ≡ true → (before.counted ≡ true) × (taken_units after ≡ taken_units before)
+  pub closed : is_closed t.name ≡ true → (before.syn_acked ≡ true) × (taken_units after ≡ taken_units before)

@@ -5,7 +5,7 @@ use Rattle.ft_model.specs.Copy.{from_start}
 use Rattle.server_trait.specs.Service.{Machine}
 use Rattle.ft_model.specs.News.{News}
 use Rattle.ft_model.specs.Point.{Point, is_over}
-use Rattle.ft_model.specs.Sending.{counted_after, acknowledged_after}
+use Rattle.ft_model.specs.Sending.{syn_acked_after, acknowledged_after}
 use Rattle.ft_model.specs.Taken.{taken_after, fin_after}
 use Rattle.tcp_endpoint.specs.States.{is_closed, is_time_wait}
 use Rattle.tcp_endpoint.specs.Tcb.{Tcb}
@@ -21,8 +21,8 @@ abbrev pub tells_over : Tcb → Bool
 tells_over e = is_time_wait e.name || is_closed e.name
 
 -- the number up to which output is acknowledged: before the SYN is, that of the SYN
-abbrev pub acked_at : (counted : Bool) → (sisn una : ℕ) → ℕ
-acked_at counted sisn una = if counted then number_at sisn una else sisn
+abbrev pub acked_at : (syn_acked : Bool) → (sisn una : ℕ) → ℕ
+acked_at syn_acked sisn una = if syn_acked then number_at sisn una else sisn
 
 -- TCP's number as the client knows it, and the units before a number: none before the SYN's end
 abbrev pub raised_by : (delta number : ℕ) → ℕ
@@ -37,7 +37,7 @@ pub record PartsTell {S : Type 0} (service : Machine S) (delta : ℕ) (p : Point
   pub fin : p.fin ≡ tells_fin e
   pub over : is_over service p ≡ tells_over e
   pub sent : sent_number e ≡ distance (number_at p.sisn p.sent) delta
-  pub acked : acked_number e ≡ distance (acked_at p.counted p.sisn p.una) delta
+  pub acked : acked_number e ≡ distance (acked_at p.syn_acked p.sisn p.una) delta
   pub sent_outside : raised_by delta (sent_number e) ≡ number_at p.sisn p.sent
   pub sent_units : units_before p.sisn (raised_by delta (sent_number e)) ≡ p.sent
   pub acked_units : units_before p.sisn (raised_by delta (acked_number e)) ≡ p.una
@@ -48,6 +48,6 @@ pub record PartsTell {S : Type 0} (service : Machine S) (delta : ℕ) (p : Point
 pub record NewsTell {S : Type 0} (delta : ℕ) (news : News) (p : Point) (n : NorthState S) (m : Tcb) : Type 0 where
   pub taken : length (taken_after news p) ≡ max p.fetched n.read + length m.receiving.unread
   pub fin : fin_after news p ≡ tells_fin m
-  pub acked : acked_number m ≡ distance (acked_at (counted_after news p) p.sisn (acknowledged_after news p)) delta
+  pub acked : acked_number m ≡ distance (acked_at (syn_acked_after news p) p.sisn (acknowledged_after news p)) delta
   pub acked_units : units_before p.sisn (raised_by delta (acked_number m)) ≡ acknowledged_after news p
   pub few : acknowledged_after news p ≤ n.run.made + 1

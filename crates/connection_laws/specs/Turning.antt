@@ -31,7 +31,7 @@ NewsFit p _ = Unit {0}
 
 -- a connection that becomes live in this turn does so at the end of a restart; a new one begins by its SYN
 abbrev pub IsLater : News → Point → Type 0
-IsLater Begins p = p.counted ≡ true
+IsLater Begins p = p.syn_acked ≡ true
 IsLater _ p = Unit {0}
 
 -- a turn outside: it is lawful, and no output that may leave after it was taken back

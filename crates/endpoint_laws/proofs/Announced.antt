@@ -76,7 +76,7 @@ opening_tells u begun = second_tells u (is_syn_sent u.name) _ _ (begun_answers u
 again_tells : (u : Tcb) → has_begun u.name ≡ true → Tells u (again_segment u)
 unfolding again_segment
 again_tells u begun =
-    chosen_one (Tells u) (not u.sending.opened) _ _ (opening_tells u begun) (chosen_one (Tells u) _ _ _ (fin_tells u 0) (text_tells u 0 _))
+    chosen_one (Tells u) (not u.sending.syn_acked) _ _ (opening_tells u begun) (chosen_one (Tells u) _ _ _ (fin_tells u 0) (text_tells u 0 _))
 
 texts_tell : (count : ℕ) (u : Tcb) (place left : ℕ) → AllByRecursion (Tells u) (texts count u place left)
 unfolding texts

@@ -7,9 +7,9 @@ use Rattle.seq_arith.specs.Offset.{length_of}
 use Rattle.std.proofs.lemmas.Int.{ints}
 use Rattle.tcp_buffers.specs.Near.{is_ahead}
 use Rattle.tcp_endpoint.specs.declared.states.StateName.{StateName}
-use Rattle.tcp_endpoint.specs.States.{opened, after_fin, after_fin_acked, has_begun}
+use Rattle.tcp_endpoint.specs.States.{after_syn_acked, after_fin, after_fin_acked, has_begun}
 use Rattle.tcp_endpoint.specs.Receiving.{Receiving, next}
-use Rattle.tcp_endpoint.specs.Sending.{Sending, opened_by, acknowledged, fin_acked}
+use Rattle.tcp_endpoint.specs.Sending.{Sending, with_syn_acked, acknowledged, fin_acked}
 use Rattle.tcp_endpoint.specs.Tcb.{Tcb}
 use Rattle.tcp_endpoint.specs.Arrival.{first, ack_at, rst, killed, owing_if, entering, with_text_and_fin, with_fin_acked, with_first_ack, with_ack, waiting_again, received, refusing}
 use Rattle.endpoint_laws.specs.Laws.{accepts, acknowledges_less, is_refused, IsBounded, IsUsual}
@@ -21,7 +21,7 @@ pub record Beside {X : Type 0} (f : Tcb → X) : Type 0 where
   pub text : (e : Tcb) (p : Segment) → f (with_text_and_fin e p) ≡ f e
   pub acked : (e : Tcb) → f (with_fin_acked e) ≡ f e
   pub using : (e : Tcb) (p : Segment) → f (record e { sending = acknowledged e.sending p.head.seq (ack_at e p) p.head.window }) ≡ f e
-  pub opening : (e : Tcb) (p : Segment) → f (record e { name = opened e.sending.closed; sending = opened_by e.sending p.head.seq p.head.window }) ≡ f e
+  pub opening : (e : Tcb) (p : Segment) → f (record e { name = after_syn_acked e.sending.closed; sending = with_syn_acked e.sending p.head.seq p.head.window }) ≡ f e
 
 pub later_part : {X : Type 0} (f : Tcb → X) (e : Tcb) (p : Segment) → Beside f → f (with_ack e p) ≡ f e
 unfolding with_ack
@@ -38,22 +38,22 @@ first_part : {X : Type 0} (f : Tcb → X) (e : Tcb) (p : Segment) → Beside f
     → f (with_first_ack e p) ≡ (if int_eq (ack_at e p) (pos 0) then f e else f (refusing e p))
 unfolding with_first_ack
 first_part f e p b =
-    let opening : Tcb = record e { name = opened e.sending.closed; sending = opened_by e.sending p.head.seq p.head.window } in
+    let opening : Tcb = record e { name = after_syn_acked e.sending.closed; sending = with_syn_acked e.sending p.head.seq p.head.window } in
     let is_syn : Bool = int_eq (ack_at e p) (pos 0) in
     part_of_if f is_syn (with_text_and_fin opening p) (refusing e p)
     ∙ ap (λ x. if is_syn then x else f (refusing e p)) (b.text opening p ∙ b.opening e p)
 
 -- by all checks, in the law's one test
-refused_by : {X : Type 0} (acceptable rst syn ack opened acked less : Bool) (x y : X) → (ack ≡ true → opened ≡ false → acked ≡ not less) → (ack ≡ false → less ≡ false) → (opened ≡ true → less ≡ false)
-    → (if acceptable then (if rst then x else (if syn then x else (if ack then (if opened then x else (if acked then x else y)) else x))) else x)
+refused_by : {X : Type 0} (acceptable rst syn ack syn_acked acked less : Bool) (x y : X) → (ack ≡ true → syn_acked ≡ false → acked ≡ not less) → (ack ≡ false → less ≡ false) → (syn_acked ≡ true → less ≡ false)
+    → (if acceptable then (if rst then x else (if syn then x else (if ack then (if syn_acked then x else (if acked then x else y)) else x))) else x)
     ≡ (if acceptable && not rst && not syn && less then y else x)
-refused_by true true syn ack opened acked less x y same p q = refl
-refused_by true false true ack opened acked less x y same p q = refl
-refused_by true false false false opened acked less x y same p q = ap (λ v. if v then y else x) (sym (p refl))
+refused_by true true syn ack syn_acked acked less x y same p q = refl
+refused_by true false true ack syn_acked acked less x y same p q = refl
+refused_by true false false false syn_acked acked less x y same p q = ap (λ v. if v then y else x) (sym (p refl))
 refused_by true false false true true acked less x y same p q = ap (λ v. if v then y else x) (sym (q refl))
 refused_by true false false true false acked true x y same p q = ap (λ v. if v then x else y) (same refl refl)
 refused_by true false false true false acked false x y same p q = ap (λ v. if v then x else y) (same refl refl)
-refused_by false rst syn ack opened acked less x y same p q = refl
+refused_by false rst syn ack syn_acked acked less x y same p q = refl
 
 off_middle : (a b : Bool) → (a && false && b) ≡ false
 off_middle true b = refl
@@ -61,21 +61,21 @@ off_middle false b = refl
 
 no_ack_less : (e : Tcb) (p : Segment) → has_ack p ≡ false → acknowledges_less e p ≡ false
 no_ack_less e p h =
-    ap (λ v. not e.sending.opened && v && int_lt (ack_at e p) (pos 0)) h ∙ off_middle (not e.sending.opened) (int_lt (ack_at e p) (pos 0))
+    ap (λ v. not e.sending.syn_acked && v && int_lt (ack_at e p) (pos 0)) h ∙ off_middle (not e.sending.syn_acked) (int_lt (ack_at e p) (pos 0))
 
-opened_not_less : (e : Tcb) (p : Segment) → e.sending.opened ≡ true → acknowledges_less e p ≡ false
-opened_not_less e p h = ap (λ v. not v && has_ack p && int_lt (ack_at e p) (pos 0)) h
+syn_acked_not_less : (e : Tcb) (p : Segment) → e.sending.syn_acked ≡ true → acknowledges_less e p ≡ false
+syn_acked_not_less e p h = ap (λ v. not v && has_ack p && int_lt (ack_at e p) (pos 0)) h
 
 exactly : (z : ℤ) (sent : ℕ) → z ≤ℤ pos sent → sent ≡ 0 → int_eq z (pos 0) ≡ not (not false && true && int_lt z (pos 0))
 exactly z sent h none = grind (arith, ints)
 
 -- while the SYN is unacknowledged, what acknowledges not less acknowledges just it
-syn_or_less : (e : Tcb) (p : Segment) → IsBounded e → IsUsual e p → has_ack p ≡ true → e.sending.opened ≡ false
+syn_or_less : (e : Tcb) (p : Segment) → IsBounded e → IsUsual e p → has_ack p ≡ true → e.sending.syn_acked ≡ false
     → int_eq (ack_at e p) (pos 0) ≡ not (acknowledges_less e p)
-syn_or_less e p b usual is_ack unopened =
-    exactly (ack_at e p) e.sending.sent (usual.sent is_ack) (b.unopened unopened)
-    ∙ ap (λ v. not (not v && true && int_lt (ack_at e p) (pos 0))) (sym unopened)
-    ∙ ap (λ v. not (not e.sending.opened && v && int_lt (ack_at e p) (pos 0))) (sym is_ack)
+syn_or_less e p b usual is_ack syn_unacked =
+    exactly (ack_at e p) e.sending.sent (usual.sent is_ack) (b.syn_unacked syn_unacked)
+    ∙ ap (λ v. not (not v && true && int_lt (ack_at e p) (pos 0))) (sym syn_unacked)
+    ∙ ap (λ v. not (not e.sending.syn_acked && v && int_lt (ack_at e p) (pos 0))) (sym is_ack)
 
 -- what the checks leave of such a part
 pub beside_is : {X : Type 0} (f : Tcb → X) (e : Tcb) (p : Segment) → Beside f → has_begun e.name ≡ true → IsBounded e → IsUsual e p
@@ -90,10 +90,10 @@ beside_is {X = X} f e p b begun bounded usual =
     ap f (begun_is e.name e p begun) ∙ others_part f e p b.aside
     ∙ (λ i. if acceptable (sym (window_is e.receiving) i)
     then (if has_rst p then f e else (if has_syn p then f e
-    else (if has_ack p then (if e.sending.opened then (later_part f e1 p b ∙ back) i else (first_part f e1 p b ∙ ap (λ x. if is_syn then x else refused) back) i) else f e)))
+    else (if has_ack p then (if e.sending.syn_acked then (later_part f e1 p b ∙ back) i else (first_part f e1 p b ∙ ap (λ x. if is_syn then x else refused) back) i) else f e)))
     else f e)
-    ∙ refused_by (accepts e p) (has_rst p) (has_syn p) (has_ack p) e.sending.opened is_syn (acknowledges_less e p) (f e) refused
-    (λ is_ack unopened. syn_or_less e p bounded usual is_ack unopened) (no_ack_less e p) (opened_not_less e p)
+    ∙ refused_by (accepts e p) (has_rst p) (has_syn p) (has_ack p) e.sending.syn_acked is_syn (acknowledges_less e p) (f e) refused
+    (λ is_ack syn_unacked. syn_or_less e p bounded usual is_ack syn_unacked) (no_ack_less e p) (syn_acked_not_less e p)
 
 -- such parts: the RST that answers, what else is due in the turn, what was last announced, and the numbers of the connection
 text_of : {X : Type 0} (f : Tcb → X) (e : Tcb) (p : Segment) → ((r : Tcb) → (name : StateName) → f (entering name r) ≡ f r)

@@ -37,7 +37,7 @@ point_of e = record {
   edge = e.sending.edge;
   wl1 = offset_of e.receiving.irs e.sending.wl1 +ℤ pos (ahead e);
   wl2 = e.sending.wl2;
-  counted = e.sending.opened;
+  syn_acked = e.sending.syn_acked;
   interval = e.sending.interval;
   rest = e.sending.rest;
   end_ticks = 0;
@@ -73,7 +73,7 @@ stands_somewhere e fits between =
         unread = rest_unread (r.read + ahead e) r.unread;
         fin = refl;
       };
-      sends = record { sisn = refl; mss = refl; counted = refl; una = refl; edge = refl; wl1 = λ h. refl; wl2 = refl };
+      sends = record { sisn = refl; mss = refl; syn_acked = refl; una = refl; edge = refl; wl1 = λ h. refl; wl2 = refl };
       sent = refl;
       interval = refl;
       rest = refl;

@@ -12,12 +12,12 @@ use Rattle.ft_model.specs.Point.{Point, taken_units}
 use Rattle.ft_model.specs.News.{News}
 use Rattle.ft_model.specs.News.News.{Comes, Logged, Ticks, Begins}
 use Rattle.ft_model.specs.Taken.{taken_after, fin_after}
-use Rattle.ft_model.specs.Sending.{counted_after, acknowledged_after, edge_after, wl1_after, wl2_after}
+use Rattle.ft_model.specs.Sending.{syn_acked_after, acknowledged_after, edge_after, wl1_after, wl2_after}
 use Rattle.ft_model.specs.Timer as timer
 use Rattle.ft_model.specs.Owed as rule
 use Rattle.tcp_endpoint.specs.States.{has_begun}
 use Rattle.tcp_endpoint.specs.Receiving.{next}
-use Rattle.tcp_endpoint.specs.Sending.{Sending, opened_by, acknowledged, target, is_unacknowledged, expires, ticked}
+use Rattle.tcp_endpoint.specs.Sending.{Sending, with_syn_acked, acknowledged, target, is_unacknowledged, expires, ticked}
 use Rattle.tcp_endpoint.specs.Tcb.{Tcb}
 use Rattle.tcp_endpoint.specs.Arrival.{first, ack_at, rst, received, refusing}
 use Rattle.tcp_endpoint.specs.Leaving.{answer_segments, answer_out}
@@ -39,7 +39,7 @@ abbrev pub moved : News → Point → Point
 moved news p = record p {
   taken = taken_after news p;
   fin = fin_after news p;
-  counted = counted_after news p;
+  syn_acked = syn_acked_after news p;
   una = acknowledged_after news p;
   edge = edge_after news p;
   wl1 = wl1_after news p;
@@ -102,14 +102,14 @@ probe_is e p begun b usual =
 
 -- the parts of the sending half that an acknowledgement leaves
 sending_keeps : {X : Type 0} (g : Sending → X) (e : Tcb) (p : Segment) → (g (acknowledged e.sending p.head.seq (ack_at e p) p.head.window) ≡ g e.sending)
-    → (g (opened_by e.sending p.head.seq p.head.window) ≡ g e.sending) → has_begun e.name ≡ true → IsBounded e → IsUsual e p
+    → (g (with_syn_acked e.sending p.head.seq p.head.window) ≡ g e.sending) → has_begun e.name ≡ true → IsBounded e → IsUsual e p
     → g (received e p).sending ≡ g e.sending
 sending_keeps g e p later first_one begun b usual =
     ap g (sending_is e p begun b usual)
     ∙ part_of_if g (counts e p) (used_by e p) e.sending
     ∙ ap (λ x. if counts e p then x else g e.sending)
-    (part_of_if g e.sending.opened (acknowledged e.sending p.head.seq (ack_at e p) p.head.window) (opened_by e.sending p.head.seq p.head.window)
-    ∙ (λ i. if e.sending.opened then later i else first_one i) ∙ same_if e.sending.opened (g e.sending))
+    (part_of_if g e.sending.syn_acked (acknowledged e.sending p.head.seq (ack_at e p) p.head.window) (with_syn_acked e.sending p.head.seq p.head.window)
+    ∙ (λ i. if e.sending.syn_acked then later i else first_one i) ∙ same_if e.sending.syn_acked (g e.sending))
     ∙ same_if (counts e p) (g e.sending)
 
 mss_is : (e : Tcb) (p : Segment) → has_begun e.name ≡ true → IsBounded e → IsUsual e p → (received e p).sending.mss ≡ e.sending.mss
@@ -148,7 +148,7 @@ no_probe m none = record {
   all_acked = λ h. absurd (false≢true (sym none ∙ h));
   shut = λ h. absurd (false≢true (sym none ∙ h));
   waits = λ h. absurd (false≢true (sym none ∙ h));
-  opened = λ h. absurd (false≢true (sym none ∙ h));
+  syn_acked = λ h. absurd (false≢true (sym none ∙ h));
 }
 
 -- what is acknowledged anew is let go, and a FIN stays behind the rest
@@ -167,7 +167,7 @@ fin_last_kept s m fin closed sent order una held last = λ h.
 
 -- the model's words for what is refused and owed
 less_is : (p : Point) (e : Tcb) (segment : Segment) → Meets p e segment → rule.is_refused p segment ≡ acknowledges_less e segment
-less_is p e segment m = λ i. not (m.sends.counted i) && has_ack segment && int_lt (ack_is p e segment m i) (pos 0)
+less_is p e segment m = λ i. not (m.sends.syn_acked i) && has_ack segment && int_lt (ack_is p e segment m i) (pos 0)
 
 pub refuses_is : (p : Point) (e : Tcb) (segment : Segment) → Meets p e segment → refuses p segment ≡ is_refused e segment
 refuses_is p e segment m = λ i. accepts_is p e segment m i && not (has_rst segment) && not (has_syn segment) && less_is p e segment m i
@@ -308,14 +308,14 @@ ticked_sends : (p : Point) (e : Tcb) → SendsAt p e → SendsAt p (after_tick e
 unfolding after_tick timer_ticked waited
 ticked_sends p e s =
     let t : Sending = e.sending in
-    let opened : (ticked t).opened ≡ t.opened = tick_keeps (λ (q : Sending). q.opened) t (λ i r. refl) in
+    let syn_acked : (ticked t).syn_acked ≡ t.syn_acked = tick_keeps (λ (q : Sending). q.syn_acked) t (λ i r. refl) in
     record {
       sisn = s.sisn ∙ sym (tick_keeps (λ (q : Sending). q.iss) t (λ i r. refl));
       mss = s.mss ∙ sym (tick_keeps (λ (q : Sending). q.mss) t (λ i r. refl));
-      counted = s.counted ∙ sym opened;
+      syn_acked = s.syn_acked ∙ sym syn_acked;
       una = s.una ∙ sym (tick_keeps (λ (q : Sending). q.una) t (λ i r. refl));
       edge = s.edge ∙ sym (tick_keeps (λ (q : Sending). q.edge) t (λ i r. refl));
-      wl1 = λ h. s.wl1 (sym opened ∙ h)
+      wl1 = λ h. s.wl1 (sym syn_acked ∙ h)
           ∙ ap (λ n. offset_of e.receiving.irs n +ℤ pos p.fetched) (sym (tick_keeps (λ (q : Sending). q.wl1) t (λ i r. refl)));
       wl2 = s.wl2 ∙ sym (tick_keeps (λ (q : Sending). q.wl2) t (λ i r. refl));
     }
@@ -328,7 +328,7 @@ due : (flag x : Bool) → flag ≡ false → (flag || x) ≡ x
 due flag x none = ap (λ v. v || x) none
 
 tick_arrives : (p : Point) (e : Tcb) → IsBetweenTurns e → StandsAt p e → Arrived Ticks p e (after_tick e)
-unfolding after_tick timer_ticked waited taken_after fin_after counted_after acknowledged_after edge_after wl1_after wl2_after answer_out
+unfolding after_tick timer_ticked waited taken_after fin_after syn_acked_after acknowledged_after edge_after wl1_after wl2_after answer_out
 tick_arrives p e between stands =
     let t : Sending = e.sending in
     let runs_out : expires t ≡ timer.expires Ticks p = ap (λ n. n == 1) (sym stands.rest) in
@@ -355,7 +355,7 @@ tick_arrives p e between stands =
 
 -- all kinds
 pub arrives : (news : News) (p : Point) (e : Tcb) → has_begun e.name ≡ true → IsBetweenTurns e → StandsAt p e → IsUsualNews news e → Arrived news p e (arrived news e)
-unfolding taken_after fin_after counted_after acknowledged_after edge_after wl1_after wl2_after
+unfolding taken_after fin_after syn_acked_after acknowledged_after edge_after wl1_after wl2_after
 arrives (Comes segment) p e begun between stands usual = segment_arrives p e segment begun between stands usual
 arrives (Logged kept) p e begun between stands usual = nothing_arrives (Logged kept) p e between stands refl refl refl
 arrives Ticks p e begun between stands usual = tick_arrives p e between stands

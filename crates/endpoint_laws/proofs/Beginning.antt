@@ -40,7 +40,7 @@ record Opened (local : Addr) (iss limit : ℕ) (syn : Segment) (m : Tcb) : Type 
   receiving : m.receiving ≡ record { irs = syn.head.seq; read = 0; unread = []; fin = false; limit = min limit (2 ^ 30) }
   iss_is : m.sending.iss ≡ iss
   mss : m.sending.mss ≡ opening.segment_size syn.head.mss
-  opened : m.sending.opened ≡ false
+  syn_acked : m.sending.syn_acked ≡ false
   una : m.sending.una ≡ 0
   sent : m.sending.sent ≡ 0
   edge : m.sending.edge ≡ 0
@@ -62,7 +62,7 @@ opened_by_syn e iss limit syn l = record {
   receiving = ap (λ (r : Receiving). record r { irs = syn.head.seq }) l.receiving;
   iss_is = ap (λ (s : Sending). s.iss) l.sending;
   mss = refl;
-  opened = ap (λ (s : Sending). s.opened) l.sending;
+  syn_acked = ap (λ (s : Sending). s.syn_acked) l.sending;
   una = ap (λ (s : Sending). s.una) l.sending;
   sent = ap (λ (s : Sending). s.sent) l.sending;
   edge = ap (λ (s : Sending). s.edge) l.sending;
@@ -107,10 +107,10 @@ sends_begun : (local : Addr) (iss limit cisn : ℕ) (fetched : List ℕ) (syn : 
 sends_begun local iss limit cisn fetched syn m u o a = record {
   sisn = sym (a.sends.iss ∙ o.iss_is);
   mss = sym (a.sends.mss ∙ o.mss);
-  counted = sym (a.sends.opened ∙ o.opened);
+  syn_acked = sym (a.sends.syn_acked ∙ o.syn_acked);
   una = sym (a.sends.una ∙ o.una);
   edge = sym (a.sends.edge ∙ o.edge);
-  wl1 = λ h. absurd (false≢true (sym (a.sends.opened ∙ o.opened) ∙ h));
+  wl1 = λ h. absurd (false≢true (sym (a.sends.syn_acked ∙ o.syn_acked) ∙ h));
   wl2 = sym (a.sends.wl2 ∙ o.wl2);
 }
 
@@ -118,22 +118,22 @@ sends_begun local iss limit cisn fetched syn m u o a = record {
 only_the_first : (owed : Bool) (bare first : Segment) → or_bare owed bare (first ∷ []) ≡ first ∷ []
 only_the_first owed bare first = refl
 
-unsent_syn : (u : Tcb) → u.sending.opened ≡ false → is_unacknowledged u.sending ≡ true
+unsent_syn : (u : Tcb) → u.sending.syn_acked ≡ false → is_unacknowledged u.sending ≡ true
 unsent_syn u h = ap (λ o. not o || nat_lt u.sending.una u.sending.sent) h
 
-syn_ack_leaves : (p : Point) (u : Tcb) → Tells p u → has_begun u.name ≡ true → u.again ≡ true → u.probe ≡ false → u.answer ≡ None → u.sending.opened ≡ false
+syn_ack_leaves : (p : Point) (u : Tcb) → Tells p u → has_begun u.name ≡ true → u.again ≡ true → u.probe ≡ false → u.answer ≡ None → u.sending.syn_acked ≡ false
     → u.sending.edge ≤ u.sending.sent → leaving u ≡ syn_ack u.local p ∷ []
 unfolding leaving full_out answer_out again_segment
-syn_ack_leaves p u t begun again probe answer unopened shut =
+syn_ack_leaves p u t begun again probe answer syn_unacked shut =
     let still : (with_probe u).sending.edge ≤ (with_probe u).sending.sent = subst (λ (v : Tcb). v.sending.edge ≤ v.sending.sent) (sym (unprobed u probe)) shut in
     let first : again_segment u ≡ syn_ack u.local p =
-    ap (λ b. if not b then opening_segment u else (if length u.sending.held == 0 then fin_at u 0 else text_at u 0 (resent_length u.sending))) unopened
+    ap (λ b. if not b then opening_segment u else (if length u.sending.held == 0 then fin_at u 0 else text_at u 0 (resent_length u.sending))) syn_unacked
     ∙ opening_at p u t begun in
     ap (or_bare (is_owed (after_full u)) (bare_segment (after_full u)))
     (full_out_is (answer_out u) (again_out u) (probe_out u) (text_out (with_probe u)) (fin_out (with_text_sent (with_probe u)))
     [] (syn_ack u.local p ∷ []) [] []
     (ap answer_segments answer)
-    ((λ i. once_again u begun again (unsent_syn u unopened) i ++ probe_by u false false (no_text_probe u probe) (no_fin_probe u probe) i) ∙ ap (λ s. s ∷ []) first)
+    ((λ i. once_again u begun again (unsent_syn u syn_unacked) i ++ probe_by u false false (no_text_probe u probe) (no_fin_probe u probe) i) ∙ ap (λ s. s ∷ []) first)
     (no_text_out (with_probe u) still)
     (no_fin_out (with_probe u) still))
 
@@ -143,12 +143,12 @@ sent_none sent goal edge true s e p = absurd (false≢true (sym p))
 sent_none sent goal edge false s e p = omega (arith, s, e)
 
 -- the timer runs, since the SYN is unacknowledged
-runs_unopened : (u : Tcb) → has_begun u.name ≡ true → u.sending.opened ≡ false → is_timed (after_full u) ≡ true
-runs_unopened u begun unopened =
+runs_syn_unacked : (u : Tcb) → has_begun u.name ≡ true → u.sending.syn_acked ≡ false → is_timed (after_full u) ≡ true
+runs_syn_unacked u begun syn_unacked =
     let v : Tcb = after_full u in
-    let steady : v.sending.opened ≡ u.sending.opened =
-    full_keeps (λ (q : Sending). q.opened) u (record { sends = λ s n. refl; ends = λ s. refl; times = λ s i r. refl }) in
-    (λ i. (full_name u begun i || is_syn_sent v.name) && (not ((steady ∙ unopened) i) || nat_lt v.sending.una (max v.sending.sent (target v.sending))))
+    let steady : v.sending.syn_acked ≡ u.sending.syn_acked =
+    full_keeps (λ (q : Sending). q.syn_acked) u (record { sends = λ s n. refl; ends = λ s. refl; times = λ s i r. refl }) in
+    (λ i. (full_name u begun i || is_syn_sent v.name) && (not ((steady ∙ syn_unacked) i) || nat_lt v.sending.una (max v.sending.sent (target v.sending))))
 
 opened_turn : (local : Addr) (iss limit cisn : ℕ) (fetched : List ℕ) (syn : Segment) (m u : Tcb) → Opened local iss limit syn m → IsUsed m u → IsBounded u
     → limit + length fetched ≡ 2 ^ 24 → syn.head.seq ≡ (cisn + length fetched) % 2 ^ 32
@@ -157,14 +157,14 @@ opened_turn : (local : Addr) (iss limit cisn : ℕ) (fetched : List ℕ) (syn : 
 opened_turn local iss limit cisn fetched syn m u o a bounds whole number =
     let p : Point = point_begun fetched (numbers_with cisn iss syn) in
     let begun : has_begun u.name ≡ true = a.begun o.begun in
-    let opened : u.sending.opened ≡ false = a.sends.opened ∙ o.opened in
+    let syn_acked : u.sending.syn_acked ≡ false = a.sends.syn_acked ∙ o.syn_acked in
     let probe : u.probe ≡ false = a.probe ∙ o.probe in
     let probes : ProbesRightly u = no_probe u probe in
     let last : FinIsLast u.sending = λ h. absurd (false≢true (sym (a.sends.fin_sent ∙ o.fin_sent) ∙ h)) in
     let receives : ReceivesAt p u = receives_begun local iss limit cisn fetched syn m u o a whole number in
     let sends : SendsAt p u = sends_begun local iss limit cisn fetched syn m u o a in
     let timer = flushed_timer u 1 0 (a.sends.interval ∙ o.interval) (a.sends.rest ∙ o.rest) in
-    let runs : is_timed (after_full u) ≡ true = runs_unopened u begun opened in
+    let runs : is_timed (after_full u) ≡ true = runs_syn_unacked u begun syn_acked in
     let interval : (flushed u).sending.interval ≡ 1 = timer.interval ∙ ap (λ b. if b then 1 else 1) runs in
     let rest : (flushed u).sending.rest ≡ 1 = timer.rest ∙ ap (λ b. if b then 1 else 0) runs in
     let tells : Tells p u = record {
@@ -184,7 +184,7 @@ opened_turn local iss limit cisn fetched syn m u o a bounds whole number =
         interval = sym interval;
         rest = sym rest;
       },
-      syn_ack_leaves p u tells begun (a.again ∙ o.again) probe (a.answer ∙ o.answer) opened (omega (arith, a.sends.edge, o.edge))
+      syn_ack_leaves p u tells begun (a.again ∙ o.again) probe (a.answer ∙ o.answer) syn_acked (omega (arith, a.sends.edge, o.edge))
           ∙ ap (λ l. syn_ack l p ∷ []) (a.local ∙ o.local_is),
     )
 
@@ -204,7 +204,7 @@ begins_law e iss limit cisn fetched syn calls l whole is number may =
     let o : Opened e.local iss limit syn m = subst P (sym (begun_by e syn l.name is)) (opened_by_syn e iss limit syn l) in
     let last : FinIsLast m.sending = λ h. absurd (false≢true (sym o.fin_sent ∙ h)) in
     let b : IsBounded m =
-    bounded_in_listen e syn l.name (ap (λ (s : Sending). s.opened) l.sending) (bounded_listening iss limit e (limit_small limit (length fetched) whole) l) in
+    bounded_in_listen e syn l.name (ap (λ (s : Sending). s.syn_acked) l.sending) (bounded_listening iss limit e (limit_small limit (length fetched) whole) l) in
     let a : IsUsed m (used calls m) = used_is calls m may in
     let done = opened_turn e.local iss limit cisn fetched syn m (used calls m) o a (bounded_used calls m may last b) whole number in
     record { begun = flushed_name (used calls m) (a.begun o.begun); between = done.0; stands = done.1; segments = done.2 }

@@ -15,7 +15,7 @@ use Rattle.tcp_endpoint.specs.declared.states.StateName.{StateName}
 use Rattle.tcp_endpoint.specs.declared.states.StateName.TheVariants.{Listen, SynSent}
 use Rattle.tcp_endpoint.specs.States.{has_begun}
 use Rattle.tcp_endpoint.specs.Receiving.{Receiving, taken}
-use Rattle.tcp_endpoint.specs.Sending.{Sending, opened_by, acknowledged, moves_edge, sendable, expires, ticked, timed, with_sent, with_fin_sent, IsShort}
+use Rattle.tcp_endpoint.specs.Sending.{Sending, with_syn_acked, acknowledged, moves_edge, sendable, expires, ticked, timed, with_sent, with_fin_sent, IsShort}
 use Rattle.tcp_endpoint.specs.Tcb.{Tcb, listening, connecting}
 use Rattle.tcp_endpoint.specs.Arrival.{ack_at, received, received_in, in_listen, begun, refusing, answered, in_syn_sent}
 use Rattle.tcp_endpoint.specs.Leaving.{probes_text, probes_fin, with_probe, with_text_sent, new_fin, with_fin_out, after_full, announced, is_timed, with_turn_ended, flushed}
@@ -33,7 +33,7 @@ bounded_at_listen local iss limit small = record {
   limit = grind arith;
   taken = omega arith;
   order = omega arith;
-  unopened = λ h. refl;
+  syn_unacked = λ h. refl;
   shut = λ h. refl;
   flight = omega arith;
   written = omega arith;
@@ -46,17 +46,17 @@ bounded_at_listen local iss limit small = record {
 }
 
 -- the bounds say nothing of a peer's number before the SYN is acknowledged
-unopened_irs : (r : Receiving) (s : Sending) (irs mss : ℕ) → s.opened ≡ false → Bounds r s → Bounds (record r { irs = irs }) (record s { mss = mss })
-unopened_irs r s irs mss unopened b = record {
+syn_unacked_irs : (r : Receiving) (s : Sending) (irs mss : ℕ) → s.syn_acked ≡ false → Bounds r s → Bounds (record r { irs = irs }) (record s { mss = mss })
+syn_unacked_irs r s irs mss syn_unacked b = record {
   limit = b.limit;
   taken = b.taken;
   order = b.order;
-  unopened = b.unopened;
+  syn_unacked = b.syn_unacked;
   shut = b.shut;
   flight = b.flight;
   written = b.written;
   sent = b.sent;
-  wl1 = λ h. absurd (false≢true (sym unopened ∙ h));
+  wl1 = λ h. absurd (false≢true (sym syn_unacked ∙ h));
   wl1_fits = b.wl1_fits;
   wl2 = b.wl2;
   edge = b.edge;
@@ -67,15 +67,15 @@ bounded_if : (b : Bool) (x y : Tcb) → IsBounded x → IsBounded y → IsBounde
 bounded_if true x y on off = on
 bounded_if false x y on off = off
 
-in_listen_bounded : (e : Tcb) (p : Segment) → e.sending.opened ≡ false → IsBounded e → IsBounded (in_listen e p)
+in_listen_bounded : (e : Tcb) (p : Segment) → e.sending.syn_acked ≡ false → IsBounded e → IsBounded (in_listen e p)
 unfolding in_listen begun refusing
-in_listen_bounded e p unopened b =
-    bounded_if (has_rst p) _ _ b (bounded_if (has_ack p) _ _ b (bounded_if (has_syn p) _ _ (unopened_irs e.receiving e.sending _ _ unopened b) b))
+in_listen_bounded e p syn_unacked b =
+    bounded_if (has_rst p) _ _ b (bounded_if (has_ack p) _ _ b (bounded_if (has_syn p) _ _ (syn_unacked_irs e.receiving e.sending _ _ syn_unacked b) b))
 
-pub bounded_in_listen : (e : Tcb) (p : Segment) → e.name ≡ Listen → e.sending.opened ≡ false → IsBounded e → IsBounded (received e p)
+pub bounded_in_listen : (e : Tcb) (p : Segment) → e.name ≡ Listen → e.sending.syn_acked ≡ false → IsBounded e → IsBounded (received e p)
 unfolding received
-bounded_in_listen e p name unopened b =
-    let P : StateName → Type 0 = λ n. IsBounded (received_in n e p) in subst P (sym name) (in_listen_bounded e p unopened b)
+bounded_in_listen e p name syn_unacked b =
+    let P : StateName → Type 0 = λ n. IsBounded (received_in n e p) in subst P (sym name) (in_listen_bounded e p syn_unacked b)
 
 -- a segment: the receiving half
 taken_within : (read limit : ℕ) (unread text : List ℕ) (b : Bool) → read + length unread ≤ limit
@@ -102,10 +102,10 @@ choice_within x y n false p q = q
 not_less : (una sent : ℕ) (z : ℤ) → una ≤ (if is_new_ack una sent z then nat_abs z else una)
 not_less una sent z = grind (arith, ints)
 
-later_bounds : (r : Receiving) (s : Sending) (seq window : ℕ) (z : ℤ) → Bounds r s → IsNearFirst (offset_of r.irs seq) → seq < 2 ^ 32 → window ≤ 65535 → s.opened ≡ true
+later_bounds : (r : Receiving) (s : Sending) (seq window : ℕ) (z : ℤ) → Bounds r s → IsNearFirst (offset_of r.irs seq) → seq < 2 ^ 32 → window ≤ 65535 → s.syn_acked ≡ true
     → (r' : Receiving) → r'.limit ≤ 2 ^ 24 → taken r' ≤ r'.limit → r'.irs ≡ r.irs → Bounds r' (acknowledged s seq z window)
 unfolding acknowledged
-later_bounds r s seq window z b near fits small is_opened r' limit within irs =
+later_bounds r s seq window z b near fits small is_syn_acked r' limit within irs =
     let una : ℕ = if is_new_ack s.una s.sent z then nat_abs z else s.una in
     let una_sent : una ≤ s.sent = new_within s.una s.sent z b.order in
     let kept : una + length (if is_new_ack s.una s.sent z then drop (nat_abs z - s.una) s.held else s.held) ≡ max una (s.una + length s.held) =
@@ -115,28 +115,28 @@ later_bounds r s seq window z b near fits small is_opened r' limit within irs =
       limit = limit;
       taken = within;
       order = una_sent;
-      unopened = b.unopened;
-      shut = λ h. absurd (false≢true (sym h ∙ is_opened));
+      syn_unacked = b.syn_unacked;
+      shut = λ h. absurd (false≢true (sym h ∙ is_syn_acked));
       flight = omega (arith, kept, b.flight);
       written = omega (arith, kept, b.written, una_sent, b.sent);
       sent = b.sent;
       wl1 = λ h. let P : ℕ → Type 0 = λ n. IsNearFirst (offset_of n (if moves_edge s seq z then seq else s.wl1)) in
-          subst P (sym irs) (near_of_choice r.irs seq s.wl1 (moves_edge s seq z) near (b.wl1 is_opened));
+          subst P (sym irs) (near_of_choice r.irs seq s.wl1 (moves_edge s seq z) near (b.wl1 is_syn_acked));
       wl1_fits = choice_within seq s.wl1 (2 ^ 32 - 1) (moves_edge s seq z) (λ h. omega (arith, fits)) b.wl1_fits;
       wl2 = choice_within (nat_abs z) s.wl2 una (moves_edge s seq z) (λ h. (moved h).0) (omega (arith, b.wl2, not_less s.una s.sent z));
       edge = choice_within (nat_abs z + window) s.edge (2 ^ 24 + 2 ^ 16 + 1) (moves_edge s seq z) (λ h. grind (arith, moved h, b.sent)) b.edge;
       reach = choice_within (nat_abs z + window) s.edge (una + 65535) (moves_edge s seq z) (λ h. omega (arith, (moved h).0, small)) (omega (arith, b.reach, not_less s.una s.sent z));
     }
 
-first_bounds : (r : Receiving) (s : Sending) (seq window : ℕ) → Bounds r s → IsNearFirst (offset_of r.irs seq) → seq < 2 ^ 32 → window ≤ 65535 → s.opened ≡ false
-    → (r' : Receiving) → r'.limit ≤ 2 ^ 24 → taken r' ≤ r'.limit → r'.irs ≡ r.irs → Bounds r' (opened_by s seq window)
-first_bounds r s seq window b near fits small unopened r' limit within irs =
-    let una : s.una ≡ 0 = omega (arith, b.order, b.unopened unopened) in
+first_bounds : (r : Receiving) (s : Sending) (seq window : ℕ) → Bounds r s → IsNearFirst (offset_of r.irs seq) → seq < 2 ^ 32 → window ≤ 65535 → s.syn_acked ≡ false
+    → (r' : Receiving) → r'.limit ≤ 2 ^ 24 → taken r' ≤ r'.limit → r'.irs ≡ r.irs → Bounds r' (with_syn_acked s seq window)
+first_bounds r s seq window b near fits small syn_unacked r' limit within irs =
+    let una : s.una ≡ 0 = omega (arith, b.order, b.syn_unacked syn_unacked) in
     record {
       limit = limit;
       taken = within;
       order = omega arith;
-      unopened = λ h. refl;
+      syn_unacked = λ h. refl;
       shut = λ h. absurd (false≢true (sym h));
       flight = omega arith;
       written = omega (arith, b.written, una);
@@ -153,7 +153,7 @@ other_bounds r s b r' limit within irs = record {
   limit = limit;
   taken = within;
   order = b.order;
-  unopened = b.unopened;
+  syn_unacked = b.syn_unacked;
   shut = b.shut;
   flight = b.flight;
   written = b.written;
@@ -176,7 +176,7 @@ unfolding taken_by
 bounded_by_segment e p begun b usual =
     let r' : Receiving = taken_by e p in
     let within : taken r' ≤ r'.limit = taken_within e.receiving.read e.receiving.limit e.receiving.unread _ (continues e p) b.taken in
-    let bounds = chosen_bounds r' _ _ _ (counts e p) e.sending.opened
+    let bounds = chosen_bounds r' _ _ _ (counts e p) e.sending.syn_acked
     (λ counted h. later_bounds e.receiving e.sending p.head.seq p.head.window (ack_at e p) b (near_of_counts e p b usual counted) usual.seq usual.window h r' b.limit within refl)
     (λ counted h. first_bounds e.receiving e.sending p.head.seq p.head.window b (near_of_counts e p b usual counted) usual.seq usual.window h r' b.limit within refl)
     (other_bounds e.receiving e.sending b r' b.limit within refl) in
@@ -186,12 +186,12 @@ bounded_by_segment e p begun b usual =
 
 -- the end of a turn
 sent_more : (r : Receiving) (s : Sending) (n : ℕ) → Bounds r s → s.sent + n ≤ s.una + length s.held + one_if s.fin_sent → s.sent + n ≤ 2 ^ 24 + one_if s.fin_sent
-    → (s.opened ≡ false → n ≡ 0) → Bounds r (with_sent s n)
-sent_more r s n b flight sent unopened = record {
+    → (s.syn_acked ≡ false → n ≡ 0) → Bounds r (with_sent s n)
+sent_more r s n b flight sent syn_unacked = record {
   limit = b.limit;
   taken = b.taken;
   order = omega (arith, b.order);
-  unopened = λ h. omega (arith, b.unopened h, unopened h);
+  syn_unacked = λ h. omega (arith, b.syn_unacked h, syn_unacked h);
   shut = b.shut;
   flight = flight;
   written = b.written;
@@ -203,16 +203,16 @@ sent_more r s n b flight sent unopened = record {
   reach = b.reach;
 }
 
-fin_more : (r : Receiving) (s : Sending) → Bounds r s → s.fin_sent ≡ false → s.opened ≡ true → Bounds r (with_fin_sent s)
-fin_more r s b unsent is_opened =
+fin_more : (r : Receiving) (s : Sending) → Bounds r s → s.fin_sent ≡ false → s.syn_acked ≡ true → Bounds r (with_fin_sent s)
+fin_more r s b unsent is_syn_acked =
     let flight : s.sent ≤ s.una + length s.held = omega (arith, b.flight, ap one_if unsent) in
     let written : s.una + length s.held ≤ 2 ^ 24 = omega (arith, b.written, ap one_if unsent) in
     record {
       limit = b.limit;
       taken = b.taken;
       order = omega (arith, b.order);
-      unopened = λ h. absurd (false≢true (sym h ∙ is_opened));
-      shut = λ h. absurd (false≢true (sym h ∙ is_opened));
+      syn_unacked = λ h. absurd (false≢true (sym h ∙ is_syn_acked));
+      shut = λ h. absurd (false≢true (sym h ∙ is_syn_acked));
       flight = omega (arith, flight);
       written = omega (arith, written);
       sent = omega (arith, flight, written);
@@ -228,7 +228,7 @@ timer_bounds r s interval rest b = record {
   limit = b.limit;
   taken = b.taken;
   order = b.order;
-  unopened = b.unopened;
+  syn_unacked = b.syn_unacked;
   shut = b.shut;
   flight = b.flight;
   written = b.written;
@@ -262,7 +262,7 @@ bounded_by_more e bytes few b =
       limit = b.limit;
       taken = b.taken;
       order = b.order;
-      unopened = b.unopened;
+      syn_unacked = b.syn_unacked;
       shut = b.shut;
       flight = omega (arith, more, b.flight);
       written = omega (arith, more, few);
@@ -320,27 +320,27 @@ unfolding with_probe
 probe_bounds e b =
     let s : Sending = e.sending in
     bounds_if e.receiving (probes_text e) _ _
-    (λ h. let f = text_facts e.probe (has_begun e.name) s.opened s.fin_sent (nat_lt (s.sent - s.una) (length s.held)) h in
+    (λ h. let f = text_facts e.probe (has_begun e.name) s.syn_acked s.fin_sent (nat_lt (s.sent - s.una) (length s.held)) h in
     let room : s.sent + 1 ≤ s.una + length s.held = grind (arith, f.2, b.order) in
-    sent_more e.receiving s 1 b (omega arith) (omega (arith, b.written, ap one_if f.1)) (λ unopened. absurd (false≢true (sym unopened ∙ f.0))))
+    sent_more e.receiving s 1 b (omega arith) (omega (arith, b.written, ap one_if f.1)) (λ syn_unacked. absurd (false≢true (sym syn_unacked ∙ f.0))))
     (λ h. bounds_if e.receiving (probes_fin e) _ _
-    (λ k. let f = fin_facts e.probe (has_begun e.name) s.opened s.fin_sent (not (nat_lt (s.sent - s.una) (length s.held))) s.closed k in
+    (λ k. let f = fin_facts e.probe (has_begun e.name) s.syn_acked s.fin_sent (not (nat_lt (s.sent - s.una) (length s.held))) s.closed k in
     fin_more e.receiving s b f.1 f.0)
     (λ k. b))
 
-sendable_within : (opened fin_sent : Bool) (una len edge sent : ℕ) → sent ≤ una + len + one_if fin_sent
-    → sent + (if opened && not fin_sent then min (una + len) edge - sent else 0) ≤ una + len + one_if fin_sent
+sendable_within : (syn_acked fin_sent : Bool) (una len edge sent : ℕ) → sent ≤ una + len + one_if fin_sent
+    → sent + (if syn_acked && not fin_sent then min (una + len) edge - sent else 0) ≤ una + len + one_if fin_sent
 sendable_within true true una len edge sent h = omega arith
 sendable_within true false una len edge sent h = omega arith
 sendable_within false fin_sent una len edge sent h = omega arith
 
-sendable_short : (opened fin_sent : Bool) (una len edge sent : ℕ) → una + len ≤ 2 ^ 24 + one_if fin_sent → sent ≤ 2 ^ 24 + one_if fin_sent
-    → sent + (if opened && not fin_sent then min (una + len) edge - sent else 0) ≤ 2 ^ 24 + one_if fin_sent
+sendable_short : (syn_acked fin_sent : Bool) (una len edge sent : ℕ) → una + len ≤ 2 ^ 24 + one_if fin_sent → sent ≤ 2 ^ 24 + one_if fin_sent
+    → sent + (if syn_acked && not fin_sent then min (una + len) edge - sent else 0) ≤ 2 ^ 24 + one_if fin_sent
 sendable_short true true una len edge sent w h = omega arith
 sendable_short true false una len edge sent w h = omega arith
 sendable_short false fin_sent una len edge sent w h = omega arith
 
-sendable_none : (opened fin_sent : Bool) (n : ℕ) → opened ≡ false → (if opened && not fin_sent then n else 0) ≡ 0
+sendable_none : (syn_acked fin_sent : Bool) (n : ℕ) → syn_acked ≡ false → (if syn_acked && not fin_sent then n else 0) ≡ 0
 sendable_none true fin_sent n h = absurd (false≢true (sym h))
 sendable_none false fin_sent n h = refl
 
@@ -350,8 +350,8 @@ text_bounds e b =
     let s : Sending = e.sending in
     let sent_by : Bool → Type 0 = λ v. Bounds e.receiving (with_sent s (if v then sendable s else 0)) in
     both sent_by (has_begun e.name)
-    (sent_more e.receiving s (sendable s) b (sendable_within s.opened s.fin_sent s.una (length s.held) s.edge s.sent b.flight)
-    (sendable_short s.opened s.fin_sent s.una (length s.held) s.edge s.sent b.written b.sent) (sendable_none s.opened s.fin_sent _))
+    (sent_more e.receiving s (sendable s) b (sendable_within s.syn_acked s.fin_sent s.una (length s.held) s.edge s.sent b.flight)
+    (sendable_short s.syn_acked s.fin_sent s.una (length s.held) s.edge s.sent b.written b.sent) (sendable_none s.syn_acked s.fin_sent _))
     (sent_more e.receiving s 0 b (omega (arith, b.flight)) (omega (arith, b.sent)) (λ h. refl))
 
 fin_bounds : (e : Tcb) → IsBounded e → IsBounded (with_fin_out e)
@@ -359,7 +359,7 @@ unfolding with_fin_out
 fin_bounds e b =
     let s : Sending = e.sending in
     bounds_if e.receiving (new_fin e) _ _
-    (λ h. let f = new_fin_facts (has_begun e.name) s.opened s.closed s.fin_sent (s.sent == s.una + length s.held) (nat_lt s.sent s.edge) h in
+    (λ h. let f = new_fin_facts (has_begun e.name) s.syn_acked s.closed s.fin_sent (s.sent == s.una + length s.held) (nat_lt s.sent s.edge) h in
     fin_more e.receiving s b f.1 f.0)
     (λ h. b)
 
@@ -383,15 +383,15 @@ bounded_at_connect local remote iss limit small = bounded_at_listen local iss li
 syn_near : (seq : ℕ) → seq < 2 ^ 32 → IsNearFirst (offset_of seq seq)
 syn_near seq fits = (omega (arith, ints, offset_leads seq seq fits), omega (arith, ints, offset_leads seq seq fits))
 
-answered_bounds : (r : Receiving) (s : Sending) (seq window mss : ℕ) → Bounds r s → seq < 2 ^ 32 → window ≤ 65535 → s.opened ≡ false
-    → Bounds (record r { irs = seq }) (opened_by (record s { mss = mss }) seq window)
-answered_bounds r s seq window mss b fits small unopened =
-    let una : s.una ≡ 0 = omega (arith, b.order, b.unopened unopened) in
+answered_bounds : (r : Receiving) (s : Sending) (seq window mss : ℕ) → Bounds r s → seq < 2 ^ 32 → window ≤ 65535 → s.syn_acked ≡ false
+    → Bounds (record r { irs = seq }) (with_syn_acked (record s { mss = mss }) seq window)
+answered_bounds r s seq window mss b fits small syn_unacked =
+    let una : s.una ≡ 0 = omega (arith, b.order, b.syn_unacked syn_unacked) in
     record {
       limit = b.limit;
       taken = b.taken;
       order = omega arith;
-      unopened = λ h. refl;
+      syn_unacked = λ h. refl;
       shut = λ h. absurd (false≢true (sym h));
       flight = omega arith;
       written = omega (arith, b.written, una);
@@ -403,16 +403,16 @@ answered_bounds r s seq window mss b fits small unopened =
       reach = omega (arith, small);
     }
 
-in_syn_sent_bounded : (e : Tcb) (p : Segment) → e.sending.opened ≡ false → IsBounded e → p.head.seq < 2 ^ 32 → p.head.window ≤ 65535 → IsBounded (in_syn_sent e p)
+in_syn_sent_bounded : (e : Tcb) (p : Segment) → e.sending.syn_acked ≡ false → IsBounded e → p.head.seq < 2 ^ 32 → p.head.window ≤ 65535 → IsBounded (in_syn_sent e p)
 unfolding in_syn_sent answered refusing
-in_syn_sent_bounded e p unopened b fits small =
-    let yes : IsBounded (answered e p) = answered_bounds e.receiving e.sending p.head.seq p.head.window _ b fits small unopened in
+in_syn_sent_bounded e p syn_unacked b fits small =
+    let yes : IsBounded (answered e p) = answered_bounds e.receiving e.sending p.head.seq p.head.window _ b fits small syn_unacked in
     bounded_if (has_ack p) _ _
     (bounded_if (int_eq (ack_at e p) (pos 0)) _ _ (bounded_if (has_rst p) _ _ b (bounded_if (has_syn p) _ _ yes b)) (bounded_if (has_rst p) _ _ b b))
     b
 
-pub bounded_in_syn_sent : (e : Tcb) (p : Segment) → e.name ≡ SynSent → e.sending.opened ≡ false → IsBounded e → p.head.seq < 2 ^ 32 → p.head.window ≤ 65535
+pub bounded_in_syn_sent : (e : Tcb) (p : Segment) → e.name ≡ SynSent → e.sending.syn_acked ≡ false → IsBounded e → p.head.seq < 2 ^ 32 → p.head.window ≤ 65535
     → IsBounded (received e p)
 unfolding received
-bounded_in_syn_sent e p name unopened b fits small =
-    let P : StateName → Type 0 = λ n. IsBounded (received_in n e p) in subst P (sym name) (in_syn_sent_bounded e p unopened b fits small)
+bounded_in_syn_sent e p name syn_unacked b fits small =
+    let P : StateName → Type 0 = λ n. IsBounded (received_in n e p) in subst P (sym name) (in_syn_sent_bounded e p syn_unacked b fits small)

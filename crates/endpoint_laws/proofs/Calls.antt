@@ -21,7 +21,7 @@ FinIsLast s = s.fin_sent ≡ true → (s.closed ≡ true) × (1 ≤ s.sent) × (
 -- the sending half of u is that of m, but for what was written and the close
 pub record SendsAs (m u : Sending) : Type 0 where
   pub iss : u.iss ≡ m.iss
-  pub opened : u.opened ≡ m.opened
+  pub syn_acked : u.syn_acked ≡ m.syn_acked
   pub una : u.una ≡ m.una
   pub sent : u.sent ≡ m.sent
   pub edge : u.edge ≡ m.edge
@@ -55,7 +55,7 @@ pub record IsUsed (m u : Tcb) : Type 0 where
 sends_same : (s : Sending) → SendsAs s s
 sends_same s = record {
   iss = refl;
-  opened = refl;
+  syn_acked = refl;
   una = refl;
   sent = refl;
   edge = refl;
@@ -73,7 +73,7 @@ sends_same s = record {
 sends_on : (m n u : Sending) → SendsAs m n → SendsAs n u → SendsAs m u
 sends_on m n u a b = record {
   iss = b.iss ∙ a.iss;
-  opened = b.opened ∙ a.opened;
+  syn_acked = b.syn_acked ∙ a.syn_acked;
   una = b.una ∙ a.una;
   sent = b.sent ∙ a.sent;
   edge = b.edge ∙ a.edge;
@@ -100,7 +100,7 @@ sends_written : (s : Sending) (held : List ℕ) (closed : Bool) → length s.hel
     → (s.closed ≡ true → length held ≡ length s.held) → SendsAs s (record s { held = held; closed = closed })
 sends_written s held closed more keeps same = record {
   iss = refl;
-  opened = refl;
+  syn_acked = refl;
   una = refl;
   sent = refl;
   edge = refl;
@@ -244,7 +244,7 @@ bounded_call Closes m may last b = record {
   limit = b.limit;
   taken = b.taken;
   order = b.order;
-  unopened = b.unopened;
+  syn_unacked = b.syn_unacked;
   shut = b.shut;
   flight = b.flight;
   written = b.written;
@@ -278,8 +278,8 @@ bounded_used (call ∷ calls) m may last b =
 
 pub shut_used : (m u : Sending) → SendsAs m u → IsShut m → IsShut u
 shut_used m u a shut = record {
-  edge = λ r o acked. let h : m.edge ≤ m.sent = shut.edge (omega (arith, r, a.rest)) (sym a.opened ∙ o) (sym a.una ∙ acked ∙ a.sent) in omega (arith, h, a.edge, a.sent);
-  waits = λ r o acked. let h : m.sent + 1 ≤ target m = shut.waits (omega (arith, r, a.rest)) (sym a.opened ∙ o) (sym a.una ∙ acked ∙ a.sent) in omega (arith, h, a.target, a.sent);
+  edge = λ r o acked. let h : m.edge ≤ m.sent = shut.edge (omega (arith, r, a.rest)) (sym a.syn_acked ∙ o) (sym a.una ∙ acked ∙ a.sent) in omega (arith, h, a.edge, a.sent);
+  waits = λ r o acked. let h : m.sent + 1 ≤ target m = shut.waits (omega (arith, r, a.rest)) (sym a.syn_acked ∙ o) (sym a.una ∙ acked ∙ a.sent) in omega (arith, h, a.target, a.sent);
 }
 
 pub probes_used : (m u : Tcb) → IsUsed m u → ProbesRightly m → ProbesRightly u
@@ -287,7 +287,7 @@ probes_used m u a right = record {
   all_acked = λ h. a.sends.una ∙ right.all_acked (sym a.probe ∙ h) ∙ sym a.sends.sent;
   shut = λ h. let k : m.sending.edge ≤ m.sending.sent = right.shut (sym a.probe ∙ h) in omega (arith, k, a.sends.edge, a.sends.sent);
   waits = λ h. let k : m.sending.sent + 1 ≤ target m.sending = right.waits (sym a.probe ∙ h) in omega (arith, k, a.sends.target, a.sends.sent);
-  opened = λ h. a.sends.opened ∙ right.opened (sym a.probe ∙ h);
+  syn_acked = λ h. a.sends.syn_acked ∙ right.syn_acked (sym a.probe ∙ h);
 }
 
 -- what must be timed must be still
@@ -297,4 +297,4 @@ run_grows false una sent m u more h = refl
 
 pub runs_used : (m u : Sending) → SendsAs m u → must_run m ≡ true → must_run u ≡ true
 runs_used m u a h =
-    (λ i. not (a.opened i) || nat_lt (a.una i) (max (a.sent i) (target u))) ∙ run_grows m.opened m.una m.sent (target m) (target u) a.target h
+    (λ i. not (a.syn_acked i) || nat_lt (a.una i) (max (a.sent i) (target u))) ∙ run_grows m.syn_acked m.una m.sent (target m) (target u) a.target h

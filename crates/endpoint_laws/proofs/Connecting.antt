@@ -105,7 +105,7 @@ connects_ticked local remote iss limit e c = record {
   name = ap (λ n. if is_time_wait n && nat_lt e.wait 2 then Closed else n) c.name;
   receiving = c.receiving;
   sending = ticked_unanswered iss e.sending c.sending;
-  probe = (λ i. c.probe i || (expires e.sending && not (not (c.sending.same i).opened || nat_lt e.sending.una e.sending.sent))) ∙ and_false (expires e.sending);
+  probe = (λ i. c.probe i || (expires e.sending && not (not (c.sending.same i).syn_acked || nat_lt e.sending.una e.sending.sent))) ∙ and_false (expires e.sending);
 }
 
 -- a segment that leaves SYN-SENT
@@ -335,7 +335,7 @@ unanswered_bounds iss limit interval rest held small written = record {
   limit = omega (arith, small);
   taken = omega arith;
   order = omega arith;
-  unopened = λ h. refl;
+  syn_unacked = λ h. refl;
   shut = λ h. refl;
   flight = omega arith;
   written = omega (arith, written);
@@ -408,7 +408,7 @@ answered_by iss limit Begins e c begun = absurd (begun_name e.name begun c.name)
 bounded_answered : (iss limit : ℕ) (news : News) (e : Tcb) → IsConnecting iss limit e → limit ≤ 2 ^ 24 → FieldsFit news → has_begun (arrived news e).name ≡ true
     → IsBounded (arrived news e)
 bounded_answered iss limit (Comes segment) e c small fit begun =
-    bounded_in_syn_sent e segment c.name (ap (λ (s : Sending). s.opened) c.sending) (bounded_connecting iss limit e small c) fit.0 fit.1
+    bounded_in_syn_sent e segment c.name (ap (λ (s : Sending). s.syn_acked) c.sending) (bounded_connecting iss limit e small c) fit.0 fit.1
 bounded_answered iss limit (Logged kept) e c small fit begun = absurd (begun_name e.name begun c.name)
 bounded_answered iss limit Ticks e c small fit begun =
     absurd (begun_name (after_tick e).name begun (connects_ticked e.local e.remote iss limit e (connects_between iss limit e c)).name)

@@ -12,9 +12,9 @@ use Rattle.ft_model.specs.News.News.{Comes, Logged, Ticks, Begins}
 use Rattle.tcp_buffers.specs.Near.{is_ahead}
 use Rattle.tcp_endpoint.specs.declared.states.StateName.{StateName}
 use Rattle.tcp_endpoint.specs.declared.states.StateName.TheVariants.{Closed, Listen, SynSent, SynReceived, Established, FinWait1, FinWait2, CloseWait, Closing, LastAck, TimeWait}
-use Rattle.tcp_endpoint.specs.States.{opened, after_close, after_fin, after_fin_acked, is_time_wait, has_begun}
+use Rattle.tcp_endpoint.specs.States.{after_syn_acked, after_close, after_fin, after_fin_acked, is_time_wait, has_begun}
 use Rattle.tcp_endpoint.specs.Receiving.{Receiving, next, taken, window, with_text, with_fin, with_segment}
-use Rattle.tcp_endpoint.specs.Sending.{Sending, opened_by, acknowledged, fin_acked, sendable, sends_fin, timed, expires, with_sent, with_fin_sent}
+use Rattle.tcp_endpoint.specs.Sending.{Sending, with_syn_acked, acknowledged, fin_acked, sendable, sends_fin, timed, expires, with_sent, with_fin_sent}
 use Rattle.tcp_endpoint.specs.Tcb.{Tcb}
 use Rattle.tcp_endpoint.specs.Arrival.{first, ack_at, owing_if, killed, entering, refusing, begun, with_text_and_fin, with_fin_acked, with_first_ack, with_ack, check_ack, check_syn, check_rst, waiting_again, check_place, in_others, received}
 use Rattle.tcp_endpoint.specs.Leaving.{probes_text, probes_fin, with_probe, with_text_sent, with_fin_out, after_full, announced, with_turn_ended, flushed, answer_segments}
@@ -29,7 +29,7 @@ use Rattle.endpoint_laws.proofs.TurnLaw.{after_steps}
 use Rattle.endpoint_laws.proofs.AnswersAlone.{closed_sends}
 
 -- the states of a connection that no RST has reset: CLOSED only once all is through
-abbrev pub IsPlaced : StateName → (opened closed fin acked : Bool) → Type 0
+abbrev pub IsPlaced : StateName → (syn_acked closed fin acked : Bool) → Type 0
 IsPlaced Closed o c f a = (o ≡ true) × (c ≡ true) × (f ≡ true) × (a ≡ true)
 IsPlaced Listen o c f a = ⊥
 IsPlaced SynSent o c f a = ⊥
@@ -136,22 +136,22 @@ placed_waited TimeWait o c f a true h = h
 placed_waited TimeWait o c f a false h = h
 
 -- .. and the SYN is acknowledged
-placed_unopened : (name : StateName) (o c f a : Bool) → o ≡ false → IsPlaced name o c f a → f ≡ false
-placed_unopened Closed o c f a none h = absurd (false≢true (sym none ∙ h.0))
-placed_unopened Listen o c f a none h = absurd h
-placed_unopened SynSent o c f a none h = absurd h
-placed_unopened SynReceived o c f a none h = h.1
-placed_unopened Established o c f a none h = absurd (false≢true (sym none ∙ h.0))
-placed_unopened FinWait1 o c f a none h = absurd (false≢true (sym none ∙ h.0))
-placed_unopened FinWait2 o c f a none h = absurd (false≢true (sym none ∙ h.0))
-placed_unopened CloseWait o c f a none h = absurd (false≢true (sym none ∙ h.0))
-placed_unopened Closing o c f a none h = absurd (false≢true (sym none ∙ h.0))
-placed_unopened LastAck o c f a none h = absurd (false≢true (sym none ∙ h.0))
-placed_unopened TimeWait o c f a none h = absurd (false≢true (sym none ∙ h.0))
+placed_syn_unacked : (name : StateName) (o c f a : Bool) → o ≡ false → IsPlaced name o c f a → f ≡ false
+placed_syn_unacked Closed o c f a none h = absurd (false≢true (sym none ∙ h.0))
+placed_syn_unacked Listen o c f a none h = absurd h
+placed_syn_unacked SynSent o c f a none h = absurd h
+placed_syn_unacked SynReceived o c f a none h = h.1
+placed_syn_unacked Established o c f a none h = absurd (false≢true (sym none ∙ h.0))
+placed_syn_unacked FinWait1 o c f a none h = absurd (false≢true (sym none ∙ h.0))
+placed_syn_unacked FinWait2 o c f a none h = absurd (false≢true (sym none ∙ h.0))
+placed_syn_unacked CloseWait o c f a none h = absurd (false≢true (sym none ∙ h.0))
+placed_syn_unacked Closing o c f a none h = absurd (false≢true (sym none ∙ h.0))
+placed_syn_unacked LastAck o c f a none h = absurd (false≢true (sym none ∙ h.0))
+placed_syn_unacked TimeWait o c f a none h = absurd (false≢true (sym none ∙ h.0))
 
-placed_opened : (c f a : Bool) → f ≡ false → a ≡ false → IsPlaced (opened c) true c f a
-placed_opened true f a p q = (refl, refl, p, q)
-placed_opened false f a p q = (refl, refl, p)
+placed_syn_acked : (c f a : Bool) → f ≡ false → a ≡ false → IsPlaced (after_syn_acked c) true c f a
+placed_syn_acked true f a p q = (refl, refl, p, q)
+placed_syn_acked false f a p q = (refl, refl, p)
 
 -- a connection that isn't reset and has begun no more is over
 over_of : (name : StateName) (o c f a : Bool) → has_begun name ≡ false → IsPlaced name o c f a → (f && a) ≡ true
@@ -169,10 +169,10 @@ over_of TimeWait o c f a ended h = absurd (false≢true (sym ended))
 
 -- what every step keeps: the state, and of the own FIN that only a user who has closed sends it, and only behind the SYN's acknowledgement
 pub record Follows (name : StateName) (fin : Bool) (s : Sending) : Type 0 where
-  pub placed : IsPlaced name s.opened s.closed fin (fin_acked s)
+  pub placed : IsPlaced name s.syn_acked s.closed fin (fin_acked s)
   pub ends : s.fin_sent ≡ true → s.closed ≡ true
   pub order : s.una ≤ s.sent
-  pub unsent : s.opened ≡ false → s.fin_sent ≡ false
+  pub unsent : s.syn_acked ≡ false → s.fin_sent ≡ false
 
 abbrev pub FollowsAt : Tcb → Type 0
 FollowsAt e = Follows e.name e.receiving.fin e.sending
@@ -198,7 +198,7 @@ unfolding with_segment
 stays_taken r z text fin h =
     ap (λ b. (if b || int_lt (pos (taken r)) z then r else with_fin (with_text r z text) (z +ℤ pos (length text)) fin).fin) h ∙ h
 
-text_follows : (e : Tcb) (p : Segment) → e.sending.opened ≡ true → FollowsAt e → FollowsAt (with_text_and_fin e p)
+text_follows : (e : Tcb) (p : Segment) → e.sending.syn_acked ≡ true → FollowsAt e → FollowsAt (with_text_and_fin e p)
 unfolding with_text_and_fin
 text_follows e p is h =
     let s : Sending = e.sending in
@@ -210,7 +210,7 @@ text_follows e p is h =
     let f' : Bool = taking.receiving.fin in
     holds_if (λ (t : Tcb). FollowsAt t) (f' && not f) (entering (after_fin e.name) taking) taking
     (λ n. let k = newly f' f n in
-    record { placed = placed_fin e.name s.opened s.closed f f' (fin_acked s) is k.0 k.1 h.placed; ends = h.ends; order = h.order; unsent = h.unsent })
+    record { placed = placed_fin e.name s.syn_acked s.closed f f' (fin_acked s) is k.0 k.1 h.placed; ends = h.ends; order = h.order; unsent = h.unsent })
     (λ n. subst (λ (b : Bool). Follows e.name b s) (still f' f (stays_taken e.receiving (first e p) p.payload (has_fin p)) n) h)
 
 -- an acknowledgement of the own FIN
@@ -231,43 +231,43 @@ acked_follows e p h =
     let stays : fin_acked s ≡ true → fin_acked m.sending ≡ true = stays_acked s.fin_sent s.una s.sent (ack_at e p) in
     holds_if (λ (t : Tcb). FollowsAt t) (fin_acked m.sending) (entering (after_fin_acked e.name) m) m
     (λ is. record {
-      placed = placed_acked e.name s.opened s.closed e.receiving.fin (fin_acked s) (fin_acked m.sending) is h.placed;
+      placed = placed_acked e.name s.syn_acked s.closed e.receiving.fin (fin_acked s) (fin_acked m.sending) is h.placed;
       ends = h.ends;
       order = order;
       unsent = h.unsent;
     })
     (λ none. record {
-      placed = placed_unacked e.name s.opened s.closed e.receiving.fin (fin_acked s) (fin_acked m.sending) stays none h.placed;
+      placed = placed_unacked e.name s.syn_acked s.closed e.receiving.fin (fin_acked s) (fin_acked m.sending) stays none h.placed;
       ends = h.ends;
       order = order;
       unsent = h.unsent;
     })
 
-acked_opened : (e : Tcb) (p : Segment)
-    → (with_fin_acked (record e { sending = acknowledged e.sending p.head.seq (ack_at e p) p.head.window })).sending.opened ≡ e.sending.opened
+acked_syn_acked : (e : Tcb) (p : Segment)
+    → (with_fin_acked (record e { sending = acknowledged e.sending p.head.seq (ack_at e p) p.head.window })).sending.syn_acked ≡ e.sending.syn_acked
 unfolding with_fin_acked acknowledged
-acked_opened e p =
+acked_syn_acked e p =
     let m : Tcb = record e { sending = acknowledged e.sending p.head.seq (ack_at e p) p.head.window } in
-    holds_if (λ (t : Tcb). t.sending.opened ≡ e.sending.opened) (fin_acked m.sending) (entering (after_fin_acked e.name) m) m (λ h. refl) (λ h. refl)
+    holds_if (λ (t : Tcb). t.sending.syn_acked ≡ e.sending.syn_acked) (fin_acked m.sending) (entering (after_fin_acked e.name) m) m (λ h. refl) (λ h. refl)
 
-later_follows : (e : Tcb) (p : Segment) → e.sending.opened ≡ true → FollowsAt e → FollowsAt (with_ack e p)
+later_follows : (e : Tcb) (p : Segment) → e.sending.syn_acked ≡ true → FollowsAt e → FollowsAt (with_ack e p)
 unfolding with_ack
 later_follows e p is h =
     let m : Tcb = with_fin_acked (record e { sending = acknowledged e.sending p.head.seq (ack_at e p) p.head.window }) in
     holds_if (λ (t : Tcb). FollowsAt t) (is_ahead e.sending.sent (ack_at e p)) (owing_if true e) (with_text_and_fin m p)
-    (λ ahead. h) (λ near. text_follows m p (acked_opened e p ∙ is) (acked_follows e p h))
+    (λ ahead. h) (λ near. text_follows m p (acked_syn_acked e p ∙ is) (acked_follows e p h))
 
 -- the acknowledgement of the SYN
-first_follows : (e : Tcb) (p : Segment) → e.sending.opened ≡ false → FollowsAt e → FollowsAt (with_first_ack e p)
+first_follows : (e : Tcb) (p : Segment) → e.sending.syn_acked ≡ false → FollowsAt e → FollowsAt (with_first_ack e p)
 unfolding with_first_ack refusing
 first_follows e p none h =
     let s : Sending = e.sending in
-    let m : Tcb = record e { name = opened s.closed; sending = opened_by s p.head.seq p.head.window } in
-    let fin : e.receiving.fin ≡ false = placed_unopened e.name s.opened s.closed e.receiving.fin (fin_acked s) none h.placed in
+    let m : Tcb = record e { name = after_syn_acked s.closed; sending = with_syn_acked s p.head.seq p.head.window } in
+    let fin : e.receiving.fin ≡ false = placed_syn_unacked e.name s.syn_acked s.closed e.receiving.fin (fin_acked s) none h.placed in
     let unsent : s.fin_sent ≡ false = h.unsent none in
     holds_if (λ (t : Tcb). FollowsAt t) (int_eq (ack_at e p) (pos 0)) (with_text_and_fin m p) (refusing e p)
     (λ is. text_follows m p refl (record {
-      placed = placed_opened s.closed e.receiving.fin (s.fin_sent && 0 == 0) fin (ap (λ b. b && 0 == 0) unsent);
+      placed = placed_syn_acked s.closed e.receiving.fin (s.fin_sent && 0 == 0) fin (ap (λ b. b && 0 == 0) unsent);
       ends = h.ends;
       order = omega arith;
       unsent = λ k. unsent;
@@ -278,8 +278,8 @@ first_follows e p none h =
 ack_follows : (e : Tcb) (p : Segment) → FollowsAt e → FollowsAt (check_ack e p)
 unfolding check_ack
 ack_follows e p h =
-    holds_if (λ (t : Tcb). FollowsAt t) (has_ack p) (if e.sending.opened then with_ack e p else with_first_ack e p) e
-    (λ is. holds_if (λ (t : Tcb). FollowsAt t) e.sending.opened (with_ack e p) (with_first_ack e p) (λ o. later_follows e p o h) (λ o. first_follows e p o h))
+    holds_if (λ (t : Tcb). FollowsAt t) (has_ack p) (if e.sending.syn_acked then with_ack e p else with_first_ack e p) e
+    (λ is. holds_if (λ (t : Tcb). FollowsAt t) e.sending.syn_acked (with_ack e p) (with_first_ack e p) (λ o. later_follows e p o h) (λ o. first_follows e p o h))
     (λ none. h)
 
 syn_follows : (e : Tcb) (p : Segment) → FollowsAt e → FollowsAt (check_syn e p)
@@ -314,7 +314,7 @@ tick_follows : (e : Tcb) → FollowsAt e → FollowsAt (after_tick e)
 unfolding after_tick timer_ticked waited
 tick_follows e h =
     let s : Sending = e.sending in
-    let placed = placed_waited e.name s.opened s.closed e.receiving.fin (fin_acked s) (nat_lt e.wait 2) h.placed in
+    let placed = placed_waited e.name s.syn_acked s.closed e.receiving.fin (fin_acked s) (nat_lt e.wait 2) h.placed in
     let name : StateName = if is_time_wait e.name && nat_lt e.wait 2 then Closed else e.name in
     holds_if (λ (q : Sending). Follows name e.receiving.fin q) (expires s)
     (record s { interval = min 64 (2 * s.interval); rest = min 64 (2 * s.interval) }) (record s { rest = s.rest - 1 })
@@ -339,7 +339,7 @@ call_follows (Writes bytes) e h = record { placed = h.placed; ends = h.ends; ord
 call_follows Closes e h =
     let s : Sending = e.sending in
     record {
-      placed = placed_closing e.name s.opened s.closed e.receiving.fin (fin_acked s) (λ k. h.ends (left_true s.fin_sent (s.una == s.sent) k)) h.placed;
+      placed = placed_closing e.name s.syn_acked s.closed e.receiving.fin (fin_acked s) (λ k. h.ends (left_true s.fin_sent (s.una == s.sent) k)) h.placed;
       ends = λ k. refl;
       order = h.order;
       unsent = h.unsent;
@@ -356,7 +356,7 @@ acked_same P false una sent n none h = h
 
 sent_follows : (name : StateName) (fin : Bool) (s : Sending) (n : ℕ) → (s.fin_sent ≡ true → n ≡ 0) → Follows name fin s → Follows name fin (with_sent s n)
 sent_follows name fin s n none h = record {
-  placed = acked_same (λ (a : Bool). IsPlaced name s.opened s.closed fin a) s.fin_sent s.una s.sent n none h.placed;
+  placed = acked_same (λ (a : Bool). IsPlaced name s.syn_acked s.closed fin a) s.fin_sent s.una s.sent n none h.placed;
   ends = h.ends;
   order = omega (arith, h.order);
   unsent = h.unsent;
@@ -365,13 +365,13 @@ sent_follows name fin s n none h = record {
 above : (una sent : ℕ) → una ≤ sent → (una == sent + 1) ≡ false
 above una sent order = grind arith
 
-fin_follows : (name : StateName) (fin : Bool) (s : Sending) → s.opened ≡ true → s.closed ≡ true → s.fin_sent ≡ false → Follows name fin s
+fin_follows : (name : StateName) (fin : Bool) (s : Sending) → s.syn_acked ≡ true → s.closed ≡ true → s.fin_sent ≡ false → Follows name fin s
     → Follows name fin (with_fin_sent s)
 fin_follows name fin s is ends none h =
     let before : fin_acked s ≡ false = ap (λ b. b && s.una == s.sent) none in
     let after : fin_acked (with_fin_sent s) ≡ false = above s.una s.sent h.order in
     record {
-      placed = subst (λ (a : Bool). IsPlaced name s.opened s.closed fin a) (before ∙ sym after) h.placed;
+      placed = subst (λ (a : Bool). IsPlaced name s.syn_acked s.closed fin a) (before ∙ sym after) h.placed;
       ends = λ k. ends;
       order = omega (arith, h.order);
       unsent = λ k. absurd (false≢true (sym k ∙ is));
@@ -394,7 +394,7 @@ none_behind b o false n h = absurd (false≢true h)
 
 -- so to the end of a turn
 steps_follow : (name : StateName) (fin begun pt pf : Bool) (s : Sending) → (pt ≡ true → s.fin_sent ≡ false)
-    → (pf ≡ true → (s.opened ≡ true) × (s.closed ≡ true) × (s.fin_sent ≡ false)) → Follows name fin s → Follows name fin (after_steps begun pt pf s)
+    → (pf ≡ true → (s.syn_acked ≡ true) × (s.closed ≡ true) × (s.fin_sent ≡ false)) → Follows name fin s → Follows name fin (after_steps begun pt pf s)
 steps_follow name fin begun pt pf s unsent ends h =
     let P : Sending → Type 0 = λ q. Follows name fin q in
     let ended : Sending = if pf then with_fin_sent s else s in
@@ -406,8 +406,8 @@ steps_follow name fin begun pt pf s unsent ends h =
     (λ k. sent_follows name fin s 1 (λ f. absurd (false≢true (sym (unsent k) ∙ f))) h)
     (λ k. holds_if P pf (with_fin_sent s) s (λ q. fin_follows name fin s (ends q).0 (ends q).1 (ends q).2 h) (λ q. h)) in
     let texted_follows : Follows name fin texted =
-    sent_follows name fin probed n (none_behind begun probed.opened probed.fin_sent (min (probed.una + length probed.held) probed.edge - probed.sent)) probed_follows in
-    let o : Bool = texted.opened in
+    sent_follows name fin probed n (none_behind begun probed.syn_acked probed.fin_sent (min (probed.una + length probed.held) probed.edge - probed.sent)) probed_follows in
+    let o : Bool = texted.syn_acked in
     let c : Bool = texted.closed in
     let f : Bool = not texted.fin_sent in
     let all : Bool = texted.sent == texted.una + length texted.held in
@@ -430,14 +430,14 @@ unfolding flushed with_turn_ended announced after_full with_fin_out with_text_se
 flush_follows u h =
     let s : Sending = u.sending in
     let b : Bool = has_begun u.name in
-    let p : Bool = u.probe && b && s.opened in
+    let p : Bool = u.probe && b && s.syn_acked in
     let f : Bool = not s.fin_sent in
     let waits : Bool = nat_lt (s.sent - s.una) (length s.held) in
     timed_follows u.name u.receiving.fin _ (after_steps b (probes_text u) (probes_fin u) s)
     (steps_follow u.name u.receiving.fin b (probes_text u) (probes_fin u) s
     (λ k. not_true s.fin_sent (right_true p f (left_true (p && f) waits k)))
     (λ k. let on : (p && f) ≡ true = left_true (p && f) (not waits) (left_true (p && f && not waits) s.closed k) in (
-      right_true (u.probe && b) s.opened (left_true p f on),
+      right_true (u.probe && b) s.syn_acked (left_true p f on),
       right_true (p && f && not waits) s.closed k,
       not_true s.fin_sent (right_true p f on),
     )) h)
@@ -451,10 +451,10 @@ between_follows : (e : Tcb) → has_begun e.name ≡ true → IsBetweenTurns e �
 between_follows e begun between named =
     let s : Sending = e.sending in
     record {
-      placed = placed_of e.name s.opened s.closed e.receiving.fin (fin_acked s) begun named;
+      placed = placed_of e.name s.syn_acked s.closed e.receiving.fin (fin_acked s) begun named;
       ends = λ k. (between.fin_last k).0;
       order = between.bounds.order;
-      unsent = λ k. unsent_of s.fin_sent s.sent (λ f. (between.fin_last f).1) (between.bounds.unopened k);
+      unsent = λ k. unsent_of s.fin_sent s.sent (λ f. (between.fin_last f).1) (between.bounds.syn_unacked k);
     }
 
 -- a RST at the next number is acceptable, with its length of 0
@@ -495,7 +495,7 @@ unfolding flushed with_turn_ended announced after_full with_fin_out with_text_se
 flushed_name u = refl
 
 closed_named : (e : Tcb) → e.name ≡ Closed → IsNamedRightly e
-closed_named e h = subst (λ (n : StateName). IsNamed n e.sending.opened e.sending.closed e.receiving.fin (fin_acked e.sending)) (sym h) tt
+closed_named e h = subst (λ (n : StateName). IsNamed n e.sending.syn_acked e.sending.closed e.receiving.fin (fin_acked e.sending)) (sym h) tt
 
 by_cases : {X : Type 0} (b : Bool) → (b ≡ true → X) → (b ≡ false → X) → X
 by_cases true p q = p refl
@@ -503,7 +503,7 @@ by_cases false p q = q refl
 
 -- a turn keeps the state right
 pub named_at : (e : Tcb) → FollowsAt e → IsNamedRightly e
-named_at e h = named_of e.name e.sending.opened e.sending.closed e.receiving.fin (fin_acked e.sending) h.placed
+named_at e h = named_of e.name e.sending.syn_acked e.sending.closed e.receiving.fin (fin_acked e.sending) h.placed
 
 pub unreset_follows : (news : News) (calls : List Call) (e : Tcb) → has_begun e.name ≡ true → IsBetweenTurns e → IsNamedRightly e → resets news e ≡ false
     → FollowsAt (before_flush news calls e)
@@ -522,17 +522,17 @@ pub ending_law : (news : News) (calls : List Call) (e : Tcb) → has_begun e.nam
 ending_law news calls e begun between named ended =
     let u : Tcb = before_flush news calls e in
     by_cases (resets news e) (λ h. inl h)
-    (λ h. inr (over_of u.name u.sending.opened u.sending.closed u.receiving.fin (fin_acked u.sending) ended (unreset_follows news calls e begun between named h).placed))
+    (λ h. inr (over_of u.name u.sending.syn_acked u.sending.closed u.receiving.fin (fin_acked u.sending) ended (unreset_follows news calls e begun between named h).placed))
 
 -- a SYN's turn leaves SYN-RECEIVED
 begun_follows : (e : Tcb) (iss limit : ℕ) (syn : Segment) → IsListening iss limit e → FollowsAt (begun e syn)
 unfolding begun
 begun_follows e iss limit syn l =
-    let opened : e.sending.opened ≡ false = ap (λ (s : Sending). s.opened) l.sending in
+    let syn_acked : e.sending.syn_acked ≡ false = ap (λ (s : Sending). s.syn_acked) l.sending in
     let fin : e.receiving.fin ≡ false = ap (λ (r : Receiving). r.fin) l.receiving in
     let una : e.sending.una ≡ 0 = ap (λ (s : Sending). s.una) l.sending in
     let unsent : e.sending.fin_sent ≡ false = ap (λ (s : Sending). s.fin_sent) l.sending in
-    record { placed = (opened, fin); ends = λ k. absurd (false≢true (sym unsent ∙ k)); order = omega (arith, una); unsent = λ k. unsent }
+    record { placed = (syn_acked, fin); ends = λ k. absurd (false≢true (sym unsent ∙ k)); order = omega (arith, una); unsent = λ k. unsent }
 
 pub begun_named_law : (e : Tcb) (iss limit : ℕ) (syn : Segment) (calls : List Call) → IsListening iss limit e → is_syn syn ≡ true
     → IsNamedRightly (turned (Comes syn) calls e)
@@ -567,15 +567,15 @@ later_resets e p =
 first_resets : (e : Tcb) (p : Segment) → (with_first_ack e p).reset ≡ e.reset
 unfolding with_first_ack refusing
 first_resets e p =
-    let m : Tcb = record e { name = opened e.sending.closed; sending = opened_by e.sending p.head.seq p.head.window } in
+    let m : Tcb = record e { name = after_syn_acked e.sending.closed; sending = with_syn_acked e.sending p.head.seq p.head.window } in
     holds_if (λ (t : Tcb). t.reset ≡ e.reset) (int_eq (ack_at e p) (pos 0)) (with_text_and_fin m p) (refusing e p) (λ h. text_resets m p) (λ h. refl)
 
 ack_resets : (e : Tcb) (p : Segment) → (check_ack e p).reset ≡ e.reset
 unfolding check_ack
 ack_resets e p =
     let P : Tcb → Type 0 = λ t. t.reset ≡ e.reset in
-    holds_if P (has_ack p) (if e.sending.opened then with_ack e p else with_first_ack e p) e
-    (λ is. holds_if P e.sending.opened (with_ack e p) (with_first_ack e p) (λ o. later_resets e p) (λ o. first_resets e p))
+    holds_if P (has_ack p) (if e.sending.syn_acked then with_ack e p else with_first_ack e p) e
+    (λ is. holds_if P e.sending.syn_acked (with_ack e p) (with_first_ack e p) (λ o. later_resets e p) (λ o. first_resets e p))
     (λ none. refl)
 
 syn_resets : (e : Tcb) (p : Segment) → (check_syn e p).reset ≡ e.reset

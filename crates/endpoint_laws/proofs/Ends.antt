@@ -13,7 +13,7 @@ use Rattle.ft_model.specs.News.{News}
 use Rattle.ft_model.specs.News.News.{Comes, Logged, Ticks, Begins}
 use Rattle.ft_model.specs.Taken.{accepts, counts}
 use Rattle.ft_model.specs.Owed.{is_refused}
-use Rattle.ft_model.specs.Sending.{counted_after, sent_at_once, sent_after}
+use Rattle.ft_model.specs.Sending.{syn_acked_after, sent_at_once, sent_after}
 use Rattle.ft_model.specs.Timer as timer
 use Rattle.tcp_endpoint.specs.declared.states.StateName.{StateName}
 use Rattle.tcp_endpoint.specs.declared.states.StateName.TheVariants.{Closed, Listen, SynSent, SynReceived, Established, FinWait1, FinWait2, CloseWait, Closing, LastAck, TimeWait}
@@ -34,12 +34,12 @@ use Rattle.endpoint_laws.proofs.Turns.{receives_of, sends_of, probes_by}
 
 record IsEnded (name : StateName) (o c f a : Bool) : Type 0 where
   name_is : name ≡ Closed
-  opened : o ≡ true
+  syn_acked : o ≡ true
   fin : f ≡ true
   acked : a ≡ true
 
 ended_by : (name : StateName) (o c f a : Bool) → has_begun name ≡ false → IsPlaced name o c f a → IsEnded name o c f a
-ended_by Closed o c f a ended h = record { name_is = refl; opened = h.0; fin = h.2; acked = h.3 }
+ended_by Closed o c f a ended h = record { name_is = refl; syn_acked = h.0; fin = h.2; acked = h.3 }
 ended_by Listen o c f a ended h = absurd h
 ended_by SynSent o c f a ended h = absurd h
 ended_by SynReceived o c f a ended h = absurd (false≢true (sym ended))
@@ -73,8 +73,8 @@ off_three false b c h = refl
 less_is : (z : ℤ) → int_lt z (pos 0) ≡ not (int_le (pos 0) z)
 less_is z = grind (arith, ints)
 
-unrefused : (acc rst syn counted ack low neg : Bool) → neg ≡ not low → (counted || (ack && not syn && not rst && acc && (counted || low))) ≡ true
-    → (not counted && ack && neg) ≡ false
+unrefused : (acc rst syn syn_acked ack low neg : Bool) → neg ≡ not low → (syn_acked || (ack && not syn && not rst && acc && (syn_acked || low))) ≡ true
+    → (not syn_acked && ack && neg) ≡ false
 unrefused acc rst syn true ack low neg is h = refl
 unrefused acc rst syn false ack low neg is h = off_three true ack neg (is ∙ ap not (last_of ack (not syn) (not rst) acc low h))
 
@@ -82,11 +82,11 @@ none_if : (b : Bool) (x : Segment) → b ≡ false → (if b then x ∷ [] else 
 none_if true x h = absurd (false≢true (sym h))
 none_if false x h = refl
 
-no_answer : (server : Addr) (news : News) (before : Point) → counted_after news before ≡ true → refusals server news before ≡ []
-unfolding counted_after counts
+no_answer : (server : Addr) (news : News) (before : Point) → syn_acked_after news before ≡ true → refusals server news before ≡ []
+unfolding syn_acked_after counts
 no_answer server (Comes segment) before h =
     none_if (refuses before segment) _ (off_four (accepts before segment) (not (has_rst segment)) (not (has_syn segment)) (is_refused before segment)
-    (unrefused (accepts before segment) (has_rst segment) (has_syn segment) before.counted (has_ack segment) (int_le (pos 0) (ack_of before.sisn segment))
+    (unrefused (accepts before segment) (has_rst segment) (has_syn segment) before.syn_acked (has_ack segment) (int_le (pos 0) (ack_of before.sisn segment))
     (int_lt (ack_of before.sisn segment) (pos 0)) (less_is (ack_of before.sisn segment)) h))
 no_answer server (Logged kept) before h = refl
 no_answer server Ticks before h = refl
@@ -132,19 +132,19 @@ ends_law service news calls before after e begun between named stands usual may 
     let came : Arrived news before e m = arrives news before e begun between stands usual in
     let a : IsUsed m u = used_is calls m may in
     let f : FollowsAt u = unreset_follows news calls e begun between named unreset in
-    let x : IsEnded u.name u.sending.opened u.sending.closed u.receiving.fin (fin_acked u.sending) =
-    ended_by u.name u.sending.opened u.sending.closed u.receiving.fin (fin_acked u.sending) ended f.placed in
+    let x : IsEnded u.name u.sending.syn_acked u.sending.closed u.receiving.fin (fin_acked u.sending) =
+    ended_by u.name u.sending.syn_acked u.sending.closed u.receiving.fin (fin_acked u.sending) ended f.placed in
     let acked = fin_parts u.sending.fin_sent (u.sending.una == u.sending.sent) x.acked in
-    let counted : counted_after news before ≡ true = came.sends.counted ∙ sym a.sends.opened ∙ x.opened in
-    let answer : u.answer ≡ None = a.answer ∙ answer_none m.answer (came.answer ∙ no_answer e.local news before counted) in
+    let syn_acked : syn_acked_after news before ≡ true = came.sends.syn_acked ∙ sym a.sends.syn_acked ∙ x.syn_acked in
+    let answer : u.answer ≡ None = a.answer ∙ answer_none m.answer (came.answer ∙ no_answer e.local news before syn_acked) in
     let last : FinIsLast u.sending = last_used m.sending u.sending a.sends came.fin_last in
     let bounds = bounded_used calls m may came.fin_last came.bounds in
     let full : target u.sending ≡ u.sending.sent = target_sent u.sending.fin_sent u.sending.sent (u.sending.una + length u.sending.held + one_if u.sending.closed) acked.0 in
     let probes : ProbesRightly u = probes_used m u a came.probes in
     let none : u.probe ≡ false = no_probe u.probe u.sending.sent (target u.sending) probes.waits full in
     let probe : timer.probes news before ≡ u.probe =
-    (λ i. timer.expires news before && stands.sends.counted i && not (nat_lt (stands.sends.una i) (stands.sent i)))
-    ∙ sym (probes_by (timer.expires news before) e.sending.opened (nat_lt e.sending.una e.sending.sent)) ∙ sym (a.probe ∙ came.probe) in
+    (λ i. timer.expires news before && stands.sends.syn_acked i && not (nat_lt (stands.sends.una i) (stands.sent i)))
+    ∙ sym (probes_by (timer.expires news before) e.sending.syn_acked (nat_lt e.sending.una e.sending.sent)) ∙ sym (a.probe ∙ came.probe) in
     let s : SendsAt after u = sends_of service news before after m u came.sends a laws in
     record {
       closed = x.name_is;

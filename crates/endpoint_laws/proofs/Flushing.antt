@@ -12,7 +12,7 @@ use Rattle.endpoint_laws.specs.Standing.{ReceivesAt, SendsAt, IsUsedAt, refusals
 
 -- what was sent before is unacknowledged after: the SYN, text or the FIN
 abbrev pub waits_for_ack : (before after : Point) → Bool
-waits_for_ack before after = not after.counted || nat_lt after.una before.sent
+waits_for_ack before after = not after.syn_acked || nat_lt after.una before.sent
 
 pub record Flushes {State : Type 0} (service : Machine State) (news : News) (before after : Point) (u : Tcb) : Type 0 where
   pub begun : has_begun u.name ≡ true

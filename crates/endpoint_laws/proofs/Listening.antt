@@ -42,7 +42,7 @@ unsent_bounds iss limit held small written = record {
   limit = omega (arith, small);
   taken = omega arith;
   order = omega arith;
-  unopened = λ h. refl;
+  syn_unacked = λ h. refl;
   shut = λ h. refl;
   flight = omega arith;
   written = omega (arith, written);
@@ -73,12 +73,12 @@ listens_between : (iss limit : ℕ) (e : Tcb) → IsListening iss limit e → Li
 listens_between iss limit e l = record { local_is = refl; name = l.name; receiving = l.receiving; sending = l.sending; written = l.written; probe = l.probe }
 
 -- a segment that is no SYN
-listens_by : (local : Addr) (iss limit : ℕ) (syn ack rst : Bool) (refused opened e : Tcb) → (syn && not ack && not rst) ≡ false → Listens local iss limit refused
-    → Listens local iss limit e → Listens local iss limit (if rst then e else (if ack then refused else (if syn then opened else e)))
-listens_by local iss limit syn ack true refused opened e none r l = l
-listens_by local iss limit syn true false refused opened e none r l = r
-listens_by local iss limit true false false refused opened e none r l = absurd (false≢true (sym none))
-listens_by local iss limit false false false refused opened e none r l = l
+listens_by : (local : Addr) (iss limit : ℕ) (syn ack rst : Bool) (refused syn_acked e : Tcb) → (syn && not ack && not rst) ≡ false → Listens local iss limit refused
+    → Listens local iss limit e → Listens local iss limit (if rst then e else (if ack then refused else (if syn then syn_acked else e)))
+listens_by local iss limit syn ack true refused syn_acked e none r l = l
+listens_by local iss limit syn true false refused syn_acked e none r l = r
+listens_by local iss limit true false false refused syn_acked e none r l = absurd (false≢true (sym none))
+listens_by local iss limit false false false refused syn_acked e none r l = l
 
 listens_refusing : (local : Addr) (iss limit : ℕ) (e : Tcb) (p : Segment) → Listens local iss limit e → Listens local iss limit (refusing e p)
 unfolding refusing

@@ -134,22 +134,22 @@ closed_stays_law news calls e closed none =
     (ap (λ (l : Lasting). l.0) all ∙ closed, (flushed_lasts u).1, ap (λ (l : Lasting). l.1) all, ap (λ (l : Lasting). l.2) all)
 
 -- LISTEN: the answer to a segment that is no SYN
-refused_listen : (e opened : Tcb) (p : Segment) (syn ack rst : Bool) → (syn && not ack && not rst) ≡ false → e.answer ≡ None
-    → answer_segments ((if rst then e else (if ack then refusing e p else (if syn then opened else e))).answer)
+refused_listen : (e begun_one : Tcb) (p : Segment) (syn ack rst : Bool) → (syn && not ack && not rst) ≡ false → e.answer ≡ None
+    → answer_segments ((if rst then e else (if ack then refusing e p else (if syn then begun_one else e))).answer)
     ≡ (if ack && not rst then rst_at_ack e.local p ∷ [] else [])
 unfolding refusing
-refused_listen e opened p syn true true other none = ap answer_segments none
-refused_listen e opened p syn false true other none = ap answer_segments none
-refused_listen e opened p syn true false other none = refl
-refused_listen e opened p true false false other none = absurd (false≢true (sym other))
-refused_listen e opened p false false false other none = ap answer_segments none
+refused_listen e begun_one p syn true true other none = ap answer_segments none
+refused_listen e begun_one p syn false true other none = ap answer_segments none
+refused_listen e begun_one p syn true false other none = refl
+refused_listen e begun_one p true false false other none = absurd (false≢true (sym other))
+refused_listen e begun_one p false false false other none = ap answer_segments none
 
-same_listen : {X : Type 0} (f : Tcb → X) (syn ack rst : Bool) (e refused opened : Tcb) → (syn && not ack && not rst) ≡ false → f refused ≡ f e
-    → f (if rst then e else (if ack then refused else (if syn then opened else e))) ≡ f e
-same_listen f syn ack true e refused opened other a = refl
-same_listen f syn true false e refused opened other a = a
-same_listen f true false false e refused opened other a = absurd (false≢true (sym other))
-same_listen f false false false e refused opened other a = refl
+same_listen : {X : Type 0} (f : Tcb → X) (syn ack rst : Bool) (e refused begun_one : Tcb) → (syn && not ack && not rst) ≡ false → f refused ≡ f e
+    → f (if rst then e else (if ack then refused else (if syn then begun_one else e))) ≡ f e
+same_listen f syn ack true e refused begun_one other a = refl
+same_listen f syn true false e refused begun_one other a = a
+same_listen f true false false e refused begun_one other a = absurd (false≢true (sym other))
+same_listen f false false false e refused begun_one other a = refl
 
 in_listen_at : (e : Tcb) (p : Segment) → e.name ≡ Listen → received e p ≡ in_listen e p
 unfolding received
@@ -328,7 +328,7 @@ again_sent iss limit (Comes p) e c =
     ∙ c.again
 again_sent iss limit (Logged kept) e c = c.again
 again_sent iss limit Ticks e c =
-    (λ i. c.again i || (expires e.sending && (not (c.sending i).opened || nat_lt e.sending.una e.sending.sent))) ∙ and_on (expires e.sending)
+    (λ i. c.again i || (expires e.sending && (not (c.sending i).syn_acked || nat_lt e.sending.una e.sending.sent))) ∙ and_on (expires e.sending)
 again_sent iss limit Begins e c = c.again
 
 -- the SYN's fields
@@ -516,12 +516,12 @@ opening_times_law local remote iss limit calls may still =
     record { interval = t.interval ∙ ap (λ b. if b then 1 else 1) runs; rest = t.rest ∙ ap (λ b. if b then 1 else 0) runs }
 
 -- the turn of a SYN: the SYN-ACK leaves
-call_opens : (call : Call) (t : Tcb) → (called call t).sending.opened ≡ t.sending.opened
+call_opens : (call : Call) (t : Tcb) → (called call t).sending.syn_acked ≡ t.sending.syn_acked
 call_opens (Reads n) t = refl
 call_opens (Writes bytes) t = refl
 call_opens Closes t = refl
 
-begun_is_due : (e : Tcb) (p : Segment) → ((begun e p).again ≡ true) × ((begun e p).answer ≡ e.answer) × ((begun e p).sending.opened ≡ e.sending.opened) × ((begun e p).name ≡ SynReceived)
+begun_is_due : (e : Tcb) (p : Segment) → ((begun e p).again ≡ true) × ((begun e p).answer ≡ e.answer) × ((begun e p).sending.syn_acked ≡ e.sending.syn_acked) × ((begun e p).name ≡ SynReceived)
 unfolding begun
 begun_is_due e p = (refl, refl, refl, refl)
 
@@ -533,9 +533,9 @@ syn_is_told_law iss limit syn calls e l is may =
     let same : m ≡ begun e syn = begun_by e syn l.name is in
     let due = begun_is_due e syn in
     let there : has_begun u.name ≡ true = begun_used calls m (ap (λ (t : Tcb). has_begun t.name) same ∙ ap has_begun due.3) in
-    let unopened : u.sending.opened ≡ false =
-    used_keeps (λ (t : Tcb). t.sending.opened) call_opens calls m ∙ ap (λ (t : Tcb). t.sending.opened) same ∙ due.2 ∙ ap (λ (s : Sending). s.opened) l.sending in (
+    let syn_unacked : u.sending.syn_acked ≡ false =
+    used_keeps (λ (t : Tcb). t.sending.syn_acked) call_opens calls m ∙ ap (λ (t : Tcb). t.sending.syn_acked) same ∙ due.2 ∙ ap (λ (s : Sending). s.syn_acked) l.sending in (
       announces_law (Comes syn) calls e l.answer may there,
       again_is_told u there (answer_used calls m ∙ ap (λ (t : Tcb). t.answer) same ∙ due.1 ∙ l.answer)
-          (again_used calls m ∙ ap (λ (t : Tcb). t.again) same ∙ due.0) (ap (λ b. not b || nat_lt u.sending.una u.sending.sent) unopened),
+          (again_used calls m ∙ ap (λ (t : Tcb). t.again) same ∙ due.0) (ap (λ b. not b || nat_lt u.sending.una u.sending.sent) syn_unacked),
     )

@@ -7,9 +7,9 @@ use Rattle.seq_arith.specs.Arrival.{int_eq, is_acceptable}
 use Rattle.seq_arith.specs.Packet.{Segment, has_syn, has_rst, has_ack}
 use Rattle.seq_arith.specs.Offset.{length_of}
 use Rattle.tcp_buffers.specs.Near.{is_ahead}
-use Rattle.tcp_endpoint.specs.States.{opened, after_fin, after_fin_acked, has_begun}
+use Rattle.tcp_endpoint.specs.States.{after_syn_acked, after_fin, after_fin_acked, has_begun}
 use Rattle.tcp_endpoint.specs.Receiving.{Receiving, next, window}
-use Rattle.tcp_endpoint.specs.Sending.{opened_by, acknowledged, fin_acked}
+use Rattle.tcp_endpoint.specs.Sending.{with_syn_acked, acknowledged, fin_acked}
 use Rattle.tcp_endpoint.specs.Tcb.{Tcb}
 use Rattle.tcp_endpoint.specs.Arrival.{first, ack_at, owing_if, killed, entering, with_text_and_fin, with_fin_acked, with_first_ack, with_ack, check_ack, check_syn, check_rst, waiting_again, check_place, in_others, received, refusing}
 use Rattle.endpoint_laws.specs.Laws.{accepts, acknowledges_less, is_refused, owes_acceptable, owes, IsBounded, IsUsual}
@@ -48,15 +48,15 @@ later_ack_part e p sent =
 first_ack_part : (e : Tcb) (p : Segment) → int_eq (ack_at e p) (pos 0) ≡ true → (with_first_ack e p).owed ≡ (e.owed || int_lt (pos (next e.receiving)) (first e p))
 unfolding with_first_ack
 first_ack_part e p is_syn =
-    let opening : Tcb = record e { name = opened e.sending.closed; sending = opened_by e.sending p.head.seq p.head.window }
+    let opening : Tcb = record e { name = after_syn_acked e.sending.closed; sending = with_syn_acked e.sending p.head.seq p.head.window }
     in ap (λ b. (if b then with_text_and_fin opening p else refusing e p).owed) is_syn ∙ text_part opening p
 
 -- with ACK, while it isn't refused
-ack_part : (e : Tcb) (p : Segment) → is_ahead e.sending.sent (ack_at e p) ≡ false → (e.sending.opened ≡ false → int_eq (ack_at e p) (pos 0) ≡ true)
-    → (if e.sending.opened then (with_ack e p).owed else (with_first_ack e p).owed) ≡ (e.owed || int_lt (pos (next e.receiving)) (first e p))
+ack_part : (e : Tcb) (p : Segment) → is_ahead e.sending.sent (ack_at e p) ≡ false → (e.sending.syn_acked ≡ false → int_eq (ack_at e p) (pos 0) ≡ true)
+    → (if e.sending.syn_acked then (with_ack e p).owed else (with_first_ack e p).owed) ≡ (e.owed || int_lt (pos (next e.receiving)) (first e p))
 ack_part e p sent syn =
-    if_when e.sending.opened (with_ack e p).owed _ (with_first_ack e p).owed _ (λ h. later_ack_part e p sent) (λ h. first_ack_part e p (syn h))
-    ∙ same_if e.sending.opened _
+    if_when e.sending.syn_acked (with_ack e p).owed _ (with_first_ack e p).owed _ (λ h. later_ack_part e p sent) (λ h. first_ack_part e p (syn h))
+    ∙ same_if e.sending.syn_acked _
 
 none_or : (o x : Bool) → o ≡ false → (o || x) ≡ x
 none_or o x none = ap (λ v. v || x) none
@@ -72,12 +72,12 @@ or_false false = refl
 syn_by : (z : ℤ) (sent : ℕ) → z ≤ℤ pos sent → sent ≡ 0 → int_lt z (pos 0) ≡ false → int_eq z (pos 0) ≡ true
 syn_by z sent h none up = grind (arith, ints)
 
-pub is_syn_ack : (e : Tcb) (p : Segment) → IsBounded e → IsUsual e p → acknowledges_less e p ≡ false → has_ack p ≡ true → e.sending.opened ≡ false
+pub is_syn_ack : (e : Tcb) (p : Segment) → IsBounded e → IsUsual e p → acknowledges_less e p ≡ false → has_ack p ≡ true → e.sending.syn_acked ≡ false
     → int_eq (ack_at e p) (pos 0) ≡ true
-is_syn_ack e p b usual not_less is_ack unopened =
+is_syn_ack e p b usual not_less is_ack syn_unacked =
     let up : int_lt (ack_at e p) (pos 0) ≡ false =
-    sym (ap (λ v. not v && has_ack p && int_lt (ack_at e p) (pos 0)) unopened ∙ ap (λ v. true && v && int_lt (ack_at e p) (pos 0)) is_ack) ∙ not_less
-    in syn_by (ack_at e p) e.sending.sent (usual.sent is_ack) (b.unopened unopened) up
+    sym (ap (λ v. not v && has_ack p && int_lt (ack_at e p) (pos 0)) syn_unacked ∙ ap (λ v. true && v && int_lt (ack_at e p) (pos 0)) is_ack) ∙ not_less
+    in syn_by (ack_at e p) e.sending.sent (usual.sent is_ack) (b.syn_unacked syn_unacked) up
 
 -- an acceptable segment with neither SYN nor RST
 plain_owed : (e : Tcb) (p : Segment) → IsBounded e → IsUsual e p → e.owed ≡ false → acknowledges_less e p ≡ false
@@ -87,8 +87,8 @@ plain_owed e p b usual none not_less =
     let e1 : Tcb = at_ack e p in
     let early : Bool = int_lt (pos (next e.receiving)) (first e p) in
     let some : Bool = nat_lt 0 (length_of p) in
-    part_of_if (λ (t : Tcb). t.owed) (has_ack p) (if e1.sending.opened then with_ack e1 p else with_first_ack e1 p) e1
-    ∙ ap (λ x. if has_ack p then x else e1.owed) (part_of_if (λ (t : Tcb). t.owed) e1.sending.opened (with_ack e1 p) (with_first_ack e1 p))
+    part_of_if (λ (t : Tcb). t.owed) (has_ack p) (if e1.sending.syn_acked then with_ack e1 p else with_first_ack e1 p) e1
+    ∙ ap (λ x. if has_ack p then x else e1.owed) (part_of_if (λ (t : Tcb). t.owed) e1.sending.syn_acked (with_ack e1 p) (with_first_ack e1 p))
     ∙ if_when (has_ack p) _ (some || (has_ack p && early)) _ (some || (has_ack p && early))
     (λ is_ack. ack_part e1 p (sent_bool e p b usual is_ack) (is_syn_ack e p b usual not_less is_ack)
     ∙ ap (λ v. v || early) (none_or e.owed some none) ∙ ap (λ v. some || (v && early)) (sym is_ack))

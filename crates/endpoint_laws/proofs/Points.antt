@@ -46,7 +46,7 @@ after_meets_laws service news before n = record {
   same = record { key = refl; cisn = refl; sisn = refl; mss = refl; fetched = refl };
   taken = refl;
   fin = refl;
-  counted = refl;
+  syn_acked = refl;
   una = refl;
   edge = refl;
   wl1 = refl;

@@ -11,9 +11,9 @@ use Rattle.ft_model.specs.News.{News}
 use Rattle.ft_model.specs.News.News.{Comes, Logged, Ticks, Begins}
 use Rattle.tcp_endpoint.specs.declared.states.StateName.{StateName}
 use Rattle.tcp_endpoint.specs.declared.states.StateName.TheVariants.{Closed, Listen, SynSent, SynReceived, Established, FinWait1, FinWait2, CloseWait, Closing, LastAck, TimeWait}
-use Rattle.tcp_endpoint.specs.States.{opened, has_begun}
+use Rattle.tcp_endpoint.specs.States.{after_syn_acked, has_begun}
 use Rattle.tcp_endpoint.specs.Receiving.{next, window}
-use Rattle.tcp_endpoint.specs.Sending.{opened_by}
+use Rattle.tcp_endpoint.specs.Sending.{with_syn_acked}
 use Rattle.tcp_endpoint.specs.Tcb.{Tcb}
 use Rattle.tcp_endpoint.specs.Arrival.{first, ack_at, owing_if, killed, refusing, refusing_without_ack, begun, answered, in_closed, in_listen, in_syn_sent, with_text_and_fin, with_first_ack, with_ack, check_ack, check_syn, check_rst, waiting_again, check_place, in_others, received_in, received}
 use Rattle.tcp_endpoint.specs.Leaving.{answer_segments}
@@ -47,10 +47,10 @@ by_refusing_without_ack taken e p c = inr ((refl, tt), c.1)
 by_ack : (taken : ℕ) (e : Tcb) (p : Segment) → Came taken e → Refuses taken (check_ack e p)
 unfolding check_ack with_first_ack
 by_ack taken e p c =
-    let m : Tcb = record e { name = opened e.sending.closed; sending = opened_by e.sending p.head.seq p.head.window } in
+    let m : Tcb = record e { name = after_syn_acked e.sending.closed; sending = with_syn_acked e.sending p.head.seq p.head.window } in
     let P : Tcb → Type 0 = λ t. Refuses taken t in
-    holds_if P (has_ack p) (if e.sending.opened then with_ack e p else with_first_ack e p) e
-    (λ a. holds_if P e.sending.opened (with_ack e p) (with_first_ack e p)
+    holds_if P (has_ack p) (if e.sending.syn_acked then with_ack e p else with_first_ack e p) e
+    (λ a. holds_if P e.sending.syn_acked (with_ack e p) (with_first_ack e p)
     (λ o. inl (later_part (λ (t : Tcb). t.answer) e p beside ∙ c.0))
     (λ o. holds_if P (int_eq (ack_at e p) (pos 0)) (with_text_and_fin m p) (refusing e p) (λ b. inl (beside.text m p ∙ c.0)) (λ b. by_refusing taken e p c)))
     (λ a. inl c.0)

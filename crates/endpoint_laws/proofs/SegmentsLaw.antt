@@ -71,7 +71,7 @@ record Numbered (o c f ends : Bool) (una len edge sent all : ℕ) : Type 0 where
   order : una ≤ sent
   written : WrittenAll c f ends una len sent all ⊎ Filled c f una len all
   flight : sent ≤ una + len + one_if f
-  unopened : o ≡ false → sent ≡ 0
+  syn_unacked : o ≡ false → sent ≡ 0
   shut : o ≡ false → edge ≡ 0
   reach : edge ≤ una + 65535
   closes : f ≡ true → (c ≡ true) × (1 ≤ sent) × (len ≡ sent - 1 - una)
@@ -97,13 +97,13 @@ how_written service p s last (inr w) =
     })
 
 numbered : {State : Type 0} {service : Machine State} {news : News} {before after : Point} {u : Tcb} → Flushes service news before after u
-    → Numbered u.sending.opened u.sending.closed u.sending.fin_sent (answered_run service after).closed u.sending.una (length u.sending.held) u.sending.edge u.sending.sent
+    → Numbered u.sending.syn_acked u.sending.closed u.sending.fin_sent (answered_run service after).closed u.sending.una (length u.sending.held) u.sending.edge u.sending.sent
     (released service after)
 numbered {service = service} {after = after} {u = u} f = record {
   order = f.bounds.order;
   written = how_written service after u.sending f.fin_last f.used.written;
   flight = f.bounds.flight;
-  unopened = f.bounds.unopened;
+  syn_unacked = f.bounds.syn_unacked;
   shut = f.bounds.shut;
   reach = f.bounds.reach;
   closes = f.fin_last;
@@ -113,23 +113,23 @@ numbered {service = service} {after = after} {u = u} f = record {
 all_bytes : (o c f : Bool) (una len edge sent all : ℕ) → all ≡ (if f then sent - 1 else una + len) → sent ≤ una + len + one_if f
     → (o ≡ false → sent ≡ 0) → (o ≡ false → edge ≡ 0) → (f ≡ true → 1 ≤ sent)
     → (if o && not f then min (una + len) edge - sent else 0) ≡ min (max sent (min (all + one_if c) edge)) all - sent
-all_bytes false c f una len edge sent all w flight unopened shut closes = omega (arith, unopened refl, shut refl)
-all_bytes true c true una len edge sent all w flight unopened shut closes = omega (arith, w, closes refl)
-all_bytes true c false una len edge sent all w flight unopened shut closes = omega (arith, w, flight)
+all_bytes false c f una len edge sent all w flight syn_unacked shut closes = omega (arith, syn_unacked refl, shut refl)
+all_bytes true c true una len edge sent all w flight syn_unacked shut closes = omega (arith, w, closes refl)
+all_bytes true c false una len edge sent all w flight syn_unacked shut closes = omega (arith, w, flight)
 
 filled_bytes : (o c f : Bool) (una len edge sent all : ℕ) → f ≡ false → len ≡ 65535 → una + len ≤ all → edge ≤ una + 65535
     → (o ≡ false → sent ≡ 0) → (o ≡ false → edge ≡ 0)
     → (if o && not f then min (una + len) edge - sent else 0) ≡ min (max sent (min (all + one_if c) edge)) all - sent
-filled_bytes false c f una len edge sent all none full w reach unopened shut = omega (arith, unopened refl, shut refl)
-filled_bytes true c true una len edge sent all none full w reach unopened shut = absurd (false≢true (sym none))
-filled_bytes true c false una len edge sent all none full w reach unopened shut = omega (arith, full, w, reach)
+filled_bytes false c f una len edge sent all none full w reach syn_unacked shut = omega (arith, syn_unacked refl, shut refl)
+filled_bytes true c true una len edge sent all none full w reach syn_unacked shut = absurd (false≢true (sym none))
+filled_bytes true c false una len edge sent all none full w reach syn_unacked shut = omega (arith, full, w, reach)
 
 new_bytes : (o c f ends : Bool) (una len edge sent all : ℕ) → Numbered o c f ends una len edge sent all
     → (if o && not f then min (una + len) edge - sent else 0) ≡ min (max sent (min (all + one_if ends) edge)) all - sent
 new_bytes o c f ends una len edge sent all n =
     ⊎_elim
-    (λ w. all_bytes o ends f una len edge sent all w.written n.flight n.unopened n.shut (λ h. (n.closes h).1))
-    (λ w. filled_bytes o ends f una len edge sent all w.unsent w.full w.written n.reach n.unopened n.shut)
+    (λ w. all_bytes o ends f una len edge sent all w.written n.flight n.syn_unacked n.shut (λ h. (n.closes h).1))
+    (λ w. filled_bytes o ends f una len edge sent all w.unsent w.full w.written n.reach n.syn_unacked n.shut)
     n.written
 
 -- the FIN is sent for the first time
@@ -138,10 +138,10 @@ all_fin : (o c f : Bool) (una len edge sent all : ℕ) → all ≡ (if f then se
     → (o && c && not f && (sent + (if o && not f then min (una + len) edge - sent else 0) == una + len)
     && nat_lt (sent + (if o && not f then min (una + len) edge - sent else 0)) edge)
     ≡ (nat_lt all (max sent (min (all + one_if c) edge)) && nat_le sent all)
-all_fin false c f una len edge sent all w flight unopened shut closes = grind (arith, unopened refl, shut refl)
-all_fin true c true una len edge sent all w flight unopened shut closes = grind (arith, w, closes refl)
-all_fin true true false una len edge sent all w flight unopened shut closes = grind (arith, w, flight)
-all_fin true false false una len edge sent all w flight unopened shut closes = grind (arith, w, flight)
+all_fin false c f una len edge sent all w flight syn_unacked shut closes = grind (arith, syn_unacked refl, shut refl)
+all_fin true c true una len edge sent all w flight syn_unacked shut closes = grind (arith, w, closes refl)
+all_fin true true false una len edge sent all w flight syn_unacked shut closes = grind (arith, w, flight)
+all_fin true false false una len edge sent all w flight syn_unacked shut closes = grind (arith, w, flight)
 
 no_fin_yet : (o c t u v : Bool) → c ≡ false → (o && c && t && u && v) ≡ false
 no_fin_yet true true t u v h = absurd (false≢true (sym h))
@@ -165,7 +165,7 @@ first_fin : (o c f ends : Bool) (una len edge sent all : ℕ) → Numbered o c f
 first_fin o c f ends una len edge sent all n =
     let places : ℕ = sent + (if o && not f then min (una + len) edge - sent else 0) in
     ⊎_elim
-    (λ w. all_fin o c f una len edge sent all w.written n.flight n.unopened n.shut (λ h. (n.closes h).1)
+    (λ w. all_fin o c f una len edge sent all w.written n.flight n.syn_unacked n.shut (λ h. (n.closes h).1)
     ∙ ap (λ v. nat_lt all (max sent (min (all + one_if v) edge)) && nat_le sent all) (sym w.closed))
     (λ w. no_fin_yet o c (not f) (places == una + len) (nat_lt places edge) w.open_still
     ∙ sym (within_all ends una len edge sent all w.full w.written n.reach (sent_within f sent una len w.unsent n.flight)))
@@ -176,17 +176,17 @@ all_place : (o c f : Bool) (una len edge sent all : ℕ) → all ≡ (if f then 
     → (o ≡ false → sent ≡ 0) → (o ≡ false → edge ≡ 0) → (f ≡ true → 1 ≤ sent)
     → (nat_lt all (max sent (min (all + one_if c) edge)) && nat_le sent all) ≡ true
     → all ≡ una + (sent + (if o && not f then min (una + len) edge - sent else 0) - una)
-all_place false c f una len edge sent all w order flight unopened shut closes h = grind (arith, unopened refl, shut refl)
-all_place true c true una len edge sent all w order flight unopened shut closes h = grind (arith, w, closes refl)
-all_place true true false una len edge sent all w order flight unopened shut closes h = grind (arith, w, flight)
-all_place true false false una len edge sent all w order flight unopened shut closes h = grind (arith, w, flight)
+all_place false c f una len edge sent all w order flight syn_unacked shut closes h = grind (arith, syn_unacked refl, shut refl)
+all_place true c true una len edge sent all w order flight syn_unacked shut closes h = grind (arith, w, closes refl)
+all_place true true false una len edge sent all w order flight syn_unacked shut closes h = grind (arith, w, flight)
+all_place true false false una len edge sent all w order flight syn_unacked shut closes h = grind (arith, w, flight)
 
 fin_place : (o c f ends : Bool) (una len edge sent all : ℕ) → Numbered o c f ends una len edge sent all
     → (nat_lt all (max sent (min (all + one_if ends) edge)) && nat_le sent all) ≡ true
     → all ≡ una + (sent + (if o && not f then min (una + len) edge - sent else 0) - una)
 fin_place o c f ends una len edge sent all n h =
     ⊎_elim
-    (λ w. all_place o ends f una len edge sent all w.written n.order n.flight n.unopened n.shut (λ k. (n.closes k).1) h)
+    (λ w. all_place o ends f una len edge sent all w.written n.order n.flight n.syn_unacked n.shut (λ k. (n.closes k).1) h)
     (λ w. absurd (false≢true (sym (within_all ends una len edge sent all w.full w.written n.reach (sent_within f sent una len w.unsent n.flight)) ∙ h)))
     n.written
 
@@ -356,7 +356,7 @@ same_place una all h = grind arith
 
 waits_here : {State : Type 0} {service : Machine State} {news : News} {before after : Point} {u : Tcb} → Flushes service news before after u
     → waits_for_ack before after ≡ true → is_unacknowledged u.sending ≡ true
-waits_here f waits = (λ i. not (sym f.sends.counted i) || nat_lt (sym f.sends.una i) (sym f.sent i)) ∙ waits
+waits_here f waits = (λ i. not (sym f.sends.syn_acked i) || nat_lt (sym f.sends.una i) (sym f.sent i)) ∙ waits
 
 one_when : (b : Bool) (x y : Segment) (xs ys : List Segment) → (b ≡ true → x ∷ [] ≡ xs) → (b ≡ false → y ∷ [] ≡ ys)
     → (if b then x else y) ∷ [] ≡ (if b then xs else ys)
@@ -371,24 +371,24 @@ again_is {service = service} {before = before} {after = after} {u = u} f waits =
     let s : Sending = u.sending in
     let all : ℕ = released service after in
     let ends : Bool = (answered_run service after).closed in
-    let n : Numbered s.opened s.closed s.fin_sent ends s.una (length s.held) s.edge s.sent all = numbered f in
+    let n : Numbered s.syn_acked s.closed s.fin_sent ends s.una (length s.held) s.edge s.sent all = numbered f in
     let again_length : resent_length s ≡ model.resent_length service before after =
-    again_bytes s.opened s.closed s.fin_sent ends s.mss s.una (length s.held) s.edge s.sent all n
+    again_bytes s.syn_acked s.closed s.fin_sent ends s.mss s.una (length s.held) s.edge s.sent all n
     ∙ (λ i. min (sym f.sends.mss i) (min (min (sym f.sent i) all - sym f.sends.una i) (max 1 (sym f.sends.edge i - sym f.sends.una i)))) in
-    let flies : not s.opened ≡ false → nat_lt s.una s.sent ≡ true = waiting s.opened (nat_lt s.una s.sent) (waits_here f waits) in
-    let last : not s.opened ≡ false → (length s.held == 0) ≡ (s.una == all) =
-    λ o. last_is_fin s.opened s.closed s.fin_sent ends s.una (length s.held) s.edge s.sent all n (flies o) in
+    let flies : not s.syn_acked ≡ false → nat_lt s.una s.sent ≡ true = waiting s.syn_acked (nat_lt s.una s.sent) (waits_here f waits) in
+    let last : not s.syn_acked ≡ false → (length s.held == 0) ≡ (s.una == all) =
+    λ o. last_is_fin s.syn_acked s.closed s.fin_sent ends s.una (length s.held) s.edge s.sent all n (flies o) in
     let fin : List Segment = model.fin_if_closed service u.local after in
     let text : List Segment = model.text_at service u.local after after.una (model.resent_length service before after) ∷ [] in
-    one_when (not s.opened) (opening_segment u) (if length s.held == 0 then fin_at u 0 else text_at u 0 (resent_length s))
+    one_when (not s.syn_acked) (opening_segment u) (if length s.held == 0 then fin_at u 0 else text_at u 0 (resent_length s))
     (model.syn_ack u.local after ∷ []) (if after.una == all then fin else text) (λ h i. opening_is f i ∷ [])
     (λ o. one_when (length s.held == 0) (fin_at u 0) (text_at u 0 (resent_length s)) fin text
     (λ h. (λ i. fin_is f 0 (same_place s.una all (sym (last o) ∙ h)) i ∷ [])
-    ∙ closed_fin service u.local after (last_is_closed s.opened s.closed s.fin_sent ends s.una (length s.held) s.edge s.sent all n (flies o) h))
+    ∙ closed_fin service u.local after (last_is_closed s.syn_acked s.closed s.fin_sent ends s.una (length s.held) s.edge s.sent all n (flies o) h))
     (λ h. ap (λ segment. segment ∷ [])
     (text_is f 0 after.una (resent_length s) (omega (arith, f.sends.una)) (omega arith) ∙ ap (λ m. model.text_at service u.local after after.una m) again_length))
     ∙ ap (λ b. if b then fin else text) (last o ∙ ap (λ k. k == all) (sym f.sends.una)))
-    ∙ ap (λ b. if not b then model.syn_ack u.local after ∷ [] else (if after.una == all then fin else text)) (sym f.sends.counted)
+    ∙ ap (λ b. if not b then model.syn_ack u.local after ∷ [] else (if after.una == all then fin else text)) (sym f.sends.syn_acked)
 
 -- new text is held
 held_by : (o f : Bool) (una len edge sent : ℕ) → una ≤ sent → 0 < (if o && not f then min (una + len) edge - sent else 0)
@@ -398,7 +398,7 @@ held_by true false una len edge sent order some = omega (arith, order, some)
 held_by false f una len edge sent order some = absurd (omega (arith, some))
 
 held_on : (begun : Bool) (s : Sending) → s.una ≤ s.sent → 0 < (if begun then sendable s else 0) → s.sent - s.una + (if begun then sendable s else 0) ≤ length s.held
-held_on true s order some = held_by s.opened s.fin_sent s.una (length s.held) s.edge s.sent order some
+held_on true s order some = held_by s.syn_acked s.fin_sent s.una (length s.held) s.edge s.sent order some
 held_on false s order some = absurd (omega (arith, some))
 
 -- what is sent for the first time, where nothing is probed
@@ -409,7 +409,7 @@ text_out_is {service = service} {before = before} {after = after} {u = u} f =
     let s : Sending = u.sending in
     let all : ℕ = released service after in
     let bytes : new_length u ≡ model.new_length service before after =
-    ap (λ b. if b then sendable s else 0) f.begun ∙ new_bytes s.opened s.closed s.fin_sent (answered_run service after).closed s.una (length s.held) s.edge s.sent all (numbered f)
+    ap (λ b. if b then sendable s else 0) f.begun ∙ new_bytes s.syn_acked s.closed s.fin_sent (answered_run service after).closed s.una (length s.held) s.edge s.sent all (numbered f)
     ∙ (λ i. min (max (sym f.sent i) (min (all + one_if (answered_run service after).closed) (sym f.sends.edge i))) all - sym f.sent i) in
     texts_are f (new_length u) (s.sent - s.una) before.sent (new_length u) (omega (arith, f.bounds.order, f.sent)) (held_on (has_begun u.name) s f.bounds.order)
     ∙ (λ i. model.texts service u.local after (bytes i) before.sent (bytes i))
@@ -421,15 +421,15 @@ fin_out_is {service = service} {before = before} {after = after} {u = u} f =
     let s : Sending = u.sending in
     let all : ℕ = released service after in
     let ends : Bool = (answered_run service after).closed in
-    let n : Numbered s.opened s.closed s.fin_sent ends s.una (length s.held) s.edge s.sent all = numbered f in
+    let n : Numbered s.syn_acked s.closed s.fin_sent ends s.una (length s.held) s.edge s.sent all = numbered f in
     let bytes : new_length u ≡ sendable s = ap (λ b. if b then sendable s else 0) f.begun in
     let fin : List Segment = model.fin_if_closed service u.local after in
     let test : Bool = nat_lt all (max s.sent (min (all + one_if ends) s.edge)) && nat_le s.sent all in
     ap (λ b. if b then fin_at (with_text_sent u) (s.sent + new_length u - s.una) ∷ [] else [])
-    ((λ i. f.begun i && sends_fin (with_sent s (bytes i))) ∙ first_fin s.opened s.closed s.fin_sent ends s.una (length s.held) s.edge s.sent all n)
+    ((λ i. f.begun i && sends_fin (with_sent s (bytes i))) ∙ first_fin s.syn_acked s.closed s.fin_sent ends s.una (length s.held) s.edge s.sent all n)
     ∙ if_when test (fin_at (with_text_sent u) (s.sent + new_length u - s.una) ∷ []) fin [] []
     (λ h. (λ i. fin_is f (s.sent + new_length u - s.una)
-    (ap (λ k. s.una + (s.sent + k - s.una)) bytes ∙ sym (fin_place s.opened s.closed s.fin_sent ends s.una (length s.held) s.edge s.sent all n h)) i ∷ [])
+    (ap (λ k. s.una + (s.sent + k - s.una)) bytes ∙ sym (fin_place s.syn_acked s.closed s.fin_sent ends s.una (length s.held) s.edge s.sent all n h)) i ∷ [])
     ∙ closed_fin service u.local after (first_is_closed ends s.edge s.sent all h))
     (λ h. refl)
     ∙ (λ i. if nat_lt all (max (sym f.sent i) (min (all + one_if ends) (sym f.sends.edge i))) && nat_le (sym f.sent i) all then fin else [])
@@ -444,11 +444,11 @@ unfolding again_out
 once_again u begun is waits = λ i. if is i && not (begun_open u.name begun i) && waits i then again_segment u ∷ [] else []
 
 pub no_text_probe : (u : Tcb) → u.probe ≡ false → probes_text u ≡ false
-no_text_probe u is = ap (λ b. b && has_begun u.name && u.sending.opened && not u.sending.fin_sent && nat_lt (u.sending.sent - u.sending.una) (length u.sending.held)) is
+no_text_probe u is = ap (λ b. b && has_begun u.name && u.sending.syn_acked && not u.sending.fin_sent && nat_lt (u.sending.sent - u.sending.una) (length u.sending.held)) is
 
 pub no_fin_probe : (u : Tcb) → u.probe ≡ false → probes_fin u ≡ false
 no_fin_probe u is =
-    ap (λ b. b && has_begun u.name && u.sending.opened && not u.sending.fin_sent && not (nat_lt (u.sending.sent - u.sending.una) (length u.sending.held)) && u.sending.closed) is
+    ap (λ b. b && has_begun u.name && u.sending.syn_acked && not u.sending.fin_sent && not (nat_lt (u.sending.sent - u.sending.una) (length u.sending.held)) && u.sending.closed) is
 
 pub probe_by : (u : Tcb) (pt pf : Bool) → probes_text u ≡ pt → probes_fin u ≡ pf
     → probe_out u
@@ -479,7 +479,7 @@ pub no_text_out : (v : Tcb) → v.sending.edge ≤ v.sending.sent → text_out v
 unfolding text_out texts
 no_text_out v h =
     let none : new_length v ≡ 0 =
-    no_room (has_begun v.name) v.sending.opened v.sending.fin_sent v.sending.una (length v.sending.held) v.sending.edge v.sending.sent h in
+    no_room (has_begun v.name) v.sending.syn_acked v.sending.fin_sent v.sending.una (length v.sending.held) v.sending.edge v.sending.sent h in
     λ i. texts (none i) v (v.sending.sent - v.sending.una) (none i)
 
 pub no_fin_out : (v : Tcb) → v.sending.edge ≤ v.sending.sent → fin_out (with_text_sent v) ≡ []
@@ -487,7 +487,7 @@ unfolding fin_out with_text_sent
 no_fin_out v h =
     let s : Sending = v.sending in
     ap (λ b. if b then fin_at (with_text_sent v) (s.sent + new_length v - s.una) ∷ [] else [])
-    (no_room_fin (has_begun v.name) (s.opened && s.closed && not s.fin_sent && (s.sent + new_length v == s.una + length s.held)) s.sent (new_length v) s.edge h)
+    (no_room_fin (has_begun v.name) (s.syn_acked && s.closed && not s.fin_sent && (s.sent + new_length v == s.una + length s.held)) s.sent (new_length v) s.edge h)
 
 -- .. by the laws too
 no_new_bytes : (all goal edge sent : ℕ) → edge ≤ sent → min (max sent (min goal edge)) all - sent ≡ 0
@@ -564,7 +564,7 @@ probed_is {service = service} {before = before} {after = after} {u = u} f true i
     let s : Sending = u.sending in
     let all : ℕ = released service after in
     let unsent : s.fin_sent ≡ false = fin_unsent s.fin_sent s.closed s.una (length s.held) s.sent (f.probes.all_acked is) (f.probes.waits is) in
-    let on : probes u ≡ true = probing u f.begun (f.probes.opened is) unsent is in
+    let on : probes u ≡ true = probing u f.begun (f.probes.syn_acked is) unsent is in
     let text : probes_text u ≡ true = ap (λ b. b && nat_lt (s.sent - s.una) (length s.held)) on ∙ waits in
     let test : nat_lt before.sent all ≡ true = ap (λ k. nat_lt k all) f.sent ∙ sym (probe_waits service after s (f.probes.all_acked is) unsent f.used.written) ∙ waits in
     probe_by u true (probes_fin u) text refl
@@ -576,7 +576,7 @@ probed_is {service = service} {before = before} {after = after} {u = u} f false 
     let unsent : s.fin_sent ≡ false = fin_unsent s.fin_sent s.closed s.una (length s.held) s.sent (f.probes.all_acked is) (f.probes.waits is) in
     let none : length s.held ≡ 0 = nothing_held s.una s.sent (length s.held) (f.probes.all_acked is) waits in
     let closes : s.closed ≡ true = waits_fin s.fin_sent s.closed s.una (length s.held) s.sent (f.probes.all_acked is) (f.probes.waits is) none in
-    let on : probes u ≡ true = probing u f.begun (f.probes.opened is) unsent is in
+    let on : probes u ≡ true = probing u f.begun (f.probes.syn_acked is) unsent is in
     let no_text : probes_text u ≡ false = ap (λ b. b && nat_lt (s.sent - s.una) (length s.held)) on ∙ waits in
     let fin : probes_fin u ≡ true =
     ap (λ b. b && not (nat_lt (s.sent - s.una) (length s.held)) && s.closed) on ∙ ap (λ b. true && not b && s.closed) waits ∙ closes in

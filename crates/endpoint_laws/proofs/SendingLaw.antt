@@ -9,9 +9,9 @@ use Rattle.seq_arith.specs.Packet.{Segment, has_fin, has_syn, has_rst, has_ack}
 use Rattle.seq_arith.specs.Offset.{length_of}
 use Rattle.tcp_buffers.specs.Near.{IsNearFirst, is_ahead}
 use Rattle.tcp_buffers.proofs.NumbersTell.{between_is, same_is}
-use Rattle.tcp_endpoint.specs.States.{opened, after_fin, after_fin_acked, has_begun}
+use Rattle.tcp_endpoint.specs.States.{after_syn_acked, after_fin, after_fin_acked, has_begun}
 use Rattle.tcp_endpoint.specs.Receiving.{Receiving, taken, next, announced_edge, window}
-use Rattle.tcp_endpoint.specs.Sending.{Sending, opened_by, acknowledged, fin_acked, moves_edge}
+use Rattle.tcp_endpoint.specs.Sending.{Sending, with_syn_acked, acknowledged, fin_acked, moves_edge}
 use Rattle.tcp_endpoint.specs.Tcb.{Tcb}
 use Rattle.tcp_endpoint.specs.Arrival.{first, ack_at, owing_if, entering, with_text_and_fin, with_fin_acked, with_first_ack, with_ack, waiting_again, in_others, received, refusing}
 use Rattle.endpoint_laws.specs.Laws.{accepts, counts, acknowledges, uses_window, IsSentBy, IsBounded, IsUsual}
@@ -43,10 +43,10 @@ later_ack_part e p sent =
     ∙ acked_part used
 
 first_ack_part : (e : Tcb) (p : Segment)
-    → (with_first_ack e p).sending ≡ (if int_eq (ack_at e p) (pos 0) then opened_by e.sending p.head.seq p.head.window else e.sending)
+    → (with_first_ack e p).sending ≡ (if int_eq (ack_at e p) (pos 0) then with_syn_acked e.sending p.head.seq p.head.window else e.sending)
 unfolding with_first_ack refusing
 first_ack_part e p =
-    let opening : Tcb = record e { name = opened e.sending.closed; sending = opened_by e.sending p.head.seq p.head.window }
+    let opening : Tcb = record e { name = after_syn_acked e.sending.closed; sending = with_syn_acked e.sending p.head.seq p.head.window }
     in part_of_if (λ (t : Tcb). t.sending) (int_eq (ack_at e p) (pos 0)) (with_text_and_fin opening p) (refusing e p)
     ∙ ap (λ x. if int_eq (ack_at e p) (pos 0) then x else e.sending) (text_part opening p)
 
@@ -57,21 +57,21 @@ sending_aside = record { killed = λ e. refl; owing = λ b e. refl; waiting = λ
 -- what a segment that counts makes of the sending half
 abbrev pub used_by : Tcb → Segment → Sending
 used_by e p =
-    if e.sending.opened
+    if e.sending.syn_acked
     then acknowledged e.sending p.head.seq (ack_at e p) p.head.window
-    else opened_by e.sending p.head.seq p.head.window
+    else with_syn_acked e.sending p.head.seq p.head.window
 
 checks_use : (e : Tcb) (p : Segment) → IsBounded e → IsUsual e p
     → (in_others e p).sending
-    ≡ by_checks (is_acceptable (next e.receiving) (window e.receiving) (first e p) (length_of p)) (has_rst p) (has_syn p) (has_ack p) e.sending.opened
-    (int_eq (ack_at e p) (pos 0)) (acknowledged e.sending p.head.seq (ack_at e p) p.head.window) (opened_by e.sending p.head.seq p.head.window) e.sending
+    ≡ by_checks (is_acceptable (next e.receiving) (window e.receiving) (first e p) (length_of p)) (has_rst p) (has_syn p) (has_ack p) e.sending.syn_acked
+    (int_eq (ack_at e p) (pos 0)) (acknowledged e.sending p.head.seq (ack_at e p) p.head.window) (with_syn_acked e.sending p.head.seq p.head.window) e.sending
 unfolding waiting_again
 checks_use e p bounded usual =
     others_part (λ (t : Tcb). t.sending) e p sending_aside ∙ if_when (is_acceptable (next e.receiving) (window e.receiving) (first e p) (length_of p)) _ _ _ _
     (λ acceptable. if_when (has_rst p) _ _ _ _ (λ h. refl)
     (λ no_rst. if_when (has_syn p) _ _ _ _ (λ h. refl)
     (λ no_syn. if_when (has_ack p) _ _ _ _
-    (λ is_ack. if_when e.sending.opened _ _ _ _
+    (λ is_ack. if_when e.sending.syn_acked _ _ _ _
     (λ h. later_ack_part (at_ack e p) p (sent_bool e p bounded usual is_ack))
     (λ h. first_ack_part (at_ack e p) p))
     (λ h. refl))))
@@ -82,20 +82,20 @@ off_by true b x y = refl
 off_by false b x y = refl
 
 -- the choice of the checks, in the law's one test
-by_law : (acceptable rst syn ack opened syn_acked acked : Bool) (x x' y : Sending) → (ack ≡ true → opened ≡ false → syn_acked ≡ acked)
-    → by_checks acceptable rst syn ack opened syn_acked x x' y
-    ≡ (if ack && not syn && not rst && acceptable && (opened || acked) then (if opened then x else x') else y)
-by_law true true true true opened syn_acked acked x x' y same = refl
-by_law true true true false opened syn_acked acked x x' y same = refl
-by_law true true false true opened syn_acked acked x x' y same = refl
-by_law true true false false opened syn_acked acked x x' y same = refl
-by_law true false true true opened syn_acked acked x x' y same = refl
-by_law true false true false opened syn_acked acked x x' y same = refl
-by_law true false false true true syn_acked acked x x' y same = refl
-by_law true false false true false syn_acked acked x x' y same = ap (λ b. if b then x' else y) (same refl refl)
-by_law true false false false opened syn_acked acked x x' y same = refl
-by_law false rst syn true opened syn_acked acked x x' y same = off_by (not syn && not rst) (opened || acked) (if opened then x else x') y
-by_law false rst syn false opened syn_acked acked x x' y same = refl
+by_law : (acceptable rst syn ack syn_acked acks_syn acked : Bool) (x x' y : Sending) → (ack ≡ true → syn_acked ≡ false → acks_syn ≡ acked)
+    → by_checks acceptable rst syn ack syn_acked acks_syn x x' y
+    ≡ (if ack && not syn && not rst && acceptable && (syn_acked || acked) then (if syn_acked then x else x') else y)
+by_law true true true true syn_acked acks_syn acked x x' y same = refl
+by_law true true true false syn_acked acks_syn acked x x' y same = refl
+by_law true true false true syn_acked acks_syn acked x x' y same = refl
+by_law true true false false syn_acked acks_syn acked x x' y same = refl
+by_law true false true true syn_acked acks_syn acked x x' y same = refl
+by_law true false true false syn_acked acks_syn acked x x' y same = refl
+by_law true false false true true acks_syn acked x x' y same = refl
+by_law true false false true false acks_syn acked x x' y same = ap (λ b. if b then x' else y) (same refl refl)
+by_law true false false false syn_acked acks_syn acked x x' y same = refl
+by_law false rst syn true syn_acked acks_syn acked x x' y same = off_by (not syn && not rst) (syn_acked || acked) (if syn_acked then x else x') y
+by_law false rst syn false syn_acked acks_syn acked x x' y same = refl
 
 -- the sending half after a segment, whole
 pub sending_is : (e : Tcb) (p : Segment) → has_begun e.name ≡ true → IsBounded e → IsUsual e p
@@ -105,22 +105,22 @@ sending_is e p begun bounded usual =
     let acceptable : ℕ → Bool = λ w. is_acceptable (next e.receiving) w (first e p) (length_of p) in
     let acked : Bool = int_le (pos 0) (ack_at e p) in
     let chosen : ℕ → Sending = λ w.
-    if has_ack p && not (has_syn p) && not (has_rst p) && acceptable w && (e.sending.opened || acked) then used_by e p else e.sending in
+    if has_ack p && not (has_syn p) && not (has_rst p) && acceptable w && (e.sending.syn_acked || acked) then used_by e p else e.sending in
     ap (λ (t : Tcb). t.sending) (begun_is e.name e p begun) ∙ checks_use e p bounded usual
-    ∙ by_law (acceptable (window e.receiving)) (has_rst p) (has_syn p) (has_ack p) e.sending.opened (int_eq (ack_at e p) (pos 0)) acked
-    (acknowledged e.sending p.head.seq (ack_at e p) p.head.window) (opened_by e.sending p.head.seq p.head.window) e.sending
-    (λ is_ack unopened. syn_only e p (usual.sent is_ack) (bounded.unopened unopened))
+    ∙ by_law (acceptable (window e.receiving)) (has_rst p) (has_syn p) (has_ack p) e.sending.syn_acked (int_eq (ack_at e p) (pos 0)) acked
+    (acknowledged e.sending p.head.seq (ack_at e p) p.head.window) (with_syn_acked e.sending p.head.seq p.head.window) e.sending
+    (λ is_ack syn_unacked. syn_only e p (usual.sent is_ack) (bounded.syn_unacked syn_unacked))
     ∙ ap chosen (sym (window_is e.receiving))
 
 -- what counts has ACK, and acknowledges the SYN where that is the first
-pub counts_ack : (ack syn rst acceptable opened acked : Bool) → (ack && not syn && not rst && acceptable && (opened || acked)) ≡ true
-    → (ack ≡ true) × (opened ≡ false → acked ≡ true)
+pub counts_ack : (ack syn rst acceptable syn_acked acked : Bool) → (ack && not syn && not rst && acceptable && (syn_acked || acked)) ≡ true
+    → (ack ≡ true) × (syn_acked ≡ false → acked ≡ true)
 counts_ack true false false true true acked h = (refl, λ e. cc)
 counts_ack true false false true false acked h = (refl, λ e. h)
-counts_ack true false false false opened acked h = cc
-counts_ack true false true acceptable opened acked h = absurd (false≢true (dull acceptable (opened || acked) h))
-counts_ack true true rst acceptable opened acked h = absurd (false≢true (dull_more rst acceptable (opened || acked) h))
-counts_ack false syn rst acceptable opened acked h = absurd (false≢true (dull_most syn rst acceptable (opened || acked) h))
+counts_ack true false false false syn_acked acked h = cc
+counts_ack true false true acceptable syn_acked acked h = absurd (false≢true (dull acceptable (syn_acked || acked) h))
+counts_ack true true rst acceptable syn_acked acked h = absurd (false≢true (dull_more rst acceptable (syn_acked || acked) h))
+counts_ack false syn rst acceptable syn_acked acked h = absurd (false≢true (dull_most syn rst acceptable (syn_acked || acked) h))
 
 -- the fields of an acknowledgement that was sent, of a connection whose SYN is acknowledged
 una_field : (una sent : ℕ) (z : ℤ) → z ≤ℤ pos sent
@@ -181,40 +181,40 @@ pub near_of_counts : (e : Tcb) (p : Segment) → IsBounded e → IsUsual e p →
 near_of_counts e p bounded usual does_count =
     near_of_acceptable (next e.receiving) (announced_edge e.receiving - next e.receiving) (first e p) (length_of p)
     (next_near e.receiving bounded.limit bounded.taken) (window_short e.receiving) (length_short p usual.text)
-    (acceptable_of (has_ack p) (has_syn p) (has_rst p) (accepts e p) (e.sending.opened || int_le (pos 0) (ack_at e p)) does_count)
+    (acceptable_of (has_ack p) (has_syn p) (has_rst p) (accepts e p) (e.sending.syn_acked || int_le (pos 0) (ack_at e p)) does_count)
 
 -- the test on a window, as the law says it
 abbrev is_newer : Tcb → Segment → Bool
 is_newer e p = updates_window e.sending.una (offset_of e.receiving.irs e.sending.wl1) e.sending.wl2 (first e p) (nat_abs (ack_at e p))
 
-window_is_used : (e : Tcb) (p : Segment) → IsBounded e → IsUsual e p → e.sending.opened ≡ true → counts e p ≡ true
+window_is_used : (e : Tcb) (p : Segment) → IsBounded e → IsUsual e p → e.sending.syn_acked ≡ true → counts e p ≡ true
     → ack_at e p ≤ℤ pos e.sending.sent → moves_edge e.sending p.head.seq (ack_at e p) ≡ uses_window e p
-window_is_used e p bounded usual is_opened does_count sent =
+window_is_used e p bounded usual is_syn_acked does_count sent =
     let s : Sending = e.sending in
     let z : ℤ = ack_at e p in
     let irs : ℕ = e.receiving.irs in
     let seq : ℕ = p.head.seq in
     let wl1_fits : s.wl1 < 2 ^ 32 = omega (arith, bounded.wl1_fits) in
     let near : IsNearFirst (first e p) = near_of_counts e p bounded usual does_count in
-    let later : precedes s.wl1 seq ≡ int_lt (offset_of irs s.wl1) (offset_of irs seq) = between_is irs s.wl1 seq wl1_fits usual.seq (bounded.wl1 is_opened) near in
-    let same : (s.wl1 == seq) ≡ int_eq (offset_of irs s.wl1) (offset_of irs seq) = same_is irs s.wl1 seq wl1_fits usual.seq (bounded.wl1 is_opened) near in
+    let later : precedes s.wl1 seq ≡ int_lt (offset_of irs s.wl1) (offset_of irs seq) = between_is irs s.wl1 seq wl1_fits usual.seq (bounded.wl1 is_syn_acked) near in
+    let same : (s.wl1 == seq) ≡ int_eq (offset_of irs s.wl1) (offset_of irs seq) = same_is irs s.wl1 seq wl1_fits usual.seq (bounded.wl1 is_syn_acked) near in
     ap (λ b. int_le (pos s.una) z && int_le z (pos s.sent) && (b || (s.wl1 == seq && nat_le s.wl2 (nat_abs z)))) later
     ∙ ap (λ b. int_le (pos s.una) z && int_le z (pos s.sent) && (int_lt (offset_of irs s.wl1) (offset_of irs seq) || (b && nat_le s.wl2 (nat_abs z)))) same
     ∙ window_test s.una s.sent s.wl2 z (int_lt (offset_of irs s.wl1) (offset_of irs seq)) (int_eq (offset_of irs s.wl1) (offset_of irs seq)) sent
     ∙ ap (λ b. (b && int_le (pos 0) z) && (false || is_newer e p)) (sym does_count)
-    ∙ ap (λ o. (counts e p && int_le (pos 0) z) && (not o || is_newer e p)) (sym is_opened)
+    ∙ ap (λ o. (counts e p && int_le (pos 0) z) && (not o || is_newer e p)) (sym is_syn_acked)
 
-later_law : (e : Tcb) (p : Segment) → IsBounded e → IsUsual e p → e.sending.opened ≡ true → counts e p ≡ true
+later_law : (e : Tcb) (p : Segment) → IsBounded e → IsUsual e p → e.sending.syn_acked ≡ true → counts e p ≡ true
     → IsSentBy e p (acknowledged e.sending p.head.seq (ack_at e p) p.head.window)
 unfolding acknowledged
-later_law e p bounded usual is_opened does_count =
+later_law e p bounded usual is_syn_acked does_count =
     let s : Sending = e.sending in
     let z : ℤ = ack_at e p in
-    let sent : z ≤ℤ pos s.sent = usual.sent (counts_ack (has_ack p) (has_syn p) (has_rst p) (accepts e p) s.opened (int_le (pos 0) z) does_count).0 in
-    let used : moves_edge s p.head.seq z ≡ uses_window e p = window_is_used e p bounded usual is_opened does_count sent in
+    let sent : z ≤ℤ pos s.sent = usual.sent (counts_ack (has_ack p) (has_syn p) (has_rst p) (accepts e p) s.syn_acked (int_le (pos 0) z) does_count).0 in
+    let used : moves_edge s p.head.seq z ≡ uses_window e p = window_is_used e p bounded usual is_syn_acked does_count sent in
     record {
       iss = refl;
-      counted = is_opened ∙ sym (ap (λ b. b || counts e p) is_opened);
+      syn_acked = is_syn_acked ∙ sym (ap (λ b. b || counts e p) is_syn_acked);
       una = una_field s.una s.sent z sent ∙ ap (λ b. if b && int_le (pos 0) z then una_after s.una (nat_abs z) else s.una) (sym does_count);
       sent = refl;
       edge = ap (λ b. if b then nat_abs z + p.head.window else s.edge) used;
@@ -230,21 +230,21 @@ zero_abs z n h none up = grind (arith, ints)
 una_zero : (una a : ℕ) → una ≡ 0 → a ≡ 0 → 0 ≡ una_after una a
 una_zero una a u z = grind arith
 
-first_law : (e : Tcb) (p : Segment) → IsBounded e → IsUsual e p → e.sending.opened ≡ false → counts e p ≡ true
-    → IsSentBy e p (opened_by e.sending p.head.seq p.head.window)
-first_law e p bounded usual unopened does_count =
+first_law : (e : Tcb) (p : Segment) → IsBounded e → IsUsual e p → e.sending.syn_acked ≡ false → counts e p ≡ true
+    → IsSentBy e p (with_syn_acked e.sending p.head.seq p.head.window)
+first_law e p bounded usual syn_unacked does_count =
     let s : Sending = e.sending in
     let z : ℤ = ack_at e p in
-    let facts = counts_ack (has_ack p) (has_syn p) (has_rst p) (accepts e p) s.opened (int_le (pos 0) z) does_count in
-    let none : s.sent ≡ 0 = bounded.unopened unopened in
+    let facts = counts_ack (has_ack p) (has_syn p) (has_rst p) (accepts e p) s.syn_acked (int_le (pos 0) z) does_count in
+    let none : s.sent ≡ 0 = bounded.syn_unacked syn_unacked in
     let una : s.una ≡ 0 = omega (arith, bounded.order) in
-    let acked : acknowledges e p ≡ true = ap (λ b. b && int_le (pos 0) z) does_count ∙ facts.1 unopened in
-    let zero : nat_abs z ≡ 0 = zero_abs z s.sent (usual.sent facts.0) none (facts.1 unopened) in
+    let acked : acknowledges e p ≡ true = ap (λ b. b && int_le (pos 0) z) does_count ∙ facts.1 syn_unacked in
+    let zero : nat_abs z ≡ 0 = zero_abs z s.sent (usual.sent facts.0) none (facts.1 syn_unacked) in
     let reached : p.head.window ≡ nat_abs z + p.head.window = omega (arith, zero) in
-    let used : uses_window e p ≡ true = ap (λ b. b && (not s.opened || is_newer e p)) acked ∙ ap (λ o. true && (not o || is_newer e p)) unopened in
+    let used : uses_window e p ≡ true = ap (λ b. b && (not s.syn_acked || is_newer e p)) acked ∙ ap (λ o. true && (not o || is_newer e p)) syn_unacked in
     record {
       iss = refl;
-      counted = sym (ap (λ b. b || counts e p) unopened ∙ does_count);
+      syn_acked = sym (ap (λ b. b || counts e p) syn_unacked ∙ does_count);
       una = una_zero s.una (nat_abs z) una zero ∙ ap (λ b. if b then una_after s.una (nat_abs z) else s.una) (sym acked);
       sent = sym none;
       edge = reached ∙ ap (λ b. if b then nat_abs z + p.head.window else s.edge) (sym used);
@@ -258,10 +258,10 @@ other_law : (e : Tcb) (p : Segment) → counts e p ≡ false → IsSentBy e p e.
 other_law e p no_count =
     let s : Sending = e.sending in
     let z : ℤ = ack_at e p in
-    let unused : uses_window e p ≡ false = ap (λ b. (b && int_le (pos 0) z) && (not s.opened || is_newer e p)) no_count in
+    let unused : uses_window e p ≡ false = ap (λ b. (b && int_le (pos 0) z) && (not s.syn_acked || is_newer e p)) no_count in
     record {
       iss = refl;
-      counted = or_false s.opened ∙ ap (λ b. s.opened || b) (sym no_count);
+      syn_acked = or_false s.syn_acked ∙ ap (λ b. s.syn_acked || b) (sym no_count);
       una = ap (λ b. if b && int_le (pos 0) z then una_after s.una (nat_abs z) else s.una) (sym no_count);
       sent = refl;
       edge = ap (λ b. if b then nat_abs z + p.head.window else s.edge) (sym unused);
@@ -272,8 +272,8 @@ other_law e p no_count =
     }
 
 by_count : (e : Tcb) (p : Segment) (c o : Bool) → (c ≡ true → o ≡ true → IsSentBy e p (acknowledged e.sending p.head.seq (ack_at e p) p.head.window))
-    → (c ≡ true → o ≡ false → IsSentBy e p (opened_by e.sending p.head.seq p.head.window)) → (c ≡ false → IsSentBy e p e.sending)
-    → IsSentBy e p (if c then (if o then acknowledged e.sending p.head.seq (ack_at e p) p.head.window else opened_by e.sending p.head.seq p.head.window) else e.sending)
+    → (c ≡ true → o ≡ false → IsSentBy e p (with_syn_acked e.sending p.head.seq p.head.window)) → (c ≡ false → IsSentBy e p e.sending)
+    → IsSentBy e p (if c then (if o then acknowledged e.sending p.head.seq (ack_at e p) p.head.window else with_syn_acked e.sending p.head.seq p.head.window) else e.sending)
 by_count e p true true later first_one other = later refl refl
 by_count e p true false later first_one other = first_one refl refl
 by_count e p false o later first_one other = other refl
@@ -282,7 +282,7 @@ pub sending_law : (e : Tcb) (p : Segment) → has_begun e.name ≡ true → IsBo
 sending_law e p begun bounded usual =
     let P : Sending → Type 0 = λ s. IsSentBy e p s
     in subst P (sym (sending_is e p begun bounded usual))
-    (by_count e p (counts e p) e.sending.opened
-    (λ does_count is_opened. later_law e p bounded usual is_opened does_count)
-    (λ does_count unopened. first_law e p bounded usual unopened does_count)
+    (by_count e p (counts e p) e.sending.syn_acked
+    (λ does_count is_syn_acked. later_law e p bounded usual is_syn_acked does_count)
+    (λ does_count syn_unacked. first_law e p bounded usual syn_unacked does_count)
     (λ no_count. other_law e p no_count))

@@ -162,12 +162,12 @@ ack_is p e segment m = λ i. offset_of (m.sends.sisn i) segment.head.ack
 counts_is : (p : Point) (e : Tcb) (segment : Segment) → Meets p e segment → model.counts p segment ≡ counts e segment
 unfolding model.counts
 counts_is p e segment m = λ i.
-    has_ack segment && not (has_syn segment) && not (has_rst segment) && accepts_is p e segment m i && (m.sends.counted i || int_le (pos 0) (ack_is p e segment m i))
+    has_ack segment && not (has_syn segment) && not (has_rst segment) && accepts_is p e segment m i && (m.sends.syn_acked i || int_le (pos 0) (ack_is p e segment m i))
 
 -- what counts is acceptable
 accepts_of : (e : Tcb) (segment : Segment) → counts e segment ≡ true → accepts e segment ≡ true
 accepts_of e segment h =
-    acceptable_of (has_ack segment) (has_syn segment) (has_rst segment) (accepts e segment) (e.sending.opened || int_le (pos 0) (ack_at e segment)) h
+    acceptable_of (has_ack segment) (has_syn segment) (has_rst segment) (accepts e segment) (e.sending.syn_acked || int_le (pos 0) (ack_at e segment)) h
 
 and_when : (a b b' : Bool) → (a ≡ true → b ≡ b') → (a && b) ≡ (a && b')
 and_when true b b' same = same refl
@@ -268,7 +268,7 @@ acknowledges_is p e segment m = λ i. counts_is p e segment m i && int_le (pos 0
 
 ack_of_counts : (e : Tcb) (segment : Segment) → counts e segment ≡ true → has_ack segment ≡ true
 ack_of_counts e segment h =
-    (counts_ack (has_ack segment) (has_syn segment) (has_rst segment) (accepts e segment) e.sending.opened (int_le (pos 0) (ack_at e segment)) h).0
+    (counts_ack (has_ack segment) (has_syn segment) (has_rst segment) (accepts e segment) e.sending.syn_acked (int_le (pos 0) (ack_at e segment)) h).0
 
 acknowledged_is : (p : Point) (e : Tcb) (segment : Segment) → Meets p e segment → acknowledges e segment ≡ true
     → sender.acknowledged_by p segment ≡ nat_abs (ack_at e segment)
@@ -297,11 +297,11 @@ window_test_moves una wl2 wl1 first ack k =
     (λ i. updates_window (sym una_same i) (wl1 +ℤ pos k) (sym wl2_same i) (first +ℤ pos k) (sym ack_same i))
     ∙ updates_window_shift una wl1 wl2 first ack k 0
 
-newer_is : (p : Point) (e : Tcb) (segment : Segment) → Meets p e segment → acknowledges e segment ≡ true → e.sending.opened ≡ true
+newer_is : (p : Point) (e : Tcb) (segment : Segment) → Meets p e segment → acknowledges e segment ≡ true → e.sending.syn_acked ≡ true
     → updates_window p.una p.wl1 p.wl2 (first_of p.cisn segment) (sender.acknowledged_by p segment)
     ≡ updates_window e.sending.una (offset_of e.receiving.irs e.sending.wl1) e.sending.wl2 (first e segment) (nat_abs (ack_at e segment))
-newer_is p e segment m does is_opened =
-    (λ i. updates_window (m.sends.una i) (m.sends.wl1 is_opened i) (m.sends.wl2 i) (first_is p e segment m (accepts_acknowledged e segment does) i)
+newer_is p e segment m does is_syn_acked =
+    (λ i. updates_window (m.sends.una i) (m.sends.wl1 is_syn_acked i) (m.sends.wl2 i) (first_is p e segment m (accepts_acknowledged e segment does) i)
     (acknowledged_is p e segment m does i))
     ∙ window_test_moves e.sending.una e.sending.wl2 (offset_of e.receiving.irs e.sending.wl1) (first e segment) (nat_abs (ack_at e segment)) p.fetched
 
@@ -312,8 +312,8 @@ unless_when false b b' same = refl
 moves_is : (p : Point) (e : Tcb) (segment : Segment) → Meets p e segment → sender.moves_edge p segment ≡ uses_window e segment
 moves_is p e segment m =
     let newer : Bool = updates_window p.una p.wl1 p.wl2 (first_of p.cisn segment) (sender.acknowledged_by p segment) in
-    (λ i. acknowledges_is p e segment m i && (not (m.sends.counted i) || newer))
-    ∙ and_when (acknowledges e segment) _ _ (λ h. unless_when e.sending.opened _ _ (λ o. newer_is p e segment m h o))
+    (λ i. acknowledges_is p e segment m i && (not (m.sends.syn_acked i) || newer))
+    ∙ and_when (acknowledges e segment) _ _ (λ h. unless_when e.sending.syn_acked _ _ (λ o. newer_is p e segment m h o))
 
 window_whole : (window a b : ℕ) → window ≤ 65535 → a ≡ b → min 65535 (window + b - a) ≡ window
 window_whole window a b small is = omega arith
@@ -341,10 +341,10 @@ first_uses true false true w up h none = absurd (false≢true (sym none))
 first_uses true false false w up h none = absurd (false≢true (up refl refl))
 first_uses false false a w up h none = h
 
-opened_before : (e : Tcb) (segment : Segment) → (e.sending.opened || counts e segment) ≡ true → uses_window e segment ≡ false → e.sending.opened ≡ true
-opened_before e segment h none =
-    first_uses (counts e segment) e.sending.opened (int_le (pos 0) (ack_at e segment)) _
-    (λ c o. (counts_ack (has_ack segment) (has_syn segment) (has_rst segment) (accepts e segment) e.sending.opened (int_le (pos 0) (ack_at e segment)) c).1 o) h none
+syn_acked_before : (e : Tcb) (segment : Segment) → (e.sending.syn_acked || counts e segment) ≡ true → uses_window e segment ≡ false → e.sending.syn_acked ≡ true
+syn_acked_before e segment h none =
+    first_uses (counts e segment) e.sending.syn_acked (int_le (pos 0) (ack_at e segment)) _
+    (λ c o. (counts_ack (has_ack segment) (has_syn segment) (has_rst segment) (accepts e segment) e.sending.syn_acked (int_le (pos 0) (ack_at e segment)) c).1 o) h none
 
 wl1_choice : (u : Bool) (z x x' y y' : ℤ) → z ≡ (if u then x' else y') → (u ≡ true → x ≡ x') → (u ≡ false → y ≡ y') → (if u then x else y) ≡ z
 wl1_choice true z x x' y y' is on off = on refl ∙ sym is
@@ -354,15 +354,15 @@ plus_choice : (u : Bool) (x y k : ℤ) → (if u then x else y) +ℤ k ≡ (if u
 plus_choice true x y k = refl
 plus_choice false x y k = refl
 
-wl1_is : (p : Point) (e : Tcb) (segment : Segment) → Meets p e segment → (e.sending.opened || counts e segment) ≡ true
+wl1_is : (p : Point) (e : Tcb) (segment : Segment) → Meets p e segment → (e.sending.syn_acked || counts e segment) ≡ true
     → sender.wl1_after (Comes segment) p
     ≡ (if uses_window e segment then first e segment else offset_of e.receiving.irs e.sending.wl1) +ℤ pos p.fetched
 unfolding sender.wl1_after
-wl1_is p e segment m is_opened =
+wl1_is p e segment m is_syn_acked =
     ap (λ b. if b then first_of p.cisn segment else p.wl1) (moves_is p e segment m)
     ∙ if_when (uses_window e segment) (first_of p.cisn segment) (first e segment +ℤ pos p.fetched) p.wl1 (offset_of e.receiving.irs e.sending.wl1 +ℤ pos p.fetched)
     (λ h. first_is p e segment m (accepts_acknowledged e segment (uses_acknowledges e segment h)))
-    (λ h. m.sends.wl1 (opened_before e segment is_opened h))
+    (λ h. m.sends.wl1 (syn_acked_before e segment is_syn_acked h))
     ∙ sym (plus_choice (uses_window e segment) (first e segment) (offset_of e.receiving.irs e.sending.wl1) (pos p.fetched))
 
 wl2_is : (p : Point) (e : Tcb) (segment : Segment) → Meets p e segment
@@ -373,17 +373,17 @@ wl2_is p e segment m =
     ∙ if_when (uses_window e segment) (sender.acknowledged_by p segment) (nat_abs (ack_at e segment)) p.wl2 e.sending.wl2
     (λ h. acknowledged_is p e segment m (uses_acknowledges e segment h)) (λ h. m.sends.wl2)
 
-pub counted_is : (p : Point) (e : Tcb) (segment : Segment) → Meets p e segment
-    → sender.counted_after (Comes segment) p ≡ (e.sending.opened || counts e segment)
-unfolding sender.counted_after
-counted_is p e segment m = λ i. m.sends.counted i || counts_is p e segment m i
+pub syn_acked_is : (p : Point) (e : Tcb) (segment : Segment) → Meets p e segment
+    → sender.syn_acked_after (Comes segment) p ≡ (e.sending.syn_acked || counts e segment)
+unfolding sender.syn_acked_after
+syn_acked_is p e segment m = λ i. m.sends.syn_acked i || counts_is p e segment m i
 
 -- the point that the laws lead to where a segment comes, with the reads as they were: all that a segment changes at once
 abbrev pub point_after : Segment → Point → Point
 point_after segment p = record p {
   taken = model.taken_after (Comes segment) p;
   fin = model.fin_after (Comes segment) p;
-  counted = sender.counted_after (Comes segment) p;
+  syn_acked = sender.syn_acked_after (Comes segment) p;
   una = sender.acknowledged_after (Comes segment) p;
   edge = sender.edge_after (Comes segment) p;
   wl1 = sender.wl1_after (Comes segment) p;
@@ -417,10 +417,10 @@ sends_after p e after segment m receiving sending mss =
     record {
       sisn = m.sends.sisn ∙ sym sending.iss;
       mss = m.sends.mss ∙ sym mss;
-      counted = counted_is p e segment m ∙ sym sending.counted;
+      syn_acked = syn_acked_is p e segment m ∙ sym sending.syn_acked;
       una = una_is p e segment m ∙ sym sending.una;
       edge = right_edge_is p e segment m ∙ sym sending.edge;
-      wl1 = λ h. wl1_is p e segment m (sym sending.counted ∙ h) ∙ ap (λ z. z +ℤ pos p.fetched) (sym sending.wl1)
+      wl1 = λ h. wl1_is p e segment m (sym sending.syn_acked ∙ h) ∙ ap (λ z. z +ℤ pos p.fetched) (sym sending.wl1)
           ∙ ap (λ n. offset_of n after.sending.wl1 +ℤ pos p.fetched) (sym irs);
       wl2 = wl2_is p e segment m ∙ sym sending.wl2;
     }

@@ -10,9 +10,9 @@ use Rattle.seq_arith.specs.Offset.{one_if, length_of, text_of, fin_of}
 use Rattle.tcp_buffers.specs.Near.{is_ahead}
 use Rattle.tcp_endpoint.specs.declared.states.StateName.{StateName}
 use Rattle.tcp_endpoint.specs.declared.states.StateName.TheVariants.{Closed, Listen, SynSent, SynReceived, Established, FinWait1, FinWait2, CloseWait, Closing, LastAck, TimeWait}
-use Rattle.tcp_endpoint.specs.States.{opened, after_fin, after_fin_acked, has_begun}
+use Rattle.tcp_endpoint.specs.States.{after_syn_acked, after_fin, after_fin_acked, has_begun}
 use Rattle.tcp_endpoint.specs.Receiving.{Receiving, taken, next, receive_edge, announced_edge, window, with_text, with_fin, with_segment}
-use Rattle.tcp_endpoint.specs.Sending.{opened_by, acknowledged, fin_acked}
+use Rattle.tcp_endpoint.specs.Sending.{with_syn_acked, acknowledged, fin_acked}
 use Rattle.tcp_endpoint.specs.Tcb.{Tcb}
 use Rattle.tcp_endpoint.specs.Arrival.{first, ack_at, owing_if, killed, entering, with_text_and_fin, with_fin_acked, with_first_ack, with_ack, check_ack, check_syn, check_rst, waiting_again, check_place, in_others, received_in, received, refusing}
 use Rattle.endpoint_laws.specs.Laws.{accepts, counts, continues, taken_by, IsBounded, IsUsual}
@@ -27,10 +27,10 @@ same_if true x = refl
 same_if false x = refl
 
 -- what the checks choose, by their tests in the order of the checks
-abbrev pub by_checks : {X : Type 0} → (acceptable rst syn ack opened syn_acked : Bool) → X → X → X → X
-by_checks acceptable rst syn ack opened syn_acked later first_one other =
+abbrev pub by_checks : {X : Type 0} → (acceptable rst syn ack syn_acked acks_syn : Bool) → X → X → X → X
+by_checks acceptable rst syn ack syn_acked acks_syn later first_one other =
     if acceptable
-    then (if rst then other else (if syn then other else (if ack then (if opened then later else (if syn_acked then first_one else other)) else other)))
+    then (if rst then other else (if syn then other else (if ack then (if syn_acked then later else (if acks_syn then first_one else other)) else other)))
     else other
 
 -- in a connection that has begun, the checks of 3.10.7.4 are made
@@ -97,11 +97,11 @@ syn_part f e p aside =
     ∙ ap (λ x. if has_syn p then x else f (check_ack (owing_if (nat_lt 0 (length_of p)) e) p)) (aside.owing true e)
 
 ack_part : {X : Type 0} (f : Tcb → X) (e : Tcb) (p : Segment)
-    → f (check_ack e p) ≡ (if has_ack p then (if e.sending.opened then f (with_ack e p) else f (with_first_ack e p)) else f e)
+    → f (check_ack e p) ≡ (if has_ack p then (if e.sending.syn_acked then f (with_ack e p) else f (with_first_ack e p)) else f e)
 unfolding check_ack
 ack_part f e p =
-    part_of_if f (has_ack p) (if e.sending.opened then with_ack e p else with_first_ack e p) e
-    ∙ ap (λ x. if has_ack p then x else f e) (part_of_if f e.sending.opened (with_ack e p) (with_first_ack e p))
+    part_of_if f (has_ack p) (if e.sending.syn_acked then with_ack e p else with_first_ack e p) e
+    ∙ ap (λ x. if has_ack p then x else f e) (part_of_if f e.sending.syn_acked (with_ack e p) (with_first_ack e p))
 
 -- the endpoint that the fifth check meets
 abbrev pub at_ack : Tcb → Segment → Tcb
@@ -110,7 +110,7 @@ at_ack e p = owing_if (nat_lt 0 (length_of p)) (waiting_again e p)
 pub others_part : {X : Type 0} (f : Tcb → X) (e : Tcb) (p : Segment) → Aside f
     → f (in_others e p)
     ≡ (if is_acceptable (next e.receiving) (window e.receiving) (first e p) (length_of p)
-    then (if has_rst p then f e else (if has_syn p then f e else (if has_ack p then (if e.sending.opened then f (with_ack (at_ack e p) p) else f (with_first_ack (at_ack e p) p)) else f e)))
+    then (if has_rst p then f e else (if has_syn p then f e else (if has_ack p then (if e.sending.syn_acked then f (with_ack (at_ack e p) p) else f (with_first_ack (at_ack e p) p)) else f e)))
     else f e)
 unfolding in_others waiting_again
 others_part f e p aside =
@@ -152,7 +152,7 @@ later_ack_part e p sent =
 first_ack_part : (e : Tcb) (p : Segment) → (with_first_ack e p).receiving ≡ (if int_eq (ack_at e p) (pos 0) then segment_taken e p else e.receiving)
 unfolding with_first_ack refusing
 first_ack_part e p =
-    let opening : Tcb = record e { name = opened e.sending.closed; sending = opened_by e.sending p.head.seq p.head.window }
+    let opening : Tcb = record e { name = after_syn_acked e.sending.closed; sending = with_syn_acked e.sending p.head.seq p.head.window }
     in part_of_if (λ (t : Tcb). t.receiving) (int_eq (ack_at e p) (pos 0)) (with_text_and_fin opening p) (refusing e p)
     ∙ ap (λ x. if int_eq (ack_at e p) (pos 0) then x else e.receiving) (text_part opening p)
 
@@ -162,7 +162,7 @@ receiving_aside = record { killed = λ e. refl; owing = λ b e. refl; waiting = 
 
 checks_take : (e : Tcb) (p : Segment) → IsBounded e → IsUsual e p
     → (in_others e p).receiving
-    ≡ by_checks (is_acceptable (next e.receiving) (window e.receiving) (first e p) (length_of p)) (has_rst p) (has_syn p) (has_ack p) e.sending.opened
+    ≡ by_checks (is_acceptable (next e.receiving) (window e.receiving) (first e p) (length_of p)) (has_rst p) (has_syn p) (has_ack p) e.sending.syn_acked
     (int_eq (ack_at e p) (pos 0)) (segment_taken e p) (segment_taken e p) e.receiving
 unfolding waiting_again
 checks_take e p bounded usual =
@@ -170,7 +170,7 @@ checks_take e p bounded usual =
     (λ acceptable. if_when (has_rst p) _ _ _ _ (λ h. refl)
     (λ no_rst. if_when (has_syn p) _ _ _ _ (λ h. refl)
     (λ no_syn. if_when (has_ack p) _ _ _ _
-    (λ is_ack. if_when e.sending.opened _ _ _ _
+    (λ is_ack. if_when e.sending.syn_acked _ _ _ _
     (λ h. later_ack_part (at_ack e p) p (sent_bool e p bounded usual is_ack))
     (λ h. first_ack_part (at_ack e p) p))
     (λ h. refl))))
@@ -181,19 +181,19 @@ off_by true b x y = refl
 off_by false b x y = refl
 
 -- the choice of the checks, in the law's one test
-by_law : {X : Type 0} (acceptable rst syn ack opened syn_acked acked : Bool) (x y : X) → (ack ≡ true → opened ≡ false → syn_acked ≡ acked)
-    → by_checks acceptable rst syn ack opened syn_acked x x y ≡ (if ack && not syn && not rst && acceptable && (opened || acked) then x else y)
-by_law true true true true opened syn_acked acked x y same = refl
-by_law true true true false opened syn_acked acked x y same = refl
-by_law true true false true opened syn_acked acked x y same = refl
-by_law true true false false opened syn_acked acked x y same = refl
-by_law true false true true opened syn_acked acked x y same = refl
-by_law true false true false opened syn_acked acked x y same = refl
-by_law true false false true true syn_acked acked x y same = refl
-by_law true false false true false syn_acked acked x y same = ap (λ b. if b then x else y) (same refl refl)
-by_law true false false false opened syn_acked acked x y same = refl
-by_law false rst syn true opened syn_acked acked x y same = off_by (not syn && not rst) (opened || acked) x y
-by_law false rst syn false opened syn_acked acked x y same = refl
+by_law : {X : Type 0} (acceptable rst syn ack syn_acked acks_syn acked : Bool) (x y : X) → (ack ≡ true → syn_acked ≡ false → acks_syn ≡ acked)
+    → by_checks acceptable rst syn ack syn_acked acks_syn x x y ≡ (if ack && not syn && not rst && acceptable && (syn_acked || acked) then x else y)
+by_law true true true true syn_acked acks_syn acked x y same = refl
+by_law true true true false syn_acked acks_syn acked x y same = refl
+by_law true true false true syn_acked acks_syn acked x y same = refl
+by_law true true false false syn_acked acks_syn acked x y same = refl
+by_law true false true true syn_acked acks_syn acked x y same = refl
+by_law true false true false syn_acked acks_syn acked x y same = refl
+by_law true false false true true acks_syn acked x y same = refl
+by_law true false false true false acks_syn acked x y same = ap (λ b. if b then x else y) (same refl refl)
+by_law true false false false syn_acked acks_syn acked x y same = refl
+by_law false rst syn true syn_acked acks_syn acked x y same = off_by (not syn && not rst) (syn_acked || acked) x y
+by_law false rst syn false syn_acked acks_syn acked x y same = refl
 
 -- the window is what is announced beyond RCV.NXT
 pub window_is : (r : Receiving) → announced_edge r - next r ≡ window r
@@ -236,26 +236,26 @@ gap_cases irs read unread limit z text fin false = refl
 no_gap_is : (n : ℕ) (z : ℤ) → not (int_lt (pos n) z) ≡ int_le z (pos n)
 no_gap_is n z = grind (arith, ints)
 
-counted_part : (irs read : ℕ) (unread : List ℕ) (had_fin : Bool) (limit : ℕ) (z : ℤ) (text : List ℕ) (fin : Bool)
+syn_acked_part : (irs read : ℕ) (unread : List ℕ) (had_fin : Bool) (limit : ℕ) (z : ℤ) (text : List ℕ) (fin : Bool)
     → with_segment (receiver irs read unread had_fin limit) z text fin
     ≡ by_sentences (not had_fin && int_le z (pos (read + length unread))) (receiver irs read unread had_fin limit) z text fin
 unfolding with_segment
-counted_part irs read unread true limit z text fin = refl
-counted_part irs read unread false limit z text fin =
+syn_acked_part irs read unread true limit z text fin = refl
+syn_acked_part irs read unread false limit z text fin =
     gap_cases irs read unread limit z text fin (int_lt (pos (read + length unread)) z)
     ∙ ap (λ b. by_sentences b (receiver irs read unread false limit) z text fin) (no_gap_is (read + length unread) z)
 
-uncounted_part : (irs read : ℕ) (unread : List ℕ) (had_fin : Bool) (limit : ℕ) (z : ℤ) (text : List ℕ) (fin : Bool)
+syn_unacked_part : (irs read : ℕ) (unread : List ℕ) (had_fin : Bool) (limit : ℕ) (z : ℤ) (text : List ℕ) (fin : Bool)
     → receiver irs read unread had_fin limit ≡ by_sentences false (receiver irs read unread had_fin limit) z text fin
-uncounted_part irs read unread true limit z text fin = refl
-uncounted_part irs read unread false limit z text fin = refl
+syn_unacked_part irs read unread true limit z text fin = refl
+syn_unacked_part irs read unread false limit z text fin = refl
 
 sentences : (r : Receiving) (z : ℤ) (counts : Bool) (payload text : List ℕ) (has_fin fin : Bool) → (counts ≡ true → payload ≡ text) → (counts ≡ true → has_fin ≡ fin)
     → (if counts then with_segment r z payload has_fin else r) ≡ by_sentences (counts && not r.fin && int_le z (pos (taken r))) r z text fin
 sentences r z true payload text has_fin fin same_text same_fin =
     ap (λ t. with_segment r z t has_fin) (same_text refl) ∙ ap (λ b. with_segment r z text b) (same_fin refl)
-    ∙ counted_part r.irs r.read r.unread r.fin r.limit z text fin
-sentences r z false payload text has_fin fin same_text same_fin = uncounted_part r.irs r.read r.unread r.fin r.limit z text fin
+    ∙ syn_acked_part r.irs r.read r.unread r.fin r.limit z text fin
+sentences r z false payload text has_fin fin same_text same_fin = syn_unacked_part r.irs r.read r.unread r.fin r.limit z text fin
 
 -- with the SYN alone sent, only its acknowledgement isn't below
 pub syn_only : (e : Tcb) (p : Segment) → ack_at e p ≤ℤ pos e.sending.sent → e.sending.sent ≡ 0 → int_eq (ack_at e p) (pos 0) ≡ int_le (pos 0) (ack_at e p)
@@ -285,12 +285,12 @@ taken_law e p begun bounded usual =
     let acceptable : ℕ → Bool = λ w. is_acceptable (next e.receiving) w (first e p) (length_of p) in
     let acked : Bool = int_le (pos 0) (ack_at e p) in
     let chosen : ℕ → Receiving = λ w.
-    if has_ack p && not (has_syn p) && not (has_rst p) && acceptable w && (e.sending.opened || acked) then segment_taken e p else e.receiving in
+    if has_ack p && not (has_syn p) && not (has_rst p) && acceptable w && (e.sending.syn_acked || acked) then segment_taken e p else e.receiving in
     let plain : counts e p ≡ true → (has_syn p ≡ false) × (has_rst p ≡ false) =
-    λ h. counts_plain (has_ack p) (has_syn p) (has_rst p) (accepts e p) (e.sending.opened || acked) h in
+    λ h. counts_plain (has_ack p) (has_syn p) (has_rst p) (accepts e p) (e.sending.syn_acked || acked) h in
     ap (λ (t : Tcb). t.receiving) (begun_is e.name e p begun) ∙ checks_take e p bounded usual
-    ∙ by_law (acceptable (window e.receiving)) (has_rst p) (has_syn p) (has_ack p) e.sending.opened (int_eq (ack_at e p) (pos 0)) acked (segment_taken e p) e.receiving
-    (λ is_ack unopened. syn_only e p (usual.sent is_ack) (bounded.unopened unopened))
+    ∙ by_law (acceptable (window e.receiving)) (has_rst p) (has_syn p) (has_ack p) e.sending.syn_acked (int_eq (ack_at e p) (pos 0)) acked (segment_taken e p) e.receiving
+    (λ is_ack syn_unacked. syn_only e p (usual.sent is_ack) (bounded.syn_unacked syn_unacked))
     ∙ ap chosen (sym (window_is e.receiving))
     ∙ sentences e.receiving (first e p) (counts e p) p.payload (text_of p) (has_fin p) (fin_of p)
     (λ h. sym (text_whole p (plain h).0 (plain h).1)) (λ h. sym (fin_whole p (plain h).0 (plain h).1))

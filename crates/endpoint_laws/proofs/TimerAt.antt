@@ -7,7 +7,7 @@ use Rattle.seq_arith.specs.Packet.{Segment}
 use Rattle.ft_model.specs.Point.{Point}
 use Rattle.ft_model.specs.News.{News}
 use Rattle.ft_model.specs.News.News.{Comes, Logged, Ticks, Begins}
-use Rattle.ft_model.specs.Sending.{counted_after, acknowledged_after}
+use Rattle.ft_model.specs.Sending.{syn_acked_after, acknowledged_after}
 use Rattle.ft_model.specs.Timer as timer
 use Rattle.tcp_endpoint.specs.States.{has_begun}
 use Rattle.tcp_endpoint.specs.Sending.{Sending, target, must_run}
@@ -50,8 +50,8 @@ or_apart : (a b c : Bool) → (a || (b || c)) ≡ (a || b || c)
 or_apart true b c = refl
 or_apart false b c = refl
 
-same_starts : (r : Bool) (una : ℕ) (counted : Bool) → (r || (nat_lt una una || (counted && not counted))) ≡ r
-same_starts true una counted = refl
+same_starts : (r : Bool) (una : ℕ) (syn_acked : Bool) → (r || (nat_lt una una || (syn_acked && not syn_acked))) ≡ r
+same_starts true una syn_acked = refl
 same_starts false una true = grind arith
 same_starts false una false = grind arith
 
@@ -88,7 +88,7 @@ pub record Timed {State : Type 0} (service : Machine State) (news : News) (befor
   pub arrived : Arrived news before e m
   pub used : IsUsed m u
   pub laws : MeetsLaws service news before after
-  pub counted : after.counted ≡ m.sending.opened
+  pub syn_acked : after.syn_acked ≡ m.sending.syn_acked
   pub una : after.una ≡ m.sending.una
   pub runs : is_timed (after_full u) ≡ timer.must_run service after
   pub still : must_run u.sending ≡ true → timer.must_run service after ≡ true
@@ -96,20 +96,20 @@ pub record Timed {State : Type 0} (service : Machine State) (news : News) (befor
 starts_is : {State : Type 0} (service : Machine State) (news : News) (before after : Point) (e m u : Tcb) → Timed service news before after e m u
     → timer.is_set_anew before after ≡ starts e.sending m.sending
 starts_is service news before after e m u t =
-    (λ i. (t.stands.rest i == 0) || (nat_lt (t.stands.sends.una i) (t.una i) || (t.counted i && not (t.stands.sends.counted i))))
-    ∙ or_apart (e.sending.rest == 0) (nat_lt e.sending.una m.sending.una) (m.sending.opened && not e.sending.opened)
+    (λ i. (t.stands.rest i == 0) || (nat_lt (t.stands.sends.una i) (t.una i) || (t.syn_acked i && not (t.stands.sends.syn_acked i))))
+    ∙ or_apart (e.sending.rest == 0) (nat_lt e.sending.una m.sending.una) (m.sending.syn_acked && not e.sending.syn_acked)
 
 runs_on : {State : Type 0} (service : Machine State) (news : News) (before after : Point) (e m u : Tcb) → Timed service news before after e m u
     → starts e.sending m.sending ≡ false → timer.must_run service after ≡ true
 runs_on service news before after e m u t none =
     let s : Sending = e.sending in
     let k : Sending = m.sending in
-    let parts = left_off (s.rest == 0) (nat_lt s.una k.una || (k.opened && not s.opened))
-    (or_apart (s.rest == 0) (nat_lt s.una k.una) (k.opened && not s.opened) ∙ none) in
+    let parts = left_off (s.rest == 0) (nat_lt s.una k.una || (k.syn_acked && not s.syn_acked))
+    (or_apart (s.rest == 0) (nat_lt s.una k.una) (k.syn_acked && not s.syn_acked) ∙ none) in
     let must : must_run s ≡ true = t.between.runs (some_left s.rest parts.0) in
     let on : must_run k ≡ true =
-    ap (λ n. not k.opened || nat_lt k.una (max n (target k))) t.arrived.sent
-    ∙ goes_on s.opened k.opened s.una k.una s.sent (target s) (target k) must t.arrived.una t.arrived.target parts.1 in
+    ap (λ n. not k.syn_acked || nat_lt k.una (max n (target k))) t.arrived.sent
+    ∙ goes_on s.syn_acked k.syn_acked s.una k.una s.sent (target s) (target k) must t.arrived.una t.arrived.target parts.1 in
     t.still (runs_used k u.sending t.used.sends on)
 
 -- by the kind of news
@@ -136,7 +136,7 @@ comes_timer service segment before after e m u t =
 
 tick_timer : {State : Type 0} (service : Machine State) (before after : Point) (e m u : Tcb) → Timed service Ticks before after e m u
     → (after.interval ≡ (flushed u).sending.interval) × (after.rest ≡ (flushed u).sending.rest)
-unfolding timer.interval_after timer.rest_after counted_after acknowledged_after
+unfolding timer.interval_after timer.rest_after syn_acked_after acknowledged_after
 tick_timer service before after e m u t =
     let s : Sending = e.sending in
     let r : Bool = is_timed (after_full u) in
@@ -144,7 +144,7 @@ tick_timer service before after e m u t =
     let by = ticked_law e u t.between.interval (t.used.sends.interval ∙ ap (λ (q : Sending). q.interval) same)
     (t.used.sends.rest ∙ ap (λ (q : Sending). q.rest) same) in
     let anew : timer.is_set_anew before after ≡ (s.rest == 0) =
-    (λ i. (t.stands.rest i == 0) || (nat_lt before.una (t.laws.una i) || (t.laws.counted i && not before.counted))) ∙ same_starts (s.rest == 0) before.una before.counted in
+    (λ i. (t.stands.rest i == 0) || (nat_lt before.una (t.laws.una i) || (t.laws.syn_acked i && not before.syn_acked))) ∙ same_starts (s.rest == 0) before.una before.syn_acked in
     let on : (s.rest == 0) ≡ false → r ≡ true = λ h.
     t.runs ∙ runs_on service Ticks before after e m u t (sym (starts_is service Ticks before after e m u t) ∙ anew ∙ h) in (
       t.laws.interval ∙ (λ i. if anew i then 1 else (if t.stands.rest i == 1 then min 64 (2 * t.stands.interval i) else t.stands.interval i))
@@ -157,16 +157,16 @@ tick_timer service before after e m u t =
 
 -- nothing comes for TCP
 quiet_timer : {State : Type 0} (service : Machine State) (news : News) (before after : Point) (e m u : Tcb) → Timed service news before after e m u
-    → m ≡ e → timer.is_tick news ≡ false → counted_after news before ≡ before.counted → acknowledged_after news before ≡ before.una
+    → m ≡ e → timer.is_tick news ≡ false → syn_acked_after news before ≡ before.syn_acked → acknowledged_after news before ≡ before.una
     → (after.interval ≡ (flushed u).sending.interval) × (after.rest ≡ (flushed u).sending.rest)
 unfolding timer.interval_after timer.rest_after
-quiet_timer service news before after e m u t same still counted una =
+quiet_timer service news before after e m u t same still syn_acked una =
     let s : Sending = e.sending in
     let r : Bool = is_timed (after_full u) in
     let by = flushed_timer u s.interval s.rest (t.used.sends.interval ∙ ap (λ (x : Tcb). x.sending.interval) same) (t.used.sends.rest ∙ ap (λ (x : Tcb). x.sending.rest) same) in
     let anew : timer.is_set_anew before after ≡ (s.rest == 0) =
-    (λ i. (t.stands.rest i == 0) || (nat_lt before.una ((t.laws.una ∙ una) i) || ((t.laws.counted ∙ counted) i && not before.counted)))
-    ∙ same_starts (s.rest == 0) before.una before.counted in
+    (λ i. (t.stands.rest i == 0) || (nat_lt before.una ((t.laws.una ∙ una) i) || ((t.laws.syn_acked ∙ syn_acked) i && not before.syn_acked)))
+    ∙ same_starts (s.rest == 0) before.una before.syn_acked in
     let on : (s.rest == 0) ≡ false → r ≡ true = λ h.
     t.runs ∙ runs_on service news before after e m u t (sym (starts_is service news before after e m u t) ∙ anew ∙ h) in (
       t.laws.interval ∙ (λ i. if anew i then 1 else (if still i && before.rest == 1 then min 64 (2 * before.interval) else t.stands.interval i))
@@ -179,7 +179,7 @@ quiet_timer service news before after e m u t same still counted una =
 
 pub timer_at : {State : Type 0} (service : Machine State) (news : News) (before after : Point) (e m u : Tcb) → Timed service news before after e m u
     → (after.interval ≡ (flushed u).sending.interval) × (after.rest ≡ (flushed u).sending.rest)
-unfolding counted_after acknowledged_after
+unfolding syn_acked_after acknowledged_after
 timer_at service (Comes segment) before after e m u t = comes_timer service segment before after e m u t
 timer_at service (Logged kept) before after e m u t = quiet_timer service (Logged kept) before after e m u t t.news_are refl refl refl
 timer_at service Ticks before after e m u t = tick_timer service before after e m u t

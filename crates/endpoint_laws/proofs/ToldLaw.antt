@@ -6,9 +6,9 @@ use Rattle.seq_arith.specs.Arrival.{int_eq, is_acceptable}
 use Rattle.seq_arith.specs.Packet.{Segment, has_syn, has_rst, has_ack}
 use Rattle.seq_arith.specs.Offset.{one_if, length_of}
 use Rattle.tcp_buffers.specs.Near.{is_ahead}
-use Rattle.tcp_endpoint.specs.States.{opened, after_fin, after_fin_acked, is_syn_sent, has_begun}
+use Rattle.tcp_endpoint.specs.States.{after_syn_acked, after_fin, after_fin_acked, is_syn_sent, has_begun}
 use Rattle.tcp_endpoint.specs.Receiving.{next, window, announced_edge}
-use Rattle.tcp_endpoint.specs.Sending.{Sending, opened_by, acknowledged, fin_acked, target, sendable, sends_fin, must_run, timed, expires, ticked, with_sent, with_fin_sent}
+use Rattle.tcp_endpoint.specs.Sending.{Sending, with_syn_acked, acknowledged, fin_acked, target, sendable, sends_fin, must_run, timed, expires, ticked, with_sent, with_fin_sent}
 use Rattle.tcp_endpoint.specs.Tcb.{Tcb}
 use Rattle.tcp_endpoint.specs.Arrival.{first, ack_at, owing_if, entering, with_text_and_fin, with_fin_acked, with_first_ack, with_ack, waiting_again, received, refusing}
 use Rattle.tcp_endpoint.specs.Leaving.{or_bare, is_owed, bare_segment, full_out, leaving, probes_text, probes_fin, with_probe, with_text_sent, with_fin_out, after_full, announced, is_timed, with_turn_ended, flushed}
@@ -68,7 +68,7 @@ later_ack_part e p =
 first_ack_part : (e : Tcb) (p : Segment) → told (with_first_ack e p) ≡ told e
 unfolding with_first_ack refusing
 first_ack_part e p =
-    let opening : Tcb = record e { name = opened e.sending.closed; sending = opened_by e.sending p.head.seq p.head.window } in
+    let opening : Tcb = record e { name = after_syn_acked e.sending.closed; sending = with_syn_acked e.sending p.head.seq p.head.window } in
     let is_syn : Bool = int_eq (ack_at e p) (pos 0) in
     part_of_if told is_syn (with_text_and_fin opening p) (refusing e p)
     ∙ if_when is_syn (told (with_text_and_fin opening p)) (told e) (told e) (told e) (λ h. text_part opening p) (λ h. refl)
@@ -91,7 +91,7 @@ pub told_by_segment : (e : Tcb) (p : Segment) → has_begun e.name ≡ true → 
 unfolding received waiting_again
 told_by_segment e p begun =
     ap told (begun_is e.name e p begun) ∙ others_part told e p told_aside
-    ∙ all_same (is_acceptable (next e.receiving) (window e.receiving) (first e p) (length_of p)) (has_rst p) (has_syn p) (has_ack p) e.sending.opened
+    ∙ all_same (is_acceptable (next e.receiving) (window e.receiving) (first e p) (length_of p)) (has_rst p) (has_syn p) (has_ack p) e.sending.syn_acked
     (told (with_ack (at_ack e p) p)) (told (with_first_ack (at_ack e p) p)) (told e) (later_ack_part (at_ack e p) p) (first_ack_part (at_ack e p) p)
 
 -- a probe is due where the timer expires with all acknowledged
@@ -105,7 +105,7 @@ expiry rest una sent false h order = absurd (false≢true (off_right (rest == 1)
 
 -- all that was sent is acknowledged, and what waits has no room
 abbrev Stuck : Sending → Type 0
-Stuck s = (s.una ≡ s.sent) × (s.edge ≤ s.sent) × (s.sent + 1 ≤ target s) × (s.opened ≡ true)
+Stuck s = (s.una ≡ s.sent) × (s.edge ≤ s.sent) × (s.sent + 1 ≤ target s) × (s.syn_acked ≡ true)
 
 stuck_ticked : (b : Bool) (s : Sending) (i r n : ℕ) → Stuck s → Stuck (if b then record s { interval = i; rest = r } else record s { rest = n })
 stuck_ticked true s i r n h = h
@@ -119,11 +119,11 @@ pub probed_by_tick : (e : Tcb) → e.probe ≡ false → IsBounded e → IsShut 
 unfolding after_tick timer_ticked waited
 probed_by_tick e none b shut =
     let s : Sending = e.sending in
-    let due : Bool = expires s && not (not s.opened || nat_lt s.una s.sent) in
+    let due : Bool = expires s && not (not s.syn_acked || nat_lt s.una s.sent) in
     let right : (e.probe || due) ≡ true → Stuck (ticked s) = λ h.
-    let x = expiry s.rest s.una s.sent s.opened (probed_by e.probe due none h) b.order in
+    let x = expiry s.rest s.una s.sent s.syn_acked (probed_by e.probe due none h) b.order in
     stuck_ticked (expires s) s _ _ _ (x.2, shut.edge x.0 x.1 x.2, shut.waits x.0 x.1 x.2, x.1) in
-    record { all_acked = λ h. (right h).0; shut = λ h. (right h).1; waits = λ h. (right h).2; opened = λ h. (right h).3 }
+    record { all_acked = λ h. (right h).0; shut = λ h. (right h).1; waits = λ h. (right h).2; syn_acked = λ h. (right h).3 }
 
 more_waits : (f c : Bool) (una sent : ℕ) (held bytes : List ℕ) → sent + 1 ≤ (if f then sent else una + length held + one_if c)
     → sent + 1 ≤ (if f then sent else una + length (held ++ bytes) + one_if c)
@@ -193,14 +193,14 @@ probe_end una sent len true t is on unsent order flight = absurd (false≢true (
 probe_end una sent len false t is on unsent order flight = grind (arith, is, on)
 
 sendable_of_fin : (s : Sending) → s.fin_sent ≡ true → sendable s ≡ 0
-sendable_of_fin s sent = ap (λ v. if s.opened && not v then min (s.una + length s.held) s.edge - s.sent else 0) sent ∙ sendable_off s.opened _
+sendable_of_fin s sent = ap (λ v. if s.syn_acked && not v then min (s.una + length s.held) s.edge - s.sent else 0) sent ∙ sendable_off s.syn_acked _
 
 new_target : (s : Sending) → target (after_steps true false false s) ≡ target s
 new_target s =
     let texted : Sending = with_sent s (sendable s) in
     let text : target texted ≡ target s = text_target s (sendable s) s.fin_sent refl (λ h. sendable_of_fin s h) in
     target_of_if (sends_fin texted) (with_fin_sent texted) texted (target s)
-    (λ h. let f = sends_facts texted.opened texted.closed texted.fin_sent (texted.sent == texted.una + length texted.held) (nat_lt texted.sent texted.edge) h in
+    (λ h. let f = sends_facts texted.syn_acked texted.closed texted.fin_sent (texted.sent == texted.una + length texted.held) (nat_lt texted.sent texted.edge) h in
     fin_target texted f.0 f.1 (at_end texted.una texted.sent (length texted.held) f.2) ∙ text)
     (λ h. text)
 
@@ -208,11 +208,11 @@ pub after_probe : (e : Tcb) → has_begun e.name ≡ true → IsBounded e → (p
     → target (after_steps true pt pf e.sending) ≡ target e.sending
 after_probe e begun b true pf is_text is_fin =
     let s : Sending = e.sending in
-    let f = text_facts e.probe (has_begun e.name) s.opened s.fin_sent (nat_lt (s.sent - s.una) (length s.held)) is_text in
+    let f = text_facts e.probe (has_begun e.name) s.syn_acked s.fin_sent (nat_lt (s.sent - s.una) (length s.held)) is_text in
     new_target (with_sent s 1) ∙ text_target s 1 s.fin_sent refl (λ h. absurd (false≢true (sym f.1 ∙ h)))
 after_probe e begun b false true is_text is_fin =
     let s : Sending = e.sending in
-    let f = probe_fin_facts e.probe (has_begun e.name) s.opened s.fin_sent (not (nat_lt (s.sent - s.una) (length s.held))) s.closed is_fin in
+    let f = probe_fin_facts e.probe (has_begun e.name) s.syn_acked s.fin_sent (not (nat_lt (s.sent - s.una) (length s.held))) s.closed is_fin in
     new_target (with_fin_sent s)
     ∙ fin_target s f.1 f.0 (probe_end s.una s.sent (length s.held) s.fin_sent (not (nat_lt (s.sent - s.una) (length s.held))) refl f.2 f.0 b.order b.flight)
 after_probe e begun b false false is_text is_fin = new_target e.sending
@@ -245,14 +245,14 @@ stuck_by : (una before sent target edge p : ℕ) → una ≤ before → sent ≡
 stuck_by una before sent target edge p order is acked waits = omega arith
 
 must_wait : (o : Bool) (una sent target : ℕ) → (not o || nat_lt una (max sent target)) ≡ true → o ≡ true → una ≡ sent → sent + 1 ≤ target
-must_wait true una sent target h opened acked = grind arith
-must_wait false una sent target h opened acked = absurd (false≢true opened)
+must_wait true una sent target h syn_acked acked = grind arith
+must_wait false una sent target h syn_acked acked = absurd (false≢true syn_acked)
 
 shut_of : (a : Sending) (edge : ℕ) (s : Sending) → must_run a ≡ true → a.edge ≡ edge → (a.una ≡ a.sent → a.sent + 1 ≤ target a → edge ≤ a.sent)
-    → s.opened ≡ a.opened → s.una ≡ a.una → s.sent ≡ a.sent → s.edge ≡ a.edge → target s ≡ target a → IsShut s
-shut_of a edge s must is stuck opened una sent same_edge same_target =
-    let waits : s.opened ≡ true → s.una ≡ s.sent → a.sent + 1 ≤ target a = λ o acked.
-    must_wait a.opened a.una a.sent (target a) must (sym opened ∙ o) (sym una ∙ acked ∙ sent)
+    → s.syn_acked ≡ a.syn_acked → s.una ≡ a.una → s.sent ≡ a.sent → s.edge ≡ a.edge → target s ≡ target a → IsShut s
+shut_of a edge s must is stuck syn_acked una sent same_edge same_target =
+    let waits : s.syn_acked ≡ true → s.una ≡ s.sent → a.sent + 1 ≤ target a = λ o acked.
+    must_wait a.syn_acked a.una a.sent (target a) must (sym syn_acked ∙ o) (sym una ∙ acked ∙ sent)
     in record {
       edge = λ r o acked. omega (arith, stuck (sym una ∙ acked ∙ sent) (waits o acked), is, same_edge, sent);
       waits = λ r o acked. omega (arith, waits o acked, sent, same_target);

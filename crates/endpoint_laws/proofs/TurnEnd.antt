@@ -52,15 +52,15 @@ flush_keeps g u k = timed_keeps g (is_timed (after_full u)) (after_full u).sendi
 pub flushed_sends : (p : Point) (u : Tcb) → SendsAt p u → SendsAt p (flushed u)
 unfolding flushed with_turn_ended announced after_full with_fin_out with_text_sent with_probe
 flushed_sends p u s =
-    let opened : (flushed u).sending.opened ≡ u.sending.opened =
-    flush_keeps (λ (q : Sending). q.opened) u (record { sends = λ s n. refl; ends = λ s. refl; times = λ s i r. refl }) in
+    let syn_acked : (flushed u).sending.syn_acked ≡ u.sending.syn_acked =
+    flush_keeps (λ (q : Sending). q.syn_acked) u (record { sends = λ s n. refl; ends = λ s. refl; times = λ s i r. refl }) in
     record {
       sisn = s.sisn ∙ sym (flush_keeps (λ (q : Sending). q.iss) u (record { sends = λ s n. refl; ends = λ s. refl; times = λ s i r. refl }));
       mss = s.mss ∙ sym (flush_keeps (λ (q : Sending). q.mss) u (record { sends = λ s n. refl; ends = λ s. refl; times = λ s i r. refl }));
-      counted = s.counted ∙ sym opened;
+      syn_acked = s.syn_acked ∙ sym syn_acked;
       una = s.una ∙ sym (flush_keeps (λ (q : Sending). q.una) u (record { sends = λ s n. refl; ends = λ s. refl; times = λ s i r. refl }));
       edge = s.edge ∙ sym (flush_keeps (λ (q : Sending). q.edge) u (record { sends = λ s n. refl; ends = λ s. refl; times = λ s i r. refl }));
-      wl1 = λ h. s.wl1 (sym opened ∙ h)
+      wl1 = λ h. s.wl1 (sym syn_acked ∙ h)
           ∙ ap (λ n. offset_of u.receiving.irs n +ℤ pos p.fetched)
           (sym (flush_keeps (λ (q : Sending). q.wl1) u (record { sends = λ s n. refl; ends = λ s. refl; times = λ s i r. refl })));
       wl2 = s.wl2 ∙ sym (flush_keeps (λ (q : Sending). q.wl2) u (record { sends = λ s n. refl; ends = λ s. refl; times = λ s i r. refl }));
@@ -113,11 +113,11 @@ last_steps begun pt pf s unsent ends last =
     last_if pt (with_sent s 1) _ (λ h. last_sent s 1 (λ k. absurd (false≢true (sym (unsent h) ∙ k))) last)
     (λ h. last_if pf (with_fin_sent s) s (λ k. last_fin s (ends k).0 (ends k).1) (λ k. last)) in
     let texted_last : FinIsLast texted =
-    last_sent probed _ (λ h. none_sendable begun probed.opened probed.fin_sent (min (probed.una + length probed.held) probed.edge - probed.sent) h) probed_last in
+    last_sent probed _ (λ h. none_sendable begun probed.syn_acked probed.fin_sent (min (probed.una + length probed.held) probed.edge - probed.sent) h) probed_last in
     last_if (begun && sends_fin texted) (with_fin_sent texted) texted
     (λ h. last_fin texted
-    (closed_of begun texted.opened texted.closed texted.fin_sent (texted.sent == texted.una + length texted.held) (nat_lt texted.sent texted.edge) h)
-    (all_sent_of begun texted.opened texted.closed texted.fin_sent (nat_lt texted.sent texted.edge) texted.una (length texted.held) texted.sent h))
+    (closed_of begun texted.syn_acked texted.closed texted.fin_sent (texted.sent == texted.una + length texted.held) (nat_lt texted.sent texted.edge) h)
+    (all_sent_of begun texted.syn_acked texted.closed texted.fin_sent (nat_lt texted.sent texted.edge) texted.una (length texted.held) texted.sent h))
     (λ h. texted_last)
 
 right_of : (a b : Bool) → (a && b) ≡ true → b ≡ true
@@ -156,8 +156,8 @@ last_flushed u b last =
     let s : Sending = u.sending in
     last_timed _ (after_steps (has_begun u.name) (probes_text u) (probes_fin u) u.sending)
     (last_steps (has_begun u.name) (probes_text u) (probes_fin u) s
-    (λ h. unsent_of u.probe (has_begun u.name) s.opened s.fin_sent (nat_lt (s.sent - s.una) (length s.held)) h)
-    (λ h. ends_of u.probe (has_begun u.name) s.opened s.fin_sent s.closed s.una (length s.held) s.sent b.order b.flight h) last)
+    (λ h. unsent_of u.probe (has_begun u.name) s.syn_acked s.fin_sent (nat_lt (s.sent - s.una) (length s.held)) h)
+    (λ h. ends_of u.probe (has_begun u.name) s.syn_acked s.fin_sent s.closed s.una (length s.held) s.sent b.order b.flight h) last)
 
 -- the timer runs only where it must
 runs_if : (b : Bool) (s : Sending) → must_run s ≡ true → 1 ≤ (if b then record s { interval = 1; rest = 1 } else s).rest
@@ -249,14 +249,14 @@ pub runs_at : {State : Type 0} (service : Machine State) (p : Point) (u : Tcb) �
 unfolding timer.must_run
 runs_at service p u begun b last s used sent =
     let v : Tcb = after_full u in
-    let opened : v.sending.opened ≡ p.counted =
-    full_keeps (λ (q : Sending). q.opened) u (record { sends = λ s n. refl; ends = λ s. refl; times = λ s i r. refl }) ∙ sym s.counted in
+    let syn_acked : v.sending.syn_acked ≡ p.syn_acked =
+    full_keeps (λ (q : Sending). q.syn_acked) u (record { sends = λ s n. refl; ends = λ s. refl; times = λ s i r. refl }) ∙ sym s.syn_acked in
     let una : v.sending.una ≡ u.sending.una =
     full_keeps (λ (q : Sending). q.una) u (record { sends = λ s n. refl; ends = λ s. refl; times = λ s i r. refl }) in
     ap (λ n. (n || is_syn_sent v.name) && must_run v.sending) (full_name u begun)
-    ∙ (λ i. not (opened i) || nat_lt (una i) (max (sym sent i) (full_target u begun b i)))
-    ∙ ap (λ w. not p.counted || w) (waits_at service p u p.sent b last used)
-    ∙ ap (λ n. not p.counted || nat_lt n (max p.sent (point.target service p))) (sym s.una)
+    ∙ (λ i. not (syn_acked i) || nat_lt (una i) (max (sym sent i) (full_target u begun b i)))
+    ∙ ap (λ w. not p.syn_acked || w) (waits_at service p u p.sent b last used)
+    ∙ ap (λ n. not p.syn_acked || nat_lt n (max p.sent (point.target service p))) (sym s.una)
 
 -- where the timer must run before the flush, it must at the point after it
 more_sent : (o : Bool) (una sent sent' goal : ℕ) → sent ≤ sent' → (not o || nat_lt una (max sent goal)) ≡ true → (not o || nat_lt una (max sent' goal)) ≡ true
@@ -284,6 +284,6 @@ pub running_at : {State : Type 0} (service : Machine State) (before after : Poin
 unfolding timer.must_run
 running_at service before after u b last s used was sent must =
     let more : u.sending.sent ≤ after.sent = omega (arith, steps_grow u, sent) in
-    (λ i. not (s.counted i) || nat_lt (s.una i) (max after.sent (point.target service after)))
-    ∙ ap (λ w. not u.sending.opened || w) (sym (waits_at service after u after.sent b last used))
-    ∙ more_sent u.sending.opened u.sending.una u.sending.sent after.sent (target u.sending) more must
+    (λ i. not (s.syn_acked i) || nat_lt (s.una i) (max after.sent (point.target service after)))
+    ∙ ap (λ w. not u.sending.syn_acked || w) (sym (waits_at service after u after.sent b last used))
+    ∙ more_sent u.sending.syn_acked u.sending.una u.sending.sent after.sent (target u.sending) more must

@@ -7,7 +7,7 @@ use Rattle.seq_arith.specs.Arrival.{is_new_ack}
 use Rattle.seq_arith.specs.Packet.{Segment}
 use Rattle.seq_arith.specs.Offset.{one_if}
 use Rattle.tcp_endpoint.specs.States.{has_begun}
-use Rattle.tcp_endpoint.specs.Sending.{Sending, opened_by, acknowledged, target, sendable, sends_fin, ticked, timed, with_sent, with_fin_sent}
+use Rattle.tcp_endpoint.specs.Sending.{Sending, with_syn_acked, acknowledged, target, sendable, sends_fin, ticked, timed, with_sent, with_fin_sent}
 use Rattle.tcp_endpoint.specs.Tcb.{Tcb}
 use Rattle.tcp_endpoint.specs.Arrival.{ack_at, received}
 use Rattle.tcp_endpoint.specs.Leaving.{probes, probes_text, probes_fin, with_probe, with_text_sent, with_fin_out, after_full, announced, is_timed, with_turn_ended, flushed}
@@ -48,11 +48,11 @@ sent_of_if : (b : Bool) (x y : Sending) → (if b then x else y).sent ≡ (if b 
 sent_of_if true x y = refl
 sent_of_if false x y = refl
 
-plain_steps : (s : Sending) → (s.opened ≡ false → s.sent ≡ 0) → (s.opened ≡ false → s.edge ≡ 0) → s.sent ≤ s.una + length s.held + one_if s.fin_sent
+plain_steps : (s : Sending) → (s.syn_acked ≡ false → s.sent ≡ 0) → (s.syn_acked ≡ false → s.edge ≡ 0) → s.sent ≤ s.una + length s.held + one_if s.fin_sent
     → (after_steps true false false s).sent ≡ max s.sent (min (target s) s.edge)
 plain_steps s p q h =
     let texted : Sending = with_sent s (sendable s)
-    in sent_of_if (sends_fin texted) (with_fin_sent texted) texted ∙ no_probe s.opened s.closed s.fin_sent s.una (length s.held) s.edge s.sent p q h
+    in sent_of_if (sends_fin texted) (with_fin_sent texted) texted ∙ no_probe s.syn_acked s.closed s.fin_sent s.una (length s.held) s.edge s.sent p q h
 
 -- a byte is probed: nothing else has room
 probed_text : (o c f : Bool) (una len edge sent : ℕ) → edge ≤ sent
@@ -72,7 +72,7 @@ text_steps : (s : Sending) → s.edge ≤ s.sent → (after_steps true true fals
 text_steps s shut =
     let probed : Sending = with_sent s 1 in
     let texted : Sending = with_sent probed (sendable probed)
-    in sent_of_if (sends_fin texted) (with_fin_sent texted) texted ∙ probed_text s.opened s.closed s.fin_sent s.una (length s.held) s.edge s.sent shut
+    in sent_of_if (sends_fin texted) (with_fin_sent texted) texted ∙ probed_text s.syn_acked s.closed s.fin_sent s.una (length s.held) s.edge s.sent shut
 
 -- behind a FIN nothing is sent
 probed_fin : (o c : Bool) (una len edge sent n : ℕ)
@@ -88,7 +88,7 @@ fin_steps : (s : Sending) → (after_steps true false true s).sent ≡ s.sent + 
 fin_steps s =
     let probed : Sending = with_fin_sent s in
     let texted : Sending = with_sent probed (sendable probed)
-    in sent_of_if (sends_fin texted) (with_fin_sent texted) texted ∙ probed_fin s.opened s.closed s.una (length s.held) s.edge s.sent _
+    in sent_of_if (sends_fin texted) (with_fin_sent texted) texted ∙ probed_fin s.syn_acked s.closed s.una (length s.held) s.edge s.sent _
 
 -- the tests of a probe
 pub fin_unsent : (f c : Bool) (una len sent : ℕ) → una ≡ sent → sent + 1 ≤ (if f then sent else una + len + one_if c) → f ≡ false
@@ -100,11 +100,11 @@ waits_fin true c una len sent is h none = absurd (omega arith)
 waits_fin false true una len sent is h none = refl
 waits_fin false false una len sent is h none = absurd (omega arith)
 
-pub probing : (e : Tcb) → has_begun e.name ≡ true → e.sending.opened ≡ true → e.sending.fin_sent ≡ false → e.probe ≡ true → probes e ≡ true
-probing e begun is_opened unsent is =
-    ap (λ b. b && has_begun e.name && e.sending.opened && not e.sending.fin_sent) is
-    ∙ ap (λ b. true && b && e.sending.opened && not e.sending.fin_sent) begun
-    ∙ ap (λ b. true && true && b && not e.sending.fin_sent) is_opened
+pub probing : (e : Tcb) → has_begun e.name ≡ true → e.sending.syn_acked ≡ true → e.sending.fin_sent ≡ false → e.probe ≡ true → probes e ≡ true
+probing e begun is_syn_acked unsent is =
+    ap (λ b. b && has_begun e.name && e.sending.syn_acked && not e.sending.fin_sent) is
+    ∙ ap (λ b. true && b && e.sending.syn_acked && not e.sending.fin_sent) begun
+    ∙ ap (λ b. true && true && b && not e.sending.fin_sent) is_syn_acked
     ∙ ap (λ b. true && true && true && not b) unsent
 
 pub by_probe : (e : Tcb) (pt pf : Bool) → probes_text e ≡ pt → probes_fin e ≡ pf → has_begun e.name ≡ true
@@ -130,16 +130,16 @@ steps_sent : (e : Tcb) (pr t : Bool) → e.probe ≡ pr → nat_lt (e.sending.se
     → (after_steps (has_begun e.name) (probes_text e) (probes_fin e) e.sending).sent ≡ sent_by_law e
 steps_sent e false t is waits begun b right =
     let s : Sending = e.sending in
-    let still : probes e ≡ false = ap (λ b. b && has_begun e.name && s.opened && not s.fin_sent) is in
+    let still : probes e ≡ false = ap (λ b. b && has_begun e.name && s.syn_acked && not s.fin_sent) is in
     let no_text : probes_text e ≡ false = ap (λ b. b && nat_lt (s.sent - s.una) (length s.held)) still in
     let no_fin : probes_fin e ≡ false = ap (λ b. b && not (nat_lt (s.sent - s.una) (length s.held)) && s.closed) still in
     ap (λ (q : Sending). q.sent) (by_probe e false false no_text no_fin begun)
-    ∙ plain_steps s b.unopened b.shut b.flight
+    ∙ plain_steps s b.syn_unacked b.shut b.flight
     ∙ no_more (max s.sent (min (target s) s.edge)) e.probe is
 steps_sent e true true is waits begun b right =
     let s : Sending = e.sending in
     let unsent : s.fin_sent ≡ false = fin_unsent s.fin_sent s.closed s.una (length s.held) s.sent (right.all_acked is) (right.waits is) in
-    let on : probes e ≡ true = probing e begun (right.opened is) unsent is in
+    let on : probes e ≡ true = probing e begun (right.syn_acked is) unsent is in
     let text : probes_text e ≡ true = ap (λ b. b && nat_lt (s.sent - s.una) (length s.held)) on ∙ waits in
     let no_fin : probes_fin e ≡ false =
     ap (λ b. b && not (nat_lt (s.sent - s.una) (length s.held)) && s.closed) on ∙ ap (λ b. true && not b && s.closed) waits in
@@ -151,7 +151,7 @@ steps_sent e true false is waits begun b right =
     let unsent : s.fin_sent ≡ false = fin_unsent s.fin_sent s.closed s.una (length s.held) s.sent (right.all_acked is) (right.waits is) in
     let none : length s.held ≡ 0 = nothing_held s.una s.sent (length s.held) (right.all_acked is) waits in
     let is_closed : s.closed ≡ true = waits_fin s.fin_sent s.closed s.una (length s.held) s.sent (right.all_acked is) (right.waits is) none in
-    let on : probes e ≡ true = probing e begun (right.opened is) unsent is in
+    let on : probes e ≡ true = probing e begun (right.syn_acked is) unsent is in
     let no_text : probes_text e ≡ false = ap (λ b. b && nat_lt (s.sent - s.una) (length s.held)) on ∙ waits in
     let fin : probes_fin e ≡ true =
     ap (λ b. b && not (nat_lt (s.sent - s.una) (length s.held)) && s.closed) on ∙ ap (λ b. true && not b && s.closed) waits ∙ is_closed in
@@ -242,9 +242,9 @@ first_agrees true false n = refl
 first_agrees false true n = refl
 first_agrees false false n = refl
 
-agrees : (e : Tcb) (p : Segment) (c o : Bool) → e.sending.opened ≡ o
+agrees : (e : Tcb) (p : Segment) (c o : Bool) → e.sending.syn_acked ≡ o
     → Agrees e.sending
-    (if c then (if o then acknowledged e.sending p.head.seq (ack_at e p) p.head.window else opened_by e.sending p.head.seq p.head.window) else e.sending)
+    (if c then (if o then acknowledged e.sending p.head.seq (ack_at e p) p.head.window else with_syn_acked e.sending p.head.seq p.head.window) else e.sending)
 unfolding acknowledged
 agrees e p true true is =
     let s : Sending = e.sending in
@@ -262,7 +262,7 @@ agrees e p true false is =
     }
 agrees e p false o is =
     let s : Sending = e.sending in
-    let a = same_agrees s.opened s.una s.rest s.interval in record { interval = a.0; rest = a.1 }
+    let a = same_agrees s.syn_acked s.una s.rest s.interval in record { interval = a.0; rest = a.1 }
 
 pub timer_law : (e u : Tcb) (p : Segment) → has_begun e.name ≡ true → IsBounded e → IsUsual e p
     → u.sending.interval ≡ (received e p).sending.interval → u.sending.rest ≡ (received e p).sending.rest
@@ -273,7 +273,7 @@ timer_law e u p begun b usual interval rest =
     let runs : Bool = is_timed (after_full u) in
     let t = flushed_timer u m.interval m.rest interval rest in
     let P : Sending → Type 0 = λ q. Agrees e.sending q in
-    let a : Agrees e.sending m = subst P (sym (sending_is e p begun b usual)) (agrees e p (counts e p) e.sending.opened refl)
+    let a : Agrees e.sending m = subst P (sym (sending_is e p begun b usual)) (agrees e p (counts e p) e.sending.syn_acked refl)
     in record {
       interval = t.interval ∙ ap (λ n. if runs then n else 1) a.interval;
       rest = t.rest ∙ ap (λ n. if runs then n else 0) a.rest;

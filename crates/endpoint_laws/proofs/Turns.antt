@@ -10,7 +10,7 @@ use Rattle.ft_model.specs.News.{News}
 use Rattle.ft_model.specs.News.News.{Comes, Logged, Ticks, Begins}
 use Rattle.ft_model.specs.Point.{Point, taken_units, announced_edge}
 use Rattle.ft_model.specs.Point as point
-use Rattle.ft_model.specs.Sending.{counted_after, acknowledged_after, sent_at_once, sent_after}
+use Rattle.ft_model.specs.Sending.{syn_acked_after, acknowledged_after, sent_at_once, sent_after}
 use Rattle.ft_model.specs.Segments.{or_bare, bare_segment, resent, new_texts, new_fin}
 use Rattle.ft_model.specs.Timer as timer
 use Rattle.tcp_endpoint.specs.States.{has_begun}
@@ -54,21 +54,21 @@ pub sends_of : {State : Type 0} (service : Machine State) (news : News) (before 
 sends_of service news before after m u s a laws = record {
   sisn = laws.same.sisn ∙ s.sisn ∙ sym a.sends.iss;
   mss = laws.same.mss ∙ s.mss ∙ sym a.sends.mss;
-  counted = laws.counted ∙ s.counted ∙ sym a.sends.opened;
+  syn_acked = laws.syn_acked ∙ s.syn_acked ∙ sym a.sends.syn_acked;
   una = laws.una ∙ s.una ∙ sym a.sends.una;
   edge = laws.edge ∙ s.edge ∙ sym a.sends.edge;
-  wl1 = λ h. laws.wl1 ∙ s.wl1 (sym a.sends.opened ∙ h) ∙ (λ i. offset_of (sym a.irs i) (sym a.sends.wl1 i) +ℤ pos (sym laws.same.fetched i));
+  wl1 = λ h. laws.wl1 ∙ s.wl1 (sym a.sends.syn_acked ∙ h) ∙ (λ i. offset_of (sym a.irs i) (sym a.sends.wl1 i) +ℤ pos (sym laws.same.fetched i));
   wl2 = laws.wl2 ∙ s.wl2 ∙ sym a.sends.wl2;
 }
 
 -- what waits for an acknowledgement where the timer expires: the news of a tick acknowledge nothing
 waits_is : {State : Type 0} (service : Machine State) (news : News) (before after : Point) (e : Tcb) → StandsAt before e → MeetsLaws service news before after
     → (keep : Bool → Bool) → (timer.expires news before && keep (is_unacknowledged e.sending)) ≡ (timer.expires news before && keep (waits_for_ack before after))
-unfolding counted_after acknowledged_after
+unfolding syn_acked_after acknowledged_after
 waits_is service (Comes segment) before after e stands laws keep = refl
 waits_is service (Logged kept) before after e stands laws keep = refl
 waits_is service Ticks before after e stands laws keep = λ i.
-    timer.expires Ticks before && keep (not ((sym stands.sends.counted ∙ sym laws.counted) i) || nat_lt ((sym stands.sends.una ∙ sym laws.una) i) (sym stands.sent i))
+    timer.expires Ticks before && keep (not ((sym stands.sends.syn_acked ∙ sym laws.syn_acked) i) || nat_lt ((sym stands.sends.una ∙ sym laws.una) i) (sym stands.sent i))
 waits_is service Begins before after e stands laws keep = refl
 
 flushes : {State : Type 0} (service : Machine State) (news : News) (before after : Point) (e m u : Tcb) → StandsAt before e → Arrived news before e m → IsUsed m u
@@ -101,8 +101,8 @@ sent_is : {State : Type 0} (service : Machine State) (news : News) (before after
 unfolding sent_after sent_at_once
 sent_is service news before after e m u stands came a laws f =
     let probe : timer.probes news before ≡ u.probe =
-    (λ i. timer.expires news before && stands.sends.counted i && not (nat_lt (stands.sends.una i) (stands.sent i)))
-    ∙ sym (probes_by (timer.expires news before) e.sending.opened (nat_lt e.sending.una e.sending.sent)) ∙ sym (a.probe ∙ came.probe) in
+    (λ i. timer.expires news before && stands.sends.syn_acked i && not (nat_lt (stands.sends.una i) (stands.sent i)))
+    ∙ sym (probes_by (timer.expires news before) e.sending.syn_acked (nat_lt e.sending.una e.sending.sent)) ∙ sym (a.probe ∙ came.probe) in
     laws.sent
     ∙ (λ i. max (f.sent i) (min (point.target service after) (f.sends.edge i)) + one_if (probe i))
     ∙ ap (λ n. n + one_if u.probe) (sent_at service after u f.bounds f.fin_last f.used)
@@ -190,7 +190,7 @@ turn_leads service news before after e m u begun between stands usual news_are c
       arrived = came;
       used = a;
       laws = laws;
-      counted = laws.counted ∙ came.sends.counted;
+      syn_acked = laws.syn_acked ∙ came.sends.syn_acked;
       una = laws.una ∙ came.sends.una;
       runs = runs_at service after u begun_after bounds f.fin_last f.sends user sent_full;
       still = running_at service before after u bounds f.fin_last f.sends user f.sent sent_full;

@@ -12,9 +12,9 @@ use Rattle.ft_model.specs.News.News.{Comes, Logged, Ticks, Begins}
 use Rattle.tcp_buffers.specs.Near.{is_ahead}
 use Rattle.tcp_endpoint.specs.declared.states.StateName.{StateName}
 use Rattle.tcp_endpoint.specs.declared.states.StateName.TheVariants.{Closed, Listen, SynSent, SynReceived, Established, FinWait1, FinWait2, CloseWait, Closing, LastAck, TimeWait}
-use Rattle.tcp_endpoint.specs.States.{opened, after_close, after_fin, after_fin_acked, is_time_wait, has_begun}
+use Rattle.tcp_endpoint.specs.States.{after_syn_acked, after_close, after_fin, after_fin_acked, is_time_wait, has_begun}
 use Rattle.tcp_endpoint.specs.Receiving.{Receiving, next, taken, window, with_segment}
-use Rattle.tcp_endpoint.specs.Sending.{Sending, opened_by, acknowledged, fin_acked, expires, ticked, timed}
+use Rattle.tcp_endpoint.specs.Sending.{Sending, with_syn_acked, acknowledged, fin_acked, expires, ticked, timed}
 use Rattle.tcp_endpoint.specs.Tcb.{Tcb}
 use Rattle.tcp_endpoint.specs.Arrival.{first, ack_at, owing_if, killed, entering, refusing, with_text_and_fin, with_fin_acked, with_first_ack, with_ack, check_ack, check_syn, check_rst, repeats_fin, waiting_again, check_place, in_others, received}
 use Rattle.tcp_endpoint.specs.Leaving.{probes_text, probes_fin, with_probe, with_text_sent, with_fin_out, after_full, announced, is_timed, with_turn_ended, flushed}
@@ -64,9 +64,9 @@ enters_later e p h =
     holds_if Enters (is_ahead e.sending.sent (ack_at e p)) (owing_if true e) (with_text_and_fin (with_fin_acked m) p)
     (λ b. h) (λ b. enters_text (with_fin_acked m) p (enters_acked m h))
 
-opened_outside : (closed : Bool) → is_time_wait (opened closed) ≡ false
-opened_outside true = refl
-opened_outside false = refl
+syn_acked_outside : (closed : Bool) → is_time_wait (after_syn_acked closed) ≡ false
+syn_acked_outside true = refl
+syn_acked_outside false = refl
 
 enters_refusing : (e : Tcb) (p : Segment) → Enters e → Enters (refusing e p)
 unfolding refusing
@@ -75,15 +75,15 @@ enters_refusing e p h = h
 enters_first : (e : Tcb) (p : Segment) → Enters e → Enters (with_first_ack e p)
 unfolding with_first_ack
 enters_first e p h =
-    let m : Tcb = record e { name = opened e.sending.closed; sending = opened_by e.sending p.head.seq p.head.window } in
+    let m : Tcb = record e { name = after_syn_acked e.sending.closed; sending = with_syn_acked e.sending p.head.seq p.head.window } in
     holds_if Enters (int_eq (ack_at e p) (pos 0)) (with_text_and_fin m p) (refusing e p)
-    (λ b. enters_text m p (outside m (opened_outside e.sending.closed))) (λ b. enters_refusing e p h)
+    (λ b. enters_text m p (outside m (syn_acked_outside e.sending.closed))) (λ b. enters_refusing e p h)
 
 enters_ack : (e : Tcb) (p : Segment) → Enters e → Enters (check_ack e p)
 unfolding check_ack
 enters_ack e p h =
-    holds_if Enters (has_ack p) (if e.sending.opened then with_ack e p else with_first_ack e p) e
-    (λ a. holds_if Enters e.sending.opened (with_ack e p) (with_first_ack e p) (λ o. enters_later e p h) (λ o. enters_first e p h)) (λ a. h)
+    holds_if Enters (has_ack p) (if e.sending.syn_acked then with_ack e p else with_first_ack e p) e
+    (λ a. holds_if Enters e.sending.syn_acked (with_ack e p) (with_first_ack e p) (λ o. enters_later e p h) (λ o. enters_first e p h)) (λ a. h)
 
 enters_syn : (e : Tcb) (p : Segment) → Enters e → Enters (check_syn e p)
 unfolding check_syn
@@ -142,7 +142,7 @@ enters_used (Closes ∷ calls) m h = enters_used calls (called Closes m) (λ is.
 record Waits (wait : ℕ) (t : Tcb) : Type 0 where
   name : t.name ≡ TimeWait
   wait_is : t.wait ≡ wait
-  opened_is : t.sending.opened ≡ true
+  syn_acked_is : t.sending.syn_acked ≡ true
   fin : t.receiving.fin ≡ true
 
 first_if : (a b : Bool) (x y : Receiving) → a ≡ true → (if a || b then x else y) ≡ x
@@ -168,7 +168,7 @@ waits_text wait e p w =
     let same : taking.receiving ≡ e.receiving = taken_already e.receiving (first e p) p.payload (has_fin p) w.fin in
     holds_if (Waits wait) (taking.receiving.fin && not e.receiving.fin) (entering (after_fin e.name) taking) taking
     (λ b. absurd (false≢true (sym (not_anew taking.receiving.fin e.receiving.fin w.fin) ∙ b)))
-    (λ b. record { name = w.name; wait_is = w.wait_is; opened_is = w.opened_is; fin = ap (λ (r : Receiving). r.fin) same ∙ w.fin })
+    (λ b. record { name = w.name; wait_is = w.wait_is; syn_acked_is = w.syn_acked_is; fin = ap (λ (r : Receiving). r.fin) same ∙ w.fin })
 
 still_there : (e : Tcb) (name : StateName) → e.name ≡ TimeWait → name ≡ TimeWait → (if is_time_wait name && not (is_time_wait e.name) then 4 else e.wait) ≡ e.wait
 still_there e name here there = λ i. if is_time_wait (there i) && not (is_time_wait (here i)) then 4 else e.wait
@@ -178,26 +178,26 @@ unfolding with_fin_acked
 waits_acked wait e w =
     let stays : after_fin_acked e.name ≡ TimeWait = ap after_fin_acked w.name in
     holds_if (Waits wait) (fin_acked e.sending) (entering (after_fin_acked e.name) e) e
-    (λ b. record { name = stays; wait_is = still_there e (after_fin_acked e.name) w.name stays ∙ w.wait_is; opened_is = w.opened_is; fin = w.fin })
+    (λ b. record { name = stays; wait_is = still_there e (after_fin_acked e.name) w.name stays ∙ w.wait_is; syn_acked_is = w.syn_acked_is; fin = w.fin })
     (λ b. w)
 
 owing_waits : (wait : ℕ) (e : Tcb) (owed : Bool) → Waits wait e → Waits wait (record e { owed = owed })
-owing_waits wait e owed w = record { name = w.name; wait_is = w.wait_is; opened_is = w.opened_is; fin = w.fin }
+owing_waits wait e owed w = record { name = w.name; wait_is = w.wait_is; syn_acked_is = w.syn_acked_is; fin = w.fin }
 
 waits_later : (wait : ℕ) (e : Tcb) (p : Segment) → Waits wait e → Waits wait (with_ack e p)
 unfolding with_ack acknowledged
 waits_later wait e p w =
     let m : Tcb = record e { sending = acknowledged e.sending p.head.seq (ack_at e p) p.head.window } in
-    let used_up : Waits wait m = record { name = w.name; wait_is = w.wait_is; opened_is = w.opened_is; fin = w.fin } in
+    let used_up : Waits wait m = record { name = w.name; wait_is = w.wait_is; syn_acked_is = w.syn_acked_is; fin = w.fin } in
     holds_if (Waits wait) (is_ahead e.sending.sent (ack_at e p)) (owing_if true e) (with_text_and_fin (with_fin_acked m) p)
     (λ b. owing_waits wait e (e.owed || true) w) (λ b. waits_text wait (with_fin_acked m) p (waits_acked wait m used_up))
 
 waits_ack : (wait : ℕ) (e : Tcb) (p : Segment) → Waits wait e → Waits wait (check_ack e p)
 unfolding check_ack
 waits_ack wait e p w =
-    holds_if (Waits wait) (has_ack p) (if e.sending.opened then with_ack e p else with_first_ack e p) e
-    (λ a. holds_if (Waits wait) e.sending.opened (with_ack e p) (with_first_ack e p)
-    (λ o. waits_later wait e p w) (λ o. absurd (false≢true (sym o ∙ w.opened_is)))) (λ a. w)
+    holds_if (Waits wait) (has_ack p) (if e.sending.syn_acked then with_ack e p else with_first_ack e p) e
+    (λ a. holds_if (Waits wait) e.sending.syn_acked (with_ack e p) (with_first_ack e p)
+    (λ o. waits_later wait e p w) (λ o. absurd (false≢true (sym o ∙ w.syn_acked_is)))) (λ a. w)
 
 waits_syn : (wait : ℕ) (e : Tcb) (p : Segment) → Waits wait e → Waits wait (check_syn e p)
 unfolding check_syn
@@ -237,7 +237,7 @@ unfolding waiting_again
 waits_again e p wait w = record {
   name = w.name;
   wait_is = (λ i. if is_time_wait (w.name i) && again_is e p w.fin i then 4 else w.wait_is i);
-  opened_is = w.opened_is;
+  syn_acked_is = w.syn_acked_is;
   fin = w.fin;
 }
 
@@ -245,26 +245,26 @@ waits_again e p wait w = record {
 waits_used : (wait : ℕ) (calls : List Call) (m : Tcb) → Waits wait m → Waits wait (used calls m)
 waits_used wait [] m w = w
 waits_used wait (Reads n ∷ calls) m w =
-    waits_used wait calls (called (Reads n) m) (record { name = w.name; wait_is = w.wait_is; opened_is = w.opened_is; fin = w.fin })
+    waits_used wait calls (called (Reads n) m) (record { name = w.name; wait_is = w.wait_is; syn_acked_is = w.syn_acked_is; fin = w.fin })
 waits_used wait (Writes bytes ∷ calls) m w =
-    waits_used wait calls (called (Writes bytes) m) (record { name = w.name; wait_is = w.wait_is; opened_is = w.opened_is; fin = w.fin })
+    waits_used wait calls (called (Writes bytes) m) (record { name = w.name; wait_is = w.wait_is; syn_acked_is = w.syn_acked_is; fin = w.fin })
 waits_used wait (Closes ∷ calls) m w =
-    waits_used wait calls (called Closes m) (record { name = ap after_close w.name; wait_is = w.wait_is; opened_is = w.opened_is; fin = w.fin })
+    waits_used wait calls (called Closes m) (record { name = ap after_close w.name; wait_is = w.wait_is; syn_acked_is = w.syn_acked_is; fin = w.fin })
 
-timed_opened : (runs : Bool) (s : Sending) → (timed runs s).opened ≡ s.opened
-timed_opened true s = holds_if (λ (t : Sending). t.opened ≡ s.opened) (s.rest == 0) (record s { interval = 1; rest = 1 }) s (λ h. refl) (λ h. refl)
-timed_opened false s = refl
+timed_syn_acked : (runs : Bool) (s : Sending) → (timed runs s).syn_acked ≡ s.syn_acked
+timed_syn_acked true s = holds_if (λ (t : Sending). t.syn_acked ≡ s.syn_acked) (s.rest == 0) (record s { interval = 1; rest = 1 }) s (λ h. refl) (λ h. refl)
+timed_syn_acked false s = refl
 
 waits_flushed : (wait : ℕ) (u : Tcb) → Waits wait u → Waits wait (flushed u)
 unfolding flushed with_turn_ended announced after_full with_fin_out with_text_sent with_probe
 waits_flushed wait u w =
     let s : Sending = after_steps (has_begun u.name) (probes_text u) (probes_fin u) u.sending in
-    let opened_same : s.opened ≡ u.sending.opened =
-    kept (λ t. t.opened ≡ u.sending.opened) (λ t k h. h) (λ t h. h) (has_begun u.name) (probes_text u) (probes_fin u) u.sending refl in
+    let syn_acked_same : s.syn_acked ≡ u.sending.syn_acked =
+    kept (λ t. t.syn_acked ≡ u.sending.syn_acked) (λ t k h. h) (λ t h. h) (has_begun u.name) (probes_text u) (probes_fin u) u.sending refl in
     record {
       name = w.name;
       wait_is = w.wait_is;
-      opened_is = timed_opened (is_timed (with_fin_out (with_text_sent (with_probe u)))) s ∙ opened_same ∙ w.opened_is;
+      syn_acked_is = timed_syn_acked (is_timed (with_fin_out (with_text_sent (with_probe u)))) s ∙ syn_acked_same ∙ w.syn_acked_is;
       fin = w.fin;
     }
 
@@ -311,9 +311,9 @@ segment_turn ticks p calls e some w unreset =
 last_tick : (ticks : ℕ) → 1 ≤ 4 - ticks → nat_lt (4 - ticks) 2 ≡ (ticks + 1 == 4)
 last_tick ticks some = grind (arith, some)
 
-ticked_opened : (s : Sending) → (ticked s).opened ≡ s.opened
-ticked_opened s =
-    holds_if (λ (t : Sending). t.opened ≡ s.opened) (expires s) (record s { interval = min 64 (2 * s.interval); rest = min 64 (2 * s.interval) }) (record s { rest = s.rest - 1 }) (λ h. refl) (λ h. refl)
+ticked_syn_acked : (s : Sending) → (ticked s).syn_acked ≡ s.syn_acked
+ticked_syn_acked s =
+    holds_if (λ (t : Sending). t.syn_acked ≡ s.syn_acked) (expires s) (record s { interval = min 64 (2 * s.interval); rest = min 64 (2 * s.interval) }) (record s { rest = s.rest - 1 }) (λ h. refl) (λ h. refl)
 
 ticked_waits : (ticks : ℕ) (e : Tcb) → 1 ≤ 4 - ticks → Waits (4 - ticks) e → (ticks + 1 == 4) ≡ false → (1 ≤ 4 - (ticks + 1)) × Waits (4 - (ticks + 1)) (after_tick e)
 unfolding after_tick timer_ticked waited
@@ -323,7 +323,7 @@ ticked_waits ticks e some w more = (
     name = (λ i. if is_time_wait (w.name i) && nat_lt (w.wait_is i) 2 then Closed else w.name i)
         ∙ ap (λ b. if b then Closed else TimeWait) (last_tick ticks some ∙ more);
     wait_is = (λ i. if is_time_wait (w.name i) then w.wait_is i - 1 else w.wait_is i) ∙ omega arith;
-    opened_is = ticked_opened e.sending ∙ w.opened_is;
+    syn_acked_is = ticked_syn_acked e.sending ∙ w.syn_acked_is;
     fin = w.fin;
   },
 )
@@ -400,11 +400,11 @@ wait_law news calls turns e begun between named out there =
     let u : Tcb = used calls m in
     let unreset : resets news e ≡ false = killed_outside news calls e begun (reset_closed news calls e begun) there in
     let f : FollowsAt u = unreset_follows news calls e begun between named unreset in
-    let both = ended u.name u.sending.opened u.sending.closed u.receiving.fin (fin_acked u.sending) there f.placed in
+    let both = ended u.name u.sending.syn_acked u.sending.closed u.receiving.fin (fin_acked u.sending) there f.placed in
     let entered : Waits 4 u = record {
       name = is_there u.name there;
       wait_is = enters_used calls m (enters_arrived news e begun out) there;
-      opened_is = both.0;
+      syn_acked_is = both.0;
       fin = both.1;
     } in
     waits_out 0 turns (flushed u) (omega arith) (waits_flushed 4 u entered)

@@ -14,18 +14,18 @@ use Rattle.tcp_endpoint.specs.Arrival.{first}
 
 -- the state of a connection that has begun, by whether its SYN is acknowledged, the user has closed, the peer's FIN is taken, and the own
 -- FIN is acknowledged. Nothing is taken before the SYN is acknowledged
-abbrev pub IsNamed : StateName → (opened closed fin acked : Bool) → Type 0
-IsNamed Closed opened closed fin acked = Unit {0}
-IsNamed Listen opened closed fin acked = Unit {0}
-IsNamed SynSent opened closed fin acked = Unit {0}
-IsNamed SynReceived opened closed fin acked = (opened ≡ false) × (fin ≡ false)
-IsNamed Established opened closed fin acked = (opened ≡ true) × (closed ≡ false) × (fin ≡ false)
-IsNamed CloseWait opened closed fin acked = (opened ≡ true) × (closed ≡ false) × (fin ≡ true)
-IsNamed FinWait1 opened closed fin acked = (opened ≡ true) × (closed ≡ true) × (fin ≡ false) × (acked ≡ false)
-IsNamed FinWait2 opened closed fin acked = (opened ≡ true) × (closed ≡ true) × (fin ≡ false) × (acked ≡ true)
-IsNamed Closing opened closed fin acked = (opened ≡ true) × (closed ≡ true) × (fin ≡ true) × (acked ≡ false)
-IsNamed LastAck opened closed fin acked = (opened ≡ true) × (closed ≡ true) × (fin ≡ true) × (acked ≡ false)
-IsNamed TimeWait opened closed fin acked = (opened ≡ true) × (closed ≡ true) × (fin ≡ true) × (acked ≡ true)
+abbrev pub IsNamed : StateName → (syn_acked closed fin acked : Bool) → Type 0
+IsNamed Closed syn_acked closed fin acked = Unit {0}
+IsNamed Listen syn_acked closed fin acked = Unit {0}
+IsNamed SynSent syn_acked closed fin acked = Unit {0}
+IsNamed SynReceived syn_acked closed fin acked = (syn_acked ≡ false) × (fin ≡ false)
+IsNamed Established syn_acked closed fin acked = (syn_acked ≡ true) × (closed ≡ false) × (fin ≡ false)
+IsNamed CloseWait syn_acked closed fin acked = (syn_acked ≡ true) × (closed ≡ false) × (fin ≡ true)
+IsNamed FinWait1 syn_acked closed fin acked = (syn_acked ≡ true) × (closed ≡ true) × (fin ≡ false) × (acked ≡ false)
+IsNamed FinWait2 syn_acked closed fin acked = (syn_acked ≡ true) × (closed ≡ true) × (fin ≡ false) × (acked ≡ true)
+IsNamed Closing syn_acked closed fin acked = (syn_acked ≡ true) × (closed ≡ true) × (fin ≡ true) × (acked ≡ false)
+IsNamed LastAck syn_acked closed fin acked = (syn_acked ≡ true) × (closed ≡ true) × (fin ≡ true) × (acked ≡ false)
+IsNamed TimeWait syn_acked closed fin acked = (syn_acked ≡ true) × (closed ≡ true) × (fin ≡ true) × (acked ≡ true)
 
 -- the states of a connection that has begun in which the peer's FIN is taken. CLOSED doesn't tell: a RST leads there too
 abbrev pub has_taken_fin : StateName → Bool
@@ -37,7 +37,7 @@ has_taken_fin name = false
 
 -- an endpoint in the state that its halves tell of
 abbrev pub IsNamedRightly : Tcb → Type 0
-IsNamedRightly e = IsNamed e.name e.sending.opened e.sending.closed e.receiving.fin (fin_acked e.sending)
+IsNamedRightly e = IsNamed e.name e.sending.syn_acked e.sending.closed e.receiving.fin (fin_acked e.sending)
 
 -- a RST at exactly the next number comes
 abbrev pub resets : News → Tcb → Bool

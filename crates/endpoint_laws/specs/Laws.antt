@@ -19,7 +19,7 @@ abbrev pub accepts : Tcb → Segment → Bool
 accepts e p = is_acceptable (next e.receiving) (announced_edge e.receiving - next e.receiving) (first e p) (length_of p)
 
 abbrev pub counts : Tcb → Segment → Bool
-counts e p = has_ack p && not (has_syn p) && not (has_rst p) && accepts e p && (e.sending.opened || int_le (pos 0) (ack_at e p))
+counts e p = has_ack p && not (has_syn p) && not (has_rst p) && accepts e p && (e.sending.syn_acked || int_le (pos 0) (ack_at e p))
 
 -- its text and FIN are looked at: it counts, no FIN was taken before, and it leaves no gap
 abbrev pub continues : Tcb → Segment → Bool
@@ -53,13 +53,13 @@ acknowledges e p = counts e p && int_le (pos 0) (ack_at e p)
 abbrev pub uses_window : Tcb → Segment → Bool
 uses_window e p =
     acknowledges e p
-    && (not e.sending.opened
+    && (not e.sending.syn_acked
     || updates_window e.sending.una (offset_of e.receiving.irs e.sending.wl1) e.sending.wl2 (first e p) (nat_abs (ack_at e p)))
 
 -- Sending, field by field. The right edge is absolute: it stays where only SND.UNA moves
 pub record IsSentBy (e : Tcb) (p : Segment) (after : Sending) : Type 0 where
   pub iss : after.iss ≡ e.sending.iss
-  pub counted : after.opened ≡ (e.sending.opened || counts e p)
+  pub syn_acked : after.syn_acked ≡ (e.sending.syn_acked || counts e p)
   pub una : after.una ≡ (if acknowledges e p then una_after e.sending.una (nat_abs (ack_at e p)) else e.sending.una)
   pub sent : after.sent ≡ e.sending.sent
   pub edge : after.edge ≡ (if uses_window e p then nat_abs (ack_at e p) + p.head.window else e.sending.edge)
@@ -82,12 +82,12 @@ pub record Bounds (r : Receiving) (s : Sending) : Type 0 where
   pub limit : r.limit ≤ 2 ^ 24
   pub taken : taken r ≤ r.limit
   pub order : s.una ≤ s.sent
-  pub unopened : s.opened ≡ false → s.sent ≡ 0
-  pub shut : s.opened ≡ false → s.edge ≡ 0
+  pub syn_unacked : s.syn_acked ≡ false → s.sent ≡ 0
+  pub shut : s.syn_acked ≡ false → s.edge ≡ 0
   pub flight : s.sent ≤ s.una + length s.held + one_if s.fin_sent
   pub written : s.una + length s.held ≤ 2 ^ 24 + one_if s.fin_sent
   pub sent : s.sent ≤ 2 ^ 24 + one_if s.fin_sent
-  pub wl1 : s.opened ≡ true → IsNearFirst (offset_of r.irs s.wl1)
+  pub wl1 : s.syn_acked ≡ true → IsNearFirst (offset_of r.irs s.wl1)
   pub wl1_fits : s.wl1 ≤ 2 ^ 32 - 1
   pub wl2 : s.wl2 ≤ s.una
   pub edge : s.edge ≤ 2 ^ 24 + 2 ^ 16 + 1
@@ -101,7 +101,7 @@ pub record ProbesRightly (e : Tcb) : Type 0 where
   pub all_acked : e.probe ≡ true → e.sending.una ≡ e.sending.sent
   pub shut : e.probe ≡ true → e.sending.edge ≤ e.sending.sent
   pub waits : e.probe ≡ true → e.sending.sent + 1 ≤ target e.sending
-  pub opened : e.probe ≡ true → e.sending.opened ≡ true
+  pub syn_acked : e.probe ≡ true → e.sending.syn_acked ≡ true
 
 -- Sending: all that may leave, up to the right edge, never less than before, and one unit more at a probe
 abbrev pub sent_by_law : Tcb → ℕ
@@ -109,7 +109,7 @@ sent_by_law e = max e.sending.sent (min (target e.sending) e.sending.edge) + one
 
 -- the SYN isn't acknowledged yet, and the segment acknowledges less
 abbrev pub acknowledges_less : Tcb → Segment → Bool
-acknowledges_less e p = not e.sending.opened && has_ack p && int_lt (ack_at e p) (pos 0)
+acknowledges_less e p = not e.sending.syn_acked && has_ack p && int_lt (ack_at e p) (pos 0)
 
 -- Owed: an acceptable segment that acknowledges less than the SYN gets a RST, and nothing else is owed to it
 abbrev pub is_refused : Tcb → Segment → Bool
@@ -128,7 +128,7 @@ owes e p = if accepts e p then owes_acceptable e p else not (has_rst p)
 
 -- Timer: it starts anew where it didn't run, or where something new was acknowledged, the SYN included
 abbrev pub starts : Sending → Sending → Bool
-starts before after = before.rest == 0 || nat_lt before.una after.una || (after.opened && not before.opened)
+starts before after = before.rest == 0 || nat_lt before.una after.una || (after.syn_acked && not before.syn_acked)
 
 -- Timer: at the end of a turn with a segment
 abbrev pub interval_by : (runs starts : Bool) → Sending → ℕ
@@ -159,5 +159,5 @@ asks owed e = owed || not (e.told_next == next e.receiving) || not (e.told_edge 
 
 -- where the timer runs with all that was sent acknowledged, something waits that has no room below the edge
 pub record IsShut (s : Sending) : Type 0 where
-  pub edge : 1 ≤ s.rest → s.opened ≡ true → s.una ≡ s.sent → s.edge ≤ s.sent
-  pub waits : 1 ≤ s.rest → s.opened ≡ true → s.una ≡ s.sent → s.sent + 1 ≤ target s
+  pub edge : 1 ≤ s.rest → s.syn_acked ≡ true → s.una ≡ s.sent → s.edge ≤ s.sent
+  pub waits : 1 ≤ s.rest → s.syn_acked ≡ true → s.una ≡ s.sent → s.sent + 1 ≤ target s

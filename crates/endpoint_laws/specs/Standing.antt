@@ -16,7 +16,7 @@ use Rattle.ft_model.specs.Network.{source_of}
 use Rattle.ft_model.specs.Opening.{segment_size, point_opened}
 use Rattle.ft_model.specs.Connection.{IsSameConnection}
 use Rattle.ft_model.specs.Taken.{accepts, taken_after, fin_after}
-use Rattle.ft_model.specs.Sending.{counted_after, acknowledged_after, edge_after, wl1_after, wl2_after, sent_after}
+use Rattle.ft_model.specs.Sending.{syn_acked_after, acknowledged_after, edge_after, wl1_after, wl2_after, sent_after}
 use Rattle.ft_model.specs.Timer.{interval_after, rest_after}
 use Rattle.ft_model.specs.Owed.{is_refused, owes}
 use Rattle.ft_model.specs.Refusal.{rst_at_ack}
@@ -43,10 +43,10 @@ pub record ReceivesAt (p : Point) (e : Tcb) : Type 0 where
 pub record SendsAt (p : Point) (e : Tcb) : Type 0 where
   pub sisn : p.sisn ≡ e.sending.iss
   pub mss : p.mss ≡ e.sending.mss
-  pub counted : p.counted ≡ e.sending.opened
+  pub syn_acked : p.syn_acked ≡ e.sending.syn_acked
   pub una : p.una ≡ e.sending.una
   pub edge : p.edge ≡ e.sending.edge
-  pub wl1 : e.sending.opened ≡ true → p.wl1 ≡ (offset_of e.receiving.irs e.sending.wl1 +ℤ pos p.fetched)
+  pub wl1 : e.sending.syn_acked ≡ true → p.wl1 ≡ (offset_of e.receiving.irs e.sending.wl1 +ℤ pos p.fetched)
   pub wl2 : p.wl2 ≡ e.sending.wl2
 
 pub record StandsAt (p : Point) (e : Tcb) : Type 0 where
@@ -82,7 +82,7 @@ pub record MeetsLaws {State : Type 0} (service : Machine State) (news : News) (b
   pub same : IsSameConnection before after
   pub taken : after.taken ≡ taken_after news before
   pub fin : after.fin ≡ fin_after news before
-  pub counted : after.counted ≡ counted_after news before
+  pub syn_acked : after.syn_acked ≡ syn_acked_after news before
   pub una : after.una ≡ acknowledged_after news before
   pub edge : after.edge ≡ edge_after news before
   pub wl1 : after.wl1 ≡ wl1_after news before

@@ -62,13 +62,13 @@ pub fn active_opens_are_bounded()
 /// They stay within them where a segment comes in LISTEN, ..
 #[tactic(auto, using(crate::proofs::Bounding::bounded_in_listen))]
 pub fn listening_stays_bounded()
-    ensures { (e : Tcb) (p : Segment) → e.name ≡ Listen → e.sending.opened ≡ false → IsBounded e → IsBounded (received e p) }
+    ensures { (e : Tcb) (p : Segment) → e.name ≡ Listen → e.sending.syn_acked ≡ false → IsBounded e → IsBounded (received e p) }
 {}
 
 /// .. and in SYN-SENT, ..
 #[tactic(auto, using(crate::proofs::Bounding::bounded_in_syn_sent))]
 pub fn answers_keep_the_bounds()
-    ensures { (e : Tcb) (p : Segment) → e.name ≡ SynSent → e.sending.opened ≡ false → IsBounded e → p.head.seq < 2 ^ 32 → p.head.window ≤ 65535
+    ensures { (e : Tcb) (p : Segment) → e.name ≡ SynSent → e.sending.syn_acked ≡ false → IsBounded e → p.head.seq < 2 ^ 32 → p.head.window ≤ 65535
         → IsBounded (received e p) }
 {}
 
@@ -333,7 +333,7 @@ pub fn connecting_goes_on()
         → IsConnecting iss limit (turned news calls e) × ((turned news calls e).local ≡ e.local) × ((turned news calls e).remote ≡ e.remote) }
 {}
 
-/// The turn in which its SYN is answered leaves it as a connection that has begun has to be between two turns, in the state that its halves tell of:
+/// The turn in which its SYN is acknowledged leaves it as a connection that has begun has to be between two turns, in the state that its halves tell of:
 /// all that the laws on such connections ask.
 pub fn answers_begin()
     ensures { (iss limit : ℕ) (news : News) (calls : List Call) (e : Tcb) → IsConnecting iss limit e → limit ≤ 2 ^ 24 → FieldsFit news

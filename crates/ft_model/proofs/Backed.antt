@@ -154,7 +154,7 @@ una_backed service script log (Comes segment) p n h =
     let N : ℕ = logged_output service script log p.key in
     of_choice (λ u. u ≤ N) (acknowledges p segment) (una_after p.una (acknowledged_by p segment)) p.una
     (λ t. let two = both (counts p segment) (int_le (pos 0) (ack_of p.sisn segment)) t in
-    let all = both (has_ack segment && not (has_syn segment) && not (has_rst segment) && accepts p segment) (p.counted || int_le (pos 0) (ack_of p.sisn segment)) two.0 in
+    let all = both (has_ack segment && not (has_syn segment) && not (has_rst segment) && accepts p segment) (p.syn_acked || int_le (pos 0) (ack_of p.sisn segment)) two.0 in
     let flags = both (has_ack segment && not (has_syn segment) && not (has_rst segment)) (accepts p segment) all.0 in
     let ack = both (has_ack segment && not (has_syn segment)) (not (has_rst segment)) flags.0 in
     let low : nat_abs (ack_of p.sisn segment) ≤ N = at_most (ack_of p.sisn segment) N two.1 (n (both (has_ack segment) (not (has_syn segment)) ack.0).0) in

@@ -65,10 +65,10 @@ has_byte service p n =
 abbrev ReadsFormed : ℕ → List ℕ → Type 0
 ReadsFormed taken lengths = (sum lengths ≤ taken) × (length lengths ≤ sum lengths + 1) × AreLengths lengths
 
-makes_counted : {State : Type 0} (service : Machine State) (p : Point) (ns : List ℕ) → p.fetched ≤ length p.taken → ReadsFormed (length p.taken) p.lengths
+makes_syn_acked : {State : Type 0} (service : Machine State) (p : Point) (ns : List ℕ) → p.fetched ≤ length p.taken → ReadsFormed (length p.taken) p.lengths
     → Makes service p ns → ReadsFormed (length p.taken) (p.lengths ++ ns)
-makes_counted service p [] f r m = subst (ReadsFormed (length p.taken)) (sym (append-nil p.lengths)) r
-makes_counted service p (n ∷ ns) f r m =
+makes_syn_acked service p [] f r m = subst (ReadsFormed (length p.taken)) (sym (append-nil p.lengths)) r
+makes_syn_acked service p (n ∷ ns) f r m =
     let next = next_within service p n f r.0 m.0 in
     let total = sum_append p.lengths n in
     let size = length-append p.lengths (n ∷ []) in
@@ -76,7 +76,7 @@ makes_counted service p (n ∷ ns) f r m =
     ⊎_elim (λ some. omega (arith, some, total, size, r.1)) (λ few. omega (arith, few, total, size)) (has_byte service p n m.0) in
     let one : ReadsFormed (length p.taken) (p.lengths ++ n ∷ []) =
     (omega (arith, next.0, total), count, all_append (λ k. k ≤ 2048) p.lengths (n ∷ []) r.2 (next.1, tt)) in
-    subst (ReadsFormed (length p.taken)) (append_assoc p.lengths (n ∷ []) ns) (makes_counted service (with_read n p) ns f one m.1)
+    subst (ReadsFormed (length p.taken)) (append_assoc p.lengths (n ∷ []) ns) (makes_syn_acked service (with_read n p) ns f one m.1)
 
 -- what comes
 abbrev pub NewsFormed : News → Type 0
@@ -225,7 +225,7 @@ live_point service start server boot news p q sent h t =
     let more : length p.taken ≤ length q.taken = taken_more news p q t.taken in
     let before : Point = record q { lengths = p.lengths } in
     let fetched : q.fetched ≤ length q.taken = omega (arith, t.same.fetched, h.fetched, more) in
-    let reads = makes_counted service before t.reads.news fetched (omega (arith, h.enough, more), h.count, h.lengths) t.reads.makes in
+    let reads = makes_syn_acked service before t.reads.news fetched (omega (arith, h.enough, more), h.count, h.lengths) t.reads.makes in
     let now : ReadsFormed (length q.taken) q.lengths = subst (ReadsFormed (length q.taken)) (sym t.reads.lengths) reads in
     record {
       key = subst (HasClient start) (sym t.same.key) h.key;

@@ -74,7 +74,7 @@ live_turn service server boot news p known =
       answered = refl;
       reads_answered = refl;
       reads = record { news = ns; lengths = refl; makes = makes_alike service news p ns p.lengths 0 0 0 0 after.sent after.interval after.rest after.end_ticks makes };
-      counted = refl;
+      syn_acked = refl;
       una = refl;
       edge = refl;
       wl1 = refl;

@@ -40,7 +40,7 @@ first_spoken : {State : Type 0} (service : Machine State) (server : Addr) (news 
     → AllByRecursion (Spoken service server news before after) (first_unacknowledged service server before after)
 first_spoken service server news before after =
     let All : List Segment → Type 0 = AllByRecursion (Spoken service server news before after) in
-    of_choice All (not after.counted) (syn_ack server after ∷ []) _ (λ t. (spoken_syn refl, tt))
+    of_choice All (not after.syn_acked) (syn_ack server after ∷ []) _ (λ t. (spoken_syn refl, tt))
     (λ t. of_choice All (after.una == released service after) (fin_if_closed service server after) _ (λ s. fin_spoken service server news before after)
     (λ s. (spoken_text after.una (resent_length service before after) (omega arith) refl, tt)))
 

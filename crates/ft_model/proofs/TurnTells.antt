@@ -48,7 +48,7 @@ fin_tells service server p = one_or_none (TellsIn p) (answered_run service p).cl
 first_tells : {State : Type 0} (service : Machine State) (server : Addr) (before after : Point) → AllByRecursion (TellsIn after) (first_unacknowledged service server before after)
 first_tells service server before after =
     let All : List Segment → Type 0 = AllByRecursion (TellsIn after) in
-    either All (not after.counted) _ _ ((refl, refl), tt) (either All (after.una == _) _ _ (fin_tells service server after) ((refl, refl), tt))
+    either All (not after.syn_acked) _ _ ((refl, refl), tt) (either All (after.una == _) _ _ (fin_tells service server after) ((refl, refl), tt))
 
 probe_tells : {State : Type 0} (service : Machine State) (server : Addr) (before after : Point) → AllByRecursion (TellsIn after) (probe service server before after)
 probe_tells service server before after =

@@ -8,7 +8,7 @@ use Rattle.ft_model.specs.Taken.{accepts, counts, taken_after, fin_after}
 use Rattle.ft_model.specs.Answered.{answered_after, reads_answered_after}
 use Rattle.ft_model.specs.Reads.{next_length, may_read, reads_told}
 use Rattle.ft_model.specs.Timer.{must_run, interval_after, rest_after}
-use Rattle.ft_model.specs.Sending.{counted_after, acknowledged_after, edge_after, wl1_after, wl2_after, sent_at_once, sent_after}
+use Rattle.ft_model.specs.Sending.{syn_acked_after, acknowledged_after, edge_after, wl1_after, wl2_after, sent_at_once, sent_after}
 use Rattle.ft_model.specs.Copy.{copies}
 use Rattle.ft_model.specs.Ending.{reset_after, end_ticks_after, dones}
 use Rattle.ft_model.specs.Owed.{owes, is_owed}
@@ -31,7 +31,7 @@ use Rattle.ft_model.proofs.LiveTurns.{turned, live_turn}
 
 -- names all laws that a run computes: `unfolding laws` opens them
 unfoldable pub laws : Type 0
-unfolding turned reference offset_of log_after answer_to accepts counts taken_after fin_after answered_after reads_answered_after next_length may_read reads_told must_run interval_after rest_after counted_after acknowledged_after edge_after wl1_after wl2_after sent_at_once sent_after copies reset_after end_ticks_after dones owes is_owed resent new_texts new_fin full_segments segments_of
+unfolding turned reference offset_of log_after answer_to accepts counts taken_after fin_after answered_after reads_answered_after next_length may_read reads_told must_run interval_after rest_after syn_acked_after acknowledged_after edge_after wl1_after wl2_after sent_at_once sent_after copies reset_after end_ticks_after dones owes is_owed resent new_texts new_fin full_segments segments_of
 laws = Unit {0}
 
 -- a server with one place: what it does there is the whole turn

@@ -11,7 +11,7 @@ unfoldable pub answered_after : News → Point → ℕ
 answered_after (Logged kept) p = max p.answered (kept.length + one_if kept.fin)
 answered_after _ p = p.answered
 
--- .. nor does the count of logged reads, which is at most that of the reads made before the turn
+-- .. nor does the count of answered reads, which is at most that of the reads made before the turn
 unfoldable pub reads_answered_after : News → Point → ℕ
 reads_answered_after (Logged kept) p = max p.reads_answered (min kept.reads (length p.lengths))
 reads_answered_after _ p = p.reads_answered

@@ -11,7 +11,7 @@ use Rattle.ft_model.specs.News.{News}
 use Rattle.ft_model.specs.Taken.{taken_after, fin_after}
 use Rattle.ft_model.specs.Answered.{answered_after, reads_answered_after}
 use Rattle.ft_model.specs.Reads.{MakesReads, reads_told}
-use Rattle.ft_model.specs.Sending.{counted_after, acknowledged_after, edge_after, wl1_after, wl2_after, sent_after}
+use Rattle.ft_model.specs.Sending.{syn_acked_after, acknowledged_after, edge_after, wl1_after, wl2_after, sent_after}
 use Rattle.ft_model.specs.Timer.{interval_after, rest_after}
 use Rattle.ft_model.specs.Segments.{segments_of}
 use Rattle.ft_model.specs.Copy.{copies}
@@ -43,7 +43,7 @@ pub record LiveTurn {State : Type 0} (service : Machine State) (server : Addr) (
   pub answered : after.answered ≡ answered_after news before
   pub reads_answered : after.reads_answered ≡ reads_answered_after news before
   pub reads : MakesReads service before after
-  pub counted : after.counted ≡ counted_after news before
+  pub syn_acked : after.syn_acked ≡ syn_acked_after news before
   pub una : after.una ≡ acknowledged_after news before
   pub edge : after.edge ≡ edge_after news before
   pub wl1 : after.wl1 ≡ wl1_after news before

@@ -11,7 +11,7 @@ use Rattle.ft_model.specs.Taken.{accepts}
 
 -- while the SYN is unacknowledged, an acknowledgement of less gets TCP's RST, which isn't passed outward, and nothing else is owed
 abbrev pub is_refused : Point → Segment → Bool
-is_refused p segment = not p.counted && has_ack segment && int_lt (ack_of p.sisn segment) (pos 0)
+is_refused p segment = not p.syn_acked && has_ack segment && int_lt (ack_of p.sisn segment) (pos 0)
 
 -- TCP owes an answer to an acceptable segment: a challenge ACK for a RST elsewhere than at the next number and for a SYN, and an ACK
 -- for what takes up numbers, and for what begins past the next number

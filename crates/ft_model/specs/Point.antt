@@ -22,7 +22,7 @@ pub record Point : Type 0 where
   pub edge : ℕ  -- the client's right edge, from which on nothing may be sent. It is absolute: SND.UNA + SND.WND when a segment sets it, and it stays where only SND.UNA moves
   pub wl1 : ℤ  -- SND.WL1: where the segment began that set the edge last
   pub wl2 : ℕ  -- SND.WL2: what it acknowledged
-  pub counted : Bool  -- whether an acknowledgement has counted. Until then the SYN is unacknowledged
+  pub syn_acked : Bool  -- whether the SYN is acknowledged: an acknowledgement has counted
   pub interval : ℕ  -- of the timer, in ticks
   pub rest : ℕ  -- the ticks until the timer expires; 0 while it doesn't run
   pub end_ticks : ℕ  -- the end ticks counted so far, up to four
@@ -52,11 +52,11 @@ answered_run service p = reference service p.taken (take p.reads_answered p.leng
 abbrev pub made : {State : Type 0} → Machine State → Point → ℕ
 made service p = length (whole_run service p).output
 
--- the output bytes that may leave: those of logged reads
+-- the output bytes that may leave: those of answered reads
 abbrev pub released : {State : Type 0} → Machine State → Point → ℕ
 released service p = length (answered_run service p).output
 
--- the units that may leave: a FIN stands behind the output once a logged read has closed the service
+-- the units that may leave: a FIN stands behind the output once an answered read has closed the service
 abbrev pub target : {State : Type 0} → Machine State → Point → ℕ
 target service p = released service p + one_if (answered_run service p).closed
 

@@ -18,7 +18,7 @@ next_length p =
     else (if nat_lt (bytes_read p) (length p.taken) then Some (min 2048 (length p.taken - bytes_read p))
     else (if p.fin && not (list_any (λ n. n == 0) p.lengths) then Some 0 else None))
 
--- the service may read on: all its output so far is released, that is, each of its reads that made some is logged; it is acknowledged or has room in the
+-- the service may read on: all its output so far is released, that is, each of its reads that made some is answered; it is acknowledged or has room in the
 -- send buffer; it stays within the stream with the output of one read more; and fewer than 32 reads are unanswered
 unfoldable pub may_read : {State : Type 0} → Machine State → Point → Bool
 may_read service p =
@@ -37,7 +37,7 @@ abbrev pub Makes : {State : Type 0} → Machine State → Point → List ℕ →
 Makes service p [] = next_read service p ≡ None
 Makes service p (n ∷ lengths) = (next_read service p ≡ Some n) × Makes service (with_read n p) lengths
 
--- Reads: from what is taken, logged and acknowledged after the turn, reads are made behind those of before
+-- Reads: from what is taken, answered and acknowledged after the turn, reads are made behind those of before
 pub record MakesReads {State : Type 0} (service : Machine State) (before after : Point) : Type 0 where
   pub news : List ℕ
   pub lengths : after.lengths ≡ before.lengths ++ news

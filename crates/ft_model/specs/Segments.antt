@@ -36,11 +36,11 @@ head_to server p seq flags mss = record {
 abbrev pub segment_at : Addr → Point → (offset flags : ℕ) → List ℕ → Segment
 segment_at server p offset flags payload = record { head = head_to server p (number_at p.sisn offset) flags None; payload = payload }
 
--- the SYN-ACK, with the kept numbers. No client byte is taken where it is sent, so it acknowledges the SYN and has the whole window
+-- the SYN-ACK, with the logged numbers. No client byte is taken where it is sent, so it acknowledges the SYN and has the whole window
 abbrev pub syn_ack : Addr → Point → Segment
 syn_ack server p = record { head = head_to server p p.sisn (SYN + ACK) (Some 1460); payload = [] }
 
--- Output: text is a part of the uncrashed server's output over the logged reads
+-- Output: text is a part of the uncrashed server's output over the answered reads
 abbrev pub text_at : {State : Type 0} → Machine State → Addr → Point → (offset n : ℕ) → Segment
 text_at service server p offset n = segment_at server p offset ACK (take n (drop offset (answered_run service p).output))
 
@@ -48,7 +48,7 @@ text_at service server p offset n = segment_at server p offset ACK (take n (drop
 abbrev pub fin_segment : {State : Type 0} → Machine State → Addr → Point → Segment
 fin_segment service server p = segment_at server p (released service p) (FIN + ACK) []
 
--- .. and goes out only where a logged read has closed the service. So it is new, sent again or probed
+-- .. and goes out only where an answered read has closed the service. So it is new, sent again or probed
 abbrev pub fin_if_closed : {State : Type 0} → Machine State → Addr → Point → List Segment
 fin_if_closed service server p = if (answered_run service p).closed then fin_segment service server p ∷ [] else []
 
@@ -62,14 +62,14 @@ texts service server p zero offset left = []
 texts service server p (suc k) offset left =
     if nat_lt 0 left then text_at service server p offset (min left p.mss) ∷ texts service server p k (offset + min left p.mss) (left - min left p.mss) else []
 
--- the client's own SYN comes again, and nothing of it or of the output has gone further: the kept SYN-ACK answers
+-- the client's own SYN comes again, and nothing of it or of the output has gone further: the SYN-ACK answers
 abbrev pub repeats_syn : Point → Segment → Bool
 repeats_syn p segment = is_syn segment && segment.head.seq == p.cisn && taken_units p == 0 && p.una == 0
 
 -- the SYN-ACK goes out when a new connection begins and when its SYN is repeated (its timer is in `resent`)
 abbrev pub opens_with : News → Point → Bool
 opens_with (Comes segment) before = repeats_syn before segment
-opens_with Begins before = not before.counted
+opens_with Begins before = not before.syn_acked
 opens_with _ before = false
 
 abbrev pub syn_acks : Addr → News → Point → Point → List Segment
@@ -90,7 +90,7 @@ resent_length service before after = min after.mss (min (unacknowledged_text ser
 -- the first segment that is unacknowledged: the SYN-ACK, else the FIN where all output is acknowledged, else text from SND.UNA on
 abbrev pub first_unacknowledged : {State : Type 0} → Machine State → Addr → Point → Point → List Segment
 first_unacknowledged service server before after =
-    if not after.counted then syn_ack server after ∷ []
+    if not after.syn_acked then syn_ack server after ∷ []
     else (if after.una == released service after then fin_if_closed service server after
     else text_at service server after after.una (resent_length service before after) ∷ [])
 
@@ -104,7 +104,7 @@ probe service server before after =
 
 -- something that was sent is unacknowledged: the SYN, or a unit of output
 abbrev pub is_unacknowledged : Point → Point → Bool
-is_unacknowledged before after = not after.counted || nat_lt after.una before.sent
+is_unacknowledged before after = not after.syn_acked || nat_lt after.una before.sent
 
 -- at a tick at which the timer expires, one segment goes out besides: again what is unacknowledged, or else a probe. Where only a FIN could, and the
 -- service has not closed, there is none

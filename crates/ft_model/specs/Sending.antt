@@ -27,11 +27,11 @@ window_by p segment = min 65535 (segment.head.window + nat_abs (ack_of p.sisn se
 abbrev pub moves_edge : Point → Segment → Bool
 moves_edge p segment =
     acknowledges p segment
-    && (not p.counted || updates_window p.una p.wl1 p.wl2 (first_of p.cisn segment) (acknowledged_by p segment))
+    && (not p.syn_acked || updates_window p.una p.wl1 p.wl2 (first_of p.cisn segment) (acknowledged_by p segment))
 
-unfoldable pub counted_after : News → Point → Bool
-counted_after (Comes segment) p = p.counted || counts p segment
-counted_after _ p = p.counted
+unfoldable pub syn_acked_after : News → Point → Bool
+syn_acked_after (Comes segment) p = p.syn_acked || counts p segment
+syn_acked_after _ p = p.syn_acked
 
 -- SND.UNA
 unfoldable pub acknowledged_after : News → Point → ℕ

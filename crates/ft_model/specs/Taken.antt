@@ -15,7 +15,7 @@ accepts p segment = is_acceptable (taken_units p) (room p) (first_of p.cisn segm
 -- The segment counts: it is acceptable, and has ACK and neither SYN nor RST. The first one to count acknowledges the SYN
 unfoldable pub counts : Point → Segment → Bool
 counts p segment =
-    has_ack segment && not (has_syn segment) && not (has_rst segment) && accepts p segment && (p.counted || int_le (pos 0) (ack_of p.sisn segment))
+    has_ack segment && not (has_syn segment) && not (has_rst segment) && accepts p segment && (p.syn_acked || int_le (pos 0) (ack_of p.sisn segment))
 
 -- its text and FIN are looked at: it counts, leaves no gap, and no FIN was taken before
 abbrev pub continues : Point → Segment → Bool

@@ -15,15 +15,15 @@ expires news before = is_tick news && before.rest == 1
 
 -- it expires with nothing unacknowledged, so one unit goes out beyond the edge
 abbrev pub probes : News → Point → Bool
-probes news before = expires news before && before.counted && not (nat_lt before.una before.sent)
+probes news before = expires news before && before.syn_acked && not (nat_lt before.una before.sent)
 
 -- It must run while something is unacknowledged (the SYN too), or waits to be sent
 unfoldable pub must_run : {State : Type 0} → Machine State → Point → Bool
-must_run service p = not p.counted || nat_lt p.una (max p.sent (target service p))
+must_run service p = not p.syn_acked || nat_lt p.una (max p.sent (target service p))
 
 -- something new was acknowledged, the SYN included
 abbrev pub is_renewed : Point → Point → Bool
-is_renewed before after = nat_lt before.una after.una || (after.counted && not before.counted)
+is_renewed before after = nat_lt before.una after.una || (after.syn_acked && not before.syn_acked)
 
 -- what the timer did before counts no more: it stood still, or something new was acknowledged. Whether it runs now is asked apart, so this holds too
 -- of a timer that goes on standing still

@@ -1,4 +1,4 @@
--- What the laws Acknowledgement and Window promise of the packets of a turn: every segment to the client tells what is taken and logged,
+-- What the laws Acknowledgement and Window promise of the packets of a turn: every segment to the client tells what is taken and answered,
 -- and a turn without a segment has nothing new to tell. So after each turn the client was told last what holds now.
 use Rattle.std.specs.Prelude.{◌≡◌, Bool, true, false, List}
 use Rattle.std.specs.List.{AllByRecursion, list_any}

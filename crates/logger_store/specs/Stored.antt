@@ -40,7 +40,7 @@ pub record IsInRange (mss bytes output : ℕ) : Type 0 where
   pub len : bytes ≤ 2 ^ 24
   pub acked : output ≤ 2 ^ 24 + 1
 
--- the lengths of reads, of a stream of which so many bytes are kept: they lie within these bytes, and at most one of them, the closing one, is 0
+-- the lengths of reads, of a stream of which so many bytes are logged: they lie within these bytes, and at most one of them, the closing one, is 0
 pub record AreRead (bytes : ℕ) (lengths : List ℕ) : Type 0 where
   pub within : sum lengths ≤ bytes
   pub count : length lengths ≤ sum lengths + flag (list_any (λ k. k == 0) lengths)

@@ -13,13 +13,13 @@ pub struct EntryHead {
     pub sisn: u32,
     /// The segment size, 64 to 1,460 bytes.
     pub mss: u16,
-    /// How many of the client's bytes are kept, at most 2^24.
+    /// How many of the client's bytes are logged, at most 2^24.
     pub length: u32,
-    /// 1 where the client's FIN is kept, else 0.
+    /// 1 where the client's FIN is logged, else 0.
     pub fin: u8,
     /// 1 where the connection has ended, else 0.
     pub done: u8,
-    /// How many reads are kept, at most 2^24 + 1.
+    /// How many reads are logged, at most 2^24 + 1.
     pub reads: u32,
     /// How many units of output the client has acknowledged, at most 2^24 + 1.
     pub acked: u32,

@@ -49,7 +49,7 @@ pub struct StoredEntry {
     numbers: Numbers,
     /// The client's bytes, from the first on.
     bytes: Pages,
-    /// Whether the client's FIN is kept.
+    /// Whether the client's FIN is logged.
     fin: bool,
     /// The lengths of the server's reads, in bytes.
     lengths: Runs,
@@ -57,7 +57,7 @@ pub struct StoredEntry {
     reads: u32,
     /// How many bytes they took.
     read: u32,
-    /// Whether the read of length 0, which closes them, is kept.
+    /// Whether the read of length 0, which closes them, is logged.
     closed: bool,
     /// The units of output that the client has acknowledged.
     acknowledged: u32,
@@ -108,7 +108,7 @@ impl StoredEntry {
         }
     }
 
-    /// How many bytes are kept.
+    /// How many bytes are logged.
     fn length(&self) -> u32
         ensures value { result ≡ length self.now.bytes }
         ensures within { result ≤ 2 ^ 24 }
@@ -176,7 +176,7 @@ impl StoredEntry {
         self.lengths.copy(first as usize, lens);
     }
 
-    /// Keeps the bytes past those that are kept, unless they leave a gap or stand behind the FIN.
+    /// Logs the bytes past those that are logged, unless they leave a gap or stand behind the FIN.
     fn take_bytes(&mut self, alloc: Global, part: &Part<'_>) -> Result<(), NoMemory>
         requires room { part.now.offset + length part.now.bytes.now ≤ 2 ^ 24 }
         requires few { length part.now.bytes.now ≤ 1460 }
@@ -184,17 +184,17 @@ impl StoredEntry {
         ensures err { OnErr result (self.new ≡ self.old) }
         ensures in_page { adds_page (part_value part.now) self.old ≡ false → IsOk result }
     {
-        let kept = self.length();
-        if self.fin || part.offset > kept {
+        let logged = self.length();
+        if self.fin || part.offset > logged {
             return Ok(());
         }
-        match part.bytes.get((kept - part.offset) as usize..) {
+        match part.bytes.get((logged - part.offset) as usize..) {
             Some(bytes) => self.bytes.add(alloc, bytes),
             None => Ok(()),
         }
     }
 
-    /// Keeps the FIN of a part that ends where the kept bytes end.
+    /// Logs the FIN of a part that ends where the logged bytes end.
     fn take_fin(&mut self, part: &Part<'_>)
         requires { part.now.offset + length part.now.bytes.now ≤ 2 ^ 24 }
         ensures { self.new ≡ with_its_fin (part_value part.now) self.old }
@@ -221,7 +221,7 @@ impl StoredEntry {
         Ok(())
     }
 
-    /// Whether a read of this index and length is the one to be kept next.
+    /// Whether a read of this index and length is the one to be logged next.
     fn is_next_read(&self, index: u32, len: u16) -> bool
         ensures { result ≡ is_next_read self.now index len }
     {

@@ -15,7 +15,7 @@ use Rattle.tcp_endpoint.specs.declared.states.StateName.{StateName}
 use Rattle.tcp_endpoint.specs.declared.states.StateName.TheVariants.{Closed, Listen, SynSent, SynReceived, Established, FinWait1, FinWait2, CloseWait, Closing, LastAck, TimeWait}
 use Rattle.tcp_endpoint.specs.States.{has_begun}
 use Rattle.tcp_endpoint.specs.Receiving.{Receiving, taken, next, with_text, with_fin, with_segment}
-use Rattle.tcp_endpoint.specs.Sending.{Sending, IsShort, opened_by, acknowledged, moves_edge, sendable, expires, timed, with_sent, with_fin_sent}
+use Rattle.tcp_endpoint.specs.Sending.{Sending, IsShort, with_syn_acked, acknowledged, moves_edge, sendable, expires, timed, with_sent, with_fin_sent}
 use Rattle.tcp_endpoint.specs.Tcb.{Tcb, listening, connecting}
 use Rattle.tcp_endpoint.specs.Arrival.{ack_at, first, owing_if, killed, received, received_in, in_closed, in_listen, begun, refusing, refusing_without_ack, answered, in_syn_sent, in_others, check_place, waiting_again, check_rst, check_syn, check_ack, with_ack, with_first_ack, with_fin_acked, with_text_and_fin}
 use Rattle.tcp_endpoint.specs.Leaving.{probes_text, probes_fin, with_probe, with_text_sent, new_fin, with_fin_out, after_full, announced, is_timed, with_turn_ended, flushed}
@@ -60,7 +60,7 @@ module _ (isn written read : ℕ) where
         queued = h.queued;
       }
 
-  opened_within : (s : Sending) (r : Receiving) (seq edge : ℕ) → HasLimits isn written read s r → HasLimits isn written read (opened_by s seq edge) r
+  opened_within : (s : Sending) (r : Receiving) (seq edge : ℕ) → HasLimits isn written read s r → HasLimits isn written read (with_syn_acked s seq edge) r
   opened_within s r seq edge h = record {
     isn_is = h.isn_is;
     order = omega arith;
@@ -125,7 +125,7 @@ module _ (isn written read : ℕ) (p : Segment) where
   check_ack_limited : (e : Tcb) → Good e → Good (check_ack e p)
   unfolding check_ack
   check_ack_limited e h =
-      both Good (has_ack p) _ e (both Good e.sending.opened (with_ack e p) (with_first_ack e p) (ack_limited e h) (first_ack_limited e h)) h
+      both Good (has_ack p) _ e (both Good e.sending.syn_acked (with_ack e p) (with_first_ack e p) (ack_limited e h) (first_ack_limited e h)) h
 
   check_syn_limited : (e : Tcb) → Good e → Good (check_syn e p)
   unfolding check_syn
@@ -262,12 +262,12 @@ module _ (isn written read : ℕ) where
       let s : Sending = e.sending in
       let limits : Sending → Type 0 = λ x. HasLimits isn written read x e.receiving in
       by_test limits (probes_text e) _ _
-      (λ k. let f = text_facts e.probe (has_begun e.name) s.opened s.fin_sent (nat_lt (s.sent - s.una) (length s.held)) k in
+      (λ k. let f = text_facts e.probe (has_begun e.name) s.syn_acked s.fin_sent (nat_lt (s.sent - s.una) (length s.held)) k in
       let room : s.sent + 1 ≤ s.una + length s.held = grind (arith, f.2, h.order) in
       sent_more isn written read s e.receiving 1 (omega (arith, room, h.held_within)) h)
       (λ k. by_test limits (probes_fin e) _ _
       (λ j. fin_more isn written read s e.receiving
-      (fin_is_probed e.probe (has_begun e.name) s.opened s.fin_sent (not (nat_lt (s.sent - s.una) (length s.held))) s.closed j) h)
+      (fin_is_probed e.probe (has_begun e.name) s.syn_acked s.fin_sent (not (nat_lt (s.sent - s.una) (length s.held))) s.closed j) h)
       (λ j. h))
 
   text_sent_limited : (e : Tcb) → IsWithin isn written read e → IsWithin isn written read (with_text_sent e)
@@ -277,7 +277,7 @@ module _ (isn written read : ℕ) where
       let sent_by : ℕ → Type 0 = λ k. HasLimits isn written read (with_sent s k) e.receiving in
       both sent_by (has_begun e.name) (sendable s) 0
       (sent_more isn written read s e.receiving (sendable s)
-      (sendable_within s.opened s.fin_sent s.una (length s.held) s.edge s.sent _ h.held_within h.sent_within) h)
+      (sendable_within s.syn_acked s.fin_sent s.una (length s.held) s.edge s.sent _ h.held_within h.sent_within) h)
       (sent_more isn written read s e.receiving 0 (omega (arith, h.sent_within)) h)
 
   fin_out_limited : (e : Tcb) → IsWithin isn written read e → IsWithin isn written read (with_fin_out e)
@@ -287,7 +287,7 @@ module _ (isn written read : ℕ) where
       let limits : Sending → Type 0 = λ x. HasLimits isn written read x e.receiving in
       by_test limits (new_fin e) _ _
       (λ k. fin_more isn written read s e.receiving
-      (fin_is_new (has_begun e.name) s.opened s.closed s.fin_sent (s.sent == s.una + length s.held) (nat_lt s.sent s.edge) k) h)
+      (fin_is_new (has_begun e.name) s.syn_acked s.closed s.fin_sent (s.sent == s.una + length s.held) (nat_lt s.sent s.edge) k) h)
       (λ k. h)
 
   timed_limited : (s : Sending) (r : Receiving) (runs : Bool) → HasLimits isn written read s r → HasLimits isn written read (timed runs s) r

@@ -1,5 +1,5 @@
 -- Steps of a pair follow one another: so do their calls and what is written.
-use Rattle.std.proofs.Common.{◌≡◌, ◌∙◌, ℕ, suc, ◌+◌, ◌-◌, ◌<◌, ◌≤◌, add-one, refl, sym, ap, ap₂, subst, Option, None, Some, List, [], ◌∷◌, ◌++◌, length, take, drop, get_or, map, append_assoc, append-nil, arith, drop-cons}
+use Rattle.std.proofs.Common.{◌≡◌, ◌∙◌, ℕ, ◌+◌, ◌-◌, ◌<◌, ◌≤◌, add-one, refl, sym, ap, ap₂, subst, Option, List, [], ◌∷◌, ◌++◌, length, take, drop, get_or, map, append_assoc, append-nil, arith, drop-cons}
 use Rattle.std.proofs.lemmas.List.{take_more}
 use Rattle.std.proofs.KnownBytes.{Appends-nil, Appends-trans}
 use Rattle.std.specs.Io.KnownBytes.{Appends}

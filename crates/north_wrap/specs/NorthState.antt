@@ -77,15 +77,15 @@ pub record HasRead {S K : Type 0} (after : S → List ℕ → Served S) (r : Rea
   pub reads : now.reads ≡ start.reads ++ news
 
 -- the output of reads that aren't known to be logged
-abbrev pub unstable : {S : Type 0} → NorthState S → ℕ
-unstable n = n.run.made - n.last.made
+abbrev pub unreleased : {S : Type 0} → NorthState S → ℕ
+unreleased n = n.run.made - n.last.made
 
 -- output is given up to that, as much as there is room for
 abbrev pub given_north : {S K : Type 0} → Writer K → NorthState S → K → NorthState S
-given_north w n s = record n { run = given_to (w.room s) (unstable n) n.run }
+given_north w n s = record n { run = given_to (w.room s) (unreleased n) n.run }
 
 abbrev pub given_socket : {S K : Type 0} → Writer K → NorthState S → K → K
-given_socket w n s = w.after_write s (gives (w.room s) (unstable n) n.run)
+given_socket w n s = w.after_write s (gives (w.room s) (unreleased n) n.run)
 
 -- the socket is closed where the closing read is known to be logged and all output is given
 abbrev pub closes : {S : Type 0} → NorthState S → Bool
@@ -113,7 +113,7 @@ newly count n = min (count - answered n) (length n.reads)
 unfoldable pub answered_on : {S : Type 0} → ℕ → NorthState S → NorthState S
 answered_on count n = record n { last = get_or (n.last ∷ n.reads) (newly count n) n.last; reads = drop (newly count n) n.reads }
 
--- a resumed north: all that is made was of logged reads
+-- a resumed north: all that is made was of answered reads
 abbrev pub resumed_north : {S : Type 0} → S → (rest pending : List ℕ) → (reads read made : ℕ) → (ended closed : Bool) → NorthState S
 resumed_north service rest pending reads read made ended closed = record {
   run = record { service = service; pending = pending; made = made; closed = closed };

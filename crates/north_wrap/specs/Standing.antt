@@ -26,7 +26,7 @@ pub record RunsTo {S : Type 0} (run : Run S) (given : ℕ) (r : RunState S) : Ty
   pub pending : r.pending ≡ drop given run.output
   pub within : given ≤ length run.output
 
--- the reference run over the logged reads and so many more
+-- the reference run over the answered reads and so many more
 abbrev pub run_after : {S : Type 0} → Machine S → Point → ℕ → Run S
 run_after service p more = reference service p.taken (take (p.reads_answered + more) p.lengths)
 
@@ -97,7 +97,7 @@ given_more service p room given = min room (released service p - given)
 abbrev pub given_text : {S : Type 0} → Machine S → Point → (room given : ℕ) → List ℕ
 given_text service p room given = take (given_more service p room given) (drop given (answered_run service p).output)
 
--- .. and whether TCP is closed: where a logged read has closed the service, and all output is given
+-- .. and whether TCP is closed: where an answered read has closed the service, and all output is given
 abbrev pub is_all_given : {S : Type 0} → Machine S → Point → (given : ℕ) → Bool
 is_all_given service p given = (answered_run service p).closed && made service p == given
 

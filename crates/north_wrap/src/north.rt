@@ -7,7 +7,7 @@ ghost use Rattle.ft_model.specs.Point.{Point, released};
 ghost use Rattle.north_wrap.specs.Standing.{NorthStands, SocketStands, NorthTurn, with_answered};
 ghost use Rattle.north_wrap.specs.RunState.{run_on};
 ghost use Rattle.north_wrap.specs.Sockets.{reader, writer};
-ghost use Rattle.north_wrap.specs.NorthState.{fresh_north, resumed_north, unstable, given_north, given_socket, shut_north, shut_socket, Turns, answered_on};
+ghost use Rattle.north_wrap.specs.NorthState.{fresh_north, resumed_north, unreleased, given_north, given_socket, shut_north, shut_socket, Turns, answered_on};
 ghost use Rattle.north_wrap.specs.NorthState.{Allows, record_of, chunk_of, next_length, next_at, is_free_to_read, noted, read_on, socket_on, Reads, lengths_of};
 ghost use Rattle.north_wrap.specs.NorthState.{is_empty};
 
@@ -85,7 +85,7 @@ impl<S: Service> North<S> {
 
     /// From a restart on. `rest` are the fetched bytes that aren't read, and `pending` the output that the client may still want. So many
     /// reads were fetched, of so many bytes, and their output is so long; `ended` where one of them has length 0, and `closed` where the
-    /// service has closed. All of them are logged.
+    /// service has closed. All of them are answered.
     pub fn resumed(
         _alloc: Global,
         service: S,
@@ -255,8 +255,8 @@ impl<S: Service> North<S> {
     }
 
     /// The bytes of output that may not leave yet: they are those of reads that aren't known to be logged.
-    pub fn unstable(&self) -> u32
-        ensures { result ≡ unstable self.now }
+    pub fn unreleased(&self) -> u32
+        ensures { result ≡ unreleased self.now }
     {
         self.run.made().saturating_sub(self.last.made)
     }
@@ -267,8 +267,8 @@ impl<S: Service> North<S> {
         ensures socket { sock.new ≡ given_socket (writer K.write_room K.is_closed K.after_write K.after_close) self.old sock.old }
         ensures unread { K.unread sock.new ≡ K.unread sock.old }
     {
-        let kept = self.unstable();
-        self.run.give(sock, kept);
+        let unreleased = self.unreleased();
+        self.run.give(sock, unreleased);
     }
 
     /// Closes the socket once the read that closed the service is known to be logged and all output is given.
@@ -324,7 +324,7 @@ impl<S: Service> North<S> {
         self.make_reads(sock, una, news)
     }
 
-    /// The logger has this many reads of the connection.
+    /// The logger has answered that it has this many reads of the connection.
     pub fn on_reads(&mut self, count: u32)
         ensures state { self.new ≡ answered_on count self.old }
         ensures read { self.new.read ≡ self.old.read }

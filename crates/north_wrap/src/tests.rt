@@ -188,7 +188,7 @@ fn a_rest_is_read_first(rt: HostRuntime) -> Result<(), Fail> {
     let rest = vec![in alloc; b'a', b'b', b'c']?;
     let mut north = North::resumed(alloc, Meter, rest, Vec::new(alloc), 2, 5, 4, false, false);
     let did = one_turn(alloc, &mut north, vec![in alloc; b'd']?, false)?;
-    assert_eq!(rt; (did.reads, north.read(), north.unstable()), (1, 8, 2));
+    assert_eq!(rt; (did.reads, north.read(), north.unreleased()), (1, 8, 2));
     let unanswered = north.unanswered();
     assert!(rt; unanswered.len() == 1);
     assert_eq!(rt; unanswered.get(0), (2, 3));

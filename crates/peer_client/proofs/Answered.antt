@@ -77,7 +77,7 @@ unchanged l c h =
       name = w.name;
       phase = w.phase;
       due = w.due;
-      opened = w.opened;
+      syn_acked = w.syn_acked;
       closed = w.closed;
       nothing_sent = w.nothing_sent;
       nothing_taken = w.nothing_taken;
@@ -118,7 +118,7 @@ refuses l c p h from fits wrong =
       name = w.name;
       phase = w.phase;
       due = w.due;
-      opened = w.opened;
+      syn_acked = w.syn_acked;
       closed = w.closed;
       nothing_sent = w.nothing_sent;
       nothing_taken = w.nothing_taken;
@@ -212,7 +212,7 @@ opens l c p h =
           most = size_most p.head.mss;
         };
       };
-      opened = refl;
+      syn_acked = refl;
       phase = refl;
       named = (refl, w.closed, fin);
       over = λ k. absurd (false≢true (sym k));
@@ -266,9 +266,9 @@ answer_comes l c p h from fits =
     (subst (λ (t : Tcb). R t (machine.opened_by c p)) (sym (received_by l.tcb p h.waits.name)) (syn_sent_comes l c p h from fits))
 
 -- a tick passes
-off_by_opened : (b : Bool) (x : Bool) → (b && not (true || x)) ≡ false
-off_by_opened true x = refl
-off_by_opened false x = refl
+off_by_syn_acked : (b : Bool) (x : Bool) → (b && not (true || x)) ≡ false
+off_by_syn_acked true x = refl
+off_by_syn_acked false x = refl
 
 pub tick_waits : (l : LiveState) (c : Client) → IsWaiting l c → Waits (ticked l) c
 unfolding after_tick timer_ticked waited
@@ -294,12 +294,12 @@ tick_waits l c h =
       name = ap (λ n. if is_time_wait n && nat_lt l.tcb.wait 2 then Closed else n) w.name;
       phase = w.phase;
       due = λ k. absurd (false≢true (ap is_new (sym h.phase ∙ k)));
-      opened = ticked_same (λ (x : Sending). x.opened) (λ a b x. refl) s ∙ w.opened;
+      syn_acked = ticked_same (λ (x : Sending). x.syn_acked) (λ a b x. refl) s ∙ w.syn_acked;
       closed = ticked_same (λ (x : Sending). x.closed) (λ a b x. refl) s ∙ w.closed;
       nothing_sent = ticked_same (λ (x : Sending). x.sent) (λ a b x. refl) s ∙ w.nothing_sent;
       nothing_taken = w.nothing_taken;
       unreset = w.unreset;
-      probe = (λ i. w.probe i || (expires s && not (not (w.opened i) || nat_lt s.una s.sent))) ∙ off_by_opened (expires s) (nat_lt s.una s.sent);
+      probe = (λ i. w.probe i || (expires s && not (not (w.syn_acked i) || nat_lt s.una s.sent))) ∙ off_by_syn_acked (expires s) (nat_lt s.una s.sent);
       answer = subst (λ (a : Option Head). AnswersBy (ticked l) c a) (sym h.answer) tt;
       edge = w.edge;
       told = w.told;

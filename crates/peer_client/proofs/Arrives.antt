@@ -27,7 +27,7 @@ pub record Keeps (e : Tcb) (c : Client) (written : ℕ) (t : Tcb) (d : Client) :
   pub local : t.local ≡ e.local
   pub remote : t.remote ≡ e.remote
   pub iss : t.sending.iss ≡ e.sending.iss
-  pub opened : t.sending.opened ≡ e.sending.opened
+  pub syn_acked : t.sending.syn_acked ≡ e.sending.syn_acked
   pub reset : t.reset ≡ e.reset
   pub answer : t.answer ≡ e.answer
   pub told_next : t.told_next ≡ e.told_next
@@ -48,7 +48,7 @@ pub record Before (e : Tcb) (c : Client) (written : ℕ) : Type 0 where
   pub iss : e.sending.iss ≡ c.isn
   pub phase : is_open c.phase ≡ true
   pub edge : c.edge ≡ receive_edge e.receiving
-  pub opened : e.sending.opened ≡ true
+  pub syn_acked : e.sending.syn_acked ≡ true
 
 kept : (e : Tcb) (c : Client) (written : ℕ) (name : StateName) (owed : Bool) (wait : ℕ) → Before e c written
     → Keeps e c written (record e { name = name; owed = owed; wait = wait }) c
@@ -56,7 +56,7 @@ kept e c written name owed wait b = record {
   local = refl;
   remote = refl;
   iss = refl;
-  opened = refl;
+  syn_acked = refl;
   reset = refl;
   answer = refl;
   told_next = refl;
@@ -79,7 +79,7 @@ ack_kept e c written name owed wait seq room ack b sent = record {
   local = refl;
   remote = refl;
   iss = refl;
-  opened = refl;
+  syn_acked = refl;
   reset = refl;
   answer = refl;
   told_next = refl;
@@ -126,7 +126,7 @@ heard_kept e c written x d d' r name owed wait k h = record {
   local = k.local;
   remote = k.remote;
   iss = k.iss;
-  opened = k.opened;
+  syn_acked = k.syn_acked;
   reset = k.reset;
   answer = k.answer;
   told_next = k.told_next;
@@ -224,9 +224,9 @@ others_kept e c written p unreset near b =
     (λ rst. syn_or_ack P (has_syn p) (has_ack p) (owing_if true e0) _ (owing_if takes e0) c (machine.used c p)
     (kept e c written e.name (e.owed || true) e0.wait b)
     (kept e c written e.name (e.owed || takes) e0.wait b)
-    (λ syn ack. holds_if (λ (t : Tcb). P t (machine.used c p)) e.sending.opened (with_ack (owing_if takes e0) p) (with_first_ack (owing_if takes e0) p)
+    (λ syn ack. holds_if (λ (t : Tcb). P t (machine.used c p)) e.sending.syn_acked (with_ack (owing_if takes e0) p) (with_first_ack (owing_if takes e0) p)
     (λ k. acked_kept e c written (owing_if takes e0) (e.owed || takes) e0.wait p refl syn rst (near ack) b)
-    (λ k. absurd (false≢true (sym k ∙ b.opened))))))
+    (λ k. absurd (false≢true (sym k ∙ b.syn_acked))))))
     (λ unacceptable. kept e c written e.name (e.owed || not (has_rst p)) e0.wait b)
 
 -- a RST at exactly the next number

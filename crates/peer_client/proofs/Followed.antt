@@ -9,9 +9,9 @@ use Rattle.seq_arith.specs.Packet.{Segment, has_fin, has_syn, has_rst, has_ack}
 use Rattle.tcp_buffers.specs.Near.{is_ahead}
 use Rattle.tcp_endpoint.specs.declared.states.StateName.{StateName}
 use Rattle.tcp_endpoint.specs.declared.states.StateName.TheVariants.{Closed, Listen, SynSent, SynReceived, Established, FinWait1, FinWait2, CloseWait, Closing, LastAck, TimeWait}
-use Rattle.tcp_endpoint.specs.States.{opened, after_fin, after_fin_acked, is_time_wait, has_begun}
+use Rattle.tcp_endpoint.specs.States.{after_syn_acked, after_fin, after_fin_acked, is_time_wait, has_begun}
 use Rattle.tcp_endpoint.specs.Receiving.{Receiving, next, taken, window, with_text, with_fin, with_segment}
-use Rattle.tcp_endpoint.specs.Sending.{Sending, opened_by, acknowledged, fin_acked, expires}
+use Rattle.tcp_endpoint.specs.Sending.{Sending, with_syn_acked, acknowledged, fin_acked, expires}
 use Rattle.tcp_endpoint.specs.Tcb.{Tcb}
 use Rattle.tcp_endpoint.specs.Arrival.{first, ack_at, owing_if, killed, entering, refusing, begun, with_text_and_fin, with_fin_acked, with_first_ack, with_ack, check_ack, check_syn, check_rst, waiting_again, check_place, in_others, received}
 use Rattle.tcp_endpoint.specs.Turning.{after_tick, timer_ticked, waited}
@@ -76,22 +76,22 @@ placed_waited TimeWait o c f a true h = h
 placed_waited TimeWait o c f a false h = h
 
 -- .. and the SYN is acknowledged
-placed_unopened : (name : StateName) (o c f a : Bool) → o ≡ false → IsPlaced name o c f a → f ≡ false
-placed_unopened Closed o c f a none h = absurd (false≢true (sym none ∙ h.0))
-placed_unopened Listen o c f a none h = absurd h
-placed_unopened SynSent o c f a none h = absurd h
-placed_unopened SynReceived o c f a none h = h.1
-placed_unopened Established o c f a none h = absurd (false≢true (sym none ∙ h.0))
-placed_unopened FinWait1 o c f a none h = absurd (false≢true (sym none ∙ h.0))
-placed_unopened FinWait2 o c f a none h = absurd (false≢true (sym none ∙ h.0))
-placed_unopened CloseWait o c f a none h = absurd (false≢true (sym none ∙ h.0))
-placed_unopened Closing o c f a none h = absurd (false≢true (sym none ∙ h.0))
-placed_unopened LastAck o c f a none h = absurd (false≢true (sym none ∙ h.0))
-placed_unopened TimeWait o c f a none h = absurd (false≢true (sym none ∙ h.0))
+placed_syn_unacked : (name : StateName) (o c f a : Bool) → o ≡ false → IsPlaced name o c f a → f ≡ false
+placed_syn_unacked Closed o c f a none h = absurd (false≢true (sym none ∙ h.0))
+placed_syn_unacked Listen o c f a none h = absurd h
+placed_syn_unacked SynSent o c f a none h = absurd h
+placed_syn_unacked SynReceived o c f a none h = h.1
+placed_syn_unacked Established o c f a none h = absurd (false≢true (sym none ∙ h.0))
+placed_syn_unacked FinWait1 o c f a none h = absurd (false≢true (sym none ∙ h.0))
+placed_syn_unacked FinWait2 o c f a none h = absurd (false≢true (sym none ∙ h.0))
+placed_syn_unacked CloseWait o c f a none h = absurd (false≢true (sym none ∙ h.0))
+placed_syn_unacked Closing o c f a none h = absurd (false≢true (sym none ∙ h.0))
+placed_syn_unacked LastAck o c f a none h = absurd (false≢true (sym none ∙ h.0))
+placed_syn_unacked TimeWait o c f a none h = absurd (false≢true (sym none ∙ h.0))
 
-placed_opened : (c f a : Bool) → f ≡ false → a ≡ false → IsPlaced (opened c) true c f a
-placed_opened true f a p q = (refl, refl, p, q)
-placed_opened false f a p q = (refl, refl, p)
+placed_syn_acked : (c f a : Bool) → f ≡ false → a ≡ false → IsPlaced (after_syn_acked c) true c f a
+placed_syn_acked true f a p q = (refl, refl, p, q)
+placed_syn_acked false f a p q = (refl, refl, p)
 
 -- text and FIN
 newly : (f' f : Bool) → (f' && not f) ≡ true → (f ≡ false) × (f' ≡ true)
@@ -110,7 +110,7 @@ unfolding with_segment
 stays_taken r z text fin h =
     ap (λ b. (if b || int_lt (pos (taken r)) z then r else with_fin (with_text r z text) (z +ℤ pos (length text)) fin).fin) h ∙ h
 
-text_follows : (e : Tcb) (p : Segment) → e.sending.opened ≡ true → FollowsAt e → FollowsAt (with_text_and_fin e p)
+text_follows : (e : Tcb) (p : Segment) → e.sending.syn_acked ≡ true → FollowsAt e → FollowsAt (with_text_and_fin e p)
 unfolding with_text_and_fin
 text_follows e p is h =
     let s : Sending = e.sending in
@@ -122,7 +122,7 @@ text_follows e p is h =
     let f' : Bool = taking.receiving.fin in
     holds_if (λ (t : Tcb). FollowsAt t) (f' && not f) (entering (after_fin e.name) taking) taking
     (λ n. let k = newly f' f n in
-    record { placed = placed_fin e.name s.opened s.closed f f' (fin_acked s) is k.0 k.1 h.placed; ends = h.ends; order = h.order; unsent = h.unsent })
+    record { placed = placed_fin e.name s.syn_acked s.closed f f' (fin_acked s) is k.0 k.1 h.placed; ends = h.ends; order = h.order; unsent = h.unsent })
     (λ n. subst (λ (b : Bool). Follows e.name b s) (still f' f (stays_taken e.receiving (first e p) p.payload (has_fin p)) n) h)
 
 -- an acknowledgement of the own FIN
@@ -143,43 +143,43 @@ acked_follows e p h =
     let stays : fin_acked s ≡ true → fin_acked m.sending ≡ true = stays_acked s.fin_sent s.una s.sent (ack_at e p) in
     holds_if (λ (t : Tcb). FollowsAt t) (fin_acked m.sending) (entering (after_fin_acked e.name) m) m
     (λ is. record {
-      placed = placed_acked e.name s.opened s.closed e.receiving.fin (fin_acked s) (fin_acked m.sending) is h.placed;
+      placed = placed_acked e.name s.syn_acked s.closed e.receiving.fin (fin_acked s) (fin_acked m.sending) is h.placed;
       ends = h.ends;
       order = order;
       unsent = h.unsent;
     })
     (λ none. record {
-      placed = placed_unacked e.name s.opened s.closed e.receiving.fin (fin_acked s) (fin_acked m.sending) stays none h.placed;
+      placed = placed_unacked e.name s.syn_acked s.closed e.receiving.fin (fin_acked s) (fin_acked m.sending) stays none h.placed;
       ends = h.ends;
       order = order;
       unsent = h.unsent;
     })
 
-acked_opened : (e : Tcb) (p : Segment)
-    → (with_fin_acked (record e { sending = acknowledged e.sending p.head.seq (ack_at e p) p.head.window })).sending.opened ≡ e.sending.opened
+acked_syn_acked : (e : Tcb) (p : Segment)
+    → (with_fin_acked (record e { sending = acknowledged e.sending p.head.seq (ack_at e p) p.head.window })).sending.syn_acked ≡ e.sending.syn_acked
 unfolding with_fin_acked acknowledged
-acked_opened e p =
+acked_syn_acked e p =
     let m : Tcb = record e { sending = acknowledged e.sending p.head.seq (ack_at e p) p.head.window } in
-    holds_if (λ (t : Tcb). t.sending.opened ≡ e.sending.opened) (fin_acked m.sending) (entering (after_fin_acked e.name) m) m (λ h. refl) (λ h. refl)
+    holds_if (λ (t : Tcb). t.sending.syn_acked ≡ e.sending.syn_acked) (fin_acked m.sending) (entering (after_fin_acked e.name) m) m (λ h. refl) (λ h. refl)
 
-later_follows : (e : Tcb) (p : Segment) → e.sending.opened ≡ true → FollowsAt e → FollowsAt (with_ack e p)
+later_follows : (e : Tcb) (p : Segment) → e.sending.syn_acked ≡ true → FollowsAt e → FollowsAt (with_ack e p)
 unfolding with_ack
 later_follows e p is h =
     let m : Tcb = with_fin_acked (record e { sending = acknowledged e.sending p.head.seq (ack_at e p) p.head.window }) in
     holds_if (λ (t : Tcb). FollowsAt t) (is_ahead e.sending.sent (ack_at e p)) (owing_if true e) (with_text_and_fin m p)
-    (λ ahead. h) (λ near. text_follows m p (acked_opened e p ∙ is) (acked_follows e p h))
+    (λ ahead. h) (λ near. text_follows m p (acked_syn_acked e p ∙ is) (acked_follows e p h))
 
 -- the acknowledgement of the SYN
-first_follows : (e : Tcb) (p : Segment) → e.sending.opened ≡ false → FollowsAt e → FollowsAt (with_first_ack e p)
+first_follows : (e : Tcb) (p : Segment) → e.sending.syn_acked ≡ false → FollowsAt e → FollowsAt (with_first_ack e p)
 unfolding with_first_ack refusing
 first_follows e p none h =
     let s : Sending = e.sending in
-    let m : Tcb = record e { name = opened s.closed; sending = opened_by s p.head.seq p.head.window } in
-    let fin : e.receiving.fin ≡ false = placed_unopened e.name s.opened s.closed e.receiving.fin (fin_acked s) none h.placed in
+    let m : Tcb = record e { name = after_syn_acked s.closed; sending = with_syn_acked s p.head.seq p.head.window } in
+    let fin : e.receiving.fin ≡ false = placed_syn_unacked e.name s.syn_acked s.closed e.receiving.fin (fin_acked s) none h.placed in
     let unsent : s.fin_sent ≡ false = h.unsent none in
     holds_if (λ (t : Tcb). FollowsAt t) (int_eq (ack_at e p) (pos 0)) (with_text_and_fin m p) (refusing e p)
     (λ is. text_follows m p refl (record {
-      placed = placed_opened s.closed e.receiving.fin (s.fin_sent && 0 == 0) fin (ap (λ b. b && 0 == 0) unsent);
+      placed = placed_syn_acked s.closed e.receiving.fin (s.fin_sent && 0 == 0) fin (ap (λ b. b && 0 == 0) unsent);
       ends = h.ends;
       order = omega arith;
       unsent = λ k. unsent;
@@ -190,8 +190,8 @@ first_follows e p none h =
 ack_follows : (e : Tcb) (p : Segment) → FollowsAt e → FollowsAt (check_ack e p)
 unfolding check_ack
 ack_follows e p h =
-    holds_if (λ (t : Tcb). FollowsAt t) (has_ack p) (if e.sending.opened then with_ack e p else with_first_ack e p) e
-    (λ is. holds_if (λ (t : Tcb). FollowsAt t) e.sending.opened (with_ack e p) (with_first_ack e p) (λ o. later_follows e p o h) (λ o. first_follows e p o h))
+    holds_if (λ (t : Tcb). FollowsAt t) (has_ack p) (if e.sending.syn_acked then with_ack e p else with_first_ack e p) e
+    (λ is. holds_if (λ (t : Tcb). FollowsAt t) e.sending.syn_acked (with_ack e p) (with_first_ack e p) (λ o. later_follows e p o h) (λ o. first_follows e p o h))
     (λ none. h)
 
 syn_follows : (e : Tcb) (p : Segment) → FollowsAt e → FollowsAt (check_syn e p)
@@ -226,7 +226,7 @@ pub tick_follows : (e : Tcb) → FollowsAt e → FollowsAt (after_tick e)
 unfolding after_tick timer_ticked waited
 tick_follows e h =
     let s : Sending = e.sending in
-    let placed = placed_waited e.name s.opened s.closed e.receiving.fin (fin_acked s) (nat_lt e.wait 2) h.placed in
+    let placed = placed_waited e.name s.syn_acked s.closed e.receiving.fin (fin_acked s) (nat_lt e.wait 2) h.placed in
     let name : StateName = if is_time_wait e.name && nat_lt e.wait 2 then Closed else e.name in
     holds_if (λ (q : Sending). Follows name e.receiving.fin q) (expires s)
     (record s { interval = min 64 (2 * s.interval); rest = min 64 (2 * s.interval) }) (record s { rest = s.rest - 1 })

@@ -62,7 +62,7 @@ pub record IsWithin (u : Tcb) (c : Client) (written s : ℕ) (f : Bool) : Type 0
 -- what every step of the flush finds
 pub record Flushes (u : Tcb) (c : Client) (written edge : ℕ) : Type 0 where
   pub speaks : Speaks u c written edge
-  pub opened : u.sending.opened ≡ true
+  pub syn_acked : u.sending.syn_acked ≡ true
   pub least : 64 ≤ u.sending.mss
   pub most : u.sending.mss ≤ 1460
   pub shut : u.sending.closed ≡ true → written ≡ length c.script
@@ -98,9 +98,9 @@ again_goes u c written edge x h w low =
     holds_if P (u.again && not (is_closed u.name) && is_unacknowledged q) _ []
     (λ due.
     let unacked : q.una < q.sent =
-    lt_of q.una q.sent (right_of_or (not q.opened) (nat_lt q.una q.sent) (ap not h.opened) (right_true (u.again && not (is_closed u.name)) (is_unacknowledged q) due)) in
-    holds_if O (not q.opened) (opening_segment u) _
-    (λ k. absurd (false≢true (sym (ap not h.opened) ∙ k)))
+    lt_of q.una q.sent (right_of_or (not q.syn_acked) (nat_lt q.una q.sent) (ap not h.syn_acked) (right_true (u.again && not (is_closed u.name)) (is_unacknowledged q) due)) in
+    holds_if O (not q.syn_acked) (opening_segment u) _
+    (λ k. absurd (false≢true (sym (ap not h.syn_acked) ∙ k)))
     (λ k. holds_if O (length q.held == 0) (fin_at u 0) (text_at u 0 (resent_length q))
     (λ none.
     let gone : length q.held ≡ 0 = eq_of (length q.held) 0 none in
@@ -131,7 +131,7 @@ probe_steps u c written edge x h w low =
     let held : length q.held ≡ written - q.una = held_length u c written edge h.speaks in
     let P : List Segment → Sending → Type 0 = λ xs t. Steps u c written edge q.sent x xs (record u { sending = t }) in
     let waits : Bool = nat_lt (in_flight q) (length q.held) in
-    let unsent : probes u ≡ true → q.fin_sent ≡ false = λ k. not_true q.fin_sent (right_true (u.probe && has_begun u.name && q.opened) (not q.fin_sent) k) in
+    let unsent : probes u ≡ true → q.fin_sent ≡ false = λ k. not_true q.fin_sent (right_true (u.probe && has_begun u.name && q.syn_acked) (not q.fin_sent) k) in
     pair_if P (probes_text u) (text_at u (in_flight q) 1 ∷ []) _ (with_sent q 1) _
     (λ k.
     let off : q.fin_sent ≡ false = unsent (left_true (probes u) waits k) in
@@ -215,7 +215,7 @@ unfolding text_out with_text_sent
 text_steps u c written edge s x f h w low =
     let n : ℕ = new_length (at u s f) in
     let fits = begun_or_none (has_begun u.name) _ s written f
-    (sendable_fits u.sending.opened f u.sending.una (length u.sending.held) u.sending.edge s written w.text w.order (held_length u c written edge h.speaks)) in
+    (sendable_fits u.sending.syn_acked f u.sending.una (length u.sending.held) u.sending.edge s written w.text w.order (held_length u c written edge h.speaks)) in
     record {
       sent = s + n;
       fin = f;
@@ -236,7 +236,7 @@ unfolding fin_out with_fin_out
 fin_steps u c written edge s x f h w low =
     let q : Sending = (at u s f).sending in
     let held : length q.held ≡ written - q.una = held_length u c written edge h.speaks in
-    let sure : Bool = q.opened && q.closed in
+    let sure : Bool = q.syn_acked && q.closed in
     let all : Bool = s == q.una + length q.held in
     let room : Bool = nat_lt s q.edge in
     let P : List Segment → Sending → Type 0 = λ xs t. Steps u c written edge s x xs (record u { sending = t }) in
@@ -245,7 +245,7 @@ fin_steps u c written edge s x f h w low =
     let due : (sure && not f && all && room) ≡ true = right_true (has_begun u.name) (sends_fin q) k in
     let whole : (sure && not f && all) ≡ true = left_true (sure && not f && all) room due in
     let off : f ≡ false = not_true f (right_true sure (not f) (left_true (sure && not f) all whole)) in
-    let is_closed : q.closed ≡ true = right_true q.opened q.closed (left_true sure (not f) (left_true (sure && not f) all whole)) in
+    let is_closed : q.closed ≡ true = right_true q.syn_acked q.closed (left_true sure (not f) (left_true (sure && not f) all whole)) in
     let ends : s ≡ q.una + length q.held = eq_of s (q.una + length q.held) (right_true (sure && not f) all whole) in
     let sent : s ≡ written = omega (arith, ends, held, w.text off, w.order) in
     record {

@@ -59,14 +59,14 @@ pub follows_of : (l : LiveState) (c : Client) → Stands l c → FollowsAt l.tcb
 follows_of l c h =
     let s : Sending = l.tcb.sending in
     record {
-      placed = placed_from l.tcb.name s.opened s.closed l.tcb.receiving.fin (fin_acked s) h.named h.opened h.over;
+      placed = placed_from l.tcb.name s.syn_acked s.closed l.tcb.receiving.fin (fin_acked s) h.named h.syn_acked h.over;
       ends = λ k. (h.agrees.sends.ended k).0;
       order = h.agrees.sends.order;
-      unsent = λ k. absurd (false≢true (sym k ∙ h.opened));
+      unsent = λ k. absurd (false≢true (sym k ∙ h.syn_acked));
     }
 
 pub over_at : (e : Tcb) → FollowsAt e → has_begun e.name ≡ false → (e.name ≡ Closed) × (e.sending.closed ≡ true) × (is_over e ≡ true)
-over_at e h none = over_from e.name e.sending.opened e.sending.closed e.receiving.fin (fin_acked e.sending) h.placed none
+over_at e h none = over_from e.name e.sending.syn_acked e.sending.closed e.receiving.fin (fin_acked e.sending) h.placed none
 
 -- TIME-WAIT and CLOSED are the states in which both FINs are through
 ended_by : (name : StateName) (o c f a : Bool) → IsPlaced name o c f a → (a ≡ true → c ≡ true) → (is_time_wait name || is_closed name) ≡ (f && a)
@@ -125,7 +125,7 @@ pub ends_alike : (e : Tcb) (written : ℕ) (c : Client) → FollowsAt e → e.re
     → Sends e.sending written c → end_of e ≡ outcome_of c
 ends_alike e written c h unreset phase fin sends =
     let through : (is_time_wait e.name || is_closed e.name) ≡ (e.receiving.fin && fin_acked e.sending) =
-    ended_by e.name e.sending.opened e.sending.closed e.receiving.fin (fin_acked e.sending) h.placed
+    ended_by e.name e.sending.syn_acked e.sending.closed e.receiving.fin (fin_acked e.sending) h.placed
     (λ k. h.ends (acks_of e.sending.fin_sent (e.sending.una == e.sending.sent) k)) in
     (λ i. if unreset i then Some ends.Reset else (if is_time_wait e.name || is_closed e.name then Some ends.Closed else None))
     ∙ ap (λ b. if b then Some ends.Closed else None) (through ∙ (λ i. sym fin i && acked_at e.sending written c sends i))

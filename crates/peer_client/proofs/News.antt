@@ -69,7 +69,7 @@ before_of l c h = record {
   iss = sym h.stands.agrees.same.isn;
   phase = h.stands.phase;
   edge = h.edge;
-  opened = h.stands.opened;
+  syn_acked = h.stands.syn_acked;
 }
 
 kept_stands : (l : LiveState) (c : Client) (t : Tcb) (d : Client) → IsStanding l c → l.outcome ≡ None → Keeps l.tcb c l.written t d → FollowsAt t
@@ -91,7 +91,7 @@ kept_stands l c t d h none k follows =
         hears = k.hears;
         sends = k.sends;
       };
-      opened = k.opened ∙ h.stands.opened;
+      syn_acked = k.syn_acked ∙ h.stands.syn_acked;
       phase = k.phase;
       named = named_at t follows;
       over = over_at t follows;
@@ -188,7 +188,7 @@ tick_passes l c h =
         hears = h.stands.agrees.hears;
         sends = ticked_sends l.tcb.sending l.written c h.stands.agrees.sends;
       };
-      opened = ticked_same (λ (s : Sending). s.opened) (λ a b s. refl) l.tcb.sending ∙ h.stands.opened;
+      syn_acked = ticked_same (λ (s : Sending). s.syn_acked) (λ a b s. refl) l.tcb.sending ∙ h.stands.syn_acked;
       phase = h.stands.phase;
       named = named_at t follows;
       over = over_at t follows;

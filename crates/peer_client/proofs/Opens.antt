@@ -49,7 +49,7 @@ starts local server isn script short = record {
   name = refl;
   phase = inl refl;
   due = λ k. refl;
-  opened = refl;
+  syn_acked = refl;
   closed = refl;
   nothing_sent = refl;
   nothing_taken = refl;
@@ -92,7 +92,7 @@ supplied_waits l c h =
       name = h.name;
       phase = h.phase;
       due = h.due;
-      opened = h.opened;
+      syn_acked = h.syn_acked;
       closed = h.closed;
       nothing_sent = h.nothing_sent;
       nothing_taken = omega (arith, h.nothing_taken, length-drop n l.tcb.receiving.unread, none);
@@ -130,7 +130,7 @@ still_open l c h =
 
 -- an endpoint in SYN-SENT, by what is due
 abbrev syn_sent : Tcb → Bool → Option Head → Tcb
-syn_sent u again answer = record u { name = SynSent; again = again; probe = false; answer = answer; sending = record u.sending { opened = false } }
+syn_sent u again answer = record u { name = SynSent; again = again; probe = false; answer = answer; sending = record u.sending { syn_acked = false } }
 
 abbrev syn_if : Bool → Tcb → List Segment
 syn_if again u = if again then opening_segment u ∷ [] else []
@@ -144,7 +144,7 @@ syn_sent_leaves u true (Some head) = refl
 syn_sent_leaves u false (Some head) = refl
 
 syn_sent_is : (l : LiveState) (c : Client) → Waits l c → l.tcb ≡ syn_sent l.tcb l.tcb.again l.tcb.answer
-syn_sent_is l c h = λ i. record l.tcb { name = h.name i; probe = h.probe i; sending = record l.tcb.sending { opened = h.opened i } }
+syn_sent_is l c h = λ i. record l.tcb { name = h.name i; probe = h.probe i; sending = record l.tcb.sending { syn_acked = h.syn_acked i } }
 
 -- the refusal is a move
 abbrev refused : Client → ℕ → Client
@@ -246,17 +246,17 @@ waits_leave m c h =
 
 -- and how it stands then
 syn_sent_flushed : (u : Tcb) (again : Bool) (answer : Option Head)
-    → flushed (syn_sent u again answer) ≡ with_turn_ended (record (syn_sent u again answer) { sending = record u.sending { opened = false; sent = u.sending.sent + 0 } })
+    → flushed (syn_sent u again answer) ≡ with_turn_ended (record (syn_sent u again answer) { sending = record u.sending { syn_acked = false; sent = u.sending.sent + 0 } })
 unfolding flushed after_full with_fin_out with_text_sent with_probe
 syn_sent_flushed u again answer = refl
 
 turn_ended_waits : (m : LiveState) (c : Client) → Waits m c
-    → IsWaiting (record m { tcb = with_turn_ended (record (syn_sent m.tcb m.tcb.again m.tcb.answer) { sending = record m.tcb.sending { opened = false; sent = m.tcb.sending.sent + 0 } }) })
+    → IsWaiting (record m { tcb = with_turn_ended (record (syn_sent m.tcb m.tcb.again m.tcb.answer) { sending = record m.tcb.sending { syn_acked = false; sent = m.tcb.sending.sent + 0 } }) })
     (opened_at c (receive_edge m.tcb.receiving))
 unfolding with_turn_ended announced
 turn_ended_waits m c h =
     let d : Client = opened_at c (receive_edge m.tcb.receiving) in
-    let q : Sending = record m.tcb.sending { opened = false; sent = m.tcb.sending.sent + 0 } in
+    let q : Sending = record m.tcb.sending { syn_acked = false; sent = m.tcb.sending.sent + 0 } in
     let t : Tcb = record (syn_sent m.tcb m.tcb.again m.tcb.answer) { sending = q } in
     let runs : Bool = is_timed t in
     let s = h.agrees.sends in
@@ -301,7 +301,7 @@ turn_ended_waits m c h =
         name = refl;
         phase = inr refl;
         due = λ k. absurd (false≢true (ap is_new k));
-        opened = timed_same (λ (x : Sending). x.opened) (λ a b x. refl) runs q;
+        syn_acked = timed_same (λ (x : Sending). x.syn_acked) (λ a b x. refl) runs q;
         closed = timed_same (λ (x : Sending). x.closed) (λ a b x. refl) runs q ∙ h.closed;
         nothing_sent = timed_same (λ (x : Sending). x.sent) (λ a b x. refl) runs q ∙ omega (arith, h.nothing_sent);
         nothing_taken = h.nothing_taken;
@@ -332,7 +332,7 @@ waits_end l c h =
     let w : Waits m c = supplied_waits l c h in
     let d : Client = opened_at c (receive_edge m.tcb.receiving) in
     let stays : before_flush l ≡ m = still_open l c w in
-    let after : flushed m.tcb ≡ with_turn_ended (record (syn_sent m.tcb m.tcb.again m.tcb.answer) { sending = record m.tcb.sending { opened = false; sent = m.tcb.sending.sent + 0 } }) =
+    let after : flushed m.tcb ≡ with_turn_ended (record (syn_sent m.tcb m.tcb.again m.tcb.answer) { sending = record m.tcb.sending { syn_acked = false; sent = m.tcb.sending.sent + 0 } }) =
     ap flushed (syn_sent_is m c w) ∙ syn_sent_flushed m.tcb m.tcb.again m.tcb.answer in
     record {
       later = d;

@@ -127,7 +127,7 @@ pub record Ready (l : LiveState) (c : Client) (u : Tcb) (written : ℕ) : Type 0
   pub local : u.local ≡ l.local
   pub remote : u.remote ≡ l.server
   pub iss : u.sending.iss ≡ c.isn
-  pub opened : u.sending.opened ≡ true
+  pub syn_acked : u.sending.syn_acked ≡ true
   pub hears : Hears u.receiving c
   pub sends : Sends u.sending written c
   pub answer : u.answer ≡ None
@@ -178,7 +178,7 @@ ready_supplied l c h =
       local = h.agrees.same.local;
       remote = h.agrees.same.remote;
       iss = sym h.agrees.same.isn;
-      opened = h.opened;
+      syn_acked = h.syn_acked;
       hears = read_hears l.tcb.receiving c n few h.agrees.hears;
       sends = subst S h.agrees.same.script (write_sends u.sending l.written room c full h.agrees.sends);
       answer = h.answer;
@@ -194,7 +194,7 @@ ready_shut l c m script h =
       local = h.local;
       remote = h.remote;
       iss = h.iss;
-      opened = h.opened;
+      syn_acked = h.syn_acked;
       hears = h.hears;
       sends = close_sends m.tcb.sending m.written c
           (omega (arith, h.sends.within, le_of (length m.script) m.written (right_true (has_begun m.tcb.name) (nat_le (length m.script) m.written) k), ap length script)) h.sends;
@@ -323,7 +323,7 @@ turn_ended_stands l c sent fin h begun w more follows =
           hears = same_hears u.receiving c sent edge r.hears;
           sends = timed_sends runs q (before_flush l).written (grown c sent edge) (sent_more u c (before_flush l).written sent fin edge w more r.sends);
         };
-        opened = timed_same (λ (s : Sending). s.opened) (λ a b s. refl) runs q ∙ r.opened;
+        syn_acked = timed_same (λ (s : Sending). s.syn_acked) (λ a b s. refl) runs q ∙ r.syn_acked;
         phase = h.phase;
         named = named_at t follows;
         over = over_at t follows;
@@ -347,7 +347,7 @@ turn_ends l c h begun =
     let r = ready l c h in
     let f : Flushes u c w edge = record {
       speaks = speaks_of l c u w h.agrees.same h.phase r;
-      opened = r.opened;
+      syn_acked = r.syn_acked;
       least = r.sends.least;
       most = r.sends.most;
       shut = r.sends.shut;

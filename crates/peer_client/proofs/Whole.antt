@@ -183,7 +183,7 @@ waits_seen l c n h = record {
   name = h.name;
   phase = h.phase;
   due = h.due;
-  opened = h.opened;
+  syn_acked = h.syn_acked;
   closed = h.closed;
   nothing_sent = h.nothing_sent;
   nothing_taken = h.nothing_taken;
@@ -198,7 +198,7 @@ waits_seen l c n h = record {
 stands_seen : (l : LiveState) (c : Client) (n : ℕ) → Stands l c → Stands (record l { seen = n }) c
 stands_seen l c n h = record {
   agrees = record { same = same_seen l c n h.agrees.same; hears = h.agrees.hears; sends = h.agrees.sends };
-  opened = h.opened;
+  syn_acked = h.syn_acked;
   phase = h.phase;
   named = h.named;
   over = h.over;

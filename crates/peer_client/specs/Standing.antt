@@ -99,7 +99,7 @@ pub record Waits (l : LiveState) (c : Client) : Type 0 where
   pub name : l.tcb.name ≡ names.SynSent
   pub phase : (c.phase ≡ phases.New) ⊎ (c.phase ≡ phases.Opening)
   pub due : c.phase ≡ phases.New → l.tcb.again ≡ true
-  pub opened : l.tcb.sending.opened ≡ false
+  pub syn_acked : l.tcb.sending.syn_acked ≡ false
   pub closed : l.tcb.sending.closed ≡ false
   pub nothing_sent : l.tcb.sending.sent ≡ 0
   pub nothing_taken : taken l.tcb.receiving ≡ 0
@@ -122,7 +122,7 @@ pub record Told (e : Tcb) (c : Client) : Type 0 where
 -- the connection is established, or the FINs of both sides are through
 pub record Stands (l : LiveState) (c : Client) : Type 0 where
   pub agrees : Agrees l c
-  pub opened : l.tcb.sending.opened ≡ true
+  pub syn_acked : l.tcb.sending.syn_acked ≡ true
   pub phase : is_open c.phase ≡ true
   pub named : IsNamedRightly l.tcb
   pub over : has_begun l.tcb.name ≡ false → (l.tcb.name ≡ names.Closed) × (l.tcb.sending.closed ≡ true) × (is_over l.tcb ≡ true)

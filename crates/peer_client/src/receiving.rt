@@ -39,7 +39,7 @@ impl Client {
         }
     }
 
-    /// A segment that comes while the SYN is unanswered.
+    /// A segment that comes while the SYN is unacknowledged.
     fn open_by(&mut self, segment: &PacketRef<'_>)
         ensures { self.new ≡ machine.opened_by self.old (value_of segment.now) }
     {

@@ -160,5 +160,5 @@ hands_on service e i s is =
       given = u;
       parts = subst (λ x. PartsStand service u i x u p s.north s.endpoint) (sym delta) is.parts;
       local = is.local;
-      counted = refl;
+      syn_acked = refl;
     }

@@ -23,7 +23,7 @@ pub record TcpTells (p : Point) (delta : ℕ) (e : Tcb) : Type 0 where
   pub unclosed : is_closed e.name ≡ false
   pub unreset : e.reset ≡ false
   pub sent : sent_number e ≡ distance (number_at p.sisn p.sent) delta
-  pub acked : p.counted ≡ true → acked_number e ≡ distance (number_at p.sisn p.una) delta
+  pub acked : p.syn_acked ≡ true → acked_number e ≡ distance (number_at p.sisn p.una) delta
 
 pub record TellsItsPoint {S : Type 0} (service : Machine S) (p : Point) (c : ConnState S) : Type 0 where
   pub numbers : Tells p c

@@ -55,7 +55,7 @@ inner_window s ack window = if is_high s ack then min 65535 (window + (nat_abs (
 abbrev pub first_south : (cisn sisn : ℕ) → SouthState
 first_south cisn sisn = record { cisn = cisn; sisn = sisn; delta = 0; fetched = 0; taken = 0; fin = false; answered = 0; read = 0; una = 0; sent = 0 }
 
--- .. and one at the end of a restart, with so much logged. The inner TCP counts its output from the units that the client had acknowledged
+-- .. and one at the end of a restart, with so much answered. The inner TCP counts its output from the units that the client had acknowledged
 abbrev pub resumed_south : (cisn sisn length : ℕ) → (fin : Bool) → (acked inner : ℕ) → SouthState
 resumed_south cisn sisn length fin acked inner = record {
   cisn = cisn;

@@ -22,7 +22,7 @@ pub fn it_copies_what_the_law_says()
     ensures fin { (delta : ℕ) (p : Point) (segment : Segment) → (copied (south_at delta p) segment).fin ≡ copies_fin p segment }
 {}
 
-/// It answers with the kept SYN-ACK where the law on segments does.
+/// It answers with the SYN-ACK of the logged numbers where the law on segments does.
 pub fn it_repeats_the_syn_ack_as_the_law_says()
     ensures { (delta : ℕ) (p : Point) (segment : Segment) → repeats_syn (south_at delta p) segment ≡ model.repeats_syn p segment }
 {}

@@ -144,7 +144,7 @@ impl South {
         self.read = bytes;
     }
 
-    /// The logger has so many bytes of the client, and its FIN where `fin`. What is to be told to the client now, where that is news.
+    /// The logger has answered that it has so many bytes of the client, and its FIN where `fin`. What is to be told to the client now, where that is news.
     pub fn on_stable(&mut self, length: u32, fin: bool) -> Option<AckOut>
         requires { length ≤ 2 ^ 24 }
         ensures state { self.new ≡ with_stable (length + one_if fin) self.old }

@@ -53,10 +53,10 @@ guarded : (a b b' c c' d e : Bool) → (a ≡ true → b ≡ b') → (a ≡ true
 guarded true b b' c c' d e same_b same_c = λ i. true && same_b refl i && (d || (e && same_c refl i))
 guarded false b b' c c' d e same_b same_c = refl
 
-window_test : (iss : ℕ) (n : SendState) (seq ack : ℕ) (opened : Bool) (held : List ℕ) (closed fin_sent : Bool) (mss : ℕ) → NumbersFit n seq ack
-    → IsShort (told_by iss opened n held closed fin_sent mss) → WasSent (own iss n.una.0 + distance n.nxt.0 n.una.0) (offset_of iss ack)
-    → is_window_used n seq ack ≡ moves_edge (told_by iss opened n held closed fin_sent mss) seq (offset_of iss ack)
-window_test iss n seq ack opened held closed fin_sent mss fits short was =
+window_test : (iss : ℕ) (n : SendState) (seq ack : ℕ) (syn_acked : Bool) (held : List ℕ) (closed fin_sent : Bool) (mss : ℕ) → NumbersFit n seq ack
+    → IsShort (told_by iss syn_acked n held closed fin_sent mss) → WasSent (own iss n.una.0 + distance n.nxt.0 n.una.0) (offset_of iss ack)
+    → is_window_used n seq ack ≡ moves_edge (told_by iss syn_acked n held closed fin_sent mss) seq (offset_of iss ack)
+window_test iss n seq ack syn_acked held closed fin_sent mss fits short was =
     let u : ℕ = own iss n.una.0 in
     let s : ℕ = u + distance n.nxt.0 n.una.0 in
     let w : ℕ = own iss n.wl2.0 in
@@ -152,12 +152,12 @@ kind_is : (una nxt ack : ℕ) (b : Bool) → acks_beyond nxt ack ≡ false → a
 kind_is una nxt ack b is_sent is = rw (is_sent, is) refl
 
 -- a sender whose fields are these
-same_sender : (s s' : Sending) → s.iss ≡ s'.iss → s.opened ≡ s'.opened → s.una ≡ s'.una → s.sent ≡ s'.sent → s.edge ≡ s'.edge
+same_sender : (s s' : Sending) → s.iss ≡ s'.iss → s.syn_acked ≡ s'.syn_acked → s.una ≡ s'.una → s.sent ≡ s'.sent → s.edge ≡ s'.edge
     → s.wl1 ≡ s'.wl1 → s.wl2 ≡ s'.wl2 → s.held ≡ s'.held → s.closed ≡ s'.closed → s.fin_sent ≡ s'.fin_sent → s.mss ≡ s'.mss
     → s.interval ≡ s'.interval → s.rest ≡ s'.rest → s ≡ s'
-same_sender s s' iss opened una sent edge wl1 wl2 held closed fin_sent mss interval rest = λ i. record {
+same_sender s s' iss syn_acked una sent edge wl1 wl2 held closed fin_sent mss interval rest = λ i. record {
   iss = iss i;
-  opened = opened i;
+  syn_acked = syn_acked i;
   una = una i;
   sent = sent i;
   edge = edge i;
@@ -172,23 +172,23 @@ same_sender s s' iss opened una sent edge wl1 wl2 held closed fin_sent mss inter
 }
 
 -- what an acknowledgement that isn't beyond SND.NXT makes of the numbers is what it makes of the offsets
-pub acknowledged_is : (iss : ℕ) (n n' : SendState) (seq ack window : ℕ) (opened : Bool) (held : List ℕ) (closed fin_sent : Bool) (mss : ℕ)
-    → NumbersFit n seq ack → window < 2 ^ 16 → IsShort (told_by iss opened n held closed fin_sent mss)
+pub acknowledged_is : (iss : ℕ) (n n' : SendState) (seq ack window : ℕ) (syn_acked : Bool) (held : List ℕ) (closed fin_sent : Bool) (mss : ℕ)
+    → NumbersFit n seq ack → window < 2 ^ 16 → IsShort (told_by iss syn_acked n held closed fin_sent mss)
     → IsUsed n n' seq ack window → acks_beyond n.nxt.0 ack ≡ false
-    → told_by iss opened n' (drop (min (units_of (kind_of n.una.0 n.nxt.0 ack)) (length held)) held) closed fin_sent mss
-    ≡ acknowledged (told_by iss opened n held closed fin_sent mss) seq (offset_of iss ack) window
+    → told_by iss syn_acked n' (drop (min (units_of (kind_of n.una.0 n.nxt.0 ack)) (length held)) held) closed fin_sent mss
+    ≡ acknowledged (told_by iss syn_acked n held closed fin_sent mss) seq (offset_of iss ack) window
 unfolding acknowledged
-acknowledged_is iss n n' seq ack window opened held closed fin_sent mss fits small short used is_sent =
+acknowledged_is iss n n' seq ack window syn_acked held closed fin_sent mss fits small short used is_sent =
     let u : ℕ = own iss n.una.0 in
     let s : ℕ = u + distance n.nxt.0 n.una.0 in
     let z : ℤ = offset_of iss ack in
     let b : Bool = is_new_ack u s z in
     let was : is_ahead s z ≡ false = sym (ahead_test iss n.una.0 n.nxt.0 ack fits.una fits.nxt fits.ack short.sent) ∙ is_sent in
-    let before : Sending = told_by iss opened n held closed fin_sent mss in
+    let before : Sending = told_by iss syn_acked n held closed fin_sent mss in
     let d : ℕ = distance ack n.una.0 in
     let is_new : acks_new n.una.0 n.nxt.0 ack ≡ b = new_test iss n.una.0 n.nxt.0 ack fits.una fits.nxt fits.ack short.sent was in
     let kind : kind_of n.una.0 n.nxt.0 ack ≡ kind_by b d = kind_is n.una.0 n.nxt.0 ack b is_sent is_new in
-    let moves : is_window_used n seq ack ≡ moves_edge before seq z = window_test iss n seq ack opened held closed fin_sent mss fits short (sent_by s z was) in
+    let moves : is_window_used n seq ack ≡ moves_edge before seq z = window_test iss n seq ack syn_acked held closed fin_sent mss fits short (sent_by s z was) in
     let a : ℕ = nat_abs z in
     let on : b ≡ true → own iss ack ≡ a = λ h. own_is iss ack fits.ack (new_bounds u s z h).0 in
     let up : b ≡ true → u ≤ own iss ack = λ h. omega (arith, on h, (new_bounds u s z h).1) in
@@ -224,28 +224,28 @@ choose b true x y z is on off = on is
 choose b false x y z is on off = off is
 
 -- what Sender::on_ack answers, ..
-pub sent_is : (iss : ℕ) (n : SendState) (seq ack : ℕ) (opened : Bool) (held : List ℕ) (closed fin_sent : Bool) (mss : ℕ) (kind : AckKind)
-    → NumbersFit n seq ack → IsShort (told_by iss opened n held closed fin_sent mss)
+pub sent_is : (iss : ℕ) (n : SendState) (seq ack : ℕ) (syn_acked : Bool) (held : List ℕ) (closed fin_sent : Bool) (mss : ℕ) (kind : AckKind)
+    → NumbersFit n seq ack → IsShort (told_by iss syn_acked n held closed fin_sent mss)
     → kind ≡ kind_of n.una.0 n.nxt.0 ack
-    → was_sent kind ≡ not (is_ahead (told_by iss opened n held closed fin_sent mss).sent (offset_of iss ack))
-sent_is iss n seq ack opened held closed fin_sent mss kind fits short is =
+    → was_sent kind ≡ not (is_ahead (told_by iss syn_acked n held closed fin_sent mss).sent (offset_of iss ack))
+sent_is iss n seq ack syn_acked held closed fin_sent mss kind fits short is =
     ap was_sent is ∙ kind_sent (acks_beyond n.nxt.0 ack) (acks_new n.una.0 n.nxt.0 ack) (distance ack n.una.0)
     ∙ ap not (ahead_test iss n.una.0 n.nxt.0 ack fits.una fits.nxt fits.ack short.sent)
 
 -- .. and what it makes of the sender
-pub used_is : (iss : ℕ) (n n' : SendState) (seq ack window : ℕ) (opened : Bool) (held held' : List ℕ) (closed fin_sent : Bool) (mss : ℕ) (kind : AckKind)
-    → NumbersFit n seq ack → window < 2 ^ 16 → IsShort (told_by iss opened n held closed fin_sent mss)
+pub used_is : (iss : ℕ) (n n' : SendState) (seq ack window : ℕ) (syn_acked : Bool) (held held' : List ℕ) (closed fin_sent : Bool) (mss : ℕ) (kind : AckKind)
+    → NumbersFit n seq ack → window < 2 ^ 16 → IsShort (told_by iss syn_acked n held closed fin_sent mss)
     → kind ≡ kind_of n.una.0 n.nxt.0 ack → IsUsed n n' seq ack window → (kind ≡ Beyond → n' ≡ n)
     → held' ≡ drop (min (units_of kind) (length held)) held
-    → told_by iss opened n' held' closed fin_sent mss
-    ≡ (if is_ahead (told_by iss opened n held closed fin_sent mss).sent (offset_of iss ack)
-    then told_by iss opened n held closed fin_sent mss
-    else acknowledged (told_by iss opened n held closed fin_sent mss) seq (offset_of iss ack) window)
-used_is iss n n' seq ack window opened held held' closed fin_sent mss kind fits small short is used unused held_is =
-    let as_held : List ℕ → Sending = λ q. told_by iss opened n' q closed fin_sent mss in
+    → told_by iss syn_acked n' held' closed fin_sent mss
+    ≡ (if is_ahead (told_by iss syn_acked n held closed fin_sent mss).sent (offset_of iss ack)
+    then told_by iss syn_acked n held closed fin_sent mss
+    else acknowledged (told_by iss syn_acked n held closed fin_sent mss) seq (offset_of iss ack) window)
+used_is iss n n' seq ack window syn_acked held held' closed fin_sent mss kind fits small short is used unused held_is =
+    let as_held : List ℕ → Sending = λ q. told_by iss syn_acked n' q closed fin_sent mss in
     choose (acks_beyond n.nxt.0 ack) _ _ _ _ (ahead_test iss n.una.0 n.nxt.0 ack fits.una fits.nxt fits.ack short.sent)
     (λ h. let beyond : kind ≡ Beyond = is ∙ rw h refl in
     ap as_held (held_is ∙ ap (λ k. drop (min (units_of k) (length held)) held) beyond ∙ drop_min 0 held)
-    ∙ ap (λ m. told_by iss opened m held closed fin_sent mss) (unused beyond))
+    ∙ ap (λ m. told_by iss syn_acked m held closed fin_sent mss) (unused beyond))
     (λ h. ap as_held (held_is ∙ ap (λ k. drop (min (units_of k) (length held)) held) is)
-    ∙ acknowledged_is iss n n' seq ack window opened held closed fin_sent mss fits small short used h)
+    ∙ acknowledged_is iss n n' seq ack window syn_acked held closed fin_sent mss fits small short used h)

@@ -9,9 +9,9 @@ use Rattle.segment_codec.specs.declared.Head.{Head}
 use Rattle.tcp_buffers.specs.Near.{is_ahead}
 use Rattle.tcp_endpoint.specs.declared.states.StateName.{StateName}
 use Rattle.tcp_endpoint.specs.declared.states.StateName.TheVariants.{Closed, Listen, SynSent, SynReceived, Established}
-use Rattle.tcp_endpoint.specs.States.{opened, after_fin_acked, after_fin, is_time_wait}
+use Rattle.tcp_endpoint.specs.States.{after_syn_acked, after_fin_acked, after_fin, is_time_wait}
 use Rattle.tcp_endpoint.specs.Receiving.{taken, next, window, with_segment}
-use Rattle.tcp_endpoint.specs.Sending.{opened_by, acknowledged, fin_acked}
+use Rattle.tcp_endpoint.specs.Sending.{with_syn_acked, acknowledged, fin_acked}
 use Rattle.tcp_endpoint.specs.Tcb.{Tcb}
 
 -- SEG.SEQ and SEG.ACK as offsets
@@ -80,7 +80,7 @@ unfoldable pub answered : Tcb → Segment → Tcb
 answered e p = record e {
   name = Established;
   receiving = record e.receiving { irs = p.head.seq };
-  sending = opened_by (record e.sending { mss = segment_size p.head.mss }) p.head.seq p.head.window;
+  sending = with_syn_acked (record e.sending { mss = segment_size p.head.mss }) p.head.seq p.head.window;
   owed = true;
 }
 
@@ -109,7 +109,7 @@ with_fin_acked e = if fin_acked e.sending then entering (after_fin_acked e.name)
 unfoldable pub with_first_ack : Tcb → Segment → Tcb
 with_first_ack e p =
     if int_eq (ack_at e p) (pos 0)
-    then with_text_and_fin (record e { name = opened e.sending.closed; sending = opened_by e.sending p.head.seq p.head.window }) p
+    then with_text_and_fin (record e { name = after_syn_acked e.sending.closed; sending = with_syn_acked e.sending p.head.seq p.head.window }) p
     else refusing e p
 
 -- fifth check, in the other states: an acknowledgement ahead of SND.NXT is owed an answer, and nothing of its segment is used
@@ -121,7 +121,7 @@ with_ack e p =
 
 -- .. as the SYN is acknowledged or not: until then the state is SYN-RECEIVED
 unfoldable pub check_ack : Tcb → Segment → Tcb
-check_ack e p = if has_ack p then (if e.sending.opened then with_ack e p else with_first_ack e p) else e
+check_ack e p = if has_ack p then (if e.sending.syn_acked then with_ack e p else with_first_ack e p) else e
 
 -- fourth check: a SYN gets a challenge ACK. A segment that takes up numbers is owed an answer
 unfoldable pub check_syn : Tcb → Segment → Tcb

@@ -62,7 +62,7 @@ answer_out e = answer_segments e.answer
 -- the first segment that is unacknowledged: the SYN or SYN-ACK, else the FIN where all bytes are acknowledged, else text
 unfoldable pub again_segment : Tcb → Segment
 again_segment e =
-    if not e.sending.opened then opening_segment e
+    if not e.sending.syn_acked then opening_segment e
     else (if length e.sending.held == 0 then fin_at e 0 else text_at e 0 (resent_length e.sending))
 
 unfoldable pub again_out : Tcb → List Segment
@@ -70,7 +70,7 @@ again_out e = if e.again && not (is_closed e.name) && is_unacknowledged e.sendin
 
 -- a probe goes out at SND.NXT: one byte, or the FIN where no byte waits
 abbrev pub probes : Tcb → Bool
-probes e = e.probe && has_begun e.name && e.sending.opened && not e.sending.fin_sent
+probes e = e.probe && has_begun e.name && e.sending.syn_acked && not e.sending.fin_sent
 
 abbrev pub probes_text : Tcb → Bool
 probes_text e = probes e && nat_lt (in_flight e.sending) (length e.sending.held)

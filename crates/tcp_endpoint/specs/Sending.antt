@@ -11,7 +11,7 @@ use Rattle.seq_arith.specs.Offset.{one_if}
 
 pub record Sending : Type 0 where
   pub iss : ℕ  -- ISS: the own initial number
-  pub opened : Bool  -- whether the SYN is acknowledged
+  pub syn_acked : Bool  -- whether the SYN is acknowledged
   pub una : ℕ  -- SND.UNA: the first offset that isn't acknowledged
   pub sent : ℕ  -- SND.NXT: the next offset to be sent
   pub edge : ℕ  -- SND.UNA + SND.WND: the peer's right edge, from which on nothing may be sent
@@ -28,7 +28,7 @@ pub record Sending : Type 0 where
 abbrev pub sending_from : ℕ → Sending
 sending_from iss = record {
   iss = iss;
-  opened = false;
+  syn_acked = false;
   una = 0;
   sent = 0;
   edge = 0;
@@ -43,8 +43,8 @@ sending_from iss = record {
 }
 
 -- the acknowledgement of the SYN, which alone is sent, by the segment of that number (3.10.7.3, fourth check; 3.10.7.4, fifth check)
-abbrev pub opened_by : Sending → ℕ → ℕ → Sending
-opened_by s seq window = record s { opened = true; una = 0; sent = 0; edge = window; wl1 = seq; wl2 = 0; interval = 1; rest = 0 }
+abbrev pub with_syn_acked : Sending → ℕ → ℕ → Sending
+with_syn_acked s seq window = record s { syn_acked = true; una = 0; sent = 0; edge = window; wl1 = seq; wl2 = 0; interval = 1; rest = 0 }
 
 -- whether the window is used: SND.UNA =< SEG.ACK =< SND.NXT, and the segment isn't older than the one that moved the edge last: either
 -- SND.WL1 < SEG.SEQ, or SND.WL1 = SEG.SEQ and SND.WL2 =< SEG.ACK
@@ -83,7 +83,7 @@ target s = if s.fin_sent then s.sent else s.una + length s.held + one_if s.close
 
 -- something sent is unacknowledged: the SYN, text or the FIN
 abbrev pub is_unacknowledged : Sending → Bool
-is_unacknowledged s = not s.opened || nat_lt s.una s.sent
+is_unacknowledged s = not s.syn_acked || nat_lt s.una s.sent
 
 -- the timer's last tick starts it again, with twice the interval, at most 64 ticks
 abbrev pub expires : Sending → Bool
@@ -94,7 +94,7 @@ ticked s = if expires s then record s { interval = min 64 (2 * s.interval); rest
 
 -- the timer must run: something is unacknowledged, or waits to be sent
 abbrev pub must_run : Sending → Bool
-must_run s = not s.opened || nat_lt s.una (max s.sent (target s))
+must_run s = not s.syn_acked || nat_lt s.una (max s.sent (target s))
 
 -- after a turn: it starts at one tick where it must run and doesn't, and stops where it needn't
 abbrev pub timed : Bool → Sending → Sending
@@ -102,11 +102,11 @@ timed runs s = if runs then (if s.rest == 0 then record s { interval = 1; rest =
 
 -- how many bytes may be sent for the first time: up to the right edge
 abbrev pub sendable : Sending → ℕ
-sendable s = if s.opened && not s.fin_sent then min (s.una + length s.held) s.edge - s.sent else 0
+sendable s = if s.syn_acked && not s.fin_sent then min (s.una + length s.held) s.edge - s.sent else 0
 
 -- the FIN goes out: behind all text, and with room for it below the right edge
 abbrev pub sends_fin : Sending → Bool
-sends_fin s = s.opened && s.closed && not s.fin_sent && s.sent == s.una + length s.held && nat_lt s.sent s.edge
+sends_fin s = s.syn_acked && s.closed && not s.fin_sent && s.sent == s.una + length s.held && nat_lt s.sent s.edge
 
 -- how many bytes go out again: a segment's worth of what was sent, but no more than the peer has room for, and at least one
 abbrev pub resent_length : Sending → ℕ
@@ -123,10 +123,10 @@ abbrev pub own : ℕ → ℕ → ℕ
 own iss number = distance number ((iss + 1) % 2 ^ 32)
 
 -- what the sender's numbers say in offsets
-abbrev pub told_by : (iss : ℕ) (opened : Bool) → SendState → List ℕ → (closed fin_sent : Bool) → ℕ → Sending
-told_by iss opened n held closed fin_sent mss = record {
+abbrev pub told_by : (iss : ℕ) (syn_acked : Bool) → SendState → List ℕ → (closed fin_sent : Bool) → ℕ → Sending
+told_by iss syn_acked n held closed fin_sent mss = record {
   iss = iss;
-  opened = opened;
+  syn_acked = syn_acked;
   una = own iss n.una.0;
   sent = own iss n.una.0 + distance n.nxt.0 n.una.0;
   edge = own iss (edge_of n);

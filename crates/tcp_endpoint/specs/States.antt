@@ -12,8 +12,8 @@ after_close CloseWait = LastAck
 after_close name = name
 
 -- the SYN is acknowledged, by a user who may have closed before
-abbrev pub opened : Bool → StateName
-opened closed = if closed then FinWait1 else Established
+abbrev pub after_syn_acked : Bool → StateName
+after_syn_acked closed = if closed then FinWait1 else Established
 
 -- the own FIN is acknowledged (3.10.7.4, fifth check)
 abbrev pub after_fin_acked : StateName → StateName

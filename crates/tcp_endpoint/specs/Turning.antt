@@ -47,4 +47,4 @@ abbrev pub sent_number : Tcb → ℕ
 sent_number e = if is_listen e.name then e.sending.iss else number_at e.sending.iss e.sending.sent
 
 abbrev pub acked_number : Tcb → ℕ
-acked_number e = if e.sending.opened then number_at e.sending.iss e.sending.una else e.sending.iss
+acked_number e = if e.sending.syn_acked then number_at e.sending.iss e.sending.una else e.sending.iss

@@ -306,7 +306,7 @@ impl Endpoint {
         if !has_ack(p) {
             return;
         }
-        if self.sender.is_opened() {
+        if self.sender.is_syn_acked() {
             self.use_ack(p);
         } else {
             self.use_first_ack(p);
@@ -324,7 +324,7 @@ impl Endpoint {
             self.refuse(p);
             return;
         }
-        self.name = StateName::opened(self.sender.is_closed());
+        self.name = StateName::after_syn_acked(self.sender.is_closed());
         self.sender.open(p.head.seq, p.head.window);
         self.take_text_and_fin(p);
     }

@@ -135,7 +135,7 @@ impl Endpoint {
     pub fn acked(&self) -> Seq
         ensures { result.0 ≡ acked_number self.now }
     {
-        if !self.sender.is_opened() {
+        if !self.sender.is_syn_acked() {
             return self.sender.iss();
         }
         self.sender.una()

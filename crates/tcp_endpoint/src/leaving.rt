@@ -134,7 +134,7 @@ impl Endpoint {
         if !self.again || self.name.is_closed() || !self.sender.is_unacknowledged() {
             return;
         }
-        if !self.sender.is_opened() {
+        if !self.sender.is_syn_acked() {
             out.push_segment(&self.opening_head(), &[], &[]);
         } else if self.sender.held() == 0 {
             self.send_fin_at(0, out);
@@ -156,7 +156,7 @@ impl Endpoint {
     {
         if !self.probe
             || !self.name.has_begun()
-            || !self.sender.is_opened()
+            || !self.sender.is_syn_acked()
             || self.sender.is_fin_sent()
         {
             return;

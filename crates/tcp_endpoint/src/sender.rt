@@ -7,7 +7,7 @@ ghost use Rattle.seq_arith.specs.Number.{number_at, offset_of};
 ghost use Rattle.seq_arith.specs.Arrival.{int_eq};
 ghost use Rattle.seq_arith.specs.Packet.{segment_size};
 ghost use Rattle.tcp_buffers.specs.Near.{is_ahead};
-ghost use Rattle.tcp_endpoint.specs.Sending.{sending_from, opened_by, acknowledged, fin_acked, in_flight, is_unacknowledged, expires, ticked, must_run, timed};
+ghost use Rattle.tcp_endpoint.specs.Sending.{sending_from, with_syn_acked, acknowledged, fin_acked, in_flight, is_unacknowledged, expires, ticked, must_run, timed};
 ghost use Rattle.tcp_endpoint.specs.Sending.{sendable, sends_fin, resent_length, with_sent, with_fin_sent, units_of, was_sent, NumbersFit, IsShort};
 
 use seq_arith::{Seq, segment_size};
@@ -20,7 +20,7 @@ pub(crate) struct Sender {
     /// ISS: the own initial number.
     iss: Seq,
     /// Whether the SYN is acknowledged.
-    opened: bool,
+    syn_acked: bool,
     /// SND.UNA, SND.NXT, SND.WND, SND.WL1, SND.WL2, and the timer.
     numbers: SendState,
     /// The bytes written and not acknowledged, from SND.UNA on.
@@ -38,7 +38,7 @@ impl Model for Sender {
 
     ghost Value = { Sending };
 
-    ghost view = { λ s. told_by s.iss.0 s.opened s.numbers s.held s.closed s.fin_sent s.mss };
+    ghost view = { λ s. told_by s.iss.0 s.syn_acked s.numbers s.held s.closed s.fin_sent s.mss };
 
     ghost invariant = { λ s. Holds s.numbers s.held s.fin_sent s.mss };
 }
@@ -52,7 +52,7 @@ impl Sender {
         let first = iss.add(1);
         Sender {
             iss,
-            opened: false,
+            syn_acked: false,
             numbers: SendState {
                 una: first,
                 nxt: first,
@@ -99,10 +99,10 @@ impl Sender {
         self.numbers.una
     }
 
-    pub(crate) fn is_opened(&self) -> bool
-        ensures { result ≡ self.now.opened }
+    pub(crate) fn is_syn_acked(&self) -> bool
+        ensures { result ≡ self.now.syn_acked }
     {
-        self.opened
+        self.syn_acked
     }
 
     pub(crate) fn is_fin_sent(&self) -> bool
@@ -135,10 +135,10 @@ impl Sender {
 
     /// Uses the acknowledgement of the SYN.
     pub(crate) fn open(&mut self, seq: Seq, window: u16)
-        ensures { self.new ≡ opened_by self.old seq.0 window }
+        ensures { self.new ≡ with_syn_acked self.old seq.0 window }
     {
         let first = self.first();
-        self.opened = true;
+        self.syn_acked = true;
         self.numbers = SendState {
             una: first,
             nxt: first,
@@ -220,7 +220,7 @@ impl Sender {
         ensures most { 0 < result → in_flight self.now + result ≤ length self.now.held }
         ensures short { result ≤ 65535 }
     {
-        if !self.opened || self.fin_sent {
+        if !self.syn_acked || self.fin_sent {
             return 0;
         }
         (self.held.len() as u32)
@@ -232,7 +232,7 @@ impl Sender {
     pub(crate) fn sends_fin(&self) -> bool
         ensures { result ≡ sends_fin self.now }
     {
-        self.opened
+        self.syn_acked
             && self.closed
             && !self.fin_sent
             && self.in_flight() == self.held.len() as u32
@@ -285,7 +285,7 @@ impl Sender {
     pub(crate) fn is_unacknowledged(&self) -> bool
         ensures { result ≡ is_unacknowledged self.now }
     {
-        !self.opened || self.in_flight() > 0
+        !self.syn_acked || self.in_flight() > 0
     }
 
     /// Whether the timer must run.

@@ -1,7 +1,7 @@
 //! The states of a connection (RFC 9293, 3.3.2) and how they follow one another.
 
 ghost use Rattle.std.specs.Prelude.{◌≡◌};
-ghost use Rattle.tcp_endpoint.specs.States.{after_close, opened, after_fin_acked, after_fin, is_closed, is_listen, is_syn_sent, is_time_wait, has_begun};
+ghost use Rattle.tcp_endpoint.specs.States.{after_close, after_syn_acked, after_fin_acked, after_fin, is_closed, is_listen, is_syn_sent, is_time_wait, has_begun};
 
 /// The eleven states of RFC 9293.
 #[derive(Clone, Copy, Debug, PartialEq, Eq)]
@@ -42,8 +42,8 @@ impl StateName {
     }
 
     /// The state once the own SYN is acknowledged, for a user who may have closed before.
-    pub(crate) fn opened(closed: bool) -> StateName
-        ensures { result ≡ opened closed }
+    pub(crate) fn after_syn_acked(closed: bool) -> StateName
+        ensures { result ≡ after_syn_acked closed }
     {
         if closed {
             StateName::FinWait1

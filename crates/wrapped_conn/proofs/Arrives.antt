@@ -8,16 +8,16 @@ use Rattle.seq_arith.specs.Packet.{Segment, has_syn, has_rst, has_ack, has_fin}
 use Rattle.tcp_buffers.specs.Near.{IsNearFirst, is_ahead}
 use Rattle.tcp_endpoint.specs.declared.states.StateName.{StateName}
 use Rattle.tcp_endpoint.specs.declared.states.StateName.TheVariants.{Closed, Listen, SynSent, SynReceived, Established, FinWait1, FinWait2, CloseWait, Closing, LastAck, TimeWait}
-use Rattle.tcp_endpoint.specs.States.{opened, after_fin, after_fin_acked}
+use Rattle.tcp_endpoint.specs.States.{after_syn_acked, after_fin, after_fin_acked}
 use Rattle.tcp_endpoint.specs.Receiving.{Receiving, next, window, with_segment}
-use Rattle.tcp_endpoint.specs.Sending.{opened_by, acknowledged, fin_acked}
+use Rattle.tcp_endpoint.specs.Sending.{with_syn_acked, acknowledged, fin_acked}
 use Rattle.tcp_endpoint.specs.Tcb.{Tcb}
 use Rattle.tcp_endpoint.specs.Arrival.{first, ack_at, received, received_in, in_closed, in_others, waiting_again, check_place, check_rst, check_syn, check_ack, with_ack, with_first_ack, with_fin_acked, with_text_and_fin, entering, owing_if, killed, refusing, refusing_without_ack}
 use Rattle.tcp_endpoint.proofs.Places.{near_of_acceptable}
 use Rattle.endpoint_laws.proofs.SendingLaw.{next_near, window_short, length_short}
 use Rattle.endpoint_laws.proofs.TakenLaw.{window_is}
 use Rattle.wrapped_conn.specs.Sound.{has_peer, IsSoundTcp}
-use Rattle.wrapped_conn.proofs.Kept.{GoesOnFrom, TakesOn, stays, goes_if, goes_when, fin_has_peer, acked_has_peer, opened_has_peer, takes_segment, beside, later_bounds, held_stays, kept_fields, first_bounds}
+use Rattle.wrapped_conn.proofs.Kept.{GoesOnFrom, TakesOn, stays, goes_if, goes_when, fin_has_peer, acked_has_peer, syn_acked_has_peer, takes_segment, beside, later_bounds, held_stays, kept_fields, first_bounds}
 
 -- the fields of a segment fit their bytes
 pub record Fits (p : Segment) : Type 0 where
@@ -74,14 +74,14 @@ no_fin false c h k = refl
 owes : (e t : Tcb) (b : Bool) → GoesOnFrom e t → GoesOnFrom e (owing_if b t)
 owes e t b g = record { sound = record { bounds = g.sound.bounds; buffered = g.sound.buffered; begun = g.sound.begun; fin_last = g.sound.fin_last }; read = g.read; limit = g.limit; more = g.more; iss = g.iss; closed = g.closed; sent = g.sent; held = g.held }
 
-later_used : (e : Tcb) (p : Segment) → IsSoundTcp e → Fits p → IsNearFirst (first e p) → e.sending.opened ≡ true
+later_used : (e : Tcb) (p : Segment) → IsSoundTcp e → Fits p → IsNearFirst (first e p) → e.sending.syn_acked ≡ true
     → GoesOnFrom e (record e { sending = acknowledged e.sending p.head.seq (ack_at e p) p.head.window })
-later_used e p s fits near is_opened =
+later_used e p s fits near is_syn_acked =
     let held = held_stays e.sending p.head.seq p.head.window (ack_at e p) s.bounds.order in
     let kept = kept_fields e.sending p.head.seq p.head.window (ack_at e p) in
     record {
       sound = record {
-        bounds = later_bounds e.receiving e.sending p.head.seq p.head.window (ack_at e p) s.bounds near fits.seq fits.window is_opened;
+        bounds = later_bounds e.receiving e.sending p.head.seq p.head.window (ack_at e p) s.bounds near fits.seq fits.window is_syn_acked;
         buffered = s.buffered;
         begun = s.begun;
         fin_last = λ f. kept.1 ∙ s.fin_last (sym kept.2 ∙ f);
@@ -95,11 +95,11 @@ later_used e p s fits near is_opened =
       held = λ open_still. held (omega (arith, s.bounds.flight, no_fin e.sending.fin_sent e.sending.closed s.fin_last open_still));
     }
 
-later_goes : (e : Tcb) (p : Segment) → IsSoundTcp e → Fits p → IsNearFirst (first e p) → e.sending.opened ≡ true → GoesOnFrom e (with_ack e p)
+later_goes : (e : Tcb) (p : Segment) → IsSoundTcp e → Fits p → IsNearFirst (first e p) → e.sending.syn_acked ≡ true → GoesOnFrom e (with_ack e p)
 unfolding with_ack
-later_goes e p s fits near is_opened =
+later_goes e p s fits near is_syn_acked =
     let used : Tcb = record e { sending = acknowledged e.sending p.head.seq (ack_at e p) p.head.window } in
-    goes_if (is_ahead e.sending.sent (ack_at e p)) e _ _ (owes e e true (stays e s)) (text_goes e (with_fin_acked used) p (acked_goes e used (later_used e p s fits near is_opened)))
+    goes_if (is_ahead e.sending.sent (ack_at e p)) e _ _ (owes e e true (stays e s)) (text_goes e (with_fin_acked used) p (acked_goes e used (later_used e p s fits near is_syn_acked)))
 
 refuses : (e : Tcb) (p : Segment) → IsSoundTcp e → GoesOnFrom e (refusing e p)
 unfolding refusing
@@ -109,15 +109,15 @@ refuses_bare : (e : Tcb) (p : Segment) → IsSoundTcp e → GoesOnFrom e (refusi
 unfolding refusing_without_ack
 refuses_bare e p s = let g = stays e s in record { sound = record { bounds = s.bounds; buffered = s.buffered; begun = s.begun; fin_last = s.fin_last }; read = refl; limit = refl; more = g.more; iss = refl; closed = refl; sent = g.sent; held = g.held }
 
-first_goes : (e : Tcb) (p : Segment) → IsSoundTcp e → Fits p → IsNearFirst (first e p) → e.sending.opened ≡ false → GoesOnFrom e (with_first_ack e p)
+first_goes : (e : Tcb) (p : Segment) → IsSoundTcp e → Fits p → IsNearFirst (first e p) → e.sending.syn_acked ≡ false → GoesOnFrom e (with_first_ack e p)
 unfolding with_first_ack
-first_goes e p s fits near unopened =
-    let opening : Tcb = record e { name = opened e.sending.closed; sending = opened_by e.sending p.head.seq p.head.window } in
+first_goes e p s fits near syn_unacked =
+    let opening : Tcb = record e { name = after_syn_acked e.sending.closed; sending = with_syn_acked e.sending p.head.seq p.head.window } in
     let goes : GoesOnFrom e opening = record {
       sound = record {
-        bounds = first_bounds e.receiving e.sending p.head.seq p.head.window s.bounds near fits.seq fits.window unopened;
+        bounds = first_bounds e.receiving e.sending p.head.seq p.head.window s.bounds near fits.seq fits.window syn_unacked;
         buffered = s.buffered;
-        begun = opened_has_peer e.sending.closed;
+        begun = syn_acked_has_peer e.sending.closed;
         fin_last = s.fin_last;
       };
       read = refl;
@@ -125,7 +125,7 @@ first_goes e p s fits near unopened =
       more = omega arith;
       iss = refl;
       closed = refl;
-      sent = omega (arith, s.bounds.unopened unopened);
+      sent = omega (arith, s.bounds.syn_unacked syn_unacked);
       held = λ open_still. omega arith;
     } in
     goes_if (int_eq (ack_at e p) (pos 0)) e _ _ (text_goes e opening p goes) (refuses e p s)
@@ -144,7 +144,7 @@ checked e p s fits near =
     (goes_if (int_eq (first e p) (pos (next e.receiving))) e _ _ (closes e s) (owes e e true g))
     (goes_if (has_syn p) e _ _ (owes e e true g)
     (goes_if (has_ack p) e _ _
-    (goes_when e.sending.opened e _ _ (λ h. from_owing e _ _ (later_goes owing p sound fits near h)) (λ h. from_owing e _ _ (first_goes owing p sound fits near h)))
+    (goes_when e.sending.syn_acked e _ _ (λ h. from_owing e _ _ (later_goes owing p sound fits near h)) (λ h. from_owing e _ _ (first_goes owing p sound fits near h)))
     (owes e e _ g)))
   where
     closes : (x : Tcb) → IsSoundTcp x → GoesOnFrom x (killed x)

@@ -76,7 +76,7 @@ unfolding with_fin_out
 fin_leaves e =
     let s : Sending = e.sending in
     leaves_when (new_fin e) s _ _
-    (λ h. fin_more s (and_right s.opened s.closed (and_left _ _ (and_left _ _ (and_left _ _ (and_right (has_begun e.name) _ h))))))
+    (λ h. fin_more s (and_right s.syn_acked s.closed (and_left _ _ (and_left _ _ (and_left _ _ (and_right (has_begun e.name) _ h))))))
     (λ h. as_before s)
 
 timed_leaves : (runs : Bool) (s : Sending) → Leaves s (timed runs s)

@@ -52,7 +52,7 @@ abbrev told : {S : Type 0} → Kept → ConnState S → ConnState S
 told kept c = heard kept.length kept.fin kept.reads c
 
 owed_is : {S : Type 0} (service : Machine S) (p q : Point) (t : Tcb) (c new : ConnState S) (kept : Kept) → NumbersAt service p c → NumbersAt service q new
-    → new.endpoint.name ≡ t.name → c.south.answered ≡ p.answered → q.answered ≡ max p.answered (kept.length + one_if kept.fin) → (is_closed t.name ≡ true → (p.counted ≡ true) × (taken_units q ≡ taken_units p))
+    → new.endpoint.name ≡ t.name → c.south.answered ≡ p.answered → q.answered ≡ max p.answered (kept.length + one_if kept.fin) → (is_closed t.name ≡ true → (p.syn_acked ≡ true) × (taken_units q ≡ taken_units p))
     → is_owed (before_other (is_news kept.length kept.fin c) (told kept c)) new ≡ adds service (Logged kept) p q t
 unfolding is_owed_by_law answered_on
 owed_is service p q t c new kept n m name answered after closed =
@@ -172,6 +172,6 @@ starts service p c new out messages sound sound_new st k =
     let una : una_units c ≡ p.una = una_is service p c tell (ap (λ (s : SouthState). s.sisn) keeps.south) sound.parts.made in
     let turns : NorthTurns service.after tcp_reader tcp_writer p.una c.north c.endpoint reads new.north t = subst (λ n. NorthTurns service.after tcp_reader tcp_writer n c.north c.endpoint reads new.north t) una k.north in
     let turn : PartsTurn service c.endpoint.local c.boot st.u st.i c.south.delta Begins p (lengths_of reads) new.north t =
-    turns_together service c.boot st.u st.i c.south.delta st.given Begins p c.north new.north reads c.endpoint t st.parts tt st.counted st.parts.unreset turns sound_new.parts.made in
+    turns_together service c.boot st.u st.i c.south.delta st.given Begins p c.north new.north reads c.endpoint t st.parts tt st.syn_acked st.parts.unreset turns sound_new.parts.made in
     begins_with service st.u st.i p c new out messages keeps st.local st.parts.unreset sound_new.parts.made
     (subst (λ a. PartsTurn service a c.boot st.u st.i c.south.delta Begins p (lengths_of reads) new.north t) st.local turn) k

@@ -182,5 +182,5 @@ joins_at_entry service boot local e i n goes replayed =
       given = u;
       parts = parts;
       local = spliced_local e.key local e.cisn (length e.bytes) e.mss i e.fin;
-      counted = refl;
+      syn_acked = refl;
     }

@@ -9,9 +9,9 @@ use Rattle.seq_arith.specs.Arrival.{is_new_ack}
 use Rattle.tcp_buffers.specs.Near.{IsNearFirst}
 use Rattle.tcp_endpoint.specs.declared.states.StateName.{StateName}
 use Rattle.tcp_endpoint.specs.declared.states.StateName.TheVariants.{Closed, Listen, SynSent, SynReceived, Established, FinWait1, FinWait2, CloseWait, Closing, LastAck, TimeWait}
-use Rattle.tcp_endpoint.specs.States.{is_listen, opened, after_fin, after_fin_acked}
+use Rattle.tcp_endpoint.specs.States.{is_listen, after_syn_acked, after_fin, after_fin_acked}
 use Rattle.tcp_endpoint.specs.Receiving.{Receiving, taken, window, with_text, with_fin, with_segment}
-use Rattle.tcp_endpoint.specs.Sending.{Sending, opened_by, acknowledged, moves_edge}
+use Rattle.tcp_endpoint.specs.Sending.{Sending, with_syn_acked, acknowledged, moves_edge}
 use Rattle.tcp_endpoint.specs.Tcb.{Tcb}
 use Rattle.endpoint_laws.specs.Laws.{Bounds}
 use Rattle.endpoint_laws.proofs.SendingLaw.{held_field}
@@ -66,9 +66,9 @@ acked_has_peer Closing h = refl
 acked_has_peer LastAck h = refl
 acked_has_peer TimeWait h = refl
 
-pub opened_has_peer : (closed : Bool) → has_peer (opened closed) ≡ true
-opened_has_peer true = refl
-opened_has_peer false = refl
+pub syn_acked_has_peer : (closed : Bool) → has_peer (after_syn_acked closed) ≡ true
+syn_acked_has_peer true = refl
+syn_acked_has_peer false = refl
 
 pub not_listen : (name : StateName) → has_peer name ≡ true → is_listen name ≡ false
 not_listen Closed h = refl
@@ -131,7 +131,7 @@ beside r s b t limit within irs = record {
   limit = limit;
   taken = within;
   order = b.order;
-  unopened = b.unopened;
+  syn_unacked = b.syn_unacked;
   shut = b.shut;
   flight = b.flight;
   written = b.written;
@@ -162,10 +162,10 @@ not_less : (una sent : ℕ) (z : ℤ) → una ≤ (if is_new_ack una sent z then
 not_less una sent z = grind (arith, ints)
 
 -- a later acknowledgement
-pub later_bounds : (r : Receiving) (s : Sending) (seq window : ℕ) (z : ℤ) → Bounds r s → IsNearFirst (offset_of r.irs seq) → seq < 2 ^ 32 → window ≤ 65535 → s.opened ≡ true
+pub later_bounds : (r : Receiving) (s : Sending) (seq window : ℕ) (z : ℤ) → Bounds r s → IsNearFirst (offset_of r.irs seq) → seq < 2 ^ 32 → window ≤ 65535 → s.syn_acked ≡ true
     → Bounds r (acknowledged s seq z window)
 unfolding acknowledged
-later_bounds r s seq window z b near fits small is_opened =
+later_bounds r s seq window z b near fits small is_syn_acked =
     let una : ℕ = if is_new_ack s.una s.sent z then nat_abs z else s.una in
     let una_sent : una ≤ s.sent = new_within s.una s.sent z b.order in
     let kept : una + length (if is_new_ack s.una s.sent z then drop (nat_abs z - s.una) s.held else s.held) ≡ max una (s.una + length s.held) =
@@ -175,12 +175,12 @@ later_bounds r s seq window z b near fits small is_opened =
       limit = b.limit;
       taken = b.taken;
       order = una_sent;
-      unopened = b.unopened;
-      shut = λ h. absurd (false≢true (sym h ∙ is_opened));
+      syn_unacked = b.syn_unacked;
+      shut = λ h. absurd (false≢true (sym h ∙ is_syn_acked));
       flight = omega (arith, kept, b.flight);
       written = omega (arith, kept, b.written, una_sent, b.sent);
       sent = b.sent;
-      wl1 = λ h. near_of_choice r.irs seq s.wl1 (moves_edge s seq z) near (b.wl1 is_opened);
+      wl1 = λ h. near_of_choice r.irs seq s.wl1 (moves_edge s seq z) near (b.wl1 is_syn_acked);
       wl1_fits = choice_within seq s.wl1 (2 ^ 32 - 1) (moves_edge s seq z) (λ h. omega (arith, fits)) b.wl1_fits;
       wl2 = choice_within (nat_abs z) s.wl2 una (moves_edge s seq z) (λ h. (moved h).0) (omega (arith, b.wl2, not_less s.una s.sent z));
       edge = choice_within (nat_abs z + window) s.edge (2 ^ 24 + 2 ^ 16 + 1) (moves_edge s seq z) (λ h. grind (arith, moved h, b.sent)) b.edge;
@@ -200,15 +200,15 @@ unfolding acknowledged
 kept_fields s seq window z = (refl, refl, refl, refl)
 
 -- the first acknowledgement
-pub first_bounds : (r : Receiving) (s : Sending) (seq window : ℕ) → Bounds r s → IsNearFirst (offset_of r.irs seq) → seq < 2 ^ 32 → window ≤ 65535 → s.opened ≡ false
-    → Bounds r (opened_by s seq window)
-first_bounds r s seq window b near fits small unopened =
-    let una : s.una ≡ 0 = omega (arith, b.order, b.unopened unopened) in
+pub first_bounds : (r : Receiving) (s : Sending) (seq window : ℕ) → Bounds r s → IsNearFirst (offset_of r.irs seq) → seq < 2 ^ 32 → window ≤ 65535 → s.syn_acked ≡ false
+    → Bounds r (with_syn_acked s seq window)
+first_bounds r s seq window b near fits small syn_unacked =
+    let una : s.una ≡ 0 = omega (arith, b.order, b.syn_unacked syn_unacked) in
     record {
       limit = b.limit;
       taken = b.taken;
       order = omega arith;
-      unopened = λ h. refl;
+      syn_unacked = λ h. refl;
       shut = λ h. absurd (false≢true (sym h));
       flight = omega arith;
       written = omega (arith, b.written, una);

@@ -51,7 +51,7 @@ ack_local e p = either _ _ _ e.local refl (text_local _ p ∙ fin_local _)
 
 check_ack_local : (e : Tcb) (p : Segment) → (check_ack e p).local ≡ e.local
 unfolding check_ack
-check_ack_local e p = either (has_ack p) _ e e.local (either e.sending.opened _ _ e.local (ack_local e p) (first_ack_local e p)) refl
+check_ack_local e p = either (has_ack p) _ e e.local (either e.sending.syn_acked _ _ e.local (ack_local e p) (first_ack_local e p)) refl
 
 check_syn_local : (e : Tcb) (p : Segment) → (check_syn e p).local ≡ e.local
 unfolding check_syn

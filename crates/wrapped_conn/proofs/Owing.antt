@@ -39,15 +39,15 @@ owes_at units edge first segment =
     else ((has_syn segment || nat_lt 0 (length_of segment)) || (has_ack segment && int_lt (pos units) first)))
     else not (has_rst segment)
 
-by_law : (p : Point) (segment : Segment) → p.counted ≡ true → owes_at (taken_units p) (announced_edge p) (first_of p.cisn segment) segment ≡ owes_by_law p segment
+by_law : (p : Point) (segment : Segment) → p.syn_acked ≡ true → owes_at (taken_units p) (announced_edge p) (first_of p.cisn segment) segment ≡ owes_by_law p segment
 unfolding owes_by_law accepts_by_law
-by_law p segment counted =
-    let off : is_refused p segment ≡ false = λ j. not (counted j) && has_ack segment && int_lt (ack_of p.sisn segment) (pos 0) in
+by_law p segment syn_acked =
+    let off : is_refused p segment ≡ false = λ j. not (syn_acked j) && has_ack segment && int_lt (ack_of p.sisn segment) (pos 0) in
     λ j. if is_acceptable (taken_units p) (announced_edge p - taken_units p) (first_of p.cisn segment) (length_of segment)
     then acceptable (has_rst segment) (has_syn segment) (nat_lt 0 (length_of segment)) (has_ack segment && int_lt (pos (taken_units p)) (first_of p.cisn segment)) (is_refused p segment)
     (not (int_eq (first_of p.cisn segment) (pos (taken_units p)))) off j
     else not (has_rst segment)
 
-pub owes_is : {S : Type 0} (service : Machine S) (p : Point) (c : ConnState S) (segment : Segment) → NumbersAt service p c → c.south.cisn ≡ p.cisn → p.counted ≡ true → owes c segment ≡ owes_by_law p segment
+pub owes_is : {S : Type 0} (service : Machine S) (p : Point) (c : ConnState S) (segment : Segment) → NumbersAt service p c → c.south.cisn ≡ p.cisn → p.syn_acked ≡ true → owes c segment ≡ owes_by_law p segment
 unfolding owes
-owes_is service p c segment n cisn counted = (λ j. owes_at (n.units j) (n.edge j) (first_of (cisn j) segment) segment) ∙ by_law p segment counted
+owes_is service p c segment n cisn syn_acked = (λ j. owes_at (n.units j) (n.edge j) (first_of (cisn j) segment) segment) ∙ by_law p segment syn_acked

@@ -109,7 +109,7 @@ off_differs a b h = grind (arith, h)
 
 -- what the connection adds is what the law adds
 owed_is : {S : Type 0} (service : Machine S) (p q : Point) (t : Tcb) (c new : ConnState S) (segment : Segment) → NumbersAt service p c → NumbersAt service q new → c.south.cisn ≡ p.cisn
-    → new.endpoint.name ≡ t.name → q.answered ≡ p.answered → (is_closed t.name ≡ true → (p.counted ≡ true) × (taken_units q ≡ taken_units p))
+    → new.endpoint.name ≡ t.name → q.answered ≡ p.answered → (is_closed t.name ≡ true → (p.syn_acked ≡ true) × (taken_units q ≡ taken_units p))
     → is_owed (before_segment c segment) new ≡ adds service (Comes segment) p q t
 unfolding is_owed_by_law
 owed_is service p q t c new segment n m cisn name answered closed =

@@ -39,14 +39,14 @@ own_segment c seq flags mss = record {
   payload = [];
 }
 
--- the kept SYN-ACK, and a segment without data, which stands behind all that is sent
+-- the SYN-ACK with the logged numbers, and a segment without data, which stands behind all that is sent
 unfoldable pub syn_ack : {S : Type 0} → ConnState S → Segment
 syn_ack c = own_segment c c.south.sisn 18 (Some 1460)
 
 unfoldable pub bare : {S : Type 0} → ConnState S → Segment
 bare c = own_segment c (outer_sent c) 16 None
 
--- a segment without data is owed that TCP doesn't send: it doesn't know that more is logged, or that the connection was over or has become live;
+-- a segment without data is owed that TCP doesn't send: it doesn't know that more is answered, or that the connection was over or has become live;
 -- and a TCP that is CLOSED sends none
 abbrev pub is_owed : {S : Type 0} → Before → ConnState S → Bool
 is_owed before c = before.asks || (is_closed c.endpoint.name && (before.owes || not (before.edge == announced c)))

@@ -69,7 +69,7 @@ pub record StandsBefore {S : Type 0} (service : Machine S) (c : ConnState S) (p 
   pub given : ℕ
   pub parts : PartsStand service u i c.south.delta given p c.north c.endpoint
   pub local : c.endpoint.local ≡ c.local
-  pub counted : p.counted ≡ true
+  pub syn_acked : p.syn_acked ≡ true
 
 -- a turn's packets are these segments to the client, as bytes, and then these messages to the logger
 pub record IsSpelled (sent : List Packet) (segments messages : List (List ℕ)) : Type 0 where

@@ -68,7 +68,7 @@ Receives after segment old new segments messages =
     (MatchBool (resets old segment) (TellsDone (record old { reset = true }) new segments messages)
     (GoesOn after (before_segment old segment) (repeats_syn old.south segment) (copies (una_units old) segment (arrived segment old)) (arrived segment old) new segments messages))
 
--- so much is logged
+-- so much is answered
 abbrev pub heard : {S : Type 0} → (length : ℕ) → (fin : Bool) → (reads : ℕ) → ConnState S → ConnState S
 heard length fin reads c = record c { south = with_stable (length + one_if fin) c.south; north = answered_on reads c.north }
 

@@ -106,8 +106,8 @@ impl<S: Service> Conn<S> {
     ) -> Conn<S>
         ensures { result ≡ joined_conn boot key local south endpoint north }
     {
-        let logged = south.stable().minus(south.cisn().add(1));
-        let fetched = logged.saturating_sub(u32::from(has_fin(endpoint.state().name)));
+        let answered = south.stable().minus(south.cisn().add(1));
+        let fetched = answered.saturating_sub(u32::from(has_fin(endpoint.state().name)));
         Conn {
             boot,
             key,

@@ -63,7 +63,7 @@ impl<S: Service> Conn<S> {
         }
     }
 
-    /// The kept SYN-ACK, where the client's SYN has come again.
+    /// The SYN-ACK with the logged numbers, where the client's SYN has come again.
     #[tactic(auto, unfolding(crate::specs::Leaving::syn_ack))]
     pub(crate) fn send_syn_ack(&self, repeats: bool, out: &mut Outbox)
         requires count { length out.old ≤ 1030 }
@@ -92,7 +92,7 @@ impl<S: Service> Conn<S> {
         out.push(&packet);
     }
 
-    /// Whether a segment without data is owed that its TCP doesn't send: it doesn't know that more is logged, or that the connection was over or
+    /// Whether a segment without data is owed that its TCP doesn't send: it doesn't know that more is answered, or that the connection was over or
     /// has become live; and a TCP that is CLOSED sends none.
     pub(crate) fn is_owed(&self, before: Before) -> bool
         requires { IsSound self.now }

@@ -121,7 +121,7 @@ impl<S: Service> Conn<S> {
         }
     }
 
-    /// A segment arrives, and what of it is taken and not logged goes to the logger. Whether it is the client's SYN again.
+    /// A segment arrives, and what of it is taken and not answered goes to the logger. Whether it is the client's SYN again.
     fn arrive(&mut self, packet: &mut [u8], una_before: u32, messages: &mut Outbox) -> bool
         requires sound { IsSound self.old }
         requires accepted { IsOk (reading packet.old) }

@@ -29,7 +29,7 @@ abbrev pub begun : Point
 begun = record (point_opened numbers) { rest = 1 }
 
 abbrev pub opened : Point
-opened = record begun { counted = true; edge = 65535; rest = 0 }
+opened = record begun { syn_acked = true; edge = 65535; rest = 0 }
 
 abbrev pub taken : Point
 taken = record opened { fin = true; lengths = 0 ∷ [] }

@@ -18,7 +18,7 @@ head = head_with 0 false 0 0
 
 -- the connection after the restart
 abbrev pub restarted : Point
-restarted = record (point_opened numbers) { counted = true }
+restarted = record (point_opened numbers) { syn_acked = true }
 
 abbrev pub restart_1 : Turn
 restart_1 = on_message 2 (SummaryMsg 1) (to_log 2 (ListMsg 0) ∷ []) (fetching 2 900000 [])

@@ -100,7 +100,7 @@ abbrev pub begun_point : Point
 begun_point = record (point_opened numbers) { rest = 1 }
 
 abbrev pub open_point : Point
-open_point = record begun_point { counted = true; edge = 65535; rest = 0 }
+open_point = record begun_point { syn_acked = true; edge = 65535; rest = 0 }
 
 abbrev pub taken_point : Point
 taken_point = record open_point { taken = hello_text; lengths = 5 ∷ [] }

@@ -26,7 +26,7 @@ abbrev pub begun : Point
 begun = record (point_opened numbers) { rest = 1 }
 
 abbrev pub opened : Point
-opened = record begun { counted = true; rest = 0 }
+opened = record begun { syn_acked = true; rest = 0 }
 
 abbrev pub taken : Point
 taken = record opened { taken = hello_text; lengths = 5 ∷ [] }

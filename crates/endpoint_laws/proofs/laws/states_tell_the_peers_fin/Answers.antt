@@ -3,4 +3,4 @@ use Rattle.endpoint_laws.proofs.Ends.{fin_by_name}
 use Rattle.endpoint_laws.proofs.laws.states_tell_the_peers_fin.Goals as goal
 
 pub returns : goal.returns
-returns c = λ e begun named. fin_by_name e.name e.sending.opened e.sending.closed e.receiving.fin (fin_acked e.sending) begun named
+returns c = λ e begun named. fin_by_name e.name e.sending.syn_acked e.sending.closed e.receiving.fin (fin_acked e.sending) begun named
