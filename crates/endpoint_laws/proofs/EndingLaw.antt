@@ -304,13 +304,13 @@ others_follow e p unreset h =
     holds_if (λ (t : Tcb). FollowsAt t) (is_acceptable (next e.receiving) (window e.receiving) (first e p) (length_of p)) (check_rst m p) (owing_if (not (has_rst p)) m)
     (λ is. rst_follows m p unreset h) (λ none. h)
 
-received_follows : (e : Tcb) (p : Segment) → has_begun e.name ≡ true → (has_rst p && int_eq (first e p) (pos (next e.receiving))) ≡ false → FollowsAt e
+pub received_follows : (e : Tcb) (p : Segment) → has_begun e.name ≡ true → (has_rst p && int_eq (first e p) (pos (next e.receiving))) ≡ false → FollowsAt e
     → FollowsAt (received e p)
 unfolding received
 received_follows e p begun unreset h = subst (λ (t : Tcb). FollowsAt t) (sym (begun_is e.name e p begun)) (others_follow e p unreset h)
 
 -- a tick
-tick_follows : (e : Tcb) → FollowsAt e → FollowsAt (after_tick e)
+pub tick_follows : (e : Tcb) → FollowsAt e → FollowsAt (after_tick e)
 unfolding after_tick timer_ticked waited
 tick_follows e h =
     let s : Sending = e.sending in

@@ -1,18 +1,10 @@
--- What holds at Ok or at Err follows from what holds there, and a server's part of what is kept.
+-- What is kept where a step fails, and a server's part of it.
 use Rattle.std.proofs.Common.{◌≡◌, ◌∙◌, sym, ap, subst, not, Bool, true, false, is_some, Option, Some, None, option_map, Result, Ok, Err, refl, true≢false}
-use Rattle.std.specs.Prelude.{OnOk, IfErr, IsErrAnd}
+use Rattle.std.specs.Prelude.{IfErr, IsErrAnd}
 use Rattle.ft_model.specs.declared.event.EventWhy.{EventWhy}
 use Rattle.net_schedule.specs.Standing.{Kept, IsForMemory, KeepsAtRefusal}
 use Rattle.net_schedule.specs.declared.end.StepEnd.{StepEnd}
 use Rattle.net_schedule.specs.declared.end.StepEnd.TheVariants.{NoMemory, BadEvent, PacketLimit}
-
-pub on_ok : {A B : Type 0} {P Q : Type 0} (r : Result A B) → (P → Q) → OnOk r P → OnOk r Q
-on_ok (Ok x) f h = f h
-on_ok (Err e) f h = h
-
-pub if_err : {A B : Type 0} {P Q : B → Type 0} (r : Result A B) → ((e : B) → P e → Q e) → IfErr r P → IfErr r Q
-if_err (Ok x) f h = h
-if_err (Err e) f h = f e h
 
 -- without memory nothing is kept
 pub keeps_nothing : {State : Type 0} (before after : Kept State) (end : StepEnd) → IsForMemory end → KeepsAtRefusal before after end

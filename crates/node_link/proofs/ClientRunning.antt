@@ -263,19 +263,6 @@ pub without_memory : (role : ClientRole) (script : List ℕ) (told : Option (Lis
     → ScriptRunStops role script told told out out end
 without_memory role script told out end is = subst (λ (e : NodeEnd). ScriptRunStops role script told told out out e) (sym is) (does_nothing told out)
 
--- how one result is told by another
-pub on_ok : {E P Q : Type 0} (r : Result (Unit {0}) E) → (P → Q) → OnOk r P → OnOk r Q
-on_ok (Ok x) f p = f p
-on_ok (Err e) f p = tt
-
-pub on_err : {E : Type 0} {P Q : E → Type 0} (r : Result (Unit {0}) E) → ((end : E) → P end → Q end) → IfErr r P → IfErr r Q
-on_err (Ok x) f p = tt
-on_err (Err e) f p = f e p
-
-pub if_err : {E P Q : Type 0} (r : Result (Unit {0}) E) → (P → Q) → OnErr r P → OnErr r Q
-if_err (Ok x) f p = tt
-if_err (Err e) f p = f p
-
 -- a script is short, be it given or read
 pub script_short : (given : Option Script) (left_old left_new : Option (List ℕ)) (script : List ℕ) → IfSome given (λ s. length (bytes_of s) ≤ 2 ^ 24)
     → IsScript given left_old left_new script → length script ≤ 2 ^ 24

@@ -19,22 +19,9 @@ pub front_behind : (old mid new : Option (List ℕ)) (a b : List ℕ) → Append
 front_behind old mid new a b h t =
     (length a + t.0, subst (Appends old new) (sym (take-append-add a b t.0)) (Appends-trans old mid new a (take t.0 b) h t.1))
 
-pub on_failed : {T E P Q : Type 0} (r : Result T E) → (P → Q) → OnErr r P → OnErr r Q
-on_failed (Ok x) f p = tt
-on_failed (Err e) f p = f p
-
 pub at_failed : {T E P : Type 0} (r : Result T E) → P → OnErr r P
 at_failed (Ok x) p = tt
 at_failed (Err e) p = p
-
-pub on_done : {T E P Q : Type 0} (r : Result T E) → (P → Q) → OnOk r P → OnOk r Q
-on_done (Ok x) f p = f p
-on_done (Err e) f p = tt
-
--- a result that `?` made of an error
-pub if_err : {T E : Type 0} {A B : E → Type 0} (r : Result T E) → IsErrAnd r A → ((end : E) → A end → B end) → IfErr r B
-if_err (Ok x) a f = absurd a
-if_err (Err e) a f = f e a
 
 pub at_some : {T : Type 0} (o : Option T) (P : Type 0) (Q R : T → Type 0) → ((x : T) → Q x → R x) → MatchOption o P Q → MatchOption o P R
 at_some None P Q R f h = h

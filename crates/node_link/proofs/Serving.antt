@@ -174,11 +174,3 @@ logger_stops role before mid new counts out_old out_new ends.Reset b s t = absur
 logger_stops role before mid new counts out_old out_new ends.Spent b s t = absurd t
 logger_stops role before mid new counts out_old out_new ends.ReadFault b s t = absurd t
 logger_stops role before mid new counts out_old out_new ends.ChildFault b s t = absurd t
-
-pub on_ok : {P Q : Type 0} (r : Result (Unit {0}) NodeEnd) → (P → Q) → OnOk r P → OnOk r Q
-on_ok (Ok x) f p = f p
-on_ok (Err e) f p = tt
-
-pub on_err : {P Q : NodeEnd → Type 0} (r : Result (Unit {0}) NodeEnd) → ((end : NodeEnd) → P end → Q end) → IfErr r P → IfErr r Q
-on_err (Ok x) f p = tt
-on_err (Err e) f p = f e p

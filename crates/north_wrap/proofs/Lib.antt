@@ -8,7 +8,6 @@ pub mod TurnReads
 pub mod Giving
 pub mod Answering
 pub mod WholeTurn
-pub mod Outcomes
 pub mod Offline
 pub mod Shutting
 pub mod Holding

@@ -8,7 +8,6 @@ pub mod ReplayLaw
 pub mod EntryLaw
 pub mod AnswerLaw
 pub mod EntriesLaw
-pub mod Outcomes
 pub mod Forging
 pub mod Joined
 pub mod Startable

@@ -36,14 +36,6 @@ use Rattle.replay_tool.proofs.Fronts.{none_on_its_way, more_held}
 use Rattle.replay_tool.proofs.Playing.{AreSafe, as_many_events, holds_front}
 
 -- what is known where a call ends well, and where it doesn't
-pub on_ok : {T E A B : Type 0} (r : Result T E) → (A → B) → OnOk r A → OnOk r B
-on_ok (Ok x) f a = f a
-on_ok (Err e) f a = tt
-
-pub on_err : {T E : Type 0} {A B : E → Type 0} (r : Result T E) → ((end : E) → A end → B end) → IfErr r A → IfErr r B
-on_err (Ok x) f a = tt
-on_err (Err e) f a = f e a
-
 pub when_err : {T E B : Type 0} {A : E → Type 0} (r : Result T E) → IsErrAnd r A → ((end : E) → A end → B) → OnErr r B
 when_err (Ok x) a f = absurd a
 when_err (Err e) a f = f e a
@@ -51,10 +43,6 @@ when_err (Err e) a f = f e a
 pub err_gives : {T E B : Type 0} {A : E → Type 0} (r : Result T E) → ((end : E) → A end → B) → IfErr r A → OnErr r B
 err_gives (Ok x) f a = tt
 err_gives (Err e) f a = f e a
-
-pub if_err : {T E : Type 0} {A B : E → Type 0} (r : Result T E) → IsErrAnd r A → ((end : E) → A end → B end) → IfErr r B
-if_err (Ok x) a f = absurd a
-if_err (Err e) a f = f e a
 
 -- before the first event
 abbrev none_played : AreSafe → (schedule : Schedule) → IsLegalFor any_machine schedule [] [] → IsPlayedTo schedule schedule.events

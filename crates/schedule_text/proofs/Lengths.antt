@@ -28,10 +28,6 @@ joined_more lens old mid new others high low n is number first behind =
     ∙ ap (λ text. old ++ text) (sym (joined_behind (256 * high + low) (lens_in others)))
     ∙ ap (λ bytes. old ++ join_with_byte 44 (map decimal (lens_in bytes))) (sym is)
 
-pub on_ok : {T E A B : Type 0} (r : Result T E) → (A → B) → OnOk r A → OnOk r B
-on_ok (Ok x) f a = f a
-on_ok (Err e) f a = tt
-
 -- the first two of a list, and the others
 pub two_first : (xs : List ℕ) → 2 ≤ length xs → xs ≡ get_or xs 0 0 ∷ get_or xs 1 0 ∷ take (length xs - 2) (drop 2 xs)
 two_first [] h = absurd (omega arith)

@@ -27,7 +27,7 @@ use Rattle.connection_laws.specs.Telling.{PartsTell}
 use Rattle.connection_laws.proofs.Telling.{parts_tell}
 use Rattle.connection_laws.proofs.Together.{turns_together}
 use Rattle.wrapped_conn.specs.ConnState.{ConnState}
-use Rattle.wrapped_conn.specs.Calls.{tcp_reader, tcp_writer}
+use Rattle.connection_laws.specs.Feeding.{tcp_reader, tcp_writer}
 use Rattle.wrapped_conn.specs.Numbers.{una_units}
 use Rattle.wrapped_conn.specs.Arriving.{before_other}
 use Rattle.wrapped_conn.specs.Leaving.{is_owed, leaves, turn_ended}

@@ -32,7 +32,7 @@ use Rattle.connection_laws.proofs.Starting.{starts_together}
 use Rattle.connection_laws.proofs.Telling.{parts_tell}
 use Rattle.wrapped_conn.specs.ConnState.{ConnState}
 use Rattle.wrapped_conn.specs.Beginning.{joined_conn, syn, first_conn}
-use Rattle.wrapped_conn.specs.Calls.{tcp_reader, tcp_writer}
+use Rattle.connection_laws.specs.Feeding.{tcp_reader, tcp_writer}
 use Rattle.wrapped_conn.specs.Numbers.{has_fin, una_units}
 use Rattle.wrapped_conn.specs.Turning.{Starts, new_reads, tcp_used}
 use Rattle.wrapped_conn.specs.Sound.{IsSound}

@@ -13,7 +13,7 @@ use Rattle.tcp_endpoint.specs.Leaving.{leaving, packets, or_bare}
 use Rattle.wrapped_conn.specs.declared.stage.Before.{Before}
 use Rattle.wrapped_conn.specs.ConnState.{ConnState}
 use Rattle.wrapped_conn.specs.Numbers.{una_units}
-use Rattle.wrapped_conn.specs.Calls.{tcp_reader, tcp_writer}
+use Rattle.connection_laws.specs.Feeding.{tcp_reader, tcp_writer}
 use Rattle.wrapped_conn.specs.Leaving.{turn_ended, passed, syn_ack, bare, is_owed, leaves}
 use Rattle.wrapped_conn.specs.Telling.{spelled}
 use Rattle.wrapped_conn.specs.Turning.{tcp_used, served, new_reads, GoesOn}

@@ -33,7 +33,7 @@ use Rattle.connection_laws.proofs.Telling.{parts_tell, news_tell}
 use Rattle.connection_laws.proofs.Together.{turns_together}
 use Rattle.endpoint_laws.proofs.EndingLaw.{flushed_name}
 use Rattle.wrapped_conn.specs.ConnState.{ConnState}
-use Rattle.wrapped_conn.specs.Calls.{tcp_reader, tcp_writer}
+use Rattle.connection_laws.specs.Feeding.{tcp_reader, tcp_writer}
 use Rattle.wrapped_conn.specs.Numbers.{una_units, resets, owes}
 use Rattle.wrapped_conn.specs.Arriving.{arrived, reached, noted, before_segment}
 use Rattle.wrapped_conn.specs.Leaving.{is_owed, leaves, turn_ended}

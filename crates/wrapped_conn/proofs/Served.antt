@@ -13,7 +13,8 @@ use Rattle.endpoint_laws.specs.Turn.{used}
 use Rattle.endpoint_laws.specs.Turn.Call.{Closes}
 use Rattle.wrapped_conn.specs.ConnState.{ConnState}
 use Rattle.wrapped_conn.specs.Numbers.{una_units}
-use Rattle.wrapped_conn.specs.Calls.{tcp_reader, tcp_writer, reads_of, calls_of}
+use Rattle.connection_laws.specs.Feeding.{tcp_reader, tcp_writer}
+use Rattle.wrapped_conn.specs.Calls.{reads_of, calls_of}
 use Rattle.wrapped_conn.specs.Telling.{AreTellable}
 use Rattle.wrapped_conn.specs.Turning.{tcp_used, served}
 use Rattle.wrapped_conn.specs.Sound.{IsSound, swallowed}

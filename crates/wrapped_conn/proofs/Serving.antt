@@ -15,7 +15,7 @@ use Rattle.tcp_endpoint.specs.Tcb.{Tcb}
 use Rattle.tcp_endpoint.specs.Turning.{after_read, closing, write_room}
 use Rattle.endpoint_laws.specs.Laws.{IsBounded}
 use Rattle.endpoint_laws.proofs.Bounding.{bounded_by_read, bounded_by_more}
-use Rattle.wrapped_conn.specs.Calls.{tcp_reader, tcp_writer}
+use Rattle.connection_laws.specs.Feeding.{tcp_reader, tcp_writer}
 use Rattle.wrapped_conn.specs.Telling.{IsTellable, AreTellable}
 use Rattle.wrapped_conn.specs.Sound.{has_peer, AreSound}
 

@@ -1,20 +1,13 @@
 -- The calls that a turn of the north wrapper makes of TCP.
 use Rattle.std.specs.Prelude.{ℕ, List, [], ◌∷◌, length, if◌then◌else◌}
 use Rattle.north_wrap.specs.RunState.{gives}
-use Rattle.north_wrap.specs.Sockets.{Reader, Writer, reader, writer}
 use Rattle.north_wrap.specs.NorthState.{NorthState, unreleased, closes, given_north}
 use Rattle.north_wrap.specs.Standing.{off_socket}
 use Rattle.tcp_endpoint.specs.Tcb.{Tcb}
-use Rattle.tcp_endpoint.specs.Turning.{after_read, after_write, closing, write_room, is_ended}
+use Rattle.tcp_endpoint.specs.Turning.{write_room}
+use Rattle.connection_laws.specs.Feeding.{tcp_writer}
 use Rattle.endpoint_laws.specs.Turn.{Call}
 use Rattle.endpoint_laws.specs.Turn.Call.{Reads, Writes, Closes}
-
--- TCP as the socket that it is
-abbrev pub tcp_reader : Reader Tcb
-tcp_reader = reader (λ e. e.receiving.unread) (λ e. e.receiving.fin) after_read
-
-abbrev pub tcp_writer : Writer Tcb
-tcp_writer = writer write_room is_ended after_write closing
 
 abbrev pub reads_of : List ℕ → List Call
 reads_of [] = []

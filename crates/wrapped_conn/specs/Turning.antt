@@ -21,7 +21,8 @@ use Rattle.wrapped_conn.specs.declared.stage.Before.{Before}
 use Rattle.wrapped_conn.specs.declared.stage.ConnStage.TheVariants.{Done}
 use Rattle.wrapped_conn.specs.ConnState.{ConnState}
 use Rattle.wrapped_conn.specs.Numbers.{una_units, units_taken, logged_units, is_over, resets}
-use Rattle.wrapped_conn.specs.Calls.{tcp_reader, tcp_writer, calls_of}
+use Rattle.connection_laws.specs.Feeding.{tcp_reader, tcp_writer}
+use Rattle.wrapped_conn.specs.Calls.{calls_of}
 use Rattle.wrapped_conn.specs.Arriving.{arrived, before_segment, before_other}
 use Rattle.wrapped_conn.specs.Leaving.{turn_ended, leaves, passed}
 use Rattle.wrapped_conn.specs.Telling.{spelled, copies, dones, with_done}

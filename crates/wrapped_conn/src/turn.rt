@@ -14,7 +14,7 @@ ghost use Rattle.tcp_endpoint.specs.Turning.{after_tick};
 ghost use Rattle.north_wrap.specs.Standing.{messages_of};
 ghost use Rattle.wrapped_conn.specs.Leaving.{passed};
 ghost use Rattle.wrapped_conn.specs.Numbers.{una_units};
-ghost use Rattle.wrapped_conn.specs.Calls.{tcp_reader, tcp_writer};
+ghost use Rattle.connection_laws.specs.Feeding.{tcp_reader, tcp_writer};
 ghost use Rattle.wrapped_conn.specs.Arriving.{arrived, reached, noted, before_segment, before_other};
 ghost use Rattle.wrapped_conn.specs.Turning.{served, tcp_used, GoesOn, Starts, Receives, Hears, heard, is_news, IsTold, Ticks, ticked, counted};
 ghost use Rattle.wrapped_conn.specs.Telling.{spelled, copies, AreTellable};

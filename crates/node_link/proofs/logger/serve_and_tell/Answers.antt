@@ -1,9 +1,10 @@
-use Rattle.node_link.proofs.Serving.{on_err, logger_stops}
+use Rattle.node_link.proofs.Serving.{logger_stops}
 use Rattle.node_link.proofs.logger.serve_and_tell.Goals as goal
+use Rattle.ft_io.proofs.Outcomes.{if_err}
 
 pub returns-in-Ok-clause-stops : goal.returns-in-Ok-clause-stops
 returns-in-Ok-clause-stops g c =
-    on_err c.tell_counts.result
+    if_err c.tell_counts.result
     (λ end stops before bound. logger_stops c.args.role.now before (g.L.Link.told c.args.link.now) (g.L.Link.told c.serve.new.link) c.in-Ok.counts (g.O.Sink.taken c.args.out.now)
     (g.O.Sink.taken c.tell_counts.new.out) end bound c.in-Ok.ensures.served stops)
     c.tell_counts.ensures.stops

@@ -1,19 +1,19 @@
 use Rattle.std.specs.Io.KnownBytes.{Appends}
-use Rattle.node_link.proofs.Fronts.{on_done}
-use Rattle.node_link.proofs.ClientRunning.{on_err}
+use Rattle.std.proofs.lemmas.Result.{on_ok_weaker}
 use Rattle.node_link.proofs.Pairing.{start_done, wait_done, wait_stops}
 use Rattle.node_link.proofs.pair.take_step.Goals as goal
+use Rattle.ft_io.proofs.Outcomes.{if_err}
 
 pub returns-in-Start-clause-done : goal.returns-in-Start-clause-done
 returns-in-Start-clause-done g c =
-    on_done c.start.result
+    on_ok_weaker c.start.result
     (λ d. start_done c.args.step.now c.in-Start.words c.args.children.now c.start.new.children (g.P.Spawner.started c.args.kids.now) (g.P.Spawner.started c.start.new.kids)
     (g.P.Spawner.told c.args.kids.now) (g.P.Spawner.told c.start.new.kids) (g.O.Sink.taken c.args.out.now) c.in-Start.is c.requires.counted d)
     c.start.ensures.done
 
 pub returns-in-Wait-clause-done : goal.returns-in-Wait-clause-done
 returns-in-Wait-clause-done g c =
-    on_done c.wait.result
+    on_ok_weaker c.wait.result
     (λ w. wait_done c.args.step.now c.in-Wait.child c.in-Wait.name c.args.children.now (g.P.Spawner.started c.args.kids.now) (g.P.Spawner.started c.wait.new.kids)
     (g.P.Spawner.told c.args.kids.now) (g.P.Spawner.told c.wait.new.kids) (Appends (g.O.Sink.taken c.args.out.now) (g.O.Sink.taken c.wait.new.out)) c.in-Wait.is c.requires.counted
     c.requires.fits c.wait.ensures.same_children w)
@@ -21,7 +21,7 @@ returns-in-Wait-clause-done g c =
 
 pub returns-in-Wait-clause-stops : goal.returns-in-Wait-clause-stops
 returns-in-Wait-clause-stops g c =
-    on_err c.wait.result
+    if_err c.wait.result
     (λ fault w. wait_stops c.args.step.now c.in-Wait.child c.in-Wait.name c.args.children.now (g.P.Spawner.started c.args.kids.now) (g.P.Spawner.told c.args.kids.now)
     (g.P.Spawner.told c.wait.new.kids) (g.O.Sink.taken c.args.out.now) (g.O.Sink.taken c.wait.new.out) fault c.in-Wait.is c.requires.counted c.requires.fits w)
     c.wait.ensures.stops

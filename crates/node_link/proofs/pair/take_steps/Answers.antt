@@ -1,9 +1,9 @@
 use Rattle.std.proofs.Common.{◌<◌, length, sym, subst, arith}
 use Rattle.node_link.specs.declared.pair.PairFault.{PairFault}
 use Rattle.node_link.specs.PairParts.{StepStops}
-use Rattle.node_link.proofs.Fronts.{if_err}
 use Rattle.node_link.proofs.Pairing.{goes_on, step_stops}
 use Rattle.node_link.proofs.pair.take_steps.Goals as goal
+use Rattle.ft_io.proofs.Outcomes.{of_error}
 
 pub loop-step-preserved : goal.loop-step-preserved
 loop-step-preserved g c =
@@ -19,7 +19,7 @@ loop-step-preserved g c =
 pub returns-in_err-take_step-clause-stops : goal.returns-in_err-take_step-clause-stops
 returns-in_err-take_step-clause-stops g c =
     let within : c.loop-step.step-index < length c.args.steps.now = omega (arith, c.loop-step-test.true) in
-    if_err c.from_residual.result c.from_residual.ensures.1
+    of_error c.from_residual.result c.from_residual.ensures.1
     (λ fault is. step_stops c.args.steps.now c.loop-step.step-index (g.P.Spawner.started c.args.kids.now) c.step-item.result c.loop-step.children (g.P.Spawner.started c.loop-step.kids)
     (g.P.Spawner.told c.args.kids.now) (g.P.Spawner.told c.loop-step.kids) (g.O.Sink.taken c.args.out.now) (g.O.Sink.taken c.loop-step.out) within c.step-item.is
     c.loop-step.invariant.0 (g.P.Spawner.told c.take_step.new.kids) (g.O.Sink.taken c.take_step.new.out) fault

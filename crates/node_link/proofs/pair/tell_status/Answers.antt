@@ -3,9 +3,10 @@ use Rattle.std.specs.Prelude.{codes}
 use Rattle.std.specs.Fmt.{signed_decimal}
 use Rattle.std.specs.Io.KnownBytes.{Appends}
 use Rattle.std.proofs.KnownBytes.{Appends-trans}
+use Rattle.std.proofs.lemmas.Result.{on_ok_weaker, on_err_weaker}
 use Rattle.ft_io.specs.Sink.{AppendsFront}
 use Rattle.node_link.specs.Pair.{status_text}
-use Rattle.node_link.proofs.Fronts.{front_before, front_behind, at_failed, on_failed, on_done}
+use Rattle.node_link.proofs.Fronts.{front_before, front_behind, at_failed}
 use Rattle.node_link.proofs.pair.tell_status.Goals as goal
 
 pub returns-in_err-write_all-clause-front : goal.returns-in_err-write_all-clause-front
@@ -26,7 +27,7 @@ returns-in_err-write_number-clause-front g c =
 pub returns-clause-whole : goal.returns-clause-whole
 returns-clause-whole g c =
     let text = subst (Appends (g.O.Sink.taken c.args.out.now) (g.O.Sink.taken c.write_all.new.out)) c.status_text.ensures c.in_ok-write_all.ensures.whole in
-    on_done c.write_all-2.result
+    on_ok_weaker c.write_all-2.result
     (λ last. Appends-trans (g.O.Sink.taken c.args.out.now) (g.O.Sink.taken c.write_all.new.out) (g.O.Sink.taken c.write_all-2.new.out) (status_text c.args.name)
     (signed_decimal c.args.status ++ codes "\n") text
     (Appends-trans (g.O.Sink.taken c.write_all.new.out) (g.O.Sink.taken c.write_number.new.out) (g.O.Sink.taken c.write_all-2.new.out) (signed_decimal c.args.status) (codes "\n")
@@ -37,7 +38,7 @@ returns-clause-whole g c =
 pub returns-clause-front : goal.returns-clause-front
 returns-clause-front g c =
     let text = subst (Appends (g.O.Sink.taken c.args.out.now) (g.O.Sink.taken c.write_all.new.out)) c.status_text.ensures c.in_ok-write_all.ensures.whole in
-    on_failed c.write_all-2.result
+    on_err_weaker c.write_all-2.result
     (λ last. front_behind (g.O.Sink.taken c.args.out.now) (g.O.Sink.taken c.write_all.new.out) (g.O.Sink.taken c.write_all-2.new.out) (status_text c.args.name)
     (signed_decimal c.args.status ++ codes "\n") text
     (front_behind (g.O.Sink.taken c.write_all.new.out) (g.O.Sink.taken c.write_number.new.out) (g.O.Sink.taken c.write_all-2.new.out) (signed_decimal c.args.status) (codes "\n")

@@ -1,8 +1,8 @@
 use Rattle.std.proofs.Common.{sym, subst}
 use Rattle.node_link.specs.Turning.{standing_of, TurnStops}
-use Rattle.node_link.proofs.Fronts.{if_err}
 use Rattle.node_link.proofs.Serviced.{serving_none, serving_on, serving_stops, room_for_turn}
 use Rattle.node_link.proofs.server.serve.Goals as goal
+use Rattle.ft_io.proofs.Outcomes.{of_error}
 
 pub take_turn-requires : goal.take_turn-requires
 take_turn-requires g c =
@@ -20,7 +20,7 @@ loop-turn-preserved g c =
 
 pub returns-in_err-take_turn-clause-stops : goal.returns-in_err-take_turn-clause-stops
 returns-in_err-take_turn-clause-stops g c =
-    if_err c.from_residual-in_err-take_turn.result c.from_residual-in_err-take_turn.ensures.1
+    of_error c.from_residual-in_err-take_turn.result c.from_residual-in_err-take_turn.ensures.1
     (λ end is. serving_stops c.args.role.now c.loop-turn._turn (standing_of c.loop-turn.node) (g.L.Link.told c.args.link.now) (g.L.Link.told c.loop-turn.link) (g.L.Link.told c.take_turn.new.link)
     c.loop-turn.counts end c.loop-turn-test.true c.loop-turn.invariant
     (subst (TurnStops c.args.role.now.logger (standing_of c.loop-turn.node) (g.L.Link.told c.loop-turn.link) (g.L.Link.told c.take_turn.new.link)) (sym is) c.in_err-take_turn.ensures.stops))

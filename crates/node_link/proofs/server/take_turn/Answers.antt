@@ -6,15 +6,16 @@ use Rattle.server_node.specs.Identity.{node_of}
 use Rattle.server_node.specs.Inputs.{input_of}
 use Rattle.server_node.specs.Stages.{IsFence}
 use Rattle.node_link.specs.Turning.{standing_of}
-use Rattle.node_link.proofs.Fronts.{if_err, at_some}
+use Rattle.node_link.proofs.Fronts.{at_some}
 use Rattle.node_link.proofs.Serviced.{turned, turn_stops}
 use Rattle.node_link.proofs.server.take_turn.Goals as goal
+use Rattle.ft_io.proofs.Outcomes.{of_error}
 
 pub returns-in_err-packets-clause-stops : goal.returns-in_err-packets-clause-stops
 unfolding standing_of
 returns-in_err-packets-clause-stops g c =
     let r = c.receive-came.ensures.received in
-    if_err c.from_residual.result c.from_residual.ensures.1
+    of_error c.from_residual.result c.from_residual.ensures.1
     (λ end is. turn_stops c.args.logger (standing_of c.args.node.now) (g.L.Link.told c.args.link.now) (g.L.Link.told c.receive-came.new.link) r.0 (input_of c.input_of.result) end r.1
     (c.input_of.ensures r.0 (at_some c.receive-came.result (IsQuiet r.0) (λ g. (g.0 ≤ length c.receive-came.new.buffer) × (r.0 ≡ datagram g.1 (take g.0 c.receive-came.new.buffer)))
     (λ g. r.0 ≡ datagram g.1 (take g.0 c.receive-came.new.buffer)) (λ g h. h.1) r.3))

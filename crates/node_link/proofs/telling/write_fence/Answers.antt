@@ -2,8 +2,9 @@ use Rattle.std.proofs.Common.{◌∙◌, ◌++◌, subst}
 use Rattle.std.specs.Prelude.{codes, decimal}
 use Rattle.std.specs.Io.KnownBytes.{Appends}
 use Rattle.std.proofs.KnownBytes.{Appends-trans}
+use Rattle.std.proofs.lemmas.Result.{on_ok_weaker, on_err_weaker}
 use Rattle.ft_io.specs.Sink.{AppendsFront}
-use Rattle.node_link.proofs.Fronts.{front_before, front_behind, at_failed, on_failed, on_done}
+use Rattle.node_link.proofs.Fronts.{front_before, front_behind, at_failed}
 use Rattle.node_link.proofs.telling.write_fence.Goals as goal
 
 pub returns-in_err-write_all-clause-front : goal.returns-in_err-write_all-clause-front
@@ -22,7 +23,7 @@ returns-in_err-write_all-2-clause-front g c =
 pub returns-clause-whole : goal.returns-clause-whole
 returns-clause-whole g c =
     let number = subst (Appends (g.E.Sink.taken c.write_all.new.out) (g.E.Sink.taken c.write_all-2.new.out)) (c.as_bytes.ensures.value ∙ c.format.ensures.text) c.in_ok-write_all-2.ensures.whole in
-    on_done c.write_all-3.result
+    on_ok_weaker c.write_all-3.result
     (λ last. Appends-trans (g.E.Sink.taken c.args.err.now) (g.E.Sink.taken c.write_all.new.out) (g.E.Sink.taken c.write_all-3.new.out) (codes "ftnode: fenced by boot ") (decimal c.args.newer ++ codes "\n")
     c.in_ok-write_all.ensures.whole
     (Appends-trans (g.E.Sink.taken c.write_all.new.out) (g.E.Sink.taken c.write_all-2.new.out) (g.E.Sink.taken c.write_all-3.new.out) (decimal c.args.newer) (codes "\n") number last))
@@ -31,7 +32,7 @@ returns-clause-whole g c =
 pub returns-clause-front : goal.returns-clause-front
 returns-clause-front g c =
     let number = subst (Appends (g.E.Sink.taken c.write_all.new.out) (g.E.Sink.taken c.write_all-2.new.out)) (c.as_bytes.ensures.value ∙ c.format.ensures.text) c.in_ok-write_all-2.ensures.whole in
-    on_failed c.write_all-3.result
+    on_err_weaker c.write_all-3.result
     (λ last. front_behind (g.E.Sink.taken c.args.err.now) (g.E.Sink.taken c.write_all.new.out) (g.E.Sink.taken c.write_all-3.new.out) (codes "ftnode: fenced by boot ") (decimal c.args.newer ++ codes "\n")
     c.in_ok-write_all.ensures.whole
     (front_behind (g.E.Sink.taken c.write_all.new.out) (g.E.Sink.taken c.write_all-2.new.out) (g.E.Sink.taken c.write_all-3.new.out) (decimal c.args.newer) (codes "\n") number last))

@@ -1,6 +1,6 @@
 use Rattle.std.proofs.Common.{sym}
+use Rattle.std.proofs.lemmas.Result.{on_ok_weaker}
 use Rattle.net_schedule.specs.Keeping.{kept}
-use Rattle.replay_tool.proofs.Ending.{on_ok}
 use Rattle.replay_tool.proofs.Following.{can_be_written, packet_written}
 use Rattle.replay_tool.proofs.lines.write_packet.Goals as goal
 
@@ -12,7 +12,7 @@ write_packet_line-requires c =
 
 pub returns : goal.returns
 returns c =
-    on_ok c.write_packet_line.result
+    on_ok_weaker c.write_packet_line.result
     (λ written. λ schedule events trace p stands is.
     packet_written schedule trace c.args.n c.in-Some.way c.in-Some-packet.bytes.now c.args.lines.now.items c.write_packet_line.new.out.items p
     (c.worlds_keep_what_was_sent.ensures.each schedule events trace (kept c.args.world.now) c.args.n c.in-Some.way c.in-Some-packet.bytes.now stands (sym c.in-Some.ensures) (sym c.in-Some-packet.ensures))

@@ -1,13 +1,14 @@
 use Rattle.std.proofs.Common.{sym, subst}
 use Rattle.replay_tool.specs.OnItsWay.{Wrote}
 use Rattle.replay_tool.specs.Playing.{EndsPlaying}
-use Rattle.replay_tool.proofs.Ending.{if_err, all_goes, all_fails}
+use Rattle.replay_tool.proofs.Ending.{all_goes, all_fails}
 use Rattle.replay_tool.proofs.Fronts.{all_taken}
 use Rattle.replay_tool.proofs.play.play.Goals as goal
+use Rattle.ft_io.proofs.Outcomes.{of_error}
 
 pub returns-in_err-flush-in-Ok-clause-stops : goal.returns-in_err-flush-in-Ok-clause-stops
 returns-in_err-flush-in-Ok-clause-stops g c =
-    if_err c.from_residual.result c.from_residual.ensures.1
+    of_error c.from_residual.result c.from_residual.ensures.1
     (λ end is. subst (λ x. Wrote (g.O.Sink.taken c.args.out.now) (g.O.Sink.taken c.flush.new.out) (EndsPlaying c.args.schedule.now x)) (sym is)
     (all_fails c.args.schedule.now (g.O.Sink.taken c.args.out.now) (g.O.Sink.taken c.play_whole.new.out) (g.O.Sink.taken c.flush.new.out) c.play_whole.new.report.held.items c.in-Ok.ensures.done
     (λ text way. c.in_err-flush-in-Ok.ensures.err (g.O.Sink.taken c.args.out.now) text way)))

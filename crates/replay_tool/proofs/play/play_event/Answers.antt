@@ -1,9 +1,9 @@
 use Rattle.std.proofs.Common.{◌∙◌, ◌++◌, ap, sym, subst}
 use Rattle.net_schedule.specs.Keeping.{kept}
 use Rattle.replay_tool.specs.Playing.{Reaches, StopsPlaying}
-use Rattle.replay_tool.proofs.Ending.{if_err}
 use Rattle.replay_tool.proofs.Playing.{event_played, stands_on, goes_out, goes_out_in_part, holds_front, step_ends}
 use Rattle.replay_tool.proofs.play.play_event.Goals as goal
+use Rattle.ft_io.proofs.Outcomes.{of_error}
 
 pub write_played-requires-clause-stands : goal.write_played-requires-clause-stands
 write_played-requires-clause-stands g c =
@@ -17,14 +17,14 @@ returns-in-Err-clause-stops g c = λ schedule others old before at.
 
 pub returns-in_err-write_played-clause-stops : goal.returns-in_err-write_played-clause-stops
 returns-in_err-write_played-clause-stops g c =
-    if_err c.from_residual.result c.from_residual.ensures.1
+    of_error c.from_residual.result c.from_residual.ensures.1
     (λ end is. λ schedule others old before at.
     subst (StopsPlaying schedule (kept c.step.new.self) old (g.O.Sink.taken c.args.out.now) c.args.report.now.held.items) (sym is)
     (holds_front schedule _ (kept c.args.world.now) old (g.O.Sink.taken c.args.out.now) c.args.report.now.held.items before))
 
 pub returns-in_err-extend_from_slice-clause-stops : goal.returns-in_err-extend_from_slice-clause-stops
 returns-in_err-extend_from_slice-clause-stops g c =
-    if_err c.from_residual-in_err-extend_from_slice.result c.from_residual-in_err-extend_from_slice.ensures.1
+    of_error c.from_residual-in_err-extend_from_slice.result c.from_residual-in_err-extend_from_slice.ensures.1
     (λ end is. λ schedule others old before at.
     subst (StopsPlaying schedule (kept c.step.new.self) old (g.O.Sink.taken c.args.out.now) c.extend_from_slice.new.self.items) (sym is)
     (holds_front schedule _ (kept c.args.world.now) old (g.O.Sink.taken c.args.out.now) c.extend_from_slice.new.self.items
@@ -32,7 +32,7 @@ returns-in_err-extend_from_slice-clause-stops g c =
 
 pub returns-in_err-flush_piece-clause-stops : goal.returns-in_err-flush_piece-clause-stops
 returns-in_err-flush_piece-clause-stops g c =
-    if_err c.from_residual-in_err-flush_piece.result c.from_residual-in_err-flush_piece.ensures.1
+    of_error c.from_residual-in_err-flush_piece.result c.from_residual-in_err-flush_piece.ensures.1
     (λ end is. λ schedule others old before at.
     subst (StopsPlaying schedule (kept c.step.new.self) old (g.O.Sink.taken c.flush_piece.new.out) c.flush_piece.new.report.held.items) (sym is)
     (goes_out_in_part schedule others (kept c.step.new.self) old (g.O.Sink.taken c.args.out.now) (g.O.Sink.taken c.flush_piece.new.out) c.extend_from_slice.new.self.items

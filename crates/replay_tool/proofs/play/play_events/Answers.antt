@@ -2,8 +2,9 @@ use Rattle.std.proofs.Common.{◌∙◌, refl, sym, subst, arith}
 use Rattle.std.proofs.lemmas.List.{get_or_default}
 use Rattle.net_schedule.specs.Keeping.{kept}
 use Rattle.replay_tool.specs.Playing.{Reaches, StopsPlaying}
-use Rattle.replay_tool.proofs.Ending.{if_err, begins, plays_next, stops_next, none_left}
+use Rattle.replay_tool.proofs.Ending.{begins, plays_next, stops_next, none_left}
 use Rattle.replay_tool.proofs.play.play_events.Goals as goal
+use Rattle.ft_io.proofs.Outcomes.{of_error}
 
 pub loop-i-init : goal.loop-i-init
 loop-i-init g c = (
@@ -22,7 +23,7 @@ loop-i-preserved g c = (
 
 pub returns-in_err-play_event-clause-stops : goal.returns-in_err-play_event-clause-stops
 returns-in_err-play_event-clause-stops g c =
-    if_err c.from_residual.result c.from_residual.ensures.1
+    of_error c.from_residual.result c.from_residual.ensures.1
     (λ end is. subst (StopsPlaying c.args.schedule.now (kept c.play_event.new.world) (g.O.Sink.taken c.args.out.now) (g.O.Sink.taken c.play_event.new.out) c.play_event.new.report.held.items) (sym is)
     (stops_next c.args.schedule.now c.as_slice-events.result.now _ c.loop-i.i (kept c.loop-i.world) (kept c.play_event.new.world) (g.O.Sink.taken c.args.out.now) (g.O.Sink.taken c.loop-i.out) (g.O.Sink.taken c.play_event.new.out)
     c.loop-i.report.held.items c.play_event.new.report.held.items _ c.as_slice-events.ensures (omega arith) (get_or_default c.as_slice-events.result.now c.loop-i.i _ _ (omega arith))

@@ -4,27 +4,28 @@ use Rattle.net_schedule.specs.Keeping.{kept}
 use Rattle.replay_tool.specs.Playing.{HoldsAtEnd, StopsPlaying}
 use Rattle.replay_tool.specs.Played.{ReportsFront}
 use Rattle.replay_tool.specs.OnItsWay.{Holds}
-use Rattle.replay_tool.proofs.Ending.{if_err, ends_before, closes_all, closes_till, front_till, others_stop}
+use Rattle.replay_tool.proofs.Ending.{ends_before, closes_all, closes_till, front_till, others_stop}
 use Rattle.replay_tool.proofs.Playing.{holds_front}
 use Rattle.replay_tool.proofs.play.play_whole.Goals as goal
+use Rattle.ft_io.proofs.Outcomes.{of_error}
 
 pub returns-in_err-write_header-clause-stops : goal.returns-in_err-write_header-clause-stops
 returns-in_err-write_header-clause-stops g c =
-    if_err c.from_residual.result c.from_residual.ensures.1
+    of_error c.from_residual.result c.from_residual.ensures.1
     (λ end is. subst (HoldsAtEnd c.args.schedule.now (g.O.Sink.taken c.args.out.now) (g.O.Sink.taken c.args.out.now) c.write_header.new.out.items) (sym is)
     (ends_before c.legal_traces_are_safe.ensures c.args.schedule.now (g.O.Sink.taken c.args.out.now) c.write_header.new.out.items (c.playable_schedules_start.ensures c.args.schedule.now c.requires.playable)
     (header c.args.schedule.now, ap (λ held. held ++ header c.args.schedule.now) (c.in_err-write_header.ensures.err ∙ c.requires.empty))))
 
 pub returns-in_err-world-clause-stops : goal.returns-in_err-world-clause-stops
 returns-in_err-world-clause-stops g c =
-    if_err c.from_residual-in_err-world.result c.from_residual-in_err-world.ensures.1
+    of_error c.from_residual-in_err-world.result c.from_residual-in_err-world.ensures.1
     (λ end is. subst (HoldsAtEnd c.args.schedule.now (g.O.Sink.taken c.args.out.now) (g.O.Sink.taken c.args.out.now) c.write_header.new.out.items) (sym is)
     (ends_before c.legal_traces_are_safe.ensures c.args.schedule.now (g.O.Sink.taken c.args.out.now) c.write_header.new.out.items (c.playable_schedules_start.ensures c.args.schedule.now c.requires.playable)
     ([], append-nil c.write_header.new.out.items ∙ (c.in_ok-write_header.ensures.ok ∙ ap (λ held. held ++ header c.args.schedule.now) c.requires.empty))))
 
 pub returns-in_err-close-in-Ok-clause-stops : goal.returns-in_err-close-in-Ok-clause-stops
 returns-in_err-close-in-Ok-clause-stops g c =
-    if_err c.from_residual-in_err-close-in-Ok.result c.from_residual-in_err-close-in-Ok.ensures.1
+    of_error c.from_residual-in_err-close-in-Ok.result c.from_residual-in_err-close-in-Ok.ensures.1
     (λ end is. subst (HoldsAtEnd c.args.schedule.now (g.O.Sink.taken c.args.out.now) (g.O.Sink.taken c.play_events.new.out) c.close.new.report.held.items) (sym is)
     (subst (λ held. Holds (g.O.Sink.taken c.args.out.now) (g.O.Sink.taken c.play_events.new.out) held (ReportsFront c.args.schedule.now)) (sym c.in_err-close-in-Ok.ensures.err)
     (holds_front c.args.schedule.now [] (kept c.play_events.new.world) (g.O.Sink.taken c.args.out.now) (g.O.Sink.taken c.play_events.new.out) c.play_events.new.report.held.items c.in-Ok.ensures.done)))
@@ -36,7 +37,7 @@ returns-in-Ok-clause-done g c =
 
 pub returns-in_err-close-in-BadEvent-clause-stops : goal.returns-in_err-close-in-BadEvent-clause-stops
 returns-in_err-close-in-BadEvent-clause-stops g c =
-    if_err c.from_residual-in_err-close-in-BadEvent.result c.from_residual-in_err-close-in-BadEvent.ensures.1
+    of_error c.from_residual-in_err-close-in-BadEvent.result c.from_residual-in_err-close-in-BadEvent.ensures.1
     (λ end is. subst (HoldsAtEnd c.args.schedule.now (g.O.Sink.taken c.args.out.now) (g.O.Sink.taken c.play_events.new.out) c.close-in-BadEvent.new.report.held.items) (sym is)
     (subst (λ held. Holds (g.O.Sink.taken c.args.out.now) (g.O.Sink.taken c.play_events.new.out) held (ReportsFront c.args.schedule.now)) (sym c.in_err-close-in-BadEvent.ensures.err)
     (front_till c.args.schedule.now c.in-BadEvent.event c.in-BadEvent.why (kept c.play_events.new.world) (g.O.Sink.taken c.args.out.now) (g.O.Sink.taken c.play_events.new.out) c.play_events.new.report.held.items

@@ -1,4 +1,5 @@
 use Rattle.std.proofs.Common.{Result, Ok, Err, OnOk, ◌==◌, refl, ap}
+use Rattle.std.proofs.lemmas.Result.{on_ok_weaker}
 use Rattle.server_trait.specs.Service.{machine}
 use Rattle.logger_wire.specs.Value.{body_of, message_of}
 use Rattle.ft_model.specs.Node.Input.{Message_comes}
@@ -9,16 +10,12 @@ use Rattle.server_node.proofs.Heeded.{message_is, opened_range, others_unheard}
 use Rattle.server_node.proofs.OneKey.{and_false, none_concerned}
 use Rattle.server_node.proofs.hearing.hear.Goals as goal
 
-on_ok : {T E : Type 0} {P Q : Type 0} (r : Result T E) → (P → Q) → OnOk r P → OnOk r Q
-on_ok (Ok x) f p = f p
-on_ok (Err e) f p = tt
-
 pub returns-in-StableMsg-clause-turn : goal.returns-in-StableMsg-clause-turn
-returns-in-StableMsg-clause-turn g c = on_ok c.tell_known.result
+returns-in-StableMsg-clause-turn g c = on_ok_weaker c.tell_known.result
     (λ told stage places boot st. told stage places _ boot (ap (λ b. logged_in (body_of b)) c.in-StableMsg.is) refl st) c.tell_known.ensures.turn
 
 pub returns-in-ReadsMsg-clause-turn : goal.returns-in-ReadsMsg-clause-turn
-returns-in-ReadsMsg-clause-turn g c = on_ok c.tell_known-in-ReadsMsg.result
+returns-in-ReadsMsg-clause-turn g c = on_ok_weaker c.tell_known-in-ReadsMsg.result
     (λ told stage places boot st. told stage places _ boot (ap (λ b. logged_in (body_of b)) c.in-ReadsMsg.is) refl st) c.tell_known-in-ReadsMsg.ensures.turn
 
 pub returns-in-EndedMsg-clause-turn : goal.returns-in-EndedMsg-clause-turn
@@ -27,11 +24,11 @@ returns-in-EndedMsg-clause-turn g c = λ stage places boot st.
     (message_is (message_of c.args.m.now) c.args.who.boot _ boot (ap body_of c.in-EndedMsg.is)) st
 
 pub returns-in-OpenedMsg-clause-turn : goal.returns-in-OpenedMsg-clause-turn
-returns-in-OpenedMsg-clause-turn g c = on_ok c.open_known.result
+returns-in-OpenedMsg-clause-turn g c = on_ok_weaker c.open_known.result
     (λ told stage places boot st. told stage places (message_of c.args.m.now) (message_is (message_of c.args.m.now) c.args.who.boot _ boot (ap body_of c.in-OpenedMsg.is)) st) c.open_known.ensures.turn
 
 pub returns-in-FullMsg-clause-turn : goal.returns-in-FullMsg-clause-turn
-returns-in-FullMsg-clause-turn g c = on_ok c.refuse_known.result
+returns-in-FullMsg-clause-turn g c = on_ok_weaker c.refuse_known.result
     (λ told stage places boot st. told stage places (message_of c.args.m.now) (message_is (message_of c.args.m.now) c.args.who.boot _ boot (ap body_of c.in-FullMsg.is)) st) c.refuse_known.ensures.turn
 
 pub open_known-requires-clause-least : goal.open_known-requires-clause-least

@@ -1,4 +1,5 @@
 use Rattle.std.proofs.Common.{Result, Ok, Err, OnOk, subst}
+use Rattle.std.proofs.lemmas.Result.{on_ok_weaker}
 use Rattle.server_trait.specs.Service.{machine}
 use Rattle.logger_wire.specs.Value.{message_of}
 use Rattle.server_node.specs.Identity.{node_of}
@@ -6,12 +7,8 @@ use Rattle.server_node.specs.Slots.{SlotStands}
 use Rattle.server_node.proofs.Heard.{live_hears}
 use Rattle.server_node.proofs.hearing.tell_slot.Goals as goal
 
-on_ok : {T E : Type 0} {P Q : Type 0} (r : Result T E) → (P → Q) → OnOk r P → OnOk r Q
-on_ok (Ok x) f p = f p
-on_ok (Err e) f p = tt
-
 pub returns-in-Live-clause-turn : goal.returns-in-Live-clause-turn
-returns-in-Live-clause-turn g c = on_ok c.tell_live.result
+returns-in-Live-clause-turn g c = on_ok_weaker c.tell_live.result
     (λ h stage place kept boot says from st.
     let service = machine (g.S.Service.started c.args.who.kind) g.S.Service.after in
     live_hears service (node_of c.args.who stage) (message_of c.args.m.now) boot c.args.key kept says from place c.in-Live.conn c.tell_live.new.conn c.args.sent.now.items c.tell_live.new.sent.items

@@ -1,5 +1,6 @@
 use Rattle.std.proofs.Common.{Result, Ok, Err, OnOk, ◌≡◌, ◌∙◌, [], ap, subst, sym, rules, None, Some, true, false, eqb-true}
 use Rattle.std.specs.Map.{lookup}
+use Rattle.std.proofs.lemmas.Result.{on_ok_weaker}
 use Rattle.ft_io.specs.Key.{key_eq}
 use Rattle.ft_model.specs.Node.Input.{Packet_comes}
 use Rattle.server_node.specs.declared.slot.Slot.TheVariants as slot
@@ -12,10 +13,6 @@ use Rattle.server_node.proofs.Opened.{pending_found}
 use Rattle.server_node.proofs.Opens.{put_none}
 use Rattle.server_node.proofs.Sound.{sound_found}
 use Rattle.server_node.proofs.opening.ask_again.Goals as goal
-
-on_ok : {T E : Type 0} {P Q : Type 0} (r : Result T E) → (P → Q) → OnOk r P → OnOk r Q
-on_ok (Ok x) f p = f p
-on_ok (Err e) f p = tt
 
 pub ask-requires-clause-least : goal.ask-requires-clause-least
 ask-requires-clause-least g c =
@@ -50,7 +47,7 @@ returns-then-not-repeats g c = λ stage segment headed from mine.
     subst (λ ps. ArePut ps c.args.sent.now.items c.args.sent.now.items) (sym quiet) (put_none c.args.sent.now.items)
 
 pub returns : goal.returns
-returns g c = on_ok c.ask.result
+returns g c = on_ok_weaker c.ask.result
     (λ asked stage segment headed from mine.
     let node = node_of c.args.who stage in
     let es = c.args.slots.now.entries in

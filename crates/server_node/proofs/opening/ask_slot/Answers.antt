@@ -1,16 +1,13 @@
 use Rattle.std.proofs.Common.{Result, Ok, Err, OnOk, subst, sym, ⊎_elim}
+use Rattle.std.proofs.lemmas.Result.{on_ok_weaker}
 use Rattle.ft_model.specs.Node.Input.{Tick_comes}
 use Rattle.server_node.specs.Identity.{node_of}
 use Rattle.server_node.specs.Opening.{ArePut, slot_opens}
 use Rattle.server_node.proofs.Opens.{put_none}
 use Rattle.server_node.proofs.opening.ask_slot.Goals as goal
 
-on_ok : {T E : Type 0} {P Q : Type 0} (r : Result T E) → (P → Q) → OnOk r P → OnOk r Q
-on_ok (Ok x) f p = f p
-on_ok (Err e) f p = tt
-
 pub returns-in-Pending : goal.returns-in-Pending
-returns-in-Pending g c = on_ok c.ask.result
+returns-in-Pending g c = on_ok_weaker c.ask.result
     (λ asked stage. subst (λ s. ArePut (slot_opens (node_of c.args.who stage) Tick_comes c.args.key s) c.args.sent.now.items c.ask.new.sent.items) (sym c.in-Pending.is) asked) c.ask.ensures
 
 pub returns-in-Live : goal.returns-in-Live

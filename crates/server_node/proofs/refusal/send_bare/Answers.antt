@@ -1,4 +1,5 @@
 use Rattle.std.proofs.Common.{rules, ◌≡◌, ◌∙◌, ◌++◌, ◌∷◌, [], Result, Ok, Err, OnOk, ap, refl, take}
+use Rattle.std.proofs.lemmas.Result.{on_ok_weaker}
 use Rattle.seq_arith.specs.Packet.{Segment}
 use Rattle.seq_arith.specs.PacketGrammar.{spelling, IsSpellable}
 use Rattle.seq_arith.specs.Value.{said}
@@ -6,10 +7,6 @@ use Rattle.segment_codec.proofs.Pieces.{front_written}
 use Rattle.ft_model.specs.Network.{destination_of}
 use Rattle.ft_model.specs.Wire.Party.{A_client, The_server}
 use Rattle.server_node.proofs.refusal.send_bare.Goals as goal
-
-on_ok : {T E : Type 0} {P Q : Type 0} (r : Result T E) → (P → Q) → OnOk r P → OnOk r Q
-on_ok (Ok x) f p = f p
-on_ok (Err e) f p = tt
 
 pub returns : goal.returns
 returns c =
@@ -28,7 +25,7 @@ returns c =
     } in
     let text : take c.write_packet-len.result c.write_packet-len.new.out ≡ spelling segment =
     ap (take c.write_packet-len.result) c.write_packet-len.ensures.bytes ∙ front_written segment (spelling segment) _ c.write_packet-len.result c.write_packet-len.ensures.length refl in
-    on_ok c.send.result
+    on_ok_weaker c.send.result
     (λ kept. record {
       wires = kept ∙ ap (λ bytes. c.args.sent.now.items ++ record { from = The_server; to = A_client (destination_of segment); bytes = bytes } ∷ []) text;
       spelled = ((spellable, tt), tt);

@@ -2,10 +2,7 @@ use Rattle.std.proofs.Common.{Result, Ok, Err, IfOk, refl, sym, subst, [], ap}
 use Rattle.server_node.specs.Restarting.{IsOwn}
 use Rattle.server_node.proofs.Answering.{same_ok}
 use Rattle.server_node.proofs.restarting.begin_fetching.Goals as goal
-
-if_ok : {T E : Type 0} {P Q : T → Type 0} (r : Result T E) → ((x : T) → P x → Q x) → IfOk r P → IfOk r Q
-if_ok (Ok x) f p = f x p
-if_ok (Err e) f p = tt
+use Rattle.ft_io.proofs.Outcomes.{if_ok}
 
 pub go_on-requires-clause-own : goal.go_on-requires-clause-own
 go_on-requires-clause-own g c = subst (IsOwn c.args.who) (sym (same_ok c.on_summary.result c.in-Ok.fetching _ c.in-Ok.is c.on_summary.ensures.value)) (record { boot = c.new.ensures; kind = refl })

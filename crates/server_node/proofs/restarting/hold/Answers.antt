@@ -1,4 +1,5 @@
 use Rattle.std.proofs.Common.{rules, tests, ◌≡◌, ◌∙◌, ◌&&◌, not, true, Result, Ok, Err, OnOk, option_map, ap, sym}
+use Rattle.std.proofs.lemmas.Result.{on_ok_weaker}
 use Rattle.seq_arith.specs.Packet.{has_rst}
 use Rattle.segment_codec.specs.Value.{segment_of}
 use Rattle.logger_store.specs.Stored.{head_value}
@@ -9,12 +10,8 @@ use Rattle.server_node.proofs.Answering.{same_ok, own_stands}
 use Rattle.server_node.proofs.Held.{none_held, one_held}
 use Rattle.server_node.proofs.restarting.hold.Goals as goal
 
-on_ok : {T E : Type 0} {P Q : Type 0} (r : Result T E) → (P → Q) → OnOk r P → OnOk r Q
-on_ok (Ok x) f p = f p
-on_ok (Err e) f p = tt
-
 pub returns-in-Some : goal.returns-in-Some
-returns-in-Some g c = on_ok c.send_bare.result
+returns-in-Some g c = on_ok_weaker c.send_bare.result
     (λ put standing count fetched segment reads st.
     let is : segment ≡ segment_of c.read_accepted.result = same_ok _ segment (segment_of c.read_accepted.result) reads c.read_accepted.ensures.read in
     let asks : (is_for c.args.who.local segment && not (has_rst segment)) ≡ true = sym (c.may_be_held.ensures segment (ap (λ s. s.head) is)) ∙ search (rules, tests) in

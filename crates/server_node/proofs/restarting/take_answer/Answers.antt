@@ -5,10 +5,7 @@ use Rattle.reincarnate.specs.Standing.{StandsFetching, AnswerLeads, fetched_then
 use Rattle.server_node.proofs.Answering.{answer_same, still_own}
 use Rattle.server_node.proofs.Resuming.{answers_nothing, answers_on}
 use Rattle.server_node.proofs.restarting.take_answer.Goals as goal
-
-if_ok : {T E : Type 0} {P Q : T → Type 0} (r : Result T E) → ((x : T) → P x → Q x) → IfOk r P → IfOk r Q
-if_ok (Ok x) f p = f x p
-if_ok (Err e) f p = tt
+use Rattle.ft_io.proofs.Outcomes.{if_ok}
 
 pub returns-then-not-branch-clause-turn : goal.returns-then-not-branch-clause-turn
 returns-then-not-branch-clause-turn g c = λ standing count fetched st sound.

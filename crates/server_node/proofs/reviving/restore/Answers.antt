@@ -1,4 +1,5 @@
 use Rattle.std.proofs.Common.{◌≡◌, ◌∙◌, Result, Ok, Err, OnOk, ap, refl, subst}
+use Rattle.std.proofs.lemmas.Result.{on_ok_weaker}
 use Rattle.server_trait.specs.Service.{machine}
 use Rattle.reincarnate.specs.Standing.{RestoredIs}
 use Rattle.ft_model.specs.Restart.{entry_in}
@@ -6,14 +7,10 @@ use Rattle.server_node.specs.Identity.{node_of}
 use Rattle.server_node.proofs.Restored.{ended_more, live_more}
 use Rattle.server_node.proofs.reviving.restore.Goals as goal
 
-on_ok : {T E : Type 0} {P Q : Type 0} (r : Result T E) → (P → Q) → OnOk r P → OnOk r Q
-on_ok (Ok x) f p = f p
-on_ok (Err e) f p = tt
-
 pub returns-in-Ended-clause-turn : goal.returns-in-Ended-clause-turn
 returns-in-Ended-clause-turn g c =
     let service = machine (g.S.Service.started c.args.who.kind) g.S.Service.after in
-    on_ok c.add_slot.result
+    on_ok_weaker c.add_slot.result
     (λ added standing f fetched first is sound fresh r.
     let here = subst (RestoredIs service f) c.in-Ended.is is in
     ended_more service (node_of c.args.who standing) f fetched c.in-Ended.key c.args.serving.now (record { next = c.args.serving.now.next; slots = c.add_slot.new.slots }) first c.args.sent.now.items
@@ -22,7 +19,7 @@ returns-in-Ended-clause-turn g c =
 pub returns-in_ok-slot-in-Live-clause-turn : goal.returns-in_ok-slot-in-Live-clause-turn
 returns-in_ok-slot-in-Live-clause-turn g c =
     let service = machine (g.S.Service.started c.args.who.kind) g.S.Service.after in
-    on_ok c.add_slot-in-Live.result
+    on_ok_weaker c.add_slot-in-Live.result
     (λ added standing f fetched first is sound fresh r.
     let here = subst (RestoredIs service f) c.in-Live.is is in
     let key : c.head.result.key ≡ f.head.key = ap (λ h. h.key) c.head.ensures ∙ ap (λ h. h.key) here.1.head in

@@ -1,4 +1,5 @@
 use Rattle.std.proofs.Common.{◌≡◌, ◌∙◌, ◌++◌, ◌∷◌, [], Result, Ok, Err, OnOk, ap, sym, subst, arith, take, length, length-take}
+use Rattle.std.proofs.lemmas.Result.{on_ok_weaker}
 use Rattle.server_trait.specs.Service.{AreBytes}
 use Rattle.seq_arith.specs.MessageGrammar.{spelling}
 use Rattle.logger_wire.specs.Value.{message_of}
@@ -6,10 +7,6 @@ use Rattle.logger_wire.proofs.Assembled.{not_longer}
 use Rattle.ft_model.specs.Wire.Party.{The_server, The_logger}
 use Rattle.server_node.proofs.Sendable.{front_told}
 use Rattle.server_node.proofs.sent.tell.Goals as goal
-
-on_ok : {T E : Type 0} {P Q : Type 0} (r : Result T E) → (P → Q) → OnOk r P → OnOk r Q
-on_ok (Ok x) f p = f p
-on_ok (Err e) f p = tt
 
 pub slice_bounds-send-end : goal.slice_bounds-send-end
 slice_bounds-send-end c =
@@ -21,7 +18,7 @@ returns c =
     let message = message_of c.args.message.now in
     let text : take c.write_msg-len.result c.write_msg-len.new.out ≡ spelling message =
     ap (take c.write_msg-len.result) c.write_msg-len.ensures.bytes ∙ front_told message _ c.write_msg-len.result c.requires.sendable.spellable c.write_msg-len.ensures.length in
-    on_ok c.send.result
+    on_ok_weaker c.send.result
     (λ kept. record {
       wires = kept ∙ ap (λ bytes. c.args.sent.now.items ++ record { from = The_server; to = The_logger; bytes = bytes } ∷ []) text;
       spelled = ((c.requires.sendable.spellable, subst AreBytes (sym c.requires.bare) tt), tt);

@@ -1,21 +1,18 @@
 use Rattle.std.proofs.Common.{Result, Ok, Err, OnOk, rules, ◌≡◌, true}
 use Rattle.std.specs.Map.{lookup}
 use Rattle.std.specs.Option.{is_some}
+use Rattle.std.proofs.lemmas.Result.{on_ok_weaker}
 use Rattle.ft_io.specs.Key.{key_eq}
 use Rattle.server_trait.specs.Service.{machine}
 use Rattle.server_node.specs.Identity.{node_of}
 use Rattle.server_node.proofs.Served.{known_packet}
 use Rattle.server_node.proofs.serving.serve_known.Goals as goal
 
-on_ok : {T E : Type 0} {P Q : Type 0} (r : Result T E) → (P → Q) → OnOk r P → OnOk r Q
-on_ok (Ok x) f p = f p
-on_ok (Err e) f p = tt
-
 pub returns-clause-turn : goal.returns-clause-turn
 returns-clause-turn g c =
     let told = rw c.in_ok-give_known.was at c.give_known.ensures.turn in
     let there : is_some (lookup (key_eq c.args.key) c.args.serving.now.slots.entries) ≡ true = search rules in
-    on_ok c.ask_again.result
+    on_ok_weaker c.ask_again.result
     (λ asked stage opened places segment reads headed from mine near st.
     known_packet (machine (g.S.Service.started c.args.who.kind) g.S.Service.after) (node_of c.args.who stage) segment c.args.key opened places c.args.serving.now _
     c.args.sent.now.items c.give_known.new.sent.items c.ask_again.new.sent.items from there st st.number (told stage places segment reads from mine near st.slots)

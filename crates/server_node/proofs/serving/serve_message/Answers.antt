@@ -1,16 +1,13 @@
 use Rattle.std.proofs.Common.{Result, Ok, Err, OnOk}
+use Rattle.std.proofs.lemmas.Result.{on_ok_weaker}
 use Rattle.server_trait.specs.Service.{machine}
 use Rattle.logger_wire.specs.Value.{message_of}
 use Rattle.server_node.specs.Identity.{node_of}
 use Rattle.server_node.proofs.Served.{message_goes}
 use Rattle.server_node.proofs.serving.serve_message.Goals as goal
 
-on_ok : {T E : Type 0} {P Q : Type 0} (r : Result T E) → (P → Q) → OnOk r P → OnOk r Q
-on_ok (Ok x) f p = f p
-on_ok (Err e) f p = tt
-
 pub returns-clause-turn : goal.returns-clause-turn
 returns-clause-turn g c =
-    on_ok c.hear.result
+    on_ok_weaker c.hear.result
     (λ heard stage opened places boot st. message_goes (machine (g.S.Service.started c.args.who.kind) g.S.Service.after) (node_of c.args.who stage) (message_of c.args.m.now) opened places _
     c.args.sent.now.items c.hear.new.sent.items st.number (heard stage places boot st.slots)) c.hear.ensures.turn

@@ -1,4 +1,5 @@
 use Rattle.std.proofs.Common.{Result, Ok, Err, OnOk, IfOk, subst}
+use Rattle.std.proofs.lemmas.Result.{on_ok_weaker}
 use Rattle.server_trait.specs.Service.{machine}
 use Rattle.ft_model.specs.Refusal.{as_listen}
 use Rattle.server_node.specs.Identity.{node_of}
@@ -6,14 +7,10 @@ use Rattle.server_node.specs.Refusing.{AreSent}
 use Rattle.server_node.proofs.Served.{strange_packet}
 use Rattle.server_node.proofs.serving.serve_strange.Goals as goal
 
-on_ok : {T E : Type 0} {P Q : Type 0} (r : Result T E) → (P → Q) → OnOk r P → OnOk r Q
-on_ok (Ok x) f p = f p
-on_ok (Err e) f p = tt
-
 pub returns-clause-turn : goal.returns-clause-turn
 returns-clause-turn g c =
     let told = rw c.in_ok-refuse_unknown.was at c.refuse_unknown.ensures in
-    on_ok c.admit.result
+    on_ok_weaker c.admit.result
     (λ admitted stage opened places segment reads headed from mine st.
     let refused : AreSent (as_listen c.args.who.local segment) c.args.sent.now.items c.refuse_unknown.new.sent.items =
     subst (λ r. IfOk r (λ s. AreSent (as_listen c.args.who.local s) c.args.sent.now.items c.refuse_unknown.new.sent.items)) reads told in

@@ -1,4 +1,5 @@
 use Rattle.std.proofs.Common.{Result, Ok, Err, OnOk, IfOk, ◌∙◌, subst, sym}
+use Rattle.std.proofs.lemmas.Result.{on_ok_weaker}
 use Rattle.server_trait.specs.Service.{machine}
 use Rattle.ft_model.specs.Node.Input.{Packet_comes}
 use Rattle.ft_model.specs.Refusal.{as_closed}
@@ -9,12 +10,8 @@ use Rattle.server_node.specs.Slots.{SlotStands, SlotGoes}
 use Rattle.server_node.proofs.Coming.{live_comes, done_answers}
 use Rattle.server_node.proofs.slot.give_slot.Goals as goal
 
-on_ok : {T E : Type 0} {P Q : Type 0} (r : Result T E) → (P → Q) → OnOk r P → OnOk r Q
-on_ok (Ok x) f p = f p
-on_ok (Err e) f p = tt
-
 pub returns-in-Live-clause-turn : goal.returns-in-Live-clause-turn
-returns-in-Live-clause-turn g c = on_ok c.give_live.result
+returns-in-Live-clause-turn g c = on_ok_weaker c.give_live.result
     (λ h stage place segment reads from mine near st.
     let service = machine (g.S.Service.started c.args.who.kind) g.S.Service.after in
     subst (λ k. SlotGoes service (node_of c.args.who stage) (Packet_comes segment) k place (slot.Live c.give_live.new.conn) c.args.sent.now.items c.give_live.new.sent.items) from
@@ -24,7 +21,7 @@ returns-in-Live-clause-turn g c = on_ok c.give_live.result
     (λ p near2 key stands. h stage p segment reads near2 (key ∙ from) stands))) c.give_live.ensures.turn
 
 pub returns-in-Done-clause-turn : goal.returns-in-Done-clause-turn
-returns-in-Done-clause-turn g c = on_ok c.refuse_closed.result
+returns-in-Done-clause-turn g c = on_ok_weaker c.refuse_closed.result
     (λ h stage place segment reads from mine near st.
     let service = machine (g.S.Service.started c.args.who.kind) g.S.Service.after in
     let told : AreSent (as_closed c.args.who.local segment) c.args.sent.now.items c.refuse_closed.new.sent.items =

@@ -1,16 +1,13 @@
 use Rattle.std.proofs.Common.{Result, Ok, Err, OnOk, subst}
+use Rattle.std.proofs.lemmas.Result.{on_ok_weaker}
 use Rattle.server_trait.specs.Service.{machine}
 use Rattle.server_node.specs.Identity.{node_of}
 use Rattle.server_node.specs.Slots.{SlotStands}
 use Rattle.server_node.proofs.AllSlots.{live_ticks}
 use Rattle.server_node.proofs.slot.tick_slot.Goals as goal
 
-on_ok : {T E : Type 0} {P Q : Type 0} (r : Result T E) → (P → Q) → OnOk r P → OnOk r Q
-on_ok (Ok x) f p = f p
-on_ok (Err e) f p = tt
-
 pub returns-in-Live-clause-turn : goal.returns-in-Live-clause-turn
-returns-in-Live-clause-turn g c = on_ok c.tick_live.result
+returns-in-Live-clause-turn g c = on_ok_weaker c.tick_live.result
     (λ h stage place st.
     let service = machine (g.S.Service.started c.args.who.kind) g.S.Service.after in
     live_ticks service (node_of c.args.who stage) c.args.key place _ _ _ _

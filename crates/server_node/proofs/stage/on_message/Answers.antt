@@ -12,10 +12,7 @@ use Rattle.server_node.specs.Stages.{StageStands}
 use Rattle.server_node.proofs.Resuming.{answered_on}
 use Rattle.server_node.proofs.Staged.{serves_on}
 use Rattle.server_node.proofs.stage.on_message.Goals as goal
-
-if_ok : {T E : Type 0} {P Q : T → Type 0} (r : Result T E) → ((x : T) → P x → Q x) → IfOk r P → IfOk r Q
-if_ok (Ok x) f p = f x p
-if_ok (Err e) f p = tt
+use Rattle.ft_io.proofs.Outcomes.{if_ok}
 
 pub returns-in-Asking-clause-turn : goal.returns-in-Asking-clause-turn
 returns-in-Asking-clause-turn g c =

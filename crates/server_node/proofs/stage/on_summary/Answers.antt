@@ -11,10 +11,7 @@ use Rattle.server_node.proofs.Ranged.{count_in_range}
 use Rattle.server_node.proofs.Resuming.{begins_on}
 use Rattle.server_node.proofs.Staged.{unanswered}
 use Rattle.server_node.proofs.stage.on_summary.Goals as goal
-
-if_ok : {T E : Type 0} {P Q : T → Type 0} (r : Result T E) → ((x : T) → P x → Q x) → IfOk r P → IfOk r Q
-if_ok (Ok x) f p = f x p
-if_ok (Err e) f p = tt
+use Rattle.ft_io.proofs.Outcomes.{if_ok}
 
 pub begin_fetching-requires-clause-few : goal.begin_fetching-requires-clause-few
 begin_fetching-requires-clause-few g c = count_in_range c.args.m.now c.in-Some.count c.requires.sendable (sym c.count_in.ensures ∙ c.in-Some.is)

@@ -1,6 +1,7 @@
 use Rattle.std.proofs.Common.{◌≡◌, ◌∙◌, sym, ap, rules, Some, None, Result, Ok, Err, OnOk, OnErr, false, ◌&&◌}
 use Rattle.std.specs.Option.{option_map_or}
 use Rattle.std.specs.Map.{lookup}
+use Rattle.std.proofs.lemmas.Result.{on_ok_weaker, on_err_weaker}
 use Rattle.ft_io.specs.Key.{key_eq}
 use Rattle.ft_model.specs.Log.{with_entry, with_read, is_next_read}
 use Rattle.logger_store.specs.Stored.{begins_run}
@@ -18,24 +19,16 @@ invariant_of-self-2 c =
     let found : lookup (key_eq c.args.key) c.self.inside.entries.entries ≡ Some c.in-Some.entry.now = search rules in
     map_kept c.self.inside.entries.entries _ (key_eq c.args.key) c.in-Some.entry.now c.take_read.new.self c.self.invariant.0 c.self.invariant.1 found (c.get_mut.follows.holds c.take_read.new.self).0 (c.take_read.ensures.key)
 
-on_ok : {T E : Type 0} {P Q : Type 0} (r : Result T E) → (P → Q) → OnOk r P → OnOk r Q
-on_ok (Ok x) f p = f p
-on_ok (Err e) f p = tt
-
-on_err : {T E : Type 0} {P Q : Type 0} (r : Result T E) → (P → Q) → OnErr r P → OnErr r Q
-on_err (Ok x) f p = tt
-on_err (Err e) f p = f p
-
 pub returns-clause-ok : goal.returns-clause-ok
 returns-clause-ok c =
     let found : lookup (key_eq c.args.key) c.self.inside.entries.entries ≡ Some c.in-Some.entry.now = search rules in
-    on_ok c.take_read.result (λ is. written c.self.inside.boot c.self.inside.entries.entries _ c.args.key (with_read c.args.index c.args.len) c.in-Some.entry.now c.take_read.new.self c.self.invariant.0 c.get_mut.ensures.unique found (c.get_mut.follows.holds c.take_read.new.self).0 is
+    on_ok_weaker c.take_read.result (λ is. written c.self.inside.boot c.self.inside.entries.entries _ c.args.key (with_read c.args.index c.args.len) c.in-Some.entry.now c.take_read.new.self c.self.invariant.0 c.get_mut.ensures.unique found (c.get_mut.follows.holds c.take_read.new.self).0 is
     ∙ ap (with_entry c.args.key (with_read c.args.index c.args.len)) c.self.view_is) c.take_read.ensures.ok
 
 pub returns-clause-err : goal.returns-clause-err
 returns-clause-err c =
     let found : lookup (key_eq c.args.key) c.self.inside.entries.entries ≡ Some c.in-Some.entry.now = search rules in
-    on_err c.take_read.result (λ is. unwritten c.self.inside.boot c.self.inside.entries.entries _ (key_eq c.args.key) c.in-Some.entry.now c.take_read.new.self found (c.get_mut.follows.holds c.take_read.new.self).0 is ∙ c.self.view_is) c.take_read.ensures.err
+    on_err_weaker c.take_read.result (λ is. unwritten c.self.inside.boot c.self.inside.entries.entries _ (key_eq c.args.key) c.in-Some.entry.now c.take_read.new.self found (c.get_mut.follows.holds c.take_read.new.self).0 is ∙ c.self.view_is) c.take_read.ensures.err
 
 pub returns-clause-again : goal.returns-clause-again
 returns-clause-again c =

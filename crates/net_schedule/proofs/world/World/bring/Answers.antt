@@ -1,13 +1,15 @@
 use Rattle.std.proofs.Common.{◌∙◌, sym}
+use Rattle.std.proofs.lemmas.Result.{on_ok_weaker}
 use Rattle.server_trait.specs.Service.{machine}
 use Rattle.net_schedule.specs.Keeping.{kept}
 use Rattle.net_schedule.proofs.Bringing.{brings_client, brings_logger, packet_comes, packet_brought, message_comes, message_brought}
-use Rattle.net_schedule.proofs.Outcomes.{on_ok, if_err, keeps_nothing}
+use Rattle.net_schedule.proofs.Outcomes.{keeps_nothing}
 use Rattle.net_schedule.proofs.world.World.bring.Goals as goal
+use Rattle.ft_io.proofs.Outcomes.{if_err}
 
 pub returns-in-ServerToClient-clause-done : goal.returns-in-ServerToClient-clause-done
 returns-in-ServerToClient-clause-done g c =
-    on_ok c.tell_client.result
+    on_ok_weaker c.tell_client.result
     (λ is v packet st p way comes. brings_client (machine (g.S.Service.started c.args.self.now.kind) g.S.Service.after) (kept c.args.self.now) (kept c.tell_client.new.self) v packet c.args.bytes.now c.in-ServerToClient.number st p
     (sym c.in-ServerToClient.is ∙ way) is)
     c.tell_client.ensures.done
@@ -20,7 +22,7 @@ returns-in-ServerToClient-clause-keeps g c = if_err c.tell_client.result (keeps_
 
 pub returns-in-ServerToLogger-clause-done : goal.returns-in-ServerToLogger-clause-done
 returns-in-ServerToLogger-clause-done g c =
-    on_ok c.tell_logger.result
+    on_ok_weaker c.tell_logger.result
     (λ is v packet st p way comes. brings_logger (machine (g.S.Service.started c.args.self.now.kind) g.S.Service.after) (kept c.args.self.now) (kept c.tell_logger.new.self) v packet c.args.bytes.now st (sym c.in-ServerToLogger.is ∙ way) is)
     c.tell_logger.ensures.done
 
@@ -33,7 +35,7 @@ returns-in-ServerToLogger-clause-keeps g c = if_err c.tell_logger.result (keeps_
 pub returns-in-ClientToServer-clause-done : goal.returns-in-ClientToServer-clause-done
 returns-in-ClientToServer-clause-done g c =
     let service = machine (g.S.Service.started c.args.self.now.kind) g.S.Service.after in
-    on_ok c.serve.result
+    on_ok_weaker c.serve.result
     (λ so v packet st p way comes. packet_brought service c.args.self.now.keys.items v packet c.args.bytes.now _ (kept c.serve.new.self) (sym c.in-ClientToServer.is ∙ way)
     (so v st p (packet_comes service c.args.self.now.keys.items v packet c.args.bytes.now _ (sym c.in-ClientToServer.is ∙ way) comes)))
     c.serve.ensures.done
@@ -46,7 +48,7 @@ returns-in-ClientToServer-clause-ends g c =
 pub returns-in-LoggerToServer-clause-done : goal.returns-in-LoggerToServer-clause-done
 returns-in-LoggerToServer-clause-done g c =
     let service = machine (g.S.Service.started c.args.self.now.kind) g.S.Service.after in
-    on_ok c.serve-in-LoggerToServer.result
+    on_ok_weaker c.serve-in-LoggerToServer.result
     (λ so v packet st p way comes. message_brought service c.args.self.now.keys.items v packet c.args.bytes.now (kept c.serve-in-LoggerToServer.new.self) (sym c.in-LoggerToServer.is ∙ way)
     (so v st p (message_comes service c.args.self.now.keys.items v packet c.args.bytes.now (sym c.in-LoggerToServer.is ∙ way) comes)))
     c.serve-in-LoggerToServer.ensures.done

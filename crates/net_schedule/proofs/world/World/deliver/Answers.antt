@@ -1,12 +1,13 @@
 use Rattle.std.proofs.Common.{◌≡◌, ◌∙◌, sym, ap, Some}
 use Rattle.std.specs.Prelude.{option_copied}
+use Rattle.std.proofs.lemmas.Result.{on_ok_weaker}
 use Rattle.server_trait.specs.Service.{machine}
 use Rattle.net_schedule.specs.AtNumber.{at_number}
 use Rattle.net_schedule.specs.Keeping.{kept}
 use Rattle.net_schedule.proofs.Events.{delivers, delivers_end, refuses_packet}
 use Rattle.net_schedule.proofs.Keeping.{no_way, no_bytes}
-use Rattle.net_schedule.proofs.Outcomes.{on_ok, if_err}
 use Rattle.net_schedule.proofs.world.World.deliver.Goals as goal
+use Rattle.ft_io.proofs.Outcomes.{if_err}
 
 pub returns-in_default-clause-ends : goal.returns-in_default-clause-ends
 returns-in_default-clause-ends g c = λ v st p.
@@ -22,7 +23,7 @@ pub returns-clause-done : goal.returns-clause-done
 returns-clause-done g c =
     let bytes = c.as_slice.result.now in
     let spelled : at_number c.args.self.now.packets.bytes c.args.number ≡ Some bytes = sym c.in-Some-bytes.ensures ∙ ap Some (sym (c.as_slice.ensures.value ∙ c.in_ok-refill.ensures)) in
-    on_ok c.bring-done.result
+    on_ok_weaker c.bring-done.result
     (λ so v st p. delivers (machine (g.S.Service.started c.args.self.now.kind) g.S.Service.after) (kept c.args.self.now) (kept c.bring-done.new.self) v c.args.number c.in-Some.way bytes st p
     (sym c.way.ensures ∙ c.in-Some.is) spelled (λ packet goes came. so v packet st p goes came))
     c.bring-done.ensures.done

@@ -1,5 +1,6 @@
 use Rattle.std.proofs.Common.{◌≡◌, ◌∙◌, sym, ap, subst, ◌<◌, ◌*◌, length, arith}
 use Rattle.std.specs.Prelude.{option_copied}
+use Rattle.std.proofs.lemmas.Result.{on_ok_weaker}
 use Rattle.seq_arith.specs.Damage.{flipped}
 use Rattle.server_trait.specs.Service.{machine}
 use Rattle.ft_model.specs.World.{DeliveredAs}
@@ -8,8 +9,8 @@ use Rattle.net_schedule.specs.Premises.{ComesAs}
 use Rattle.net_schedule.specs.Standing.{GoesOn}
 use Rattle.net_schedule.proofs.Events.{flips, flips_end, refuses_no_packet, refuses_bit}
 use Rattle.net_schedule.proofs.Keeping.{no_way, no_bytes}
-use Rattle.net_schedule.proofs.Outcomes.{on_ok, if_err}
 use Rattle.net_schedule.proofs.world.World.flip.Goals as goal
+use Rattle.ft_io.proofs.Outcomes.{if_err}
 
 pub returns-in_default-clause-ends : goal.returns-in_default-clause-ends
 returns-in_default-clause-ends g c = λ v st p.
@@ -32,7 +33,7 @@ returns-clause-done g c =
     let bytes = c.in-Some-bytes.bytes.now in
     let within : c.args.bit < 8 * length bytes = omega arith in
     let is : c.as_slice.result.now ≡ flipped c.args.bit bytes = c.as_slice.ensures.value ∙ c.in_ok-refill_flipped.ensures in
-    on_ok c.bring-done.result
+    on_ok_weaker c.bring-done.result
     (λ so v st p. flips service (kept c.args.self.now) (kept c.bring-done.new.self) v c.args.number c.args.bit c.in-Some.way bytes st p
     (sym c.way.ensures ∙ c.in-Some.is) (sym c.in-Some-bytes.ensures) within
     (λ packet goes came. subst (λ b. GoesOn service (DeliveredAs service v packet b) v (kept c.bring-done.new.self)) is (so v packet st p goes (subst (ComesAs v packet) (sym is) came))))

@@ -1,10 +1,12 @@
 use Rattle.std.proofs.Common.{refl}
+use Rattle.std.proofs.lemmas.Result.{on_ok_weaker}
 use Rattle.server_trait.specs.Service.{machine}
 use Rattle.ft_model.specs.declared.event.Event.TheVariants.{Tick}
 use Rattle.net_schedule.specs.Keeping.{kept, server_of}
 use Rattle.net_schedule.proofs.Events.{ticks, refuses_down, refuses_nothing}
-use Rattle.net_schedule.proofs.Outcomes.{on_ok, if_err, is_up, is_down}
+use Rattle.net_schedule.proofs.Outcomes.{is_up, is_down}
 use Rattle.net_schedule.proofs.world.World.tick.Goals as goal
+use Rattle.ft_io.proofs.Outcomes.{if_err}
 
 pub returns-then-is_none-clause-ends : goal.returns-then-is_none-clause-ends
 returns-then-is_none-clause-ends g c = λ v st p.
@@ -12,7 +14,7 @@ returns-then-is_none-clause-ends g c = λ v st p.
 
 pub returns-clause-done : goal.returns-clause-done
 returns-clause-done g c =
-    on_ok c.serve.result
+    on_ok_weaker c.serve.result
     (λ so v st p. ticks (machine (g.S.Service.started c.args.self.now.kind) g.S.Service.after) (kept c.args.self.now) (kept c.serve.new.self) v st (is_up server_of c.args.self.now.node c.is_none.result c.is_none.ensures c.if-is_none.false) (so v st p tt))
     c.serve.ensures.done
 

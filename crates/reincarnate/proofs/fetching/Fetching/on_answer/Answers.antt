@@ -1,7 +1,7 @@
 use Rattle.reincarnate.proofs.AnswerLaw.{answers_lead}
 use Rattle.logger_wire.specs.Value.{message_of}
-use Rattle.reincarnate.proofs.Outcomes.{if_ok}
 use Rattle.reincarnate.proofs.fetching.Fetching.on_answer.Goals as goal
+use Rattle.ft_io.proofs.Outcomes.{if_ok}
 
 pub returns-clause-law : goal.returns-clause-law
 returns-clause-law g c =

@@ -2,8 +2,8 @@ use Rattle.std.proofs.Common.{subst, sym}
 use Rattle.server_trait.specs.Service.{machine}
 use Rattle.reincarnate.specs.Joining.{IsSpliced}
 use Rattle.reincarnate.proofs.Joined.{splice_stands}
-use Rattle.reincarnate.proofs.Outcomes.{if_ok}
 use Rattle.reincarnate.proofs.replayed.Replayed.splice.Goals as goal
+use Rattle.ft_io.proofs.Outcomes.{if_ok}
 
 pub returns-clause-law : goal.returns-clause-law
 returns-clause-law g c =

@@ -1,12 +1,12 @@
-use Rattle.north_wrap.proofs.Outcomes.{on_ok}
 use Rattle.wrapped_conn.proofs.Taking.{copied_now, told_now, takes}
 use Rattle.wrapped_conn.proofs.conn.Conn.take_packet.Goals as goal
+use Rattle.std.proofs.lemmas.Result.{on_ok_weaker}
 
 pub returns-clause-turn : goal.returns-clause-turn
 returns-clause-turn g c =
     let before = c.before_segment-before in
     let arrive = c.arrive-repeats in
-    on_ok c.go_on.result
+    on_ok_weaker c.go_on.result
     (takes g.S.Service.after c.args.self.now arrive.new.self c.go_on.new.self before.result arrive.result c.args.packet.now c.go_on.new.out.segments c.go_on.new.out.messages c.requires.accepted before.ensures
     arrive.ensures.repeats arrive.ensures.state)
     (c.go_on.ensures.turn (copied_now c.args.self.now before.result c.args.packet.now)
