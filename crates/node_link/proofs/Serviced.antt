@@ -93,9 +93,11 @@ turned logger before after old mid new c between counts r input wires t k is few
 
 -- a turn that ended the node
 pub turn_stops : (logger : Addr) (before : Standing) (old new : Option (List LinkCall)) (r : Received) (input : law.Input) (e : TurnEnd) → Tells old new (received_as r ∷ [])
-    → input ≡ input_from logger r → IsFence e (λ newer. (standing : law.Stage) → fence (node_of before.who standing) input ≡ Some newer) → TurnStops logger before old new e
-turn_stops logger before old new r input end.NoMemory t is f = record { received = r; tells = t; ends = tt }
-turn_stops logger before old new r input (end.Fenced newer) t is f =
+    → input ≡ input_from logger r → IsFence e (λ newer. (standing : law.Stage) → fence (node_of before.who standing) input ≡ Some newer)
+    → (e ≡ end.NoMemory → (standing : law.Stage) → fence (node_of before.who standing) input ≡ None) → TurnStops logger before old new e
+turn_stops logger before old new r input end.NoMemory t is f none =
+    record { received = r; tells = t; ends = subst (λ i. (standing : law.Stage) → fence (node_of before.who standing) i ≡ None) is (none refl) }
+turn_stops logger before old new r input (end.Fenced newer) t is f none =
     record { received = r; tells = t; ends = subst (λ i. (standing : law.Stage) → fence (node_of before.who standing) i ≡ Some newer) is f }
 
 -- a boot, from its parts
@@ -221,7 +223,9 @@ cut_by role i s old mid new counts Ends Why lt h t f =
 
 pub serving_stops : (role : ServerRole) (i : ℕ) (s : Standing) (old mid new : Option (List LinkCall)) (counts : Counts) (e : TurnEnd) → i < role.turns → IsServing role i s old mid counts
     → TurnStops role.logger s mid new e → ServeStops role old new e
-serving_stops role i s old mid new counts end.NoMemory lt h t = inr (cut_by role i s old mid new counts (λ last. Unit {0}) (λ input. Unit {0}) lt h t (λ r u. tt))
+serving_stops role i s old mid new counts end.NoMemory lt h t =
+    inr (cut_by role i s old mid new counts (λ last. fence_in role last ≡ None) (λ input. (standing : law.Stage) → fence (node_of s.who standing) input ≡ None) lt h t
+    (λ r f. subst (λ w. fence (node_of w law.Stage.Asking) (input_in role r) ≡ None) h.who (f law.Stage.Asking)))
 serving_stops role i s old mid new counts (end.Fenced newer) lt h t =
     cut_by role i s old mid new counts (λ last. fence_in role last ≡ Some newer) (λ input. (standing : law.Stage) → fence (node_of s.who standing) input ≡ Some newer) lt h t
     (λ r f. subst (λ w. fence (node_of w law.Stage.Asking) (input_in role r) ≡ Some newer) h.who (f law.Stage.Asking))
@@ -249,6 +253,7 @@ untold role before mid new counts b s =
       within = omega (arith, s.count_is);
       tells = tells_on before mid new (Bound role.local ∷ []) (server_calls role.logger s.at_boot s.turns ++ []) b (subst (Tells mid new) (sym (append-nil (server_calls role.logger s.at_boot s.turns))) s.tells);
       serves = s.serves;
+      unfenced = tt;
     }
 
 pub server_stops : (role : ServerRole) (before mid new : Option (List LinkCall)) (counts : Counts) (out_old out_new : Option (List ℕ)) (e : NodeEnd) → Tells before mid (Bound role.local ∷ [])
@@ -275,6 +280,7 @@ server_lost role before mid new out b (inr s) = (
     within = omega (arith, s.within);
     tells = tells_on before mid new (Bound role.local ∷ []) (server_calls role.logger s.at_boot s.turns ++ received_as s.last ∷ []) b s.tells;
     serves = s.serves;
+    unfenced = s.ends;
   }),
   refl,
 )

@@ -1,5 +1,5 @@
 -- A server's whole life over its link, and what ends it early.
-use Rattle.std.specs.Prelude.{◌≡◌, ◌⊎◌, ℕ, ◌<◌, ◌≤◌, Option, Some, List, [], ◌∷◌, ◌++◌, length, map}
+use Rattle.std.specs.Prelude.{◌≡◌, ◌⊎◌, ℕ, ◌<◌, ◌≤◌, Option, Some, None, IfSome, List, [], ◌∷◌, ◌++◌, length, map}
 use Rattle.std.specs.Option.{option_to_list}
 use Rattle.ft_io.specs.declared.link_call.LinkCall.{LinkCall}
 use Rattle.ft_io.specs.declared.link_call.LinkCall.TheVariants.{Bound}
@@ -22,7 +22,7 @@ pub record IsServer (role : ServerRole) (old new : Option (List LinkCall)) (Writ
   pub serves : Serves role at_boot turns
   pub written : Writes (count_line (counts_of (server_calls role.logger at_boot turns)))
 
--- one that want of memory ended: nothing is said of what it received last, and it sent nothing at that
+-- one that want of memory ended: it sent nothing at what it received last, and that doesn't fence it
 pub record IsCutServer (role : ServerRole) (old new : Option (List LinkCall)) : Type 0 where
   pub at_boot : List Sent
   pub turns : List ServerTurn
@@ -30,6 +30,7 @@ pub record IsCutServer (role : ServerRole) (old new : Option (List LinkCall)) : 
   pub within : length turns ≤ role.turns
   pub tells : Tells old new (Bound role.local ∷ (server_calls role.logger at_boot turns ++ map received_as (option_to_list last)))
   pub serves : Serves role at_boot turns
+  pub unfenced : IfSome last (λ received. fence_in role received ≡ None)
 
 -- want of memory may come before it says anything
 abbrev pub IsLostServer : ServerRole → (old new : Option (List LinkCall)) → Type 0

@@ -75,7 +75,7 @@ pub record EndsTurn (logger : Addr) (old new : Option (List LinkCall)) (Ends : l
   pub ends : Ends (input_from logger received)
 
 abbrev pub TurnStops : Addr → Standing → (old new : Option (List LinkCall)) → TurnEnd → Type 0
-TurnStops logger before old new end.NoMemory = EndsTurn logger old new (λ input. Unit {0})
+TurnStops logger before old new end.NoMemory = EndsTurn logger old new (λ input. (standing : law.Stage) → fence (node_of before.who standing) input ≡ None)
 TurnStops logger before old new (end.Fenced newer) = EndsTurn logger old new (λ input. (standing : law.Stage) → fence (node_of before.who standing) input ≡ Some newer)
 
 -- where the node stands after these turns, as long as the premises hold
@@ -118,5 +118,5 @@ pub record IsCutServing (role : ServerRole) (old new : Option (List LinkCall)) (
   pub ends : Ends last
 
 abbrev pub ServeStops : ServerRole → (old new : Option (List LinkCall)) → TurnEnd → Type 0
-ServeStops role old new end.NoMemory = (new ≡ old) ⊎ IsCutServing role old new (λ last. Unit {0})
+ServeStops role old new end.NoMemory = (new ≡ old) ⊎ IsCutServing role old new (λ last. fence_in role last ≡ None)
 ServeStops role old new (end.Fenced newer) = IsCutServing role old new (λ last. fence_in role last ≡ Some newer)

@@ -1,4 +1,4 @@
-use Rattle.std.proofs.Common.{◌≡◌, ◌≤◌, ◌^◌, sym, subst, length, take, Some, arith}
+use Rattle.std.proofs.Common.{◌≡◌, ◌∙◌, ◌≤◌, ◌^◌, sym, ap, subst, length, take, Some, None, Err, arith}
 use Rattle.node_link.specs.Received.{datagram, IsQuiet}
 use Rattle.ft_model.specs.Node.{Stage as law_stage}
 use Rattle.ft_model.specs.Lawful.{fence}
@@ -19,7 +19,8 @@ returns-in_err-packets-clause-stops g c =
     (λ end is. turn_stops c.args.logger (standing_of c.args.node.now) (g.L.Link.told c.args.link.now) (g.L.Link.told c.receive-came.new.link) r.0 (input_of c.input_of.result) end r.1
     (c.input_of.ensures r.0 (at_some c.receive-came.result (IsQuiet r.0) (λ g. (g.0 ≤ length c.receive-came.new.buffer) × (r.0 ≡ datagram g.1 (take g.0 c.receive-came.new.buffer)))
     (λ g. r.0 ≡ datagram g.1 (take g.0 c.receive-came.new.buffer)) (λ g h. h.1) r.3))
-    (subst (λ e. IsFence e (λ newer. (standing : law_stage) → fence (node_of c.args.node.now.who standing) (input_of c.input_of.result) ≡ Some newer)) (sym is) c.in_err-packets.ensures.fenced))
+    (subst (λ e. IsFence e (λ newer. (standing : law_stage) → fence (node_of c.args.node.now.who standing) (input_of c.input_of.result) ≡ Some newer)) (sym is) c.in_err-packets.ensures.fenced)
+    (λ lost. c.in_err-packets.ensures.memory (ap (λ e. Err e) (sym is ∙ lost))))
 
 pub returns-clause-turned : goal.returns-clause-turned
 unfolding standing_of
