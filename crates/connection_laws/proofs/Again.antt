@@ -1,7 +1,7 @@
 -- After a turn output goes on as before it.
 use Rattle.std.proofs.Common.{◌≡◌, ℕ, ◌≤◌, ◌+◌, ◌%◌, ◌^◌, Bool, true, false, not, List, min, max, refl, sym, ap, arith, ◌∙◌}
-use Rattle.std.specs.Prelude.{pos, ◌&&◌, ◌||◌, nat_abs, nat_lt, int_le, if◌then◌else◌}
-use Rattle.std.proofs.lemmas.Bool.{false≢true}
+use Rattle.std.specs.Prelude.{pos, ◌&&◌, nat_abs, nat_lt, int_le, if◌then◌else◌}
+use Rattle.std.proofs.lemmas.Bool.{false≢true, or_parts}
 use Rattle.ft_io.specs.declared.Addr.{Addr}
 use Rattle.seq_arith.specs.Arrival.{una_after}
 use Rattle.seq_arith.specs.Packet.{Segment, has_ack}
@@ -21,6 +21,7 @@ use Rattle.south_wrap.specs.Standing.{south_at}
 use Rattle.connection_laws.specs.Turning.{Fits, NewsFit}
 use Rattle.connection_laws.proofs.Lowered.{Lowers, lowers, moves, used_by}
 use Rattle.connection_laws.proofs.Meets.{Moves, stays_inside, unacknowledged, minus_none}
+use Rattle.ft_io.proofs.Booleans.{middle_false}
 
 una_rises : (c : Bool) (una ack sent : ℕ) → una ≤ sent → (una ≤ (if c then una_after una (min ack sent) else una)) × ((if c then una_after una (min ack sent) else una) ≤ sent)
 una_rises true una ack sent h = (grind (arith, h), grind (arith, h))
@@ -66,10 +67,6 @@ stays u i delta (Logged kept) p g f = record { una = g.una; most = g.order; edge
 stays u i delta Ticks p g f = record { una = g.una; most = g.order; edge = g.edge; wl2 = g.wl2 }
 stays u i delta Begins p g f = record { una = g.una; most = g.order; edge = g.edge; wl2 = g.wl2 }
 
-off_left : (a b : Bool) → (a || b) ≡ false → (a ≡ false) × (b ≡ false)
-off_left true b h = absurd (false≢true (sym h))
-off_left false b h = (refl, h)
-
 -- until an acknowledgement counts nothing changes
 record Same (news : News) (p : Point) : Type 0 where
   syn_acked : p.syn_acked ≡ false
@@ -80,20 +77,15 @@ record Same (news : News) (p : Point) : Type 0 where
 same : (i : ℕ) (news : News) (p : Point) → syn_acked_after news p ≡ false → Same news p
 unfolding syn_acked_after taken_after fin_after edge_after
 same i (Comes segment) p h =
-    let k = off_left p.syn_acked (counts p segment) h in
+    let k = or_parts p.syn_acked (counts p segment) h in
     let m : Moves (Comes segment) p 0 i Begins = stays_inside 0 i p segment k.1 in
     record { syn_acked = k.0; taken = sym m.taken; fin = sym m.fin; edge = sym (minus_none p.edge (edge_after (Comes segment) p) m.edge) }
 same i (Logged kept) p h = record { syn_acked = h; taken = refl; fin = refl; edge = refl }
 same i Ticks p h = record { syn_acked = h; taken = refl; fin = refl; edge = refl }
 same i Begins p h = record { syn_acked = h; taken = refl; fin = refl; edge = refl }
 
-none_sent : (t : ℕ) → max 0 (min t 0) + 0 ≡ 0
+pub none_sent : (t : ℕ) → max 0 (min t 0) + 0 ≡ 0
 none_sent t = omega arith
-
-off_middle : (a b c : Bool) → b ≡ false → (a && b && c) ≡ false
-off_middle true true c h = absurd (false≢true (sym h))
-off_middle true false c h = refl
-off_middle false b c h = refl
 
 pub goes_on_again : {State : Type 0} (service : Machine State) (server : Addr) (boot u i delta : ℕ) (news : News) (p q : Point) (sent : List Packet)
     → GoesOn u i delta p → NewsFit p news → LiveTurn service server boot news p q sent → q.sent ≤ 2 ^ 25 + 1 → GoesOn u i delta q
@@ -115,7 +107,7 @@ goes_on_again service server boot u i delta news p q sent g f l few =
           let k : Same news p = same i news p (sym l.syn_acked ∙ h) in
           let o = g.syn_unacked k.syn_acked in
           let edge : q.edge ≡ 0 = l.edge ∙ k.edge ∙ o.2 in
-          let probe : probes news p ≡ false = off_middle (expires news p) p.syn_acked (not (nat_lt p.una p.sent)) k.syn_acked in (
+          let probe : probes news p ≡ false = middle_false (expires news p) p.syn_acked (not (nat_lt p.una p.sent)) k.syn_acked in (
             o.0,
             l.sent_units ∙ (λ j. max (o.1 j) (min (target service q) (edge j)) + (if probe j then 1 else 0)) ∙ none_sent (target service q),
             edge,

@@ -1,5 +1,5 @@
 -- A new connection's TCP stands at the point inside from its SYN on, and its SYN-ACK is the law's.
-use Rattle.std.proofs.Common.{◌≡◌, ℕ, ◌<◌, ◌+◌, ◌-◌, ◌%◌, ◌^◌, false, not, List, [], ◌∷◌, ◌++◌, length, min, max, Some, refl, sym, ap, subst, arith, ◌∙◌}
+use Rattle.std.proofs.Common.{◌≡◌, ℕ, ◌<◌, ◌+◌, ◌-◌, ◌%◌, ◌^◌, not, List, [], ◌∷◌, ◌++◌, length, min, max, Some, refl, sym, ap, subst, arith, ◌∙◌}
 use Rattle.std.specs.Prelude.{◌&&◌, ◌||◌, nat_lt, nat_le, if◌then◌else◌}
 use Rattle.ft_io.specs.declared.Addr.{Addr}
 use Rattle.seq_arith.specs.Message.{Numbers}
@@ -29,14 +29,9 @@ use Rattle.south_wrap.specs.Standing.{south_at}
 use Rattle.connection_laws.specs.Inside.{inside, GoesOn}
 use Rattle.connection_laws.specs.Passing.{passed}
 use Rattle.connection_laws.specs.Beginning.{MayOpen, opened_syn, listens_with, BeginsInside}
-use Rattle.connection_laws.proofs.Sent.{same_lengths}
+use Rattle.connection_laws.proofs.Sent.{same_lengths, nothing_at_once, never, nothing_long}
 use Rattle.connection_laws.proofs.Spliced.{size_stays}
-
-none_at_once : (t : ℕ) → max 0 (min t 0) ≡ 0
-none_at_once t = omega arith
-
-none_sent : (t : ℕ) → max 0 (min t 0) + 0 ≡ 0
-none_sent t = omega arith
+use Rattle.connection_laws.proofs.Again.{none_sent}
 
 -- the point after the turn in which it becomes live
 abbrev begun : Numbers → Point
@@ -110,19 +105,13 @@ syn_ack_is local numbers p fits same =
       payload = [];
     }
 
-never : (n : ℕ) → nat_lt n 0 ≡ false
-never n = grind arith
-
-none_long : (r : ℕ) → min 0 r - 0 ≡ 0
-none_long r = omega arith
-
 syn_ack_alone : {State : Type 0} (service : Machine State) (local : Addr) (numbers : Numbers) → segments_of service local Begins (point_opened numbers) (begun numbers) ≡ syn_ack local (begun numbers) ∷ []
 unfolding segments_of full_segments resent new_texts new_fin sent_at_once
 syn_ack_alone service local numbers =
     let p : Point = point_opened numbers in
     let q : Point = begun numbers in
-    let once : sent_at_once service p q ≡ 0 = none_at_once (target service q) in
-    let long : new_length service p q ≡ 0 = (λ j. min (once j) (released service q) - 0) ∙ none_long (released service q) in
+    let once : sent_at_once service p q ≡ 0 = nothing_at_once (target service q) in
+    let long : new_length service p q ≡ 0 = (λ j. min (once j) (released service q) - 0) ∙ nothing_long (released service q) in
     (λ j. syn_ack local q ∷ (texts service local q (long j) 0 (long j) ++ (if nat_lt (released service q) (once j) && nat_le 0 (released service q) then fin_if_closed service local q else [])))
     ∙ (λ j. syn_ack local q ∷ (if never (released service q) j && nat_le 0 (released service q) then fin_if_closed service local q else []))
 

@@ -1,7 +1,7 @@
 -- The turn in which the inner TCP becomes CLOSED, since both FINs are through.
 use Rattle.std.proofs.Common.{◌^◌, ◌%◌, ◌≡◌, ℕ, ◌≤◌, ◌+◌, ◌-◌, Bool, true, false, not, None, List, length, max, refl, sym, ap, arith, ⊎_elim, ◌∙◌, subst, ◌<◌}
 use Rattle.std.specs.Prelude.{◌⊎◌, ◌==◌, ◌&&◌, ◌||◌, nat_lt, if◌then◌else◌}
-use Rattle.std.proofs.lemmas.Bool.{false≢true}
+use Rattle.std.proofs.lemmas.Bool.{false≢true, and_parts}
 use Rattle.server_trait.specs.Service.{Machine}
 use Rattle.ft_model.specs.Offset.{one_if}
 use Rattle.ft_model.specs.Point.{Point, answered_run, released, target}
@@ -40,7 +40,7 @@ use Rattle.connection_laws.proofs.Again.{stays}
 use Rattle.connection_laws.proofs.Resetting.{resets_is}
 use Rattle.connection_laws.proofs.Whole.{usual_news, above}
 use Rattle.connection_laws.proofs.Quiet.{quiet_sends}
-use Rattle.connection_laws.proofs.Outliving.{rest_stops, taken_stays, closed_sent, both_of}
+use Rattle.connection_laws.proofs.Outliving.{rest_stops, taken_stays, closed_sent}
 use Rattle.connection_laws.proofs.Taking.{taken_before}
 use Rattle.connection_laws.proofs.Keeping.{news_keep}
 
@@ -74,7 +74,7 @@ end_at false sent n h = absurd (false≢true h)
 through : {State : Type 0} (service : Machine State) (p : Point) (s : Sending) (acked : Bool) → (s.fin_sent && s.una == s.sent) ≡ true → FinIsLast s → (s.syn_acked ≡ false → s.sent ≡ 0)
     → HasWrittenAll service p s ⊎ HasFilled service p s → IsThrough s (released service p) (answered_run service p).closed
 through service p s acked over last syn_unacked written =
-    let parts = both_of s.fin_sent (s.una == s.sent) over in
+    let parts = and_parts s.fin_sent (s.una == s.sent) over in
     let ends = last parts.0 in
     let all : HasWrittenAll service p s = ⊎_elim (λ h. h) (λ h. absurd (false≢true (sym h.open_still ∙ ends.0))) written in
     record {
@@ -180,7 +180,7 @@ ends_inside service boot u i delta news p q calls e sent st named unreset_p off 
     let a : IsUsed m w = used_is calls m l.may in
     let last : FinIsLast w.sending = last_used m.sending w.sending a.sends came.fin_last in
     let bounds : IsBounded w = bounded_used calls m l.may came.fin_last came.bounds in
-    let over = both_of w.receiving.fin (w.sending.fin_sent && w.sending.una == w.sending.sent) end.over in
+    let over = and_parts w.receiving.fin (w.sending.fin_sent && w.sending.una == w.sending.sent) end.over in
     let h : IsThrough w.sending (released (swallowing u service) (inside u i q)) (answered_run (swallowing u service) (inside u i q)).closed =
     through (swallowing u service) (inside u i q) w.sending true over.1 last bounds.syn_unacked l.used.written in
     let released_is : released service q - u ≡ w.sending.sent - 1 = sym (inside_released service u i q) ∙ h.written in
@@ -195,7 +195,7 @@ ends_inside service boot u i delta news p q calls e sent st named unreset_p off 
     let e_sent : e.sending.sent ≡ w.sending.sent = sym (a.sends.sent ∙ came.sent) in
     let e_syn_acked : e.sending.syn_acked ≡ true = opened_by e.sending.syn_acked e.sending.sent st.between.bounds.syn_unacked (omega (arith, e_sent, h.some)) in
     let fin_before : p.fin ≡ true = st.stands.receives.fin ∙ taken_before inner calls e st.begun named l.may over.0 l.ended in
-    let fin_sent : e.sending.fin_sent ≡ true = sym (a.sends.fin_sent ∙ (news_keep inner e st.begun st.between.bounds usual).fin_sent) ∙ (both_of w.sending.fin_sent (w.sending.una == w.sending.sent) over.1).0 in
+    let fin_sent : e.sending.fin_sent ≡ true = sym (a.sends.fin_sent ∙ (news_keep inner e st.begun st.between.bounds usual).fin_sent) ∙ (and_parts w.sending.fin_sent (w.sending.una == w.sending.sent) over.1).0 in
     let at_tick : is_tick news ≡ true → (p.rest == 1) ≡ false =
     λ tick.
     let same : q.una ≡ p.una = t.goes.una ∙ una_ticks news p tick in
@@ -211,7 +211,7 @@ ends_inside service boot u i delta news p q calls e sent st named unreset_p off 
         answer = flushed_answer w;
         kept = flushed_reset w ∙ reset_law inner calls e st.begun ∙ (λ j. kept j || none j);
         ended = flush_keeps (λ (s : Sending). s.closed) w (record { sends = λ s n. refl; ends = λ s. refl; times = λ s x y. refl })
-            ∙ (last (both_of w.sending.fin_sent (w.sending.una == w.sending.sent) over.1).0).0;
+            ∙ (last (and_parts w.sending.fin_sent (w.sending.una == w.sending.sent) over.1).0).0;
         bounds = bounded_by_flush w bounds;
         fin_last = last_flushed w bounds last;
         counts = record {

@@ -8,8 +8,7 @@ use Rattle.ft_model.specs.Growth.{IsPrefix}
 use Rattle.ft_model.specs.Point.{Point, answered_run, released, made}
 use Rattle.ft_model.specs.Network.{Packet}
 use Rattle.ft_model.specs.News.{News}
-use Rattle.ft_model.specs.News.News.{Comes, Logged, Ticks, Begins}
-use Rattle.ft_model.specs.Taken.{continues, taken_after}
+use Rattle.ft_model.specs.Taken.{taken_after}
 use Rattle.ft_model.specs.Sending.{acknowledged_after}
 use Rattle.ft_model.proofs.Services.{GoesOn, reads_go_on, more_bytes, prefix_length, sum_take}
 use Rattle.tcp_endpoint.specs.Receiving.{taken}
@@ -42,6 +41,7 @@ use Rattle.connection_laws.proofs.Again.{stays}
 use Rattle.connection_laws.proofs.Ending.{unreset, flushed_reset}
 use Rattle.connection_laws.proofs.Keeping.{Keeps, news_keep, end_kept}
 use Rattle.connection_laws.proofs.Flushed.{end_flushed}
+use Rattle.ft_model.proofs.Running.{taken_grows}
 
 -- the calls
 used_reads : (e : Tcb) (ks : List ℕ) → read_off after_read e ks ≡ used (map Reads ks) e
@@ -78,17 +78,10 @@ front_if : (b : Bool) (xs more : List ℕ) → IsPrefix xs (if b then xs ++ more
 front_if true xs more = (more, refl)
 front_if false xs more = ([], none_more xs)
 
-pub taken_goes : (news : News) (p : Point) → IsPrefix p.taken (taken_after news p)
-unfolding taken_after
-taken_goes (Comes segment) p = front_if (continues p segment) p.taken _
-taken_goes (Logged kept) p = ([], none_more p.taken)
-taken_goes Ticks p = ([], none_more p.taken)
-taken_goes Begins p = ([], none_more p.taken)
-
 pub answered_goes : {State : Type 0} (service : Machine State) (news : News) (p q : Point) (more : List ℕ) → sum p.lengths ≤ length p.taken → q.taken ≡ taken_after news p
     → p.reads_answered ≤ q.reads_answered → q.lengths ≡ p.lengths ++ more → GoesOn (answered_run service p) (answered_run service q)
 answered_goes service news p q more enough taken rises lengths =
-    let front : IsPrefix p.taken q.taken = subst (IsPrefix p.taken) (sym taken) (taken_goes news p) in
+    let front : IsPrefix p.taken q.taken = subst (IsPrefix p.taken) (sym taken) (taken_grows news p) in
     let few : sum (take p.reads_answered p.lengths) ≤ length p.taken = omega (arith, enough, sum_take p.reads_answered p.lengths) in
     let here : reference service q.taken (take p.reads_answered p.lengths) ≡ answered_run service p = more_bytes service p.taken q.taken (take p.reads_answered p.lengths) front few in
     subst (λ r. GoesOn r (answered_run service q)) here

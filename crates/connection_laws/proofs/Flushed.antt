@@ -9,6 +9,9 @@ use Rattle.tcp_endpoint.specs.Tcb.{Tcb}
 use Rattle.tcp_endpoint.specs.Leaving.{probes_text, probes_fin, with_probe, with_text_sent, with_fin_out, after_full, announced, with_turn_ended, flushed}
 use Rattle.endpoint_laws.specs.Laws.{IsBounded}
 use Rattle.endpoint_laws.proofs.TurnLaw.{after_steps}
+use Rattle.ft_io.proofs.Booleans.{left_true, right_true}
+use Rattle.endpoint_laws.proofs.EndingLaw.{none_behind}
+use Rattle.endpoint_laws.proofs.TurnEnd.{unsent_of}
 
 same_if : (b : Bool) (x y : Sending) (n : ℕ) → (b ≡ true → bytes_end x ≡ n) → (b ≡ false → bytes_end y ≡ n) → bytes_end (if b then x else y) ≡ n
 same_if true x y n p q = p refl
@@ -21,13 +24,6 @@ sent_end false sent n m h = refl
 fin_end : (f : Bool) (sent m : ℕ) → f ≡ false → sent ≡ m → sent + 1 - 1 ≡ (if f then sent - 1 else m)
 fin_end true sent m h e = absurd (false≢true (sym h))
 fin_end false sent m h e = omega (arith, e)
-
--- behind a FIN no text goes out
-none_sendable : (b o f : Bool) (n : ℕ) → f ≡ true → (if b then (if o && not f then n else 0) else 0) ≡ 0
-none_sendable true true true n h = refl
-none_sendable true false true n h = refl
-none_sendable false o true n h = refl
-none_sendable b o false n h = absurd (false≢true h)
 
 -- the FIN goes out once, behind all bytes
 fin_test : (b o c f u : Bool) (sent m : ℕ) → (b && (o && c && not f && (sent == m) && u)) ≡ true → (f ≡ false) × (sent ≡ m)
@@ -48,7 +44,7 @@ end_steps begun pt pf s unsent ends =
     (λ h. same_if pf (with_fin_sent s) s (bytes_end s) (λ k. fin_end s.fin_sent s.sent (s.una + length s.held) (ends k).0 (ends k).1) (λ k. refl)) in
     let texted_end : bytes_end texted ≡ bytes_end probed =
     sent_end probed.fin_sent probed.sent (if begun then sendable probed else 0) (probed.una + length probed.held)
-    (λ h. none_sendable begun probed.syn_acked probed.fin_sent (min (probed.una + length probed.held) probed.edge - probed.sent) h) in
+    (λ h. none_behind begun probed.syn_acked probed.fin_sent (min (probed.una + length probed.held) probed.edge - probed.sent) h) in
     same_if (begun && sends_fin texted) (with_fin_sent texted) texted (bytes_end s)
     (λ h.
     let test = fin_test begun texted.syn_acked texted.closed texted.fin_sent (nat_lt texted.sent texted.edge) texted.sent (texted.una + length texted.held) h in
@@ -59,22 +55,6 @@ end_timed : (runs : Bool) (s : Sending) → bytes_end (timed runs s) ≡ bytes_e
 end_timed true s = same_if (s.rest == 0) (record s { interval = 1; rest = 1 }) s (bytes_end s) (λ h. refl) (λ h. refl)
 end_timed false s = refl
 
-left_of : (a b : Bool) → (a && b) ≡ true → a ≡ true
-left_of true b h = refl
-left_of false b h = absurd (false≢true h)
-
-right_of : (a b : Bool) → (a && b) ≡ true → b ≡ true
-right_of true b h = h
-right_of false b h = absurd (false≢true h)
-
-not_false : (f : Bool) → not f ≡ true → f ≡ false
-not_false true h = absurd (false≢true h)
-not_false false h = refl
-
--- a probe goes out where no FIN was sent ..
-unsent_of : (p b o f t : Bool) → (p && b && o && not f && t) ≡ true → f ≡ false
-unsent_of p b o f t h = not_false f (right_of (p && b && o) (not f) (left_of (p && b && o && not f) t h))
-
 -- .. and the FIN as one where no byte waits to be sent
 all_sent : (f : Bool) (una len sent : ℕ) → una ≤ sent → sent ≤ una + len + one_if f → f ≡ false → not (nat_lt (sent - una) len) ≡ true → sent ≡ una + len
 all_sent true una len sent order flight unsent none = absurd (false≢true (sym unsent))
@@ -84,9 +64,9 @@ ends_of : (p b o f c : Bool) (una len sent : ℕ) → una ≤ sent → sent ≤ 
     → (f ≡ false) × (sent ≡ una + len)
 ends_of p b o f c una len sent order flight h =
     let none : Bool = not (nat_lt (sent - una) len) in
-    let probed : (p && b && o && not f && none) ≡ true = left_of (p && b && o && not f && none) c h in
+    let probed : (p && b && o && not f && none) ≡ true = left_true (p && b && o && not f && none) c h in
     let unsent : f ≡ false = unsent_of p b o f none probed in
-    (unsent, all_sent f una len sent order flight unsent (right_of (p && b && o && not f) none probed))
+    (unsent, all_sent f una len sent order flight unsent (right_true (p && b && o && not f) none probed))
 
 pub end_flushed : (u : Tcb) → IsBounded u → bytes_end (flushed u).sending ≡ bytes_end u.sending
 unfolding flushed with_turn_ended announced after_full with_fin_out with_text_sent with_probe

@@ -14,6 +14,8 @@ use Rattle.ft_model.specs.Sending.{syn_acked_after, acknowledged_after, edge_aft
 use Rattle.ft_model.specs.Timer.{must_run, interval_after, rest_after}
 use Rattle.endpoint_laws.specs.Standing.{MeetsLaws}
 use Rattle.connection_laws.proofs.Swallowed.{drop_none}
+use Rattle.ft_io.proofs.Booleans.{or_true}
+use Rattle.endpoint_laws.proofs.Beginning.{none_more}
 
 -- a service that writes nothing
 abbrev pub silent : Machine ℕ
@@ -58,10 +60,7 @@ acceptable_if false n w h = acceptable_none n w
 room_left : (n f : ℕ) → n < 2 ^ 24 → f ≡ n → 0 < min (max f 0 + 65535) (2 ^ 24) + 0 - (n + 0)
 room_left n f h e = omega (arith, h, e)
 
-none_plus : (n : ℕ) → 0 + n ≡ n
-none_plus n = omega arith
-
-plus_none : (n : ℕ) → n + 0 ≡ n
+pub plus_none : (n : ℕ) → n + 0 ≡ n
 plus_none n = omega arith
 
 at_start : (b : Bool) → (b || int_le (pos 0) (pos 0)) ≡ true
@@ -75,7 +74,7 @@ forged_counts p segment fin f s few =
     let some : fin ≡ true → 0 < room p =
     λ h. subst (λ (r : ℕ). 0 < r) (sym (λ j. min (max p.fetched (sum (f.lengths j)) + 65535) (2 ^ 24) + (if f.fin j then 1 else 0) - (n + (if f.fin j then 1 else 0)))) (room_left n p.fetched (few h) f.fetched) in
     let len : length_of segment ≡ (if fin then 1 else 0) =
-    (λ j. if s.rst j then 0 else (if s.syn j then 1 else length (s.text j) + (if s.fin_is j then 1 else 0))) ∙ none_plus (if fin then 1 else 0) in
+    (λ j. if s.rst j then 0 else (if s.syn j then 1 else length (s.text j) + (if s.fin_is j then 1 else 0))) ∙ none_more (if fin then 1 else 0) in
     let accepted : is_acceptable (taken_units p) (room p) (first_of p.cisn segment) (length_of segment) ≡ true =
     (λ j. is_acceptable (n + (if f.fin j then 1 else 0)) (room p) (s.first j) (len j)) ∙ ap (λ m. is_acceptable m (room p) (pos n) (if fin then 1 else 0)) (plus_none n)
     ∙ acceptable_if fin n (room p) some in
@@ -127,10 +126,6 @@ forged_fin_is p segment false f s few =
 -- the point after it
 abbrev pub after_forged : Bool → Point → Point
 after_forged fin p = record p { syn_acked = true; fin = fin; answered = length p.taken + one_if fin; wl1 = pos (length p.taken); interval = 1; rest = 0 }
-
-or_true : (b : Bool) → true ≡ (b || true)
-or_true true = refl
-or_true false = refl
 
 wl1_by : (c : Bool) (first wl1 w : ℤ) (m v : Bool) → first ≡ w → (c ≡ true → wl1 ≡ w) → m ≡ true → (if m && (not c || v) then first else wl1) ≡ w
 wl1_by true first wl1 w m v a b h = either (m && (false || v)) first wl1 (a ∙ sym (b refl)) ∙ b refl

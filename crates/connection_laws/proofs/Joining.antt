@@ -18,7 +18,7 @@ use Rattle.north_wrap.specs.Standing.{NorthStands, SocketStands, with_taken, wit
 use Rattle.north_wrap.proofs.Answering.{answers_stand, taking_stands}
 use Rattle.connection_laws.specs.Feeding.{tcp_reader, tcp_writer}
 use Rattle.connection_laws.specs.Standing.{heard}
-use Rattle.connection_laws.proofs.Fed.{taken_goes}
+use Rattle.ft_model.proofs.Running.{taken_grows}
 
 -- TCP is a socket by its laws
 pub socket_laws : SocketLaws tcp_reader tcp_writer
@@ -70,7 +70,7 @@ takes service p b given n taken front t l a f st = north_alike service (with_tak
 pub hears : {S : Type 0} (service : Machine S) (news : News) (p b : Point) (given : ℕ) (n : NorthState S) → b.taken ≡ taken_after news p → b.lengths ≡ p.lengths
     → b.reads_answered ≡ reads_answered_after news p → b.fetched ≡ p.fetched → NorthStands service p given n → NorthStands service b given (heard news n)
 unfolding taken_after reads_answered_after
-hears service (Comes segment) p b given n t l a f st = takes service p b given n (taken_after (Comes segment) p) (taken_goes (Comes segment) p) (sym t) (sym l) (sym a) (sym f) st
+hears service (Comes segment) p b given n t l a f st = takes service p b given n (taken_after (Comes segment) p) (taken_grows (Comes segment) p) (sym t) (sym l) (sym a) (sym f) st
 hears service (Logged kept) p b given n t l a f st =
     north_alike service (with_answered kept.reads p) b given (answered_on kept.reads n) (sym t) (sym l) (sym a) (sym f) (answers_stand service p given n kept.reads st)
 hears service Ticks p b given n t l a f st = north_alike service p b given n (sym t) (sym l) (sym a) (sym f) st

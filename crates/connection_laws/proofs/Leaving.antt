@@ -1,5 +1,5 @@
 -- What the inner TCP sends is, mapped outward, what the laws ask of the connection.
-use Rattle.std.proofs.Common.{◌≡◌, ℕ, zero, suc, ◌<◌, ◌≤◌, ◌+◌, ◌-◌, ◌%◌, ◌^◌, Bool, true, false, not, List, [], ◌∷◌, ◌++◌, take, drop, map, min, max, refl, sym, ap, arith, drop-drop, ◌∙◌}
+use Rattle.std.proofs.Common.{◌≡◌, ℕ, zero, suc, ◌<◌, ◌≤◌, ◌+◌, ◌-◌, ◌%◌, ◌^◌, Bool, true, false, not, List, [], ◌∷◌, ◌++◌, take, drop, map, min, max, refl, ap, arith, drop-drop, ◌∙◌}
 use Rattle.std.specs.Prelude.{◌==◌, ◌&&◌, ◌||◌, nat_lt, nat_le, Some, None, if◌then◌else◌}
 use Rattle.std.specs.List.{list_any}
 use Rattle.std.proofs.lemmas.Bool.{false≢true}
@@ -19,6 +19,7 @@ use Rattle.south_wrap.specs.Patching.{outward}
 use Rattle.south_wrap.specs.Standing.{south_at}
 use Rattle.connection_laws.proofs.Meets.{lt_less}
 use Rattle.connection_laws.proofs.Swallowed.{inside_runs, inside_target, inside_released}
+use Rattle.ft_io.proofs.Booleans.{not_true, left_false, right_false}
 
 number_is : (i delta sisn u k : ℕ) → (i + delta) % 2 ^ 32 ≡ (sisn + u) % 2 ^ 32 → (number_at i k + delta) % 2 ^ 32 ≡ number_at sisn (k + u)
 number_is i delta sisn u k shift = omega (arith, shift)
@@ -120,10 +121,6 @@ fin_if_is service server u i delta q shift given =
     ap (λ r. map (outward (south_at delta q)) (if r.closed then fin_segment (swallowing u service) server (inside u i q) ∷ [] else [])) (inside_runs service u i q)
     ∙ outs_if (outward (south_at delta q)) (answered_run service q).closed _ _ [] [] (fin_is service server u i delta q shift given) refl
 
-not_true : (b : Bool) → not b ≡ true → b ≡ false
-not_true true h = absurd (false≢true h)
-not_true false h = refl
-
 opening_is : (server : Addr) (u i delta : ℕ) (q : Point) → u ≡ 0 → (i + delta) % 2 ^ 32 ≡ (q.sisn + u) % 2 ^ 32 → q.sisn < 2 ^ 32
     → outward (south_at delta q) (syn_ack server (inside u i q)) ≡ syn_ack server q
 opening_is server u i delta q none shift fits =
@@ -218,18 +215,9 @@ bare_is : (server : Addr) (u i delta : ℕ) (q : Point) → (i + delta) % 2 ^ 32
 bare_is server u i delta q shift above =
     segment_is server u i delta q (q.sent - u) 16 [] shift ∙ ap (λ n. segment_at server q n 16 []) (back u q.sent above)
 
--- no segment but a RST that answers has RST
-left_off : (a b : Bool) → (a || b) ≡ false → a ≡ false
-left_off true b h = h
-left_off false b h = refl
-
-right_off : (a b : Bool) → (a || b) ≡ false → b ≡ false
-right_off true b h = absurd (false≢true (sym h))
-right_off false b h = h
-
 append_quiet : (xs ys : List Segment) → list_any has_rst xs ≡ false → list_any has_rst ys ≡ false → list_any has_rst (xs ++ ys) ≡ false
 append_quiet [] ys a b = b
-append_quiet (x ∷ xs) ys a b = ap (λ v. v || list_any has_rst (xs ++ ys)) (left_off (has_rst x) _ a) ∙ append_quiet xs ys (right_off (has_rst x) _ a) b
+append_quiet (x ∷ xs) ys a b = ap (λ v. v || list_any has_rst (xs ++ ys)) (left_false (has_rst x) _ a) ∙ append_quiet xs ys (right_false (has_rst x) _ a) b
 
 if_quiet : (b : Bool) (x : Segment) (xs : List Segment) → has_rst x ≡ false → list_any has_rst xs ≡ false → list_any has_rst (if b then x ∷ xs else []) ≡ false
 if_quiet true x xs a b = ap (λ v. v || list_any has_rst xs) a ∙ b

@@ -13,6 +13,8 @@ use Rattle.connection_laws.specs.Inside.{GoesOn}
 use Rattle.south_wrap.specs.Patching.{inward}
 use Rattle.south_wrap.specs.SouthState.{is_high}
 use Rattle.south_wrap.specs.Standing.{south_at}
+use Rattle.ft_io.proofs.Booleans.{and_false}
+use Rattle.ft_io.proofs.Choices.{if_false}
 
 goes_on : (sisn u number : ℕ) → number < 2 ^ 32 → u ≤ 2 ^ 24 → (pos 0 -ℤ pos (2 ^ 30)) ≤ℤ offset_of sisn number
     → offset_of ((sisn + u) % 2 ^ 32) number ≡ offset_of sisn number -ℤ pos u
@@ -77,10 +79,6 @@ if_true : {A : Type 0} (b : Bool) (x y : A) → b ≡ true → (if b then x else
 if_true true x y h = refl
 if_true false x y h = absurd (false≢true h)
 
-if_false : {A : Type 0} (b : Bool) (x y : A) → b ≡ false → (if b then x else y) ≡ y
-if_false true x y h = absurd (false≢true (sym h))
-if_false false x y h = refl
-
 -- the acknowledgement of a near segment
 pub lowers : (u i delta : ℕ) (p : Point) (segment : Segment) → GoesOn u i delta p → segment.head.ack < 2 ^ 32
     → (pos 0 -ℤ pos (2 ^ 30)) ≤ℤ ack_of p.sisn segment → Lowers u p.sent (ack_of p.sisn segment) (ack_of i (inward (south_at delta p) segment))
@@ -100,12 +98,8 @@ off : (c s x : Bool) → s ≡ false → ((c && s) && x) ≡ false
 off true s x h = ap (λ v. v && x) h
 off false s x h = refl
 
-ends : (x : Bool) → (x && false) ≡ false
-ends true = refl
-ends false = refl
-
 off_behind : (c s n a y : Bool) → n ≡ false → a ≡ false → ((c && s) && (n || (a && y))) ≡ false
-off_behind c s n a y p q = (λ j. (c && s) && (p j || (q j && y))) ∙ ends (c && s)
+off_behind c s n a y p q = (λ j. (c && s) && (p j || (q j && y))) ∙ and_false (c && s)
 
 -- SND.UNA
 pub una_inside : (u una sent : ℕ) (c : Bool) (ack inner : ℤ) → u ≤ una → una ≤ sent → Lowers u sent ack inner

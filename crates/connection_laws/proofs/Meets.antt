@@ -24,6 +24,7 @@ use Rattle.endpoint_laws.specs.Standing.{MeetsLaws}
 use Rattle.connection_laws.specs.Turning.{Fits, NewsFit}
 use Rattle.connection_laws.proofs.Swallowed.{inside_target}
 use Rattle.connection_laws.proofs.Lowered.{Lowers, lowers, moves, una_inside, moves_inside, edge_inside, wl2_inside, counts_inside}
+use Rattle.ft_io.proofs.Booleans.{or_false}
 
 -- the fields of a point that an arriving segment moves
 pub record Moves (news : News) (p : Point) (u i : ℕ) (inner : News) : Type 0 where
@@ -83,10 +84,6 @@ comes_inside u i delta p segment g l =
       ticks = refl;
     }
 
-ends : (x : Bool) → (x && false) ≡ false
-ends true = refl
-ends false = refl
-
 none_of : (a r c d : Bool) → (a && false && r && c && d) ≡ false
 none_of true r c d = refl
 none_of false r c d = refl
@@ -98,10 +95,6 @@ nothing_counts p segment h =
     ap (λ b. has_ack segment && not b && not (has_rst segment) && accepts p segment && (p.syn_acked || int_le (pos 0) (ack_of p.sisn segment))) h
     ∙ none_of (has_ack segment) (not (has_rst segment)) (accepts p segment) (p.syn_acked || int_le (pos 0) (ack_of p.sisn segment))
 
-or_none : (x : Bool) → x ≡ (x || false)
-or_none true = refl
-or_none false = refl
-
 pub stays_inside : (u i : ℕ) (p : Point) (segment : Segment) → counts p segment ≡ false → Moves (Comes segment) p u i Begins
 unfolding taken_after fin_after syn_acked_after acknowledged_after edge_after wl1_after wl2_after
 stays_inside u i p segment c =
@@ -109,8 +102,8 @@ stays_inside u i p segment c =
     let t : p.taken ≡ taken_after (Comes segment) p = sym (taken_is p p segment segment (counts p segment) false c) in
     record {
       taken = t;
-      fin = or_none p.fin ∙ sym (λ j. p.fin || (c j && not p.fin && int_le none (pos (length p.taken)) && fin_of segment && int_eq (end_of p segment) (pos (length (sym t j))) && nat_lt (length (sym t j)) (receive_edge p)));
-      syn_acked = or_none p.syn_acked ∙ sym (λ j. p.syn_acked || c j);
+      fin = or_false p.fin ∙ sym (λ j. p.fin || (c j && not p.fin && int_le none (pos (length p.taken)) && fin_of segment && int_eq (end_of p segment) (pos (length (sym t j))) && nat_lt (length (sym t j)) (receive_edge p)));
+      syn_acked = or_false p.syn_acked ∙ sym (λ j. p.syn_acked || c j);
       una = sym (λ j. (if c j && int_le (pos 0) (ack_of p.sisn segment) then una_after p.una (acknowledged_by p segment) else p.una) - u);
       edge = sym (λ j. (if moves (c j) p.syn_acked p.una p.wl1 p.wl2 none (ack_of p.sisn segment) p.sent then acknowledged_by p segment + window_by p segment else p.edge) - u);
       wl1 = sym (λ j. if moves (c j) p.syn_acked p.una p.wl1 p.wl2 none (ack_of p.sisn segment) p.sent then none else p.wl1);

@@ -1,7 +1,7 @@
 -- A connection goes on without its TCP, once that is CLOSED.
 use Rattle.std.proofs.Common.{◌≡◌, ℕ, zero, suc, ◌≤◌, ◌+◌, ◌-◌, ◌%◌, ◌^◌, ◌*◌, Bool, true, false, not, List, [], ◌∷◌, ◌++◌, length, take, drop, map, min, max, refl, sym, ap, subst, arith, ◌∙◌, ◌<◌}
 use Rattle.std.specs.Prelude.{pos, ◌==◌, ◌&&◌, ◌||◌, nat_abs, nat_lt, int_le, if◌then◌else◌}
-use Rattle.std.proofs.lemmas.Bool.{false≢true}
+use Rattle.std.proofs.lemmas.Bool.{false≢true, and_parts}
 use Rattle.ft_io.specs.declared.Addr.{Addr}
 use Rattle.seq_arith.specs.Arrival.{una_after, below}
 use Rattle.seq_arith.specs.Packet.{Segment, has_rst, has_ack}
@@ -35,7 +35,7 @@ use Rattle.tcp_endpoint.specs.States.{has_begun}
 use Rattle.tcp_endpoint.specs.Leaving.{flushed, with_turn_ended, announced, after_full, with_fin_out, with_text_sent, with_probe, probes, probes_text, probes_fin}
 use Rattle.endpoint_laws.proofs.TurnLaw.{after_steps, timed_sent}
 use Rattle.endpoint_laws.proofs.EndingLaw.{flushed_name}
-use Rattle.endpoint_laws.proofs.NoConnection.{closed_stays_law, closed_answers_law}
+use Rattle.endpoint_laws.proofs.NoConnection.{closed_stays_law, closed_answers_law, same_closed}
 use Rattle.endpoint_laws.proofs.Bounding.{bounded_by_flush, bounded_by_tick}
 use Rattle.endpoint_laws.proofs.TurnEnd.{flush_keeps, last_flushed}
 use Rattle.endpoint_laws.proofs.Turns.{flushed_receives}
@@ -48,6 +48,7 @@ use Rattle.endpoint_laws.proofs.Calls.{FinIsLast, IsUsed, used_is, bounded_used,
 use Rattle.connection_laws.specs.Closing.{StandsClosed, ReadsOn, GoesOnClosed}
 use Rattle.connection_laws.proofs.Keeping.{Keeps, kept_same, kept_ticked}
 use Rattle.connection_laws.proofs.Quiet.{quiet_sends}
+use Rattle.connection_laws.proofs.Forged.{plus_none}
 
 -- a front goes on where the list does
 pub front_goes_on : (a b : ℕ) (xs ys : List ℕ) → a ≤ b → IsPrefix (take a xs) (take b (xs ++ ys))
@@ -133,10 +134,6 @@ closed_of : (c : Bool) (r u s : ℕ) → nat_lt r u ≡ true → u ≡ s → s �
 closed_of true r u s a b h = refl
 closed_of false r u s a b h = absurd (grind (arith, a, b, h))
 
-pub both_of : (a b : Bool) → (a && b) ≡ true → (a ≡ true) × (b ≡ true)
-both_of true b h = (refl, h)
-both_of false b h = absurd (false≢true h)
-
 -- it needn't run
 no_need : (una sent t : ℕ) → una ≡ sent → sent ≡ t → nat_lt una (max sent t) ≡ false
 no_need una sent t a b = grind (arith, a, b)
@@ -159,14 +156,9 @@ pub record IsStill (e m : Tcb) : Type 0 where
   pub bounds : IsBounded e → IsBounded m
   pub last : FinIsLast e.sending → FinIsLast m.sending
 
-by_flags : {X : Type 0} (f : Tcb → X) (r a : Bool) (e x y : Tcb) → f x ≡ f e → f y ≡ f e → f (if r then e else (if a then x else y)) ≡ f e
-by_flags f true a e x y h k = refl
-by_flags f false true e x y h k = h
-by_flags f false false e x y h k = k
-
 in_closed_keeps : {X : Type 0} (f : Tcb → X) (e : Tcb) (p : Segment) → e.name ≡ Closed → f (refusing e p) ≡ f e → f (refusing_without_ack e p) ≡ f e → f (received e p) ≡ f e
 unfolding received in_closed
-in_closed_keeps f e p closed h k = ap (λ n. f (received_in n e p)) closed ∙ by_flags f (has_rst p) (has_ack p) e (refusing e p) (refusing_without_ack e p) h k
+in_closed_keeps f e p closed h k = ap (λ n. f (received_in n e p)) closed ∙ same_closed f (has_rst p) (has_ack p) e (refusing e p) (refusing_without_ack e p) h k
 
 still_halves : (e m : Tcb) → m.receiving ≡ e.receiving → m.sending ≡ e.sending → m.reset ≡ e.reset → IsStill e m
 still_halves e m r s k = record {
@@ -209,9 +201,6 @@ still Ticks e closed = record {
 still Begins e closed = still_halves e e refl refl refl
 
 -- its flush sends nothing
-none_more : (n : ℕ) → n + 0 ≡ n
-none_more n = omega arith
-
 off_second_of : (p b o f : Bool) → b ≡ false → (p && b && o && f) ≡ false
 off_second_of true b o f h = ap (λ x. x && o && f) h
 off_second_of false b o f h = refl
@@ -223,7 +212,7 @@ closed_sent w off =
     let none : probes w ≡ false = off_second_of w.probe (has_begun w.name) s.syn_acked (not s.fin_sent) off in
     timed_sent _ (after_steps (has_begun w.name) (probes_text w) (probes_fin w) s)
     ∙ (λ j. (after_steps (off j) (none j && nat_lt (s.sent - s.una) (length s.held)) (none j && not (nat_lt (s.sent - s.una) (length s.held)) && s.closed) s).sent)
-    ∙ none_more s.sent
+    ∙ plus_none s.sent
 
 -- its RST stays inside
 one_stays : (delta : ℕ) (q : Point) (r a : Bool) (x y : Segment) → has_rst x ≡ true → has_rst y ≡ true → passed delta q (if r then [] else (if a then x ∷ [] else y ∷ [])) ≡ []
@@ -241,7 +230,7 @@ pub outlives : {State : Type 0} (service : Machine State) (server : Addr) (boot 
     → StandsClosed service u i delta p e → LiveTurn service server boot news p q sent → ReadsOn delta news p q calls e → GoesOnClosed service server u i delta news p q calls e
 unfolding sent_after sent_at_once
 outlives service server boot u i delta news p q calls e sent st l reads =
-    let over = both_of p.fin (nat_lt (released service p) p.una) st.over in
+    let over = and_parts p.fin (nat_lt (released service p) p.una) st.over in
     let closed : (answered_run service p).closed ≡ true = closed_of (answered_run service p).closed (released service p) p.una p.sent over.1 st.acknowledged st.all_sent in
     let taken : q.taken ≡ p.taken = l.taken ∙ taken_stays news p over.0 in
     let fin : q.fin ≡ true = l.fin ∙ fin_stays news p over.0 in

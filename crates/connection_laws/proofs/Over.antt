@@ -1,7 +1,7 @@
 -- A connection whose TCP has begun is over where that is in TIME-WAIT.
 use Rattle.std.proofs.Common.{◌≡◌, ℕ, ◌≤◌, ◌+◌, ◌-◌, Bool, true, false, length, refl, sym, ap, arith, ◌∙◌}
 use Rattle.std.specs.Prelude.{◌==◌, ◌&&◌, nat_lt, if◌then◌else◌}
-use Rattle.std.proofs.lemmas.Bool.{false≢true}
+use Rattle.std.proofs.lemmas.Bool.{false≢true, and_right, and_from, and_left}
 use Rattle.server_trait.specs.Service.{Machine}
 use Rattle.ft_model.specs.Point.{Point, is_over, released}
 use Rattle.tcp_endpoint.specs.declared.states.StateName.{StateName}
@@ -19,28 +19,18 @@ acked_is : (f : Bool) (u una sent len may given : ℕ) → (if f then sent - 1 e
 acked_is true u una sent len may given until low all some order = let a : given ≡ may = all refl in let b : 1 ≤ sent = some refl in grind (arith, until, a, b, order)
 acked_is false u una sent len may given until low all some order = grind (arith, until, low)
 
-both_on : (fin acked : Bool) → fin ≡ true → acked ≡ true → (fin && acked) ≡ true
-both_on fin acked a b = λ j. a j && b j
-
-first_off : (fin acked : Bool) → fin ≡ false → (fin && acked) ≡ false
-first_off fin acked a = ap (λ b. b && acked) a
-
-second_off : (fin acked : Bool) → acked ≡ false → (fin && acked) ≡ false
-second_off true acked b = b
-second_off false acked b = refl
-
 waits : (name : StateName) (o c f a : Bool) → has_begun name ≡ true → IsNamed name o c f a → (c ≡ false → a ≡ false) → (f && a) ≡ is_time_wait name
 waits Closed o c f a begun h last = absurd (false≢true begun)
 waits Listen o c f a begun h last = absurd (false≢true begun)
 waits SynSent o c f a begun h last = absurd (false≢true begun)
-waits SynReceived o c f a begun h last = first_off f a h.1
-waits Established o c f a begun h last = first_off f a h.2
-waits FinWait1 o c f a begun h last = first_off f a h.2
-waits FinWait2 o c f a begun h last = first_off f a h.2
-waits CloseWait o c f a begun h last = second_off f a (last h.1)
-waits Closing o c f a begun h last = second_off f a h.3
-waits LastAck o c f a begun h last = second_off f a h.3
-waits TimeWait o c f a begun h last = both_on f a h.2 h.3
+waits SynReceived o c f a begun h last = and_left f a h.1
+waits Established o c f a begun h last = and_left f a h.2
+waits FinWait1 o c f a begun h last = and_left f a h.2
+waits FinWait2 o c f a begun h last = and_left f a h.2
+waits CloseWait o c f a begun h last = and_right f a (last h.1)
+waits Closing o c f a begun h last = and_right f a h.3
+waits LastAck o c f a begun h last = and_right f a h.3
+waits TimeWait o c f a begun h last = and_from f a h.2 h.3
 
 unsent : (f c e : Bool) → (f ≡ true → c ≡ true) → c ≡ false → (f && e) ≡ false
 unsent true c e ends h = absurd (false≢true (sym h ∙ ends refl))

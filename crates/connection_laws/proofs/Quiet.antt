@@ -1,6 +1,7 @@
 -- Where all output and the FIN behind it were sent before the turn, and the timer doesn't expire, nothing but a segment without data leaves.
-use Rattle.std.proofs.Common.{◌≡◌, ℕ, ◌≤◌, ◌+◌, ◌-◌, Bool, true, false, [], ◌∷◌, ◌++◌, min, refl, ap, arith}
+use Rattle.std.proofs.Common.{◌≡◌, ℕ, ◌≤◌, ◌+◌, ◌-◌, false, [], ◌∷◌, ◌++◌, min, ap, arith}
 use Rattle.std.specs.Prelude.{◌&&◌, nat_lt, nat_le, if◌then◌else◌}
+use Rattle.std.proofs.lemmas.Bool.{and_right}
 use Rattle.ft_io.specs.declared.Addr.{Addr}
 use Rattle.server_trait.specs.Service.{Machine}
 use Rattle.ft_model.specs.Point.{Point, released}
@@ -22,16 +23,12 @@ none_long a r s h = omega (arith, h)
 past_it : (r s : ℕ) → r + 1 ≤ s → nat_le s r ≡ false
 past_it r s h = grind (arith, h)
 
-off_last : (a b : Bool) → b ≡ false → (a && b) ≡ false
-off_last true b h = h
-off_last false b h = refl
-
 nothing_full : {State : Type 0} (service : Machine State) (server : Addr) (news : News) (p q : Point) → IsQuiet service news p q → full_segments service server news p q ≡ []
 unfolding full_segments resent new_texts new_fin
 nothing_full service server news p q h =
     let long : new_length service p q ≡ 0 = none_long (sent_at_once service p q) (released service q) p.sent h.past in
     let fin : (nat_lt (released service q) (sent_at_once service p q) && nat_le p.sent (released service q)) ≡ false =
-    off_last (nat_lt (released service q) (sent_at_once service p q)) (nat_le p.sent (released service q)) (past_it (released service q) p.sent h.past) in
+    and_right (nat_lt (released service q) (sent_at_once service p q)) (nat_le p.sent (released service q)) (past_it (released service q) p.sent h.past) in
     λ j. (if h.opens j then syn_ack server q ∷ [] else [])
     ++ ((if h.expires j then (if is_unacknowledged p q then first_unacknowledged service server p q else probe service server p q) else [])
     ++ (texts service server q (long j) p.sent (long j) ++ (if fin j then fin_if_closed service server q else [])))

@@ -6,7 +6,7 @@ use Rattle.std.proofs.lemmas.Bool.{false≢true}
 use Rattle.seq_arith.specs.Arrival.{int_eq}
 use Rattle.seq_arith.specs.Offset.{first_of}
 use Rattle.seq_arith.specs.Packet.{Segment, has_syn, has_rst, has_ack}
-use Rattle.seq_arith.proofs.Gaps.{Leads, offset_leads}
+use Rattle.seq_arith.proofs.Gaps.{offset_leads}
 use Rattle.ft_model.specs.Point.{Point, taken_units}
 use Rattle.ft_model.specs.News.News.{Comes, Begins}
 use Rattle.ft_model.specs.Ending.{reset_after}
@@ -14,36 +14,12 @@ use Rattle.tcp_endpoint.specs.Receiving.{next, taken}
 use Rattle.tcp_endpoint.specs.Tcb.{Tcb}
 use Rattle.endpoint_laws.specs.Ending.{resets}
 use Rattle.endpoint_laws.specs.Standing.{ReceivesAt}
-use Rattle.endpoint_laws.proofs.StandingLaw.{next_is}
+use Rattle.endpoint_laws.proofs.StandingLaw.{Moved, turns_by, is_moved, next_is}
 use Rattle.south_wrap.specs.Patching.{inward, repeats_syn}
 use Rattle.south_wrap.specs.Standing.{south_at}
 use Rattle.connection_laws.specs.Inside.{inside}
 use Rattle.connection_laws.specs.Passing.{news_inside}
 use Rattle.connection_laws.specs.Turning.{StandsInside}
-
--- an offset counted from some bytes behind a stream's beginning, as far as numbers tell
-record Moved (z moved : ℤ) (fetched : ℕ) : Type 0 where
-  turns : ℕ
-  is : (z +ℤ pos (turns * 2 ^ 32)) ≡ (moved +ℤ pos fetched)
-  low : (pos 0 -ℤ pos (2 ^ 31)) ≤ℤ z
-  high : moved <ℤ pos (2 ^ 31)
-
-turns_by : (cisn irs number fetched : ℕ) (z moved : ℤ) → irs ≡ (cisn + fetched) % 2 ^ 32 → fetched ≤ 2 ^ 24
-    → Leads ((cisn + 1) % 2 ^ 32) number z → Leads ((irs + 1) % 2 ^ 32) number moved → Moved z moved fetched
-turns_by cisn irs number fetched z moved is few l k =
-    let start : ℕ = (cisn + 1) % 2 ^ 32 in
-    let wraps : ℕ = (start + fetched) / 2 ^ 32 in
-    let irs_is : (irs + 1) % 2 ^ 32 + wraps * 2 ^ 32 ≡ start + fetched = omega (arith, is) in
-    record {
-      turns = k.turns + wraps - l.turns;
-      is = omega (arith, ints, l.leads, k.leads, l.high, l.low, k.high, k.low, irs_is);
-      low = l.low;
-      high = k.high;
-    }
-
-is_moved : (start fetched : ℕ) (z moved : ℤ) → Moved z moved fetched → fetched ≤ 2 ^ 24 → start ≤ 2 ^ 30 + 1
-    → int_eq z (pos (start + fetched)) ≡ int_eq moved (pos start)
-is_moved start fetched z moved m few near = grind (arith, ints, m.is, m.low, m.high)
 
 next_near : (taken limit : ℕ) (fin : Bool) → taken ≤ limit → limit ≤ 2 ^ 24 → taken + (if fin then 1 else 0) ≤ 2 ^ 30 + 1
 next_near taken limit true a b = omega (arith, a, b)

@@ -9,14 +9,14 @@ use Rattle.seq_arith.specs.Arrival.{int_eq}
 use Rattle.seq_arith.specs.Packet.{Segment, has_syn, has_rst, has_ack}
 use Rattle.server_trait.specs.Service.{Machine}
 use Rattle.ft_model.specs.Offset.{first_of, ack_of, length_of}
-use Rattle.ft_model.specs.Point.{Point, taken_units, announced_edge, released, is_over}
+use Rattle.ft_model.specs.Point.{Point, taken_units, announced_edge, released}
 use Rattle.ft_model.specs.Point as point
 use Rattle.ft_model.specs.News.{News}
 use Rattle.ft_model.specs.News.News.{Comes, Logged, Ticks, Begins}
 use Rattle.ft_model.specs.Network.{Packet}
 use Rattle.ft_model.specs.Answered.{answered_after}
 use Rattle.ft_model.specs.Taken.{accepts, counts, taken_after, fin_after}
-use Rattle.ft_model.specs.Owed.{is_refused, owes, owes_acceptable, asks}
+use Rattle.ft_model.specs.Owed.{is_refused, owes, asks}
 use Rattle.ft_model.specs.Owed as outer
 use Rattle.ft_model.specs.Reads.{Makes, MakesReads, next_read, next_length, may_read}
 use Rattle.ft_model.specs.Sending.{edge_after, sent_at_once, syn_acked_after}
@@ -34,6 +34,8 @@ use Rattle.connection_laws.specs.Turning.{Turns, Fits}
 use Rattle.connection_laws.proofs.Lowered.{Lowers, lowers}
 use Rattle.connection_laws.proofs.Meets.{Moves, moves_inside_all, stays_inside, laws_inside, minus_none}
 use Rattle.connection_laws.proofs.Leaving.{Sends, full, passed_is, or_besides}
+use Rattle.ft_io.proofs.Booleans.{not_true, left_false, middle_false, second_of_three}
+use Rattle.endpoint_laws.proofs.Ends.{less_is, none_if}
 
 -- in what order the reasons for a segment are asked doesn't matter
 or_five : (o x y b r : Bool) → (((o || x) || y) || (b || r)) ≡ ((((o || b) || r) || x) || y)
@@ -48,9 +50,6 @@ or_five false false false true r = refl
 or_five false false false false true = refl
 or_five false false false false false = refl
 
-lt_le : (z : ℤ) → int_lt z (pos 0) ≡ not (int_le (pos 0) z)
-lt_le z = grind (arith, ints)
-
 -- while nothing has counted, output goes on from its beginning
 same_sign : (u sent : ℕ) (ack inner : ℤ) → u ≡ 0 → Lowers u sent ack inner → int_le (pos 0) inner ≡ int_le (pos 0) ack
 same_sign u sent ack inner o (inl h) = rw (h.is, h.to) (grind (arith, ints))
@@ -62,12 +61,7 @@ refused_by : (u sent : ℕ) (syn_acked has : Bool) (ack inner : ℤ) → (syn_ac
     → (not syn_acked && has && int_lt inner (pos 0)) ≡ (not syn_acked && has && int_lt ack (pos 0))
 refused_by u sent true has ack inner o l = refl
 refused_by u sent false has ack inner o l =
-    ap (λ b. true && has && b) (lt_le inner ∙ ap not (same_sign u sent ack inner (o refl) l) ∙ sym (lt_le ack))
-
-none_middle : (a b c : Bool) → b ≡ false → (a && b && c) ≡ false
-none_middle true true c h = absurd (false≢true (sym h))
-none_middle true false c h = refl
-none_middle false b c h = refl
+    ap (λ b. true && has && b) (less_is inner ∙ ap not (same_sign u sent ack inner (o refl) l) ∙ sym (less_is ack))
 
 refused_any : (u i delta : ℕ) (p : Point) (segment : Segment) (b : Bool) → has_ack segment ≡ b → GoesOn u i delta p → Fits p segment
     → is_refused (inside u i p) (inward (south_at delta p) segment) ≡ is_refused p segment
@@ -75,8 +69,8 @@ refused_any u i delta p segment true h g f =
     refused_by u p.sent p.syn_acked (has_ack segment) (ack_of p.sisn segment) (ack_of i (inward (south_at delta p) segment)) (λ o. (g.syn_unacked o).0)
     (lowers u i delta p segment g f.ack (f.near h))
 refused_any u i delta p segment false h g f =
-    none_middle (not p.syn_acked) (has_ack segment) (int_lt (ack_of i (inward (south_at delta p) segment)) (pos 0)) h
-    ∙ sym (none_middle (not p.syn_acked) (has_ack segment) (int_lt (ack_of p.sisn segment) (pos 0)) h)
+    middle_false (not p.syn_acked) (has_ack segment) (int_lt (ack_of i (inward (south_at delta p) segment)) (pos 0)) h
+    ∙ sym (middle_false (not p.syn_acked) (has_ack segment) (int_lt (ack_of p.sisn segment) (pos 0)) h)
 
 refused_is : (u i delta : ℕ) (p : Point) (segment : Segment) → GoesOn u i delta p → Fits p segment
     → is_refused (inside u i p) (inward (south_at delta p) segment) ≡ is_refused p segment
@@ -113,7 +107,7 @@ usually service server news inner p q u i delta above s none opens asked =
     ∙ (λ j. or_bare (owed j) bare ((if sym opens j then syn_ack server q ∷ [] else []) ++ full service server news p q))
 
 -- where nothing is taken nothing is read
-never : (n : ℕ) → nat_lt n 0 ≡ false
+pub never : (n : ℕ) → nat_lt n 0 ≡ false
 never n = grind arith
 
 nothing_to_read : (p : Point) → length p.taken ≡ 0 → p.fetched ≡ 0 → p.fin ≡ false → next_length p ≡ None
@@ -166,11 +160,6 @@ units_none n false h = (grind (arith, h), refl)
 abbrev pub syn_at : Point → Segment → Bool
 syn_at p segment = is_syn segment && segment.head.seq == p.cisn
 
-pub repeats_taken : (s a b : Bool) → (s && a && b) ≡ true → a ≡ true
-repeats_taken true true b h = refl
-repeats_taken true false b h = absurd (false≢true h)
-repeats_taken false a b h = absurd (false≢true h)
-
 -- a SYN is repeated
 pub repeated : {State : Type 0} (service : Machine State) (server : Addr) (boot : ℕ) (segment : Segment) (p q : Point) (sent : List Packet) (u i delta : ℕ) → u ≤ q.sent
     → Sends service (Comes segment) Begins p q u i delta → p.fetched ≤ length p.taken → repeats_syn p segment ≡ true → LiveTurn service server boot (Comes segment) p q sent
@@ -179,7 +168,7 @@ pub repeated : {State : Type 0} (service : Machine State) (server : Addr) (boot 
     ≡ segments_of service server (Comes segment) p q
 unfolding segments_of full_segments taken_after fin_after
 repeated service server boot segment p q sent u i delta above s few opens l laws =
-    let units = units_none (length p.taken) p.fin (repeats_taken (syn_at p segment) (taken_units p == 0) (p.una == 0) opens) in
+    let units = units_none (length p.taken) p.fin (second_of_three (syn_at p segment) (taken_units p == 0) (p.una == 0) opens) in
     let lens : q.lengths ≡ p.lengths =
     same_lengths service p q l.reads (ap length laws.taken ∙ units.0) (l.same.fetched ∙ omega (arith, few, units.0)) (laws.fin ∙ units.1) in
     let quiet : is_owed Begins (inside u i p) (inside u i q) ≡ false = nothing_new p q laws.taken laws.fin l.same.fetched lens in
@@ -208,17 +197,13 @@ off_last true true false d e h = refl
 off_last true false c d e h = refl
 off_last false b c d e h = refl
 
-not_both : (x : Bool) → not x ≡ true → x ≡ false
-not_both true h = absurd (false≢true h)
-not_both false h = refl
-
 pub less_itself : (n : ℕ) → nat_lt n n ≡ false
 less_itself n = grind arith
 
-nothing_at_once : (t : ℕ) → max 0 (min t 0) ≡ 0
+pub nothing_at_once : (t : ℕ) → max 0 (min t 0) ≡ 0
 nothing_at_once t = omega arith
 
-nothing_long : (r : ℕ) → min 0 r - 0 ≡ 0
+pub nothing_long : (r : ℕ) → min 0 r - 0 ≡ 0
 nothing_long r = omega arith
 
 -- an acceptable segment acknowledges less than the SYN
@@ -238,7 +223,7 @@ refused_turn service server boot segment p q sent u i delta g r l =
     let f = four_of (accepts p segment) (has_rst segment) (has_syn segment) (is_refused p segment) r in
     let k = three_of p.syn_acked (has_ack segment) (int_lt (ack_of p.sisn segment) (pos 0)) f.3 in
     let o = g.syn_unacked k.0 in
-    let low : int_le (pos 0) (ack_of p.sisn segment) ≡ false = not_both (int_le (pos 0) (ack_of p.sisn segment)) (sym (lt_le (ack_of p.sisn segment)) ∙ k.1) in
+    let low : int_le (pos 0) (ack_of p.sisn segment) ≡ false = not_true (int_le (pos 0) (ack_of p.sisn segment)) (sym (less_is (ack_of p.sisn segment)) ∙ k.1) in
     let none : counts p segment ≡ false =
     off_last (has_ack segment) (not (has_syn segment)) (not (has_rst segment)) (accepts p segment) (p.syn_acked || int_le (pos 0) (ack_of p.sisn segment))
     ((λ j. k.0 j || int_le (pos 0) (ack_of p.sisn segment)) ∙ low) in
@@ -281,13 +266,9 @@ refused service server boot segment inner p q sent u i delta g r s l =
     ∙ (λ j. or_bare (sym owed j) (bare_segment server q) ((if sym t.opens j then syn_ack server q ∷ [] else []) ++ sym rest j))
 
 -- whichever comes
-left_none : (a b : Bool) → (a || b) ≡ false → a ≡ false
-left_none true b h = h
-left_none false b h = refl
-
 pub still_syn_unacked : (news : News) (p : Point) → syn_acked_after news p ≡ false → p.syn_acked ≡ false
 unfolding syn_acked_after
-still_syn_unacked (Comes segment) p h = left_none p.syn_acked (counts p segment) h
+still_syn_unacked (Comes segment) p h = left_false p.syn_acked (counts p segment) h
 still_syn_unacked (Logged kept) p h = h
 still_syn_unacked Ticks p h = h
 still_syn_unacked Begins p h = h
@@ -304,10 +285,6 @@ sends service server boot news p q sent u i delta t before after = record {
   given = t.given;
   syn_unacked = λ h. (before.syn_unacked (still_syn_unacked news p (sym t.goes.syn_acked ∙ h))).0;
 }
-
-none_if : (b : Bool) (x : Segment) → b ≡ false → (if b then x ∷ [] else []) ≡ []
-none_if true x h = absurd (false≢true (sym h))
-none_if false x h = refl
 
 comes : {State : Type 0} (service : Machine State) (server : Addr) (boot : ℕ) (segment : Segment) (p q : Point) (sent : List Packet) (u i delta : ℕ) (b : Bool)
     → Turns service server boot (Comes segment) p q sent u i delta → GoesOn u i delta p → GoesOn u i delta q → refuses p segment ≡ b → repeats_syn p segment ≡ false

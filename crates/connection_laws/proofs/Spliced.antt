@@ -46,6 +46,8 @@ use Rattle.connection_laws.specs.Splicing.{delta_from}
 use Rattle.connection_laws.proofs.Ending.{flushed_reset}
 use Rattle.connection_laws.specs.Splicing.{GoesOnFrom, StandsAtEntry, forged_syn, forged_ack, forged_fin, connected, spliced}
 use Rattle.connection_laws.proofs.Forged.{silent, IsForged, IsFresh, after_forged, forged_laws, run_is}
+use Rattle.ft_io.proofs.Choices.{by_cases}
+use Rattle.ft_io.proofs.Booleans.{false_by}
 
 -- nothing is written, and the user hasn't closed
 pub record IsIdle (s : Sending) : Type 0 where
@@ -67,14 +69,6 @@ empty (x ∷ xs) h = absurd (omega (arith, h))
 
 none_held : (una una' len len' : ℕ) → una ≡ 0 → len ≡ 0 → una' + len' ≡ max una' (una + len) → len' ≡ 0
 none_held una una' len len' a b h = omega (arith, a, b, h)
-
-unsent_by : (b closed : Bool) → (b ≡ true → closed ≡ true) → closed ≡ false → b ≡ false
-unsent_by true closed h c = absurd (false≢true (sym c ∙ h refl))
-unsent_by false closed h c = refl
-
-by_cases : {X : Type 0} (b : Bool) → (b ≡ true → X) → (b ≡ false → X) → X
-by_cases true p q = p refl
-by_cases false p q = q refl
 
 not_over : (f a b : Bool) → a ≡ false → (f && (a && b)) ≡ true → ⊥
 not_over true a b h k = false≢true ((sym (λ j. h j && b)) ∙ k)
@@ -102,7 +96,7 @@ forged_turn p e segment fin t f s few seq =
     let held : u.sending.held ≡ [] =
     empty u.sending.held (none_held e.sending.una u.sending.una (length e.sending.held) (length u.sending.held) una (ap length t.idle.held) by.held) in
     let closed : u.sending.closed ≡ false = by.closed ∙ t.idle.closed in
-    let unsent : u.sending.fin_sent ≡ false = unsent_by u.sending.fin_sent u.sending.closed (λ h. (came.fin_last h).0) closed in
+    let unsent : u.sending.fin_sent ≡ false = false_by u.sending.fin_sent u.sending.closed (λ h. (came.fin_last h).0) closed in
     let laws = forged_laws p segment fin f s few in
     let begun_after : has_begun u.name ≡ true =
     by_cases (has_begun u.name) (λ h. h)

@@ -39,7 +39,8 @@ use Rattle.connection_laws.specs.Standing.{PartsTurn}
 use Rattle.connection_laws.proofs.Beginning.{begins_inside}
 use Rattle.connection_laws.proofs.Fed.{reading, north_calls_feed}
 use Rattle.connection_laws.proofs.Joining.{socket_laws, hears, socket_stands}
-use Rattle.connection_laws.proofs.Together.{goes, sends_all, begun_open}
+use Rattle.connection_laws.proofs.Together.{goes, sends_all}
+use Rattle.endpoint_laws.proofs.SegmentsLaw.{begun_open}
 
 -- TCP once its SYN has come: nothing is read, written or sent
 record IsFreshTcp (m : Tcb) : Type 0 where

@@ -18,9 +18,9 @@ use Rattle.tcp_endpoint.specs.Arrival.{first, ack_at, owing_if, killed, entering
 use Rattle.tcp_endpoint.specs.Turning.{after_tick, timer_ticked, waited}
 use Rattle.endpoint_laws.specs.Turn.{Call, MayUse, arrived, used}
 use Rattle.endpoint_laws.specs.Ending.{IsNamed, IsNamedRightly}
-use Rattle.endpoint_laws.proofs.EndingLaw.{holds_if}
 use Rattle.endpoint_laws.proofs.TakenLaw.{begun_is}
 use Rattle.endpoint_laws.proofs.Calls.{IsUsed, used_is}
+use Rattle.ft_io.proofs.Choices.{holds_if}
 
 -- where the FIN is taken, the connection is open
 abbrev IsOpenWith : Tcb → Type 0

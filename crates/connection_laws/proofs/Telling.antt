@@ -1,7 +1,7 @@
 -- What a connection's parts tell of its point.
 use Rattle.std.proofs.Common.{◌≡◌, ℕ, ◌<◌, ◌≤◌, ◌+◌, ◌-◌, ◌%◌, ◌^◌, ⊎_elim, Bool, true, false, [], length, max, refl, sym, ap, arith, ◌∙◌}
 use Rattle.std.specs.Prelude.{◌||◌, if◌then◌else◌, nat_lt, pos, negsuc}
-use Rattle.std.proofs.lemmas.Bool.{false≢true}
+use Rattle.std.proofs.lemmas.Bool.{false≢true, and_parts, or_right}
 use Rattle.seq_arith.specs.Number.{distance, number_at, offset_of}
 use Rattle.seq_arith.proofs.Shifts.{offset_of_number}
 use Rattle.ft_model.specs.Copy.{from_start}
@@ -38,18 +38,14 @@ use Rattle.connection_laws.proofs.Again.{stays}
 use Rattle.connection_laws.proofs.Numbers.{behind, sent_behind}
 use Rattle.connection_laws.proofs.Sent.{still_syn_unacked}
 use Rattle.connection_laws.proofs.Whole.{usual_news}
-use Rattle.connection_laws.proofs.Outliving.{IsStill, still, taken_stays, fin_stays, una_stays, syn_acked_stays, both_of}
+use Rattle.connection_laws.proofs.Outliving.{IsStill, still, taken_stays, fin_stays, una_stays, syn_acked_stays}
 use Rattle.connection_laws.proofs.Ending.{unreset}
 use Rattle.connection_laws.proofs.Over.{over_is}
-use Rattle.connection_laws.proofs.Together.{begun_open}
+use Rattle.endpoint_laws.proofs.SegmentsLaw.{begun_open}
 
 off_or : (a c : Bool) → c ≡ false → (a || c) ≡ a
 off_or true c h = refl
 off_or false c h = h
-
-on_or : (a c : Bool) → c ≡ true → (a || c) ≡ true
-on_or true c h = refl
-on_or false c h = h
 
 -- the bytes that wait are those behind what is fetched or read
 bytes_by : (all fetched read unread north : ℕ) → all ≡ read + unread + fetched → max fetched north ≡ read + fetched → all ≡ max fetched north + unread
@@ -164,8 +160,8 @@ tell_closed service u i delta given p n e st c =
     let small : p.sent < 2 ^ 31 = small_sent u p.sent e.sending.sent e.sending.fin_sent k.small k.sent c.bounds.sent in
     record {
       taken = bytes_by (length p.taken) p.fetched e.receiving.read (length e.receiving.unread) n.read r.long (ap (max p.fetched) st.north.read ∙ r.read);
-      fin = (both_of p.fin (nat_lt (released service p) p.una) c.over).0 ∙ sym (on_or (has_taken_fin e.name) (is_closed e.name) closed);
-      over = c.over ∙ sym (on_or (is_time_wait e.name) (is_closed e.name) closed);
+      fin = (and_parts p.fin (nat_lt (released service p) p.una) c.over).0 ∙ sym (or_right (has_taken_fin e.name) (is_closed e.name) closed);
+      over = c.over ∙ sym (or_right (is_time_wait e.name) (is_closed e.name) closed);
       sent = sent;
       acked = acked;
       sent_outside = ap (raised_by delta) sent ∙ outside (number_at p.sisn p.sent) delta (omega arith) k.delta_fits;
@@ -213,7 +209,7 @@ fin_told inner e true begun f =
 fin_told inner e false ended f =
     let m : Tcb = arrived inner e in
     let c = closed_of_placed m.name m.sending.syn_acked m.sending.closed m.receiving.fin (fin_acked m.sending) ended f.placed in
-    c.1 ∙ sym (on_or (has_taken_fin m.name) (is_closed m.name) c.0)
+    c.1 ∙ sym (or_right (has_taken_fin m.name) (is_closed m.name) c.0)
 
 news_open : {S : Type 0} (service : Machine S) (u i delta given : ℕ) (news : News) (p : Point) (n : NorthState S) (e : Tcb) → PartsStand service u i delta given p n e → NewsFit p news
     → reset_after news p ≡ false → StandsOpen u i delta p e → NewsTell delta news p n (arrived (news_inside delta p news) e)
@@ -245,7 +241,7 @@ news_closed service u i delta given news p n e st c =
     let m : Tcb = arrived inner e in
     let s : IsStill e m = still inner e c.name in
     let k : CountsFrom u i delta p e = c.counts in
-    let fin : p.fin ≡ true = (both_of p.fin (nat_lt (released service p) p.una) c.over).0 in
+    let fin : p.fin ≡ true = (and_parts p.fin (nat_lt (released service p) p.una) c.over).0 in
     let closed : is_closed m.name ≡ true = ap is_closed (sym (flushed_name m) ∙ (closed_stays_law inner [] e c.name c.answer).0) in
     let una : acknowledged_after news p ≡ p.una = una_stays news p c.acknowledged in
     let acked : acked_number m ≡ distance (acked_at (syn_acked_after news p) p.sisn (acknowledged_after news p)) delta =
@@ -256,7 +252,7 @@ news_closed service u i delta given news p n e st c =
       taken = ap length (taken_stays news p fin)
           ∙ bytes_by (length p.taken) p.fetched m.receiving.read (length m.receiving.unread) n.read (c.receives.long ∙ (λ j. receiver.taken (sym s.receiving j) + p.fetched))
           (ap (max p.fetched) st.north.read ∙ c.receives.read ∙ (λ j. (sym s.receiving j).read + p.fetched));
-      fin = fin_stays news p fin ∙ sym (on_or (has_taken_fin m.name) (is_closed m.name) closed);
+      fin = fin_stays news p fin ∙ sym (or_right (has_taken_fin m.name) (is_closed m.name) closed);
       acked = acked;
       acked_units = acked_units_at (syn_acked_after news p) p.sisn delta (acked_number m) (acknowledged_after news p) acked k.delta_fits (omega (arith, small, una, c.acknowledged)) k.sisn
           (λ h. absurd (false≢true (sym h ∙ syn_acked_stays news p c.syn_acked)));

@@ -1,7 +1,7 @@
 -- From the parts at a point to the parts at the point after a turn.
 use Rattle.std.proofs.Common.{◌≡◌, ℕ, ◌≤◌, ◌+◌, ◌-◌, ◌*◌, ◌^◌, ◌⊎◌, inl, inr, ⊎_elim, Bool, true, false, not, None, List, [], ◌∷◌, ◌++◌, length, append-nil, take, drop, sum, min, max, refl, sym, ap, subst, arith, ◌∙◌}
 use Rattle.std.specs.Prelude.{◌==◌, ◌&&◌, ◌||◌, nat_lt, nat_le, if◌then◌else◌}
-use Rattle.std.proofs.lemmas.Bool.{false≢true}
+use Rattle.std.proofs.lemmas.Bool.{false≢true, and_parts, and_right}
 use Rattle.ft_io.specs.declared.Addr.{Addr}
 use Rattle.seq_arith.specs.Packet.{Segment, has_syn, has_ack, has_rst}
 use Rattle.seq_arith.specs.Offset.{one_if}
@@ -21,8 +21,7 @@ use Rattle.ft_model.specs.Taken.{taken_after, fin_after}
 use Rattle.ft_model.specs.Timer.{interval_after, rest_after, must_run, probes}
 use Rattle.ft_model.proofs.Settled.{settled}
 use Rattle.ft_model.proofs.TurnTells.{settled_reads}
-use Rattle.tcp_endpoint.specs.declared.states.StateName.{StateName}
-use Rattle.tcp_endpoint.specs.declared.states.StateName.TheVariants.{Closed, Listen, SynSent, SynReceived, Established, FinWait1, FinWait2, CloseWait, Closing, LastAck, TimeWait}
+use Rattle.tcp_endpoint.specs.declared.states.StateName.TheVariants.{Closed}
 use Rattle.tcp_endpoint.specs.Leaving.{leaving, flushed}
 use Rattle.tcp_endpoint.specs.Receiving as receiver
 use Rattle.tcp_endpoint.specs.States.{has_begun, is_closed}
@@ -48,13 +47,15 @@ use Rattle.connection_laws.specs.Closing.{StandsClosed, EndsInside, GoesOnClosed
 use Rattle.connection_laws.specs.Feeding.{tcp_reader, tcp_writer, Feeds, north_calls, FedBy}
 use Rattle.connection_laws.specs.Standing.{StandsOpen, PartsStand, PartsRest, PartsTurn, heard, repeats, adds, leaves_with}
 use Rattle.connection_laws.proofs.Meets.{Moves, moves_inside_all, stays_inside, nothing_counts, is_syn_has, minus_none}
-use Rattle.connection_laws.proofs.Sent.{less_itself, nothing_new, same_lengths, syn_at, units_none, repeats_taken}
+use Rattle.connection_laws.proofs.Sent.{less_itself, nothing_new, same_lengths, syn_at, units_none}
 use Rattle.connection_laws.proofs.Whole.{usual_news, turns_inside}
-use Rattle.connection_laws.proofs.Outliving.{IsStill, still, outlives, opens_not, reads_rise, taken_stays, fin_stays, both_of}
+use Rattle.connection_laws.proofs.Outliving.{IsStill, still, outlives, opens_not, reads_rise, taken_stays, fin_stays}
 use Rattle.connection_laws.proofs.Ending.{unreset, flushed_reset, ends_inside, opens_not as opens_by_end}
 use Rattle.connection_laws.proofs.Keeping.{Keeps, news_keep}
 use Rattle.connection_laws.proofs.Fed.{reading, answered_goes, fed_later, fed_arrived, fed_flushed, full_flushed, used_inside, from_start, north_calls_feed}
 use Rattle.connection_laws.proofs.Joining.{socket_laws, hears, heard_shut, socket_stands}
+use Rattle.endpoint_laws.proofs.SegmentsLaw.{begun_open}
+use Rattle.ft_io.proofs.Booleans.{second_of_three}
 
 -- the point after a turn, by the laws
 pub goes : {S : Type 0} (service : Machine S) (server : Addr) (boot : ℕ) (news : News) (p : Point) (ks : List ℕ) → Makes service (reading p.lengths (settled service news p (p.lengths ++ ks))) ks
@@ -87,20 +88,6 @@ up_to s t e n = omega arith
 pub sends_all : {S : Type 0} (service : Machine S) (server : Addr) (boot : ℕ) (news : News) (p q : Point) (sent : List Packet) → LiveTurn service server boot news p q sent → min (target service q) q.edge ≤ q.sent
 unfolding sent_after sent_at_once
 sends_all service server boot news p q sent l = subst (λ n. min (target service q) q.edge ≤ n) (sym l.sent_units) (up_to p.sent (target service q) q.edge (one_if (probes news p)))
-
--- a name that has begun isn't CLOSED's
-pub begun_open : (name : StateName) → has_begun name ≡ true → is_closed name ≡ false
-begun_open Closed h = absurd (false≢true h)
-begun_open Listen h = refl
-begun_open SynSent h = refl
-begun_open SynReceived h = refl
-begun_open Established h = refl
-begun_open FinWait1 h = refl
-begun_open FinWait2 h = refl
-begun_open CloseWait h = refl
-begun_open Closing h = refl
-begun_open LastAck h = refl
-begun_open TimeWait h = refl
 
 or_off : (a c o : Bool) → c ≡ false → (a || (c && o)) ≡ a
 or_off true c o h = refl
@@ -165,7 +152,7 @@ unfolding segments_of full_segments resent new_texts new_fin taken_after fin_aft
 repeated_alone service server boot segment p q sent xs few rest opens l same =
     let none = nothing_counts p segment (is_syn_has (has_syn segment) (has_ack segment) (has_rst segment) (segment.head.seq == p.cisn) (taken_units p == 0) (p.una == 0) opens) in
     let m : Moves (Comes segment) p 0 0 Begins = stays_inside 0 0 p segment none in
-    let units = units_none (length p.taken) p.fin (repeats_taken (syn_at p segment) (taken_units p == 0) (p.una == 0) opens) in
+    let units = units_none (length p.taken) p.fin (second_of_three (syn_at p segment) (taken_units p == 0) (p.una == 0) opens) in
     let taken : q.taken ≡ p.taken = l.taken ∙ sym m.taken in
     let fin : q.fin ≡ p.fin = l.fin ∙ sym m.fin in
     let edge : q.edge ≡ p.edge = l.edge ∙ minus_none (edge_after (Comes segment) p) p.edge (sym m.edge) in
@@ -270,7 +257,7 @@ done_closed service boot u i delta given given' news p q old new calls e sent s 
     outlives service e.local boot u i delta news p q calls e sent st l (record { may = s.by.may; read = s.by.is_used.read }) in
     record {
       tcp = inr t.stands;
-      segments = closed_leaves service e.local delta news p q w (sym (flushed_name w) ∙ t.stands.name) t.silent (no_repeat news p (opens_not news p (both_of p.fin (nat_lt (released service p) p.una) st.over).0 st.syn_acked)) t.segments;
+      segments = closed_leaves service e.local delta news p q w (sym (flushed_name w) ∙ t.stands.name) t.silent (no_repeat news p (opens_not news p (and_parts p.fin (nat_lt (released service p) p.una) st.over).0 st.syn_acked)) t.segments;
       closed = λ h. (t.syn_acked, t.taken);
     }
 
@@ -356,7 +343,7 @@ at_closed service u i delta given news p b n e stand taken fin lengths fetched s
     let inner : News = news_inside delta p news in
     let m : Tcb = arrived inner e in
     let s : IsStill e m = still inner e st.name in
-    let over : p.fin ≡ true = (both_of p.fin (nat_lt (released service p) p.una) st.over).0 in
+    let over : p.fin ≡ true = (and_parts p.fin (nat_lt (released service p) p.una) st.over).0 in
     let r = st.receives in
     let taken_is : b.taken ≡ p.taken = taken ∙ taken_stays news p over in
     let long : length b.taken ≡ receiver.taken m.receiving + b.fetched = ap length taken_is ∙ r.long ∙ (λ j. receiver.taken (sym s.receiving j) + sym fetched j) in
@@ -490,13 +477,9 @@ ticks_owe_nothing service server boot p q sent l lengths =
     ∙ (λ j. ((false || less_itself p.answered j) || not (taken_units p == taken_units q)) || not (announced_edge p == announced_edge q))
     ∙ nothing_new p q l.taken l.fin l.same.fetched (lengths ∙ append-nil p.lengths)
 
-off_and : (c o : Bool) → o ≡ false → (c && o) ≡ false
-off_and true o h = h
-off_and false o h = refl
-
 pub ticks_add_nothing : {S : Type 0} (service : Machine S) (server : Addr) (boot : ℕ) (p q : Point) (t : Tcb) (sent : List Packet) → LiveTurn service server boot Ticks p q sent
     → q.lengths ≡ p.lengths ++ [] → adds service Ticks p q t ≡ false
 unfolding answered_after
 ticks_add_nothing service server boot p q t sent l lengths =
     (λ j. (false || nat_lt p.answered (l.answered j)) || (is_closed t.name && is_owed service Ticks p q))
-    ∙ (λ j. (false || less_itself p.answered j) || off_and (is_closed t.name) (is_owed service Ticks p q) (ticks_owe_nothing service server boot p q sent l lengths) j)
+    ∙ (λ j. (false || less_itself p.answered j) || and_right (is_closed t.name) (is_owed service Ticks p q) (ticks_owe_nothing service server boot p q sent l lengths) j)

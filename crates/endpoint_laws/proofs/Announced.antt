@@ -25,6 +25,7 @@ use Rattle.endpoint_laws.proofs.ToldLaw.{leaving_by, told_by_segment, told_by_fl
 use Rattle.endpoint_laws.proofs.EndingLaw.{used_keeps, call_answers}
 use Rattle.endpoint_laws.proofs.Rsts.{IsRst, Refuses, refuses_arrived, unbegun_same}
 use Rattle.endpoint_laws.proofs.Calls.{begun_closing}
+use Rattle.ft_io.proofs.Choices.{by_cases}
 
 -- a segment that tells it, and no RST
 abbrev Tells : Tcb → Segment → Type 0
@@ -283,14 +284,10 @@ tells_flushed : (u : Tcb) → TellsAll (flushed u)
 unfolding flushed with_turn_ended announced after_full with_fin_out with_text_sent with_probe
 tells_flushed u = record { answer = refl; heard = λ begun. told_by_flush u begun }
 
-by_begun : {X : Type 0} (b : Bool) → (b ≡ true → X) → (b ≡ false → X) → X
-by_begun true p q = p refl
-by_begun false p q = q refl
-
 turn_told : (news : News) (calls : List Call) (e : Tcb) → TellsAll e → ReadsOnlyTaken calls (arrived news e) → has_begun (before_flush news calls e).name ≡ true
     → (next (before_flush news calls e).receiving ≡ next e.receiving → ⊥) → is_told (sent_in news calls e) ≡ true
 turn_told news calls e t may begun_after changed =
-    by_begun (has_begun e.name)
+    by_cases (has_begun e.name)
     (λ begun. all_told_law news calls e begun t.answer (t.heard begun) may begun_after (inl changed))
     (λ unbegun. absurd (changed (next_used calls (arrived news e) may ∙ unbegun_same news e unbegun)))
 

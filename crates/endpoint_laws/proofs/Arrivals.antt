@@ -1,7 +1,6 @@
 -- What a turn's news make of an endpoint that stands at a point: they lead it to where the laws lead the point, and say what is due.
 use Rattle.std.proofs.Common.{◌≡◌, ℕ, ◌≤◌, ◌+◌, ◌-◌, Bool, true, false, not, Option, Some, None, List, [], ◌∷◌, length, max, refl, sym, ap, subst, arith, ◌∙◌}
 use Rattle.std.specs.Prelude.{ℤ, pos, ◌+ℤ◌, ◌==◌, ◌&&◌, ◌||◌, nat_abs, nat_lt, int_lt, if◌then◌else◌}
-use Rattle.std.proofs.lemmas.Int.{ints}
 use Rattle.std.proofs.lemmas.Bool.{false≢true}
 use Rattle.seq_arith.specs.Number.{offset_of}
 use Rattle.seq_arith.specs.Arrival.{int_eq, una_after}
@@ -33,6 +32,8 @@ use Rattle.endpoint_laws.proofs.ToldLaw.{told_by_segment, probed_by_tick}
 use Rattle.endpoint_laws.proofs.Answering.{Beside, IsApart, apart_beside, beside_is, answer_is}
 use Rattle.endpoint_laws.proofs.Calls.{FinIsLast}
 use Rattle.endpoint_laws.proofs.StandingLaw.{Meets, next_is, accepts_is, first_is, ack_is, received_receives, received_sends}
+use Rattle.ft_io.proofs.Booleans.{false_or}
+use Rattle.seq_arith.proofs.Shifts.{point_shift, above_shift}
 
 -- where the laws lead a point, but for the reads, what is sent, and the timer
 abbrev pub moved : News → Point → Point
@@ -172,12 +173,6 @@ less_is p e segment m = λ i. not (m.sends.syn_acked i) && has_ack segment && in
 pub refuses_is : (p : Point) (e : Tcb) (segment : Segment) → Meets p e segment → refuses p segment ≡ is_refused e segment
 refuses_is p e segment m = λ i. accepts_is p e segment m i && not (has_rst segment) && not (has_syn segment) && less_is p e segment m i
 
-place_moves : (n k : ℕ) (z : ℤ) → int_eq (z +ℤ pos k) (pos (n + k)) ≡ int_eq z (pos n)
-place_moves n k z = grind (arith, ints)
-
-early_moves : (n k : ℕ) (z : ℤ) → int_lt (pos (n + k)) (z +ℤ pos k) ≡ int_lt (pos n) z
-early_moves n k z = grind (arith, ints)
-
 -- an acceptable segment that isn't refused acknowledges no less than the SYN, unless it has SYN or RST
 unrefused_by : (rst syn less some ack early place place' early' : Bool) → (true && not rst && not syn && less) ≡ false → place ≡ place' → early ≡ early'
     → (if rst then not place else (if syn then true else (if less then false else some || (ack && early)))) ≡ (if rst then not place' else (if syn then true else some || (ack && early')))
@@ -197,9 +192,9 @@ owes_is p e segment m unrefused =
     (λ acceptable.
     let z : first_of p.cisn segment ≡ first e segment +ℤ pos k = first_is p e segment m acceptable in
     let place : int_eq (first_of p.cisn segment) (pos (taken_units p)) ≡ int_eq (first e segment) (pos n) =
-    (λ i. int_eq (z i) (pos (units i))) ∙ place_moves n k (first e segment) in
+    (λ i. int_eq (z i) (pos (units i))) ∙ point_shift n k (first e segment) in
     let early : int_lt (pos (taken_units p)) (first_of p.cisn segment) ≡ int_lt (pos n) (first e segment) =
-    (λ i. int_lt (pos (units i)) (z i)) ∙ early_moves n k (first e segment) in
+    (λ i. int_lt (pos (units i)) (z i)) ∙ above_shift n k (first e segment) in
     unrefused_by (has_rst segment) (has_syn segment) (rule.is_refused p segment) (nat_lt 0 (length_of segment)) (has_ack segment) _ _ _ _
     (ap (λ v. true && not (has_rst segment) && not (has_syn segment) && v) (less_is p e segment m)
     ∙ ap (λ v. v && not (has_rst segment) && not (has_syn segment) && acknowledges_less e segment) (sym acceptable) ∙ unrefused)
@@ -324,9 +319,6 @@ ticked_receives : (p : Point) (e : Tcb) → ReceivesAt p e → ReceivesAt p (aft
 unfolding after_tick timer_ticked waited
 ticked_receives p e r = record { cisn = r.cisn; limit = r.limit; read = r.read; long = r.long; unread = r.unread; fin = r.fin }
 
-due : (flag x : Bool) → flag ≡ false → (flag || x) ≡ x
-due flag x none = ap (λ v. v || x) none
-
 tick_arrives : (p : Point) (e : Tcb) → IsBetweenTurns e → StandsAt p e → Arrived Ticks p e (after_tick e)
 unfolding after_tick timer_ticked waited taken_after fin_after syn_acked_after acknowledged_after edge_after wl1_after wl2_after answer_out
 tick_arrives p e between stands =
@@ -345,8 +337,8 @@ tick_arrives p e between stands =
       fin_last = fin_last_kept t (ticked t) (tick_keeps (λ (q : Sending). q.fin_sent) t (λ i r. refl)) (tick_keeps (λ (q : Sending). q.closed) t (λ i r. refl)) sent
           between.bounds.order (omega (arith, una)) (omega (arith, una, held)) between.fin_last;
       told = refl;
-      again = due e.again _ between.again ∙ ap (λ v. v && is_unacknowledged t) runs_out;
-      probe = due e.probe _ between.probe ∙ ap (λ v. v && not (is_unacknowledged t)) runs_out;
+      again = false_or e.again _ between.again ∙ ap (λ v. v && is_unacknowledged t) runs_out;
+      probe = false_or e.probe _ between.probe ∙ ap (λ v. v && not (is_unacknowledged t)) runs_out;
       probes = probed_by_tick e between.probe between.bounds between.shut;
       answer = ap answer_segments between.answer;
       target = λ h. omega (arith, tick_keeps target t (λ i r. refl));

@@ -75,7 +75,7 @@ opened_by_syn e iss limit syn l = record {
   answer = l.answer;
 }
 
-none_more : (n : ℕ) → 0 + n ≡ n
+pub none_more : (n : ℕ) → 0 + n ≡ n
 none_more n = omega arith
 
 -- the point and the endpoint, once the user has made calls

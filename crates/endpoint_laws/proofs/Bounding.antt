@@ -23,6 +23,7 @@ use Rattle.tcp_endpoint.specs.Turning.{after_tick, timer_ticked, waited, after_r
 use Rattle.endpoint_laws.specs.Laws.{counts, continues, taken_by, Bounds, IsBounded, IsUsual}
 use Rattle.endpoint_laws.proofs.TakenLaw.{taken_law}
 use Rattle.endpoint_laws.proofs.SendingLaw.{sending_is, held_field, near_of_counts}
+use Rattle.ft_io.proofs.Booleans.{left_true}
 
 pub bounded_is_short : (e : Tcb) → IsBounded e → IsShort e.sending
 bounded_is_short e b = record { sent = grind (arith, b.sent); wl2 = grind (arith, b.wl2, b.order, b.sent) }
@@ -84,22 +85,22 @@ taken_within read limit unread text true h = omega (arith, length-append {A = �
 taken_within read limit unread text false h = h
 
 -- the sending half, for a later acknowledgement
-new_within : (una sent : ℕ) (z : ℤ) → una ≤ sent → (if is_new_ack una sent z then nat_abs z else una) ≤ sent
+pub new_within : (una sent : ℕ) (z : ℤ) → una ≤ sent → (if is_new_ack una sent z then nat_abs z else una) ≤ sent
 new_within una sent z h = grind (arith, ints)
 
-moved_within : (una sent : ℕ) (z : ℤ) (c : Bool) → (int_le (pos una) z && int_le z (pos sent) && c) ≡ true
+pub moved_within : (una sent : ℕ) (z : ℤ) (c : Bool) → (int_le (pos una) z && int_le z (pos sent) && c) ≡ true
     → (nat_abs z ≤ (if is_new_ack una sent z then nat_abs z else una)) × (nat_abs z ≤ sent)
 moved_within una sent z c h = (grind (arith, ints), grind (arith, ints))
 
-near_of_choice : (irs x y : ℕ) (b : Bool) → IsNearFirst (offset_of irs x) → IsNearFirst (offset_of irs y) → IsNearFirst (offset_of irs (if b then x else y))
+pub near_of_choice : (irs x y : ℕ) (b : Bool) → IsNearFirst (offset_of irs x) → IsNearFirst (offset_of irs y) → IsNearFirst (offset_of irs (if b then x else y))
 near_of_choice irs x y true p q = p
 near_of_choice irs x y false p q = q
 
-choice_within : (x y n : ℕ) (b : Bool) → (b ≡ true → x ≤ n) → y ≤ n → (if b then x else y) ≤ n
+pub choice_within : (x y n : ℕ) (b : Bool) → (b ≡ true → x ≤ n) → y ≤ n → (if b then x else y) ≤ n
 choice_within x y n true p q = p refl
 choice_within x y n false p q = q
 
-not_less : (una sent : ℕ) (z : ℤ) → una ≤ (if is_new_ack una sent z then nat_abs z else una)
+pub not_less : (una sent : ℕ) (z : ℤ) → una ≤ (if is_new_ack una sent z then nat_abs z else una)
 not_less una sent z = grind (arith, ints)
 
 later_bounds : (r : Receiving) (s : Sending) (seq window : ℕ) (z : ℤ) → Bounds r s → IsNearFirst (offset_of r.irs seq) → seq < 2 ^ 32 → window ≤ 65535 → s.syn_acked ≡ true
@@ -148,7 +149,7 @@ first_bounds r s seq window b near fits small syn_unacked r' limit within irs =
       reach = omega (arith, small);
     }
 
-other_bounds : (r : Receiving) (s : Sending) → Bounds r s → (r' : Receiving) → r'.limit ≤ 2 ^ 24 → taken r' ≤ r'.limit → r'.irs ≡ r.irs → Bounds r' s
+pub other_bounds : (r : Receiving) (s : Sending) → Bounds r s → (r' : Receiving) → r'.limit ≤ 2 ^ 24 → taken r' ≤ r'.limit → r'.irs ≡ r.irs → Bounds r' s
 other_bounds r s b r' limit within irs = record {
   limit = limit;
   taken = within;
@@ -281,20 +282,16 @@ both : (P : Bool → Type 0) (b : Bool) → P true → P false → P b
 both P true p q = p
 both P false p q = q
 
-and_left : (x u : Bool) → (x && u) ≡ true → x ≡ true
-and_left true u h = refl
-and_left false u h = h
-
-two_more_off : (t u : Bool) → (false && t && u) ≡ true → false ≡ true
+pub two_more_off : (t u : Bool) → (false && t && u) ≡ true → false ≡ true
 two_more_off t u h = h
 
 two_off : (d t : Bool) → (false && not d && t) ≡ true → false ≡ true
 two_off d t h = h
 
-three_off : (c d t : Bool) → (false && c && d && t) ≡ true → false ≡ true
+pub three_off : (c d t : Bool) → (false && c && d && t) ≡ true → false ≡ true
 three_off c d t h = h
 
-four_off : (b c d t : Bool) → (false && b && c && d && t) ≡ true → false ≡ true
+pub four_off : (b c d t : Bool) → (false && b && c && d && t) ≡ true → false ≡ true
 four_off b c d t h = h
 
 -- what the tests of a flush say
@@ -306,7 +303,7 @@ text_facts true false c d t h = absurd (false≢true (three_off c d t h))
 text_facts false b c d t h = absurd (false≢true (four_off b c d t h))
 
 fin_facts : (a b c d t u : Bool) → (a && b && c && not d && t && u) ≡ true → (c ≡ true) × (d ≡ false)
-fin_facts a b c d t u h = let f = text_facts a b c d t (and_left (a && b && c && not d && t) u h) in (f.0, f.1)
+fin_facts a b c d t u h = let f = text_facts a b c d t (left_true (a && b && c && not d && t) u h) in (f.0, f.1)
 
 new_fin_facts : (a b c d t u : Bool) → (a && (b && c && not d && t && u)) ≡ true → (b ≡ true) × (d ≡ false)
 new_fin_facts true true true false t u h = (refl, refl)

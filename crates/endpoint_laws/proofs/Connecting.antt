@@ -30,8 +30,10 @@ use Rattle.endpoint_laws.proofs.Arrivals.{no_probe}
 use Rattle.endpoint_laws.proofs.TurnLaw.{flushed_timer}
 use Rattle.endpoint_laws.proofs.Turns.{between_again}
 use Rattle.endpoint_laws.proofs.Listening.{read_none}
-use Rattle.endpoint_laws.proofs.EndingLaw.{FollowsAt, holds_if, used_keeps, used_follows, flush_follows, named_at, flushed_name}
+use Rattle.endpoint_laws.proofs.EndingLaw.{FollowsAt, used_keeps, used_follows, flush_follows, named_at, flushed_name}
 use Rattle.endpoint_laws.proofs.Announced.{answer_used, announces_law, unanswered_tells}
+use Rattle.ft_io.proofs.Choices.{holds_if}
+use Rattle.ft_io.proofs.Booleans.{and_false}
 
 -- the sending half of an endpoint whose SYN is unacknowledged
 pub record Unanswered (iss : ℕ) (s : Sending) : Type 0 where
@@ -93,10 +95,6 @@ connects_at_connect local remote iss limit = record {
 }
 
 -- a tick lets the SYN go out again, and no probe
-and_false : (b : Bool) → (b && false) ≡ false
-and_false true = refl
-and_false false = refl
-
 connects_ticked : (local remote : Addr) (iss limit : ℕ) (e : Tcb) → Connects local remote iss limit e → Connects local remote iss limit (after_tick e)
 unfolding after_tick timer_ticked waited
 connects_ticked local remote iss limit e c = record {

@@ -24,9 +24,12 @@ use Rattle.endpoint_laws.specs.Turn.Call.{Reads, Writes, Closes}
 use Rattle.endpoint_laws.specs.Ending.{IsNamed, IsNamedRightly, resets, is_over}
 use Rattle.endpoint_laws.specs.Listening.{IsListening}
 use Rattle.endpoint_laws.proofs.TakenLaw.{begun_is}
-use Rattle.endpoint_laws.proofs.Listening.{begun_by}
+use Rattle.endpoint_laws.proofs.Listening.{begun_by, closed_by_calls}
 use Rattle.endpoint_laws.proofs.TurnLaw.{after_steps}
 use Rattle.endpoint_laws.proofs.AnswersAlone.{closed_sends}
+use Rattle.ft_io.proofs.Booleans.{left_true, right_true, not_true, false_by, or_false, or_true}
+use Rattle.ft_io.proofs.Choices.{by_cases, holds_if}
+use Rattle.endpoint_laws.proofs.Bounding.{new_within}
 
 -- the states of a connection that no RST has reset: CLOSED only once all is through
 abbrev pub IsPlaced : StateName → (syn_acked closed fin acked : Bool) → Type 0
@@ -103,19 +106,15 @@ placed_unacked LastAck o c f a a' stays none h = (h.0, h.1, h.2, none)
 placed_unacked TimeWait o c f a a' stays none h = absurd (false≢true (sym none ∙ stays h.3))
 
 -- .. the user closes, ..
-unacked : (a c : Bool) → (a ≡ true → c ≡ true) → c ≡ false → a ≡ false
-unacked true c ends unclosed = absurd (false≢true (sym unclosed ∙ ends refl))
-unacked false c ends unclosed = refl
-
 placed_closing : (name : StateName) (o c f a : Bool) → (a ≡ true → c ≡ true) → IsPlaced name o c f a → IsPlaced (after_close name) o true f a
 placed_closing Closed o c f a ends h = (h.0, refl, h.2, h.3)
 placed_closing Listen o c f a ends h = absurd h
 placed_closing SynSent o c f a ends h = absurd h
 placed_closing SynReceived o c f a ends h = h
-placed_closing Established o c f a ends h = (h.0, refl, h.2, unacked a c ends h.1)
+placed_closing Established o c f a ends h = (h.0, refl, h.2, false_by a c ends h.1)
 placed_closing FinWait1 o c f a ends h = (h.0, refl, h.2, h.3)
 placed_closing FinWait2 o c f a ends h = (h.0, refl, h.2, h.3)
-placed_closing CloseWait o c f a ends h = (h.0, refl, h.2, unacked a c ends h.1)
+placed_closing CloseWait o c f a ends h = (h.0, refl, h.2, false_by a c ends h.1)
 placed_closing Closing o c f a ends h = (h.0, refl, h.2, h.3)
 placed_closing LastAck o c f a ends h = (h.0, refl, h.2, h.3)
 placed_closing TimeWait o c f a ends h = (h.0, refl, h.2, h.3)
@@ -177,10 +176,6 @@ pub record Follows (name : StateName) (fin : Bool) (s : Sending) : Type 0 where
 abbrev pub FollowsAt : Tcb → Type 0
 FollowsAt e = Follows e.name e.receiving.fin e.sending
 
-pub holds_if : {X : Type 0} (P : X → Type 0) (b : Bool) (x y : X) → (b ≡ true → P x) → (b ≡ false → P y) → P (if b then x else y)
-holds_if P true x y p q = p refl
-holds_if P false x y p q = q refl
-
 -- text and FIN
 newly : (f' f : Bool) → (f' && not f) ≡ true → (f ≡ false) × (f' ≡ true)
 newly true false h = (refl, refl)
@@ -214,9 +209,6 @@ text_follows e p is h =
     (λ n. subst (λ (b : Bool). Follows e.name b s) (still f' f (stays_taken e.receiving (first e p) p.payload (has_fin p)) n) h)
 
 -- an acknowledgement of the own FIN
-una_within : (una sent : ℕ) (ack : ℤ) → una ≤ sent → (if is_new_ack una sent ack then nat_abs ack else una) ≤ sent
-una_within una sent ack order = grind (arith, ints)
-
 stays_acked : (f : Bool) (una sent : ℕ) (ack : ℤ) → (f && una == sent) ≡ true → (f && (if is_new_ack una sent ack then nat_abs ack else una) == sent) ≡ true
 stays_acked true una sent ack h = grind (arith, ints)
 stays_acked false una sent ack h = absurd (false≢true h)
@@ -227,7 +219,7 @@ unfolding with_fin_acked acknowledged
 acked_follows e p h =
     let s : Sending = e.sending in
     let m : Tcb = record e { sending = acknowledged s p.head.seq (ack_at e p) p.head.window } in
-    let order : m.sending.una ≤ s.sent = una_within s.una s.sent (ack_at e p) h.order in
+    let order : m.sending.una ≤ s.sent = new_within s.una s.sent (ack_at e p) h.order in
     let stays : fin_acked s ≡ true → fin_acked m.sending ≡ true = stays_acked s.fin_sent s.una s.sent (ack_at e p) in
     holds_if (λ (t : Tcb). FollowsAt t) (fin_acked m.sending) (entering (after_fin_acked e.name) m) m
     (λ is. record {
@@ -329,10 +321,6 @@ arrived_follows Ticks e begun unreset h = tick_follows e h
 arrived_follows Begins e begun unreset h = h
 
 -- the user's calls
-left_true : (a b : Bool) → (a && b) ≡ true → a ≡ true
-left_true true b h = refl
-left_true false b h = absurd (false≢true h)
-
 call_follows : (call : Call) (e : Tcb) → FollowsAt e → FollowsAt (called call e)
 call_follows (Reads n) e h = h
 call_follows (Writes bytes) e h = record { placed = h.placed; ends = h.ends; order = h.order; unsent = h.unsent }
@@ -377,16 +365,7 @@ fin_follows name fin s is ends none h =
       unsent = λ k. absurd (false≢true (sym k ∙ is));
     }
 
--- the tests by which a FIN or a probe goes out
-right_true : (a b : Bool) → (a && b) ≡ true → b ≡ true
-right_true true b h = h
-right_true false b h = absurd (false≢true h)
-
-not_true : (b : Bool) → not b ≡ true → b ≡ false
-not_true true h = absurd (false≢true h)
-not_true false h = refl
-
-none_behind : (b o f : Bool) (n : ℕ) → f ≡ true → (if b then (if o && not f then n else 0) else 0) ≡ 0
+pub none_behind : (b o f : Bool) (n : ℕ) → f ≡ true → (if b then (if o && not f then n else 0) else 0) ≡ 0
 none_behind true true true n h = refl
 none_behind true false true n h = refl
 none_behind false o true n h = refl
@@ -458,7 +437,7 @@ between_follows e begun between named =
     }
 
 -- a RST at the next number is acceptable, with its length of 0
-acceptable_at : (n w : ℕ) (z : ℤ) → int_eq z (pos n) ≡ true → is_acceptable n w z 0 ≡ true
+pub acceptable_at : (n w : ℕ) (z : ℤ) → int_eq z (pos n) ≡ true → is_acceptable n w z 0 ≡ true
 acceptable_at n w z h = grind (arith, ints)
 
 reset_is : (e : Tcb) (p : Segment) → has_rst p ≡ true → int_eq (first e p) (pos (next e.receiving)) ≡ true → in_others e p ≡ killed (waiting_again e p)
@@ -480,15 +459,8 @@ arrived_reset (Logged kept) e begun h = absurd (false≢true h)
 arrived_reset Ticks e begun h = absurd (false≢true h)
 arrived_reset Begins e begun h = absurd (false≢true h)
 
--- CLOSED stays so whatever the user does
-pub stays_closed : (calls : List Call) (u : Tcb) → u.name ≡ Closed → (used calls u).name ≡ Closed
-stays_closed [] u h = h
-stays_closed (Reads n ∷ calls) u h = stays_closed calls (called (Reads n) u) h
-stays_closed (Writes bytes ∷ calls) u h = stays_closed calls (called (Writes bytes) u) h
-stays_closed (Closes ∷ calls) u h = stays_closed calls (called Closes u) (ap after_close h)
-
 pub reset_closed : (news : News) (calls : List Call) (e : Tcb) → has_begun e.name ≡ true → resets news e ≡ true → (before_flush news calls e).name ≡ Closed
-reset_closed news calls e begun h = stays_closed calls (arrived news e) (ap (λ (t : Tcb). t.name) (arrived_reset news e begun h).1)
+reset_closed news calls e begun h = closed_by_calls calls (arrived news e) (ap (λ (t : Tcb). t.name) (arrived_reset news e begun h).1)
 
 pub flushed_name : (u : Tcb) → (flushed u).name ≡ u.name
 unfolding flushed with_turn_ended announced after_full with_fin_out with_text_sent with_probe
@@ -496,10 +468,6 @@ flushed_name u = refl
 
 closed_named : (e : Tcb) → e.name ≡ Closed → IsNamedRightly e
 closed_named e h = subst (λ (n : StateName). IsNamed n e.sending.syn_acked e.sending.closed e.receiving.fin (fin_acked e.sending)) (sym h) tt
-
-by_cases : {X : Type 0} (b : Bool) → (b ≡ true → X) → (b ≡ false → X) → X
-by_cases true p q = p refl
-by_cases false p q = q refl
 
 -- a turn keeps the state right
 pub named_at : (e : Tcb) → FollowsAt e → IsNamedRightly e
@@ -616,14 +584,6 @@ pub call_resets : (call : Call) (t : Tcb) → (called call t).reset ≡ t.reset
 call_resets (Reads n) t = refl
 call_resets (Writes bytes) t = refl
 call_resets Closes t = refl
-
-or_true : (b : Bool) → true ≡ (b || true)
-or_true true = refl
-or_true false = refl
-
-or_false : (b : Bool) → b ≡ (b || false)
-or_false true = refl
-or_false false = refl
 
 pub reset_law : (news : News) (calls : List Call) (e : Tcb) → has_begun e.name ≡ true → (before_flush news calls e).reset ≡ (e.reset || resets news e)
 reset_law news calls e begun =

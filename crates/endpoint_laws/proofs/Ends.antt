@@ -1,7 +1,7 @@
 -- The turn in which both FINs are through and the endpoint becomes CLOSED: nothing leaves, and it stands at the point after it.
 use Rattle.std.proofs.Common.{◌≡◌, ℕ, ◌≤◌, ◌+◌, Bool, true, false, not, None, List, [], ◌∷◌, length, min, max, refl, sym, ap, arith, ◌∙◌}
 use Rattle.std.specs.Prelude.{ℤ, pos, ◌==◌, ◌&&◌, ◌||◌, nat_lt, int_lt, int_le, if◌then◌else◌}
-use Rattle.std.proofs.lemmas.Bool.{false≢true}
+use Rattle.std.proofs.lemmas.Bool.{false≢true, and_parts}
 use Rattle.std.proofs.lemmas.Int.{ints}
 use Rattle.ft_io.specs.declared.Addr.{Addr}
 use Rattle.seq_arith.specs.Packet.{Segment, has_syn, has_rst, has_ack}
@@ -70,7 +70,7 @@ off_three true true c h = h
 off_three true false c h = refl
 off_three false b c h = refl
 
-less_is : (z : ℤ) → int_lt z (pos 0) ≡ not (int_le (pos 0) z)
+pub less_is : (z : ℤ) → int_lt z (pos 0) ≡ not (int_le (pos 0) z)
 less_is z = grind (arith, ints)
 
 unrefused : (acc rst syn syn_acked ack low neg : Bool) → neg ≡ not low → (syn_acked || (ack && not syn && not rst && acc && (syn_acked || low))) ≡ true
@@ -78,7 +78,7 @@ unrefused : (acc rst syn syn_acked ack low neg : Bool) → neg ≡ not low → (
 unrefused acc rst syn true ack low neg is h = refl
 unrefused acc rst syn false ack low neg is h = off_three true ack neg (is ∙ ap not (last_of ack (not syn) (not rst) acc low h))
 
-none_if : (b : Bool) (x : Segment) → b ≡ false → (if b then x ∷ [] else []) ≡ []
+pub none_if : (b : Bool) (x : Segment) → b ≡ false → (if b then x ∷ [] else []) ≡ []
 none_if true x h = absurd (false≢true (sym h))
 none_if false x h = refl
 
@@ -91,10 +91,6 @@ no_answer server (Comes segment) before h =
 no_answer server (Logged kept) before h = refl
 no_answer server Ticks before h = refl
 no_answer server Begins before h = refl
-
-fin_parts : (f e : Bool) → (f && e) ≡ true → (f ≡ true) × (e ≡ true)
-fin_parts true e h = (refl, h)
-fin_parts false e h = absurd (false≢true h)
 
 target_sent : (f : Bool) (sent n : ℕ) → f ≡ true → (if f then sent else n) ≡ sent
 target_sent true sent n h = refl
@@ -134,7 +130,7 @@ ends_law service news calls before after e begun between named stands usual may 
     let f : FollowsAt u = unreset_follows news calls e begun between named unreset in
     let x : IsEnded u.name u.sending.syn_acked u.sending.closed u.receiving.fin (fin_acked u.sending) =
     ended_by u.name u.sending.syn_acked u.sending.closed u.receiving.fin (fin_acked u.sending) ended f.placed in
-    let acked = fin_parts u.sending.fin_sent (u.sending.una == u.sending.sent) x.acked in
+    let acked = and_parts u.sending.fin_sent (u.sending.una == u.sending.sent) x.acked in
     let syn_acked : syn_acked_after news before ≡ true = came.sends.syn_acked ∙ sym a.sends.syn_acked ∙ x.syn_acked in
     let answer : u.answer ≡ None = a.answer ∙ answer_none m.answer (came.answer ∙ no_answer e.local news before syn_acked) in
     let last : FinIsLast u.sending = last_used m.sending u.sending a.sends came.fin_last in

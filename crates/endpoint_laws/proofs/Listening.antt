@@ -127,7 +127,8 @@ closed_by_call (Reads n) m h = h
 closed_by_call (Writes bytes) m h = h
 closed_by_call Closes m h = ap after_close h
 
-closed_by_calls : (calls : List Call) (m : Tcb) → m.name ≡ Closed → (used calls m).name ≡ Closed
+-- CLOSED stays so whatever the user does
+pub closed_by_calls : (calls : List Call) (m : Tcb) → m.name ≡ Closed → (used calls m).name ≡ Closed
 closed_by_calls [] m h = h
 closed_by_calls (call ∷ calls) m h = closed_by_calls calls (called call m) (closed_by_call call m h)
 

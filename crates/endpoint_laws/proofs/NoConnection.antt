@@ -2,7 +2,7 @@
 use Rattle.std.proofs.Common.{◌≡◌, ◌⊎◌, inl, inr, ℕ, ◌≤◌, Bool, true, false, not, Some, None, List, [], ◌∷◌, ◌++◌, min, refl, sym, ap, subst, arith, append-nil, ⊎_elim, ◌∙◌}
 use Rattle.std.specs.Prelude.{pos, ◌==◌, ◌&&◌, ◌||◌, nat_lt, if◌then◌else◌}
 use Rattle.std.specs.List.{AllByRecursion}
-use Rattle.std.proofs.lemmas.Bool.{false≢true}
+use Rattle.std.proofs.lemmas.Bool.{false≢true, and_right, and_from, and_left}
 use Rattle.ft_io.specs.declared.Addr.{Addr}
 use Rattle.seq_arith.specs.Arrival.{int_eq}
 use Rattle.seq_arith.specs.Packet.{Segment, has_syn, has_rst, has_ack}
@@ -27,19 +27,21 @@ use Rattle.endpoint_laws.specs.Listening.{IsListening, brings_syn}
 use Rattle.endpoint_laws.specs.Connecting.{IsConnecting}
 use Rattle.endpoint_laws.specs.Unconnected.{sent_in_closed, sent_in_listen, acknowledges_syn, refused_in_syn_sent, resets_in_syn_sent, answers_in_syn_sent, state_after_syn_sent, syn_of, expires_at, interval_waiting, rest_waiting}
 use Rattle.endpoint_laws.proofs.AnswersAlone.{answer_none, closed_sends, listen_sends, syn_sent_sends}
-use Rattle.endpoint_laws.proofs.Listening.{begun_by, listening_is, listens_arrived}
+use Rattle.endpoint_laws.proofs.Listening.{begun_by, listening_is, listens_arrived, closed_by_calls}
 use Rattle.endpoint_laws.proofs.TurnLaw.{flushed_timer, ticked_law}
 use Rattle.endpoint_laws.proofs.Calls.{IsUsed, used_is}
-use Rattle.endpoint_laws.proofs.EndingLaw.{used_keeps, call_resets, stays_closed}
+use Rattle.endpoint_laws.proofs.EndingLaw.{used_keeps, call_resets}
 use Rattle.endpoint_laws.proofs.Announced.{answer_used, begun_used, announces_law, again_is_told}
 use Rattle.endpoint_laws.proofs.Connecting.{Connects, connects_at_connect, connects_arrived, connects_used, received_by, syn_leaves, still_connecting, sent_before, answered_name, refusing_name, begun_name, closed_name}
+use Rattle.ft_io.proofs.Choices.{by_cases}
+use Rattle.ft_io.proofs.Booleans.{or_false, or_true, and_true}
 
 call_agains : (call : Call) (t : Tcb) → (called call t).again ≡ t.again
 call_agains (Reads n) t = refl
 call_agains (Writes bytes) t = refl
 call_agains Closes t = refl
 
-call_locals : (call : Call) (t : Tcb) → (called call t).local ≡ t.local
+pub call_locals : (call : Call) (t : Tcb) → (called call t).local ≡ t.local
 call_locals (Reads n) t = refl
 call_locals (Writes bytes) t = refl
 call_locals Closes t = refl
@@ -53,7 +55,7 @@ still_or_closed : (name : StateName) → after_close name ≡ Closed → (calls 
 still_or_closed name closes [] m h = inl h
 still_or_closed name closes (Reads n ∷ calls) m h = still_or_closed name closes calls (called (Reads n) m) h
 still_or_closed name closes (Writes bytes ∷ calls) m h = still_or_closed name closes calls (called (Writes bytes) m) h
-still_or_closed name closes (Closes ∷ calls) m h = inr (stays_closed calls (called Closes m) (ap after_close h ∙ closes))
+still_or_closed name closes (Closes ∷ calls) m h = inr (closed_by_calls calls (called Closes m) (ap after_close h ∙ closes))
 
 -- CLOSED: the answer to a segment
 refused_closed : (e : Tcb) (p : Segment) (rst ack : Bool) → e.answer ≡ None
@@ -64,7 +66,7 @@ refused_closed e p true ack none = ap answer_segments none
 refused_closed e p false true none = refl
 refused_closed e p false false none = refl
 
-same_closed : {X : Type 0} (f : Tcb → X) (rst ack : Bool) (e refused behind : Tcb) → f refused ≡ f e → f behind ≡ f e
+pub same_closed : {X : Type 0} (f : Tcb → X) (rst ack : Bool) (e refused behind : Tcb) → f refused ≡ f e → f behind ≡ f e
     → f (if rst then e else (if ack then refused else behind)) ≡ f e
 same_closed f true ack e refused behind a b = refl
 same_closed f false true e refused behind a b = a
@@ -103,7 +105,7 @@ closed_arrived Begins e closed none = (refl, ap answer_segments none)
 call_lasts : (calls : List Call) (m : Tcb) → m.name ≡ Closed → lasting (used calls m) ≡ lasting m
 unfolding lasting
 call_lasts calls m closed = λ i. (
-  (stays_closed calls m closed ∙ sym closed) i,
+  (closed_by_calls calls m closed ∙ sym closed) i,
   used_keeps (λ (t : Tcb). t.local) call_locals calls m i,
   used_keeps (λ (t : Tcb). t.reset) call_resets calls m i,
 )
@@ -115,7 +117,7 @@ flushed_lasts u = (refl, refl)
 closed_before_flush : (news : News) (calls : List Call) (e : Tcb) → e.name ≡ Closed → e.answer ≡ None → (before_flush news calls e).name ≡ Closed
 unfolding lasting
 closed_before_flush news calls e closed none =
-    stays_closed calls (arrived news e) (ap (λ (l : Lasting). l.0) (closed_arrived news e closed none).0 ∙ closed)
+    closed_by_calls calls (arrived news e) (ap (λ (l : Lasting). l.0) (closed_arrived news e closed none).0 ∙ closed)
 
 pub closed_answers_law : (news : News) (calls : List Call) (e : Tcb) → e.name ≡ Closed → e.answer ≡ None → sent_in news calls e ≡ sent_in_closed e.local news
 closed_answers_law news calls e closed none =
@@ -228,22 +230,14 @@ name_sent true false true syn dead begun_one refused e d b r n = n
 name_sent true false false syn dead begun_one refused e d b r n = r
 name_sent false right rst syn dead begun_one refused e d b r n = n
 
-or_not : (b : Bool) → b ≡ (b || false)
-or_not true = refl
-or_not false = refl
-
-or_on : (b : Bool) → true ≡ (b || true)
-or_on true = refl
-or_on false = refl
-
 reset_sent : (ack right rst syn : Bool) (dead begun_one refused e : Tcb) → dead.reset ≡ true → begun_one.reset ≡ e.reset → refused.reset ≡ e.reset
     → (checked ack right rst syn dead begun_one refused e).reset ≡ (e.reset || (ack && right && rst))
-reset_sent true true true syn dead begun_one refused e d b r = d ∙ or_on e.reset
-reset_sent true true false true dead begun_one refused e d b r = b ∙ or_not e.reset
-reset_sent true true false false dead begun_one refused e d b r = or_not e.reset
-reset_sent true false true syn dead begun_one refused e d b r = or_not e.reset
-reset_sent true false false syn dead begun_one refused e d b r = r ∙ or_not e.reset
-reset_sent false right rst syn dead begun_one refused e d b r = or_not e.reset
+reset_sent true true true syn dead begun_one refused e d b r = d ∙ or_true e.reset
+reset_sent true true false true dead begun_one refused e d b r = b ∙ or_false e.reset
+reset_sent true true false false dead begun_one refused e d b r = or_false e.reset
+reset_sent true false true syn dead begun_one refused e d b r = or_false e.reset
+reset_sent true false false syn dead begun_one refused e d b r = r ∙ or_false e.reset
+reset_sent false right rst syn dead begun_one refused e d b r = or_false e.reset
 
 same_sent : {X : Type 0} (f : Tcb → X) (ack right rst syn : Bool) (dead begun_one refused e : Tcb) → f dead ≡ f e → f begun_one ≡ f e → f refused ≡ f e
     → f (checked ack right rst syn dead begun_one refused e) ≡ f e
@@ -310,15 +304,11 @@ syn_sent_states_law iss limit (Comes p) e c =
           ∙ reset_sent ack right (has_rst p) (has_syn p) (killed e) (answered e p) (refusing e p) e refl (answered_keeps e p).2 (refusing_keeps e p).1
           ∙ ap (λ b. e.reset || (b && has_rst p)) is,
     )
-syn_sent_states_law iss limit (Logged kept) e c = (c.name, or_not e.reset)
-syn_sent_states_law iss limit Ticks e c = (still_sent e c.name, or_not e.reset)
-syn_sent_states_law iss limit Begins e c = (c.name, or_not e.reset)
+syn_sent_states_law iss limit (Logged kept) e c = (c.name, or_false e.reset)
+syn_sent_states_law iss limit Ticks e c = (still_sent e c.name, or_false e.reset)
+syn_sent_states_law iss limit Begins e c = (c.name, or_false e.reset)
 
 -- whether the SYN is due again
-and_on : (b : Bool) → (b && true) ≡ b
-and_on true = refl
-and_on false = refl
-
 again_sent : (iss limit : ℕ) (news : News) (e : Tcb) → IsConnecting iss limit e → (arrived news e).again ≡ expires_at news e.sending
 unfolding after_tick timer_ticked waited
 again_sent iss limit (Comes p) e c =
@@ -328,7 +318,7 @@ again_sent iss limit (Comes p) e c =
     ∙ c.again
 again_sent iss limit (Logged kept) e c = c.again
 again_sent iss limit Ticks e c =
-    (λ i. c.again i || (expires e.sending && (not (c.sending i).syn_acked || nat_lt e.sending.una e.sending.sent))) ∙ and_on (expires e.sending)
+    (λ i. c.again i || (expires e.sending && (not (c.sending i).syn_acked || nat_lt e.sending.una e.sending.sent))) ∙ and_true (expires e.sending)
 again_sent iss limit Begins e c = c.again
 
 -- the SYN's fields
@@ -363,27 +353,12 @@ append_due false x h = absurd (false≢true h)
 not_sent_name : (name : StateName) → name ≡ Closed → is_syn_sent name ≡ false
 not_sent_name name h = ap is_syn_sent h
 
-off_and : (a b : Bool) → a ≡ false → (a && b) ≡ false
-off_and true b h = absurd (false≢true (sym h))
-off_and false b h = refl
-
-both_on : (a b : Bool) → a ≡ true → b ≡ true → (a && b) ≡ true
-both_on a b p q = λ i. p i && q i
-
-both_off : (a b : Bool) → b ≡ false → (a && b) ≡ false
-both_off true b h = h
-both_off false b h = refl
-
 -- no RST answers at a tick
 refused_none : (local : Addr) (iss : ℕ) (news : News) (s : Sending) → expires_at news s ≡ true → refused_in_syn_sent local iss news ≡ []
 refused_none local iss (Comes p) s h = absurd (false≢true h)
 refused_none local iss (Logged kept) s h = absurd (false≢true h)
 refused_none local iss Ticks s h = refl
 refused_none local iss Begins s h = absurd (false≢true h)
-
-by_due : {X : Type 0} (b : Bool) → (b ≡ true → X) → (b ≡ false → X) → X
-by_due true p q = p refl
-by_due false p q = q refl
 
 -- what leaves, by the state before the flush
 sends_in : (iss limit : ℕ) (news : News) (calls : List Call) (e : Tcb) → IsConnecting iss limit e → MayUse calls (arrived news e) → (before_flush news calls e).name ≡ SynSent
@@ -400,14 +375,14 @@ sends_in iss limit news calls e c may still =
     let syn : Segment = syn_of e.local e.remote iss limit in
     let P : List Segment → Type 0 = λ segments.
     segments ≡ refused_in_syn_sent e.local iss news ++ (if is_syn_sent u.name && expires_at news e.sending then syn ∷ [] else []) in
-    by_due (expires_at news e.sending)
+    by_cases (expires_at news e.sending)
     (λ due.
     let none : u.answer ≡ None = answer_none u.answer (answer ∙ refused_none e.local iss news e.sending due) in
     syn_leaves e.local e.remote iss limit u here (again ∙ due) none ∙ ap (λ x. x ∷ []) (syn_is e.local e.remote iss limit)
-    ∙ append_due (is_syn_sent u.name && expires_at news e.sending) syn (both_on (is_syn_sent u.name) (expires_at news e.sending) (ap is_syn_sent still) due)
+    ∙ append_due (is_syn_sent u.name && expires_at news e.sending) syn (and_from (is_syn_sent u.name) (expires_at news e.sending) (ap is_syn_sent still) due)
     ∙ ap (λ xs. xs ++ (if is_syn_sent u.name && expires_at news e.sending then syn ∷ [] else [])) (sym (refused_none e.local iss news e.sending due)))
     (λ none. syn_sent_sends u still (again ∙ none) ∙ answer
-    ∙ append_none (refused_in_syn_sent e.local iss news) (is_syn_sent u.name && expires_at news e.sending) syn (both_off (is_syn_sent u.name) (expires_at news e.sending) none))
+    ∙ append_none (refused_in_syn_sent e.local iss news) (is_syn_sent u.name && expires_at news e.sending) syn (and_right (is_syn_sent u.name) (expires_at news e.sending) none))
 
 sends_out : (iss limit : ℕ) (news : News) (calls : List Call) (e : Tcb) → IsConnecting iss limit e → (before_flush news calls e).name ≡ Closed
     → sent_in news calls e
@@ -418,7 +393,7 @@ sends_out iss limit news calls e c closed =
     let u : Tcb = used calls m in
     closed_sends u closed ∙ ap answer_segments (answer_used calls m) ∙ answer_sent iss limit news e c
     ∙ append_none (refused_in_syn_sent e.local iss news) (is_syn_sent u.name && expires_at news e.sending) (syn_of e.local e.remote iss limit)
-    (off_and (is_syn_sent u.name) (expires_at news e.sending) (not_sent_name u.name closed))
+    (and_left (is_syn_sent u.name) (expires_at news e.sending) (not_sent_name u.name closed))
 
 -- in a turn that doesn't begin the connection
 sent_or_closed : (iss limit : ℕ) (news : News) (calls : List Call) (e : Tcb) → IsConnecting iss limit e → MayUse calls (arrived news e)
@@ -428,9 +403,9 @@ sent_or_closed iss limit news calls e c may unbegun =
     let u : Tcb = used calls m in
     let a : IsUsed m u = used_is calls m may in
     let is : m.name ≡ state_after_syn_sent iss news = (syn_sent_states_law iss limit news e c).0 in
-    by_due (resets_in_syn_sent iss news)
-    (λ r. inr (stays_closed calls m (is ∙ ap (λ b. if b then Closed else (if answers_in_syn_sent iss news then Established else SynSent)) r)))
-    (λ r. by_due (answers_in_syn_sent iss news)
+    by_cases (resets_in_syn_sent iss news)
+    (λ r. inr (closed_by_calls calls m (is ∙ ap (λ b. if b then Closed else (if answers_in_syn_sent iss news then Established else SynSent)) r)))
+    (λ r. by_cases (answers_in_syn_sent iss news)
     (λ h. absurd (false≢true (sym unbegun ∙ a.begun (ap has_begun (is ∙ (λ i. if r i then Closed else (if h i then Established else SynSent)))))))
     (λ h. still_or_closed SynSent refl calls m (is ∙ (λ i. if r i then Closed else (if h i then Established else SynSent)))))
 

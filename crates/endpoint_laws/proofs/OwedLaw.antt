@@ -1,5 +1,5 @@
 -- The checks on a segment, one by one, owe an answer where the law Owed says.
-use Rattle.std.proofs.Common.{◌≡◌, ℕ, Bool, true, false, not, refl, sym, ap, arith, ◌∙◌}
+use Rattle.std.proofs.Common.{◌≡◌, ℕ, Bool, true, false, not, sym, ap, arith, ◌∙◌}
 use Rattle.std.specs.Prelude.{ℤ, pos, ◌≤ℤ◌, ◌&&◌, ◌||◌, nat_lt, int_lt, if◌then◌else◌}
 use Rattle.std.proofs.lemmas.Int.{ints}
 use Rattle.std.proofs.lemmas.Bool.{false≢true}
@@ -13,7 +13,8 @@ use Rattle.tcp_endpoint.specs.Sending.{with_syn_acked, acknowledged, fin_acked}
 use Rattle.tcp_endpoint.specs.Tcb.{Tcb}
 use Rattle.tcp_endpoint.specs.Arrival.{first, ack_at, owing_if, killed, entering, with_text_and_fin, with_fin_acked, with_first_ack, with_ack, check_ack, check_syn, check_rst, waiting_again, check_place, in_others, received, refusing}
 use Rattle.endpoint_laws.specs.Laws.{accepts, acknowledges_less, is_refused, owes_acceptable, owes, IsBounded, IsUsual}
-use Rattle.endpoint_laws.proofs.TakenLaw.{part_of_if, same_if, if_when, begun_is, at_ack, segment_taken, sent_bool, window_is}
+use Rattle.endpoint_laws.proofs.TakenLaw.{part_of_if, same_if, if_when, begun_is, at_ack, segment_taken, sent_bool, window_is, acked_part}
+use Rattle.ft_io.proofs.Booleans.{or_false, false_or}
 
 text_part : (e : Tcb) (p : Segment) → (with_text_and_fin e p).owed ≡ (e.owed || int_lt (pos (next e.receiving)) (first e p))
 unfolding with_text_and_fin
@@ -30,11 +31,6 @@ acked_owed : (e : Tcb) → (with_fin_acked e).owed ≡ e.owed
 unfolding with_fin_acked
 acked_owed e = part_of_if (λ (t : Tcb). t.owed) (fin_acked e.sending) (entering (after_fin_acked e.name) e) e ∙ same_if (fin_acked e.sending) e.owed
 
-acked_receiving : (e : Tcb) → (with_fin_acked e).receiving ≡ e.receiving
-unfolding with_fin_acked
-acked_receiving e =
-    part_of_if (λ (t : Tcb). t.receiving) (fin_acked e.sending) (entering (after_fin_acked e.name) e) e ∙ same_if (fin_acked e.sending) e.receiving
-
 later_ack_part : (e : Tcb) (p : Segment) → is_ahead e.sending.sent (ack_at e p) ≡ false
     → (with_ack e p).owed ≡ (e.owed || int_lt (pos (next e.receiving)) (first e p))
 unfolding with_ack
@@ -43,7 +39,7 @@ later_ack_part e p sent =
     in ap (λ b. (if b then owing_if true e else with_text_and_fin (with_fin_acked used) p).owed) sent
     ∙ text_part (with_fin_acked used) p
     ∙ ap (λ o. o || int_lt (pos (next (with_fin_acked used).receiving)) (first (with_fin_acked used) p)) (acked_owed used)
-    ∙ ap (λ (r : Receiving). e.owed || int_lt (pos (next r)) (first (record e { receiving = r }) p)) (acked_receiving used)
+    ∙ ap (λ (r : Receiving). e.owed || int_lt (pos (next r)) (first (record e { receiving = r }) p)) (acked_part used)
 
 first_ack_part : (e : Tcb) (p : Segment) → int_eq (ack_at e p) (pos 0) ≡ true → (with_first_ack e p).owed ≡ (e.owed || int_lt (pos (next e.receiving)) (first e p))
 unfolding with_first_ack
@@ -58,16 +54,9 @@ ack_part e p sent syn =
     if_when e.sending.syn_acked (with_ack e p).owed _ (with_first_ack e p).owed _ (λ h. later_ack_part e p sent) (λ h. first_ack_part e p (syn h))
     ∙ same_if e.sending.syn_acked _
 
-none_or : (o x : Bool) → o ≡ false → (o || x) ≡ x
-none_or o x none = ap (λ v. v || x) none
-
 reset_owed : (o q : Bool) → o ≡ false → (if q then o else o || true) ≡ not q
 reset_owed o true none = none
 reset_owed o false none = ap (λ v. v || true) none
-
-or_false : (b : Bool) → b ≡ (b || false)
-or_false true = refl
-or_false false = refl
 
 syn_by : (z : ℤ) (sent : ℕ) → z ≤ℤ pos sent → sent ≡ 0 → int_lt z (pos 0) ≡ false → int_eq z (pos 0) ≡ true
 syn_by z sent h none up = grind (arith, ints)
@@ -91,8 +80,8 @@ plain_owed e p b usual none not_less =
     ∙ ap (λ x. if has_ack p then x else e1.owed) (part_of_if (λ (t : Tcb). t.owed) e1.sending.syn_acked (with_ack e1 p) (with_first_ack e1 p))
     ∙ if_when (has_ack p) _ (some || (has_ack p && early)) _ (some || (has_ack p && early))
     (λ is_ack. ack_part e1 p (sent_bool e p b usual is_ack) (is_syn_ack e p b usual not_less is_ack)
-    ∙ ap (λ v. v || early) (none_or e.owed some none) ∙ ap (λ v. some || (v && early)) (sym is_ack))
-    (λ no_ack. none_or e.owed some none ∙ or_false some ∙ ap (λ v. some || (v && early)) (sym no_ack))
+    ∙ ap (λ v. v || early) (false_or e.owed some none) ∙ ap (λ v. some || (v && early)) (sym is_ack))
+    (λ no_ack. false_or e.owed some none ∙ or_false some ∙ ap (λ v. some || (v && early)) (sym no_ack))
     ∙ same_if (has_ack p) (some || (has_ack p && early))
 
 -- what isn't refused, though it is acceptable and has neither SYN nor RST
@@ -116,7 +105,7 @@ owed_law e p begun b usual none unrefused =
     ∙ if_when (has_rst p) _ (not at_next) _ _
     (λ is_rst. part_of_if (λ (t : Tcb). t.owed) at_next (killed e0) (owing_if true e0) ∙ reset_owed e.owed at_next none)
     (λ no_rst. part_of_if (λ (t : Tcb). t.owed) (has_syn p) (owing_if true e0) (check_ack (at_ack e p) p)
-    ∙ if_when (has_syn p) _ true _ _ (λ is_syn. none_or e.owed true none) (λ no_syn. plain_owed e p b usual none
+    ∙ if_when (has_syn p) _ true _ _ (λ is_syn. false_or e.owed true none) (λ no_syn. plain_owed e p b usual none
     (not_less_of (accepts e p) (has_rst p) (has_syn p) (acknowledges_less e p) unrefused (ap acceptable (window_is e.receiving) ∙ h) no_rst no_syn))))
-    (λ h. none_or e.owed (not (has_rst p)) none)
+    (λ h. false_or e.owed (not (has_rst p)) none)
     ∙ ap (λ w. if acceptable w then owes_acceptable e p else not (has_rst p)) (sym (window_is e.receiving))

@@ -20,7 +20,7 @@ use Rattle.tcp_endpoint.specs.Leaving.{answer_segments}
 use Rattle.tcp_endpoint.specs.Turning.{after_tick, timer_ticked, waited}
 use Rattle.endpoint_laws.specs.Turn.{arrived}
 use Rattle.endpoint_laws.proofs.Answering.{Beside, apart_beside, answer_apart, later_part}
-use Rattle.endpoint_laws.proofs.EndingLaw.{holds_if}
+use Rattle.ft_io.proofs.Choices.{holds_if}
 
 abbrev pub IsRst : Option Head → Type 0
 IsRst answer = AllByRecursion (λ segment. has_rst segment ≡ true) (answer_segments answer)

@@ -27,9 +27,10 @@ use Rattle.endpoint_laws.proofs.StandingLaw.{next_is, room_is}
 use Rattle.endpoint_laws.proofs.TurnLaw.{after_steps, fin_unsent, waits_fin, probing, nothing_held}
 use Rattle.endpoint_laws.proofs.Calls.{FinIsLast}
 use Rattle.endpoint_laws.proofs.Flushing.{Flushes, waits_for_ack}
+use Rattle.ft_io.proofs.Booleans.{false_by}
 
 -- the state of a connection that has begun is neither CLOSED nor SYN-SENT
-begun_open : (name : StateName) → has_begun name ≡ true → is_closed name ≡ false
+pub begun_open : (name : StateName) → has_begun name ≡ true → is_closed name ≡ false
 begun_open Closed h = absurd (false≢true h)
 begun_open Listen h = refl
 begun_open SynSent h = refl
@@ -76,10 +77,6 @@ record Numbered (o c f ends : Bool) (una len edge sent all : ℕ) : Type 0 where
   reach : edge ≤ una + 65535
   closes : f ≡ true → (c ≡ true) × (1 ≤ sent) × (len ≡ sent - 1 - una)
 
-unsent_of : (f c : Bool) → (f ≡ true → c ≡ true) → c ≡ false → f ≡ false
-unsent_of true c ends h = absurd (false≢true (sym h ∙ ends refl))
-unsent_of false c ends h = refl
-
 bytes_of : (f : Bool) (x y : ℕ) → f ≡ false → (if f then x else y) ≡ y
 bytes_of f x y h = ap (λ v. if v then x else y) h
 
@@ -88,7 +85,7 @@ how_written : {State : Type 0} (service : Machine State) (p : Point) (s : Sendin
     ⊎ Filled s.closed s.fin_sent s.una (length s.held) (released service p)
 how_written service p s last (inl w) = inl (record { written = w.written; closed = w.closed })
 how_written service p s last (inr w) =
-    let unsent : s.fin_sent ≡ false = unsent_of s.fin_sent s.closed (λ h. (last h).0) w.open_still in
+    let unsent : s.fin_sent ≡ false = false_by s.fin_sent s.closed (λ h. (last h).0) w.open_still in
     inr (record {
       full = w.full;
       open_still = w.open_still;

@@ -17,6 +17,7 @@ use Rattle.tcp_endpoint.specs.Arrival.{first, ack_at, owing_if, entering, with_t
 use Rattle.endpoint_laws.specs.Laws.{accepts, counts, acknowledges, uses_window, IsSentBy, IsBounded, IsUsual}
 use Rattle.tcp_endpoint.proofs.Places.{near_of_acceptable}
 use Rattle.endpoint_laws.proofs.TakenLaw.{part_of_if, same_if, if_when, by_checks, begun_is, Aside, at_ack, others_part, segment_taken, sent_bool, window_is, syn_only, dull, dull_more, dull_most}
+use Rattle.ft_io.proofs.Booleans.{or_false}
 
 text_part : (e : Tcb) (p : Segment) → (with_text_and_fin e p).sending ≡ e.sending
 unfolding with_text_and_fin
@@ -140,10 +141,6 @@ held_field una sent z held h = grind (arith, ints, length-drop {A = ℕ})
 offset_of_choice : (irs x y : ℕ) (b : Bool) → offset_of irs (if b then x else y) ≡ (if b then offset_of irs x else offset_of irs y)
 offset_of_choice irs x y true = refl
 offset_of_choice irs x y false = refl
-
-or_false : (b : Bool) → b ≡ (b || false)
-or_false true = refl
-or_false false = refl
 
 length_by : (rst syn fin : Bool) (n : ℕ) → n ≤ 65535 → (if rst then 0 else (if syn then 1 else n + (if fin then 1 else 0))) ≤ 2 ^ 16
 length_by true syn fin n h = omega arith

@@ -3,12 +3,12 @@ use Rattle.std.proofs.Common.{◌≡◌, ℕ, zero, suc, ◌<◌, ◌≤◌, ◌
 use Rattle.std.specs.Prelude.{ℤ, pos, ◌+ℤ◌, ◌-ℤ◌, ◌<ℤ◌, ◌≤ℤ◌, ◌==◌, ◌&&◌, ◌||◌, nat_abs, nat_lt, int_lt, int_le, if◌then◌else◌}
 use Rattle.std.proofs.lemmas.Int.{ints}
 use Rattle.std.proofs.lemmas.List.{drop-append-le}
-use Rattle.std.proofs.lemmas.Bool.{false≢true}
+use Rattle.std.proofs.lemmas.Bool.{false≢true, and_right, and_left}
 use Rattle.seq_arith.specs.Number.{offset_of}
 use Rattle.seq_arith.specs.Arrival.{int_eq, lies_in, is_acceptable, below, una_after, updates_window}
 use Rattle.seq_arith.specs.Packet.{Segment, has_syn, has_rst, has_ack}
 use Rattle.seq_arith.proofs.Gaps.{Leads, offset_leads}
-use Rattle.seq_arith.proofs.Shifts.{lies_in_shift, below_shift, updates_window_shift}
+use Rattle.seq_arith.proofs.Shifts.{lies_in_shift, below_shift, updates_window_shift, under_shift}
 use Rattle.seq_arith.specs.Offset.{one_if, first_of, ack_of, text_of, fin_of, length_of}
 use Rattle.ft_model.specs.Point.{Point, taken_units, room}
 use Rattle.ft_model.specs.Point as point
@@ -25,6 +25,7 @@ use Rattle.endpoint_laws.specs.Standing.{ReceivesAt, SendsAt}
 use Rattle.tcp_endpoint.proofs.Places.{near_of_acceptable}
 use Rattle.endpoint_laws.proofs.TakenLaw.{if_when, taken_law}
 use Rattle.endpoint_laws.proofs.SendingLaw.{sending_law, next_near, window_short, length_short, acceptable_of, counts_ack}
+use Rattle.ft_io.proofs.Booleans.{left_true, right_true, and_when}
 
 -- an endpoint at a point, and a segment that comes to it
 pub record Meets (p : Point) (e : Tcb) (segment : Segment) : Type 0 where
@@ -61,13 +62,13 @@ near_moves : (cisn irs number fetched : ℕ) → number < 2 ^ 32 → irs ≡ (ci
 near_moves cisn irs number fetched fits is few near = omega (arith, ints, offset_leads cisn number fits, offset_leads irs number fits)
 
 -- an offset counted from some bytes behind a stream's beginning, as far as numbers tell
-record Moved (z moved : ℤ) (fetched : ℕ) : Type 0 where
+pub record Moved (z moved : ℤ) (fetched : ℕ) : Type 0 where
   turns : ℕ
   is : (z +ℤ pos (turns * 2 ^ 32)) ≡ (moved +ℤ pos fetched)
   low : (pos 0 -ℤ pos (2 ^ 31)) ≤ℤ z
   high : moved <ℤ pos (2 ^ 31)
 
-turns_by : (cisn irs number fetched : ℕ) (z moved : ℤ) → irs ≡ (cisn + fetched) % 2 ^ 32 → fetched ≤ 2 ^ 24
+pub turns_by : (cisn irs number fetched : ℕ) (z moved : ℤ) → irs ≡ (cisn + fetched) % 2 ^ 32 → fetched ≤ 2 ^ 24
     → Leads ((cisn + 1) % 2 ^ 32) number z → Leads ((irs + 1) % 2 ^ 32) number moved → Moved z moved fetched
 turns_by cisn irs number fetched z moved is few l k =
     let start : ℕ = (cisn + 1) % 2 ^ 32 in
@@ -79,13 +80,6 @@ turns_by cisn irs number fetched z moved is few l k =
       low = l.low;
       high = k.high;
     }
-
-off_right : (a b : Bool) → b ≡ false → (a && b) ≡ false
-off_right true b h = h
-off_right false b h = refl
-
-off_left : (a b : Bool) → a ≡ false → (a && b) ≡ false
-off_left a b h = ap (λ v. v && b) h
 
 below_window : (place : ℕ) (z : ℤ) → z <ℤ pos 0 → int_le (pos place) z ≡ false
 below_window place z h = grind (arith, ints)
@@ -100,15 +94,15 @@ lies_by zero start window n fetched z moved is low high few near short small =
     let same : (z +ℤ pos n) ≡ (moved +ℤ pos n +ℤ pos fetched) = omega (arith, ints, is)
     in ap (lies_in (start + fetched) window) same ∙ lies_in_shift start window fetched (moved +ℤ pos n)
 lies_by (suc t) start window n fetched z moved is low high few near short small =
-    off_left (int_le (pos (start + fetched)) (z +ℤ pos n)) _ (below_window (start + fetched) (z +ℤ pos n) (omega (arith, ints, is, high)))
-    ∙ sym (off_right (int_le (pos start) (moved +ℤ pos n)) _ (above_window (start + window) (moved +ℤ pos n) (omega (arith, ints, is, low))))
+    and_left (int_le (pos (start + fetched)) (z +ℤ pos n)) _ (below_window (start + fetched) (z +ℤ pos n) (omega (arith, ints, is, high)))
+    ∙ sym (and_right (int_le (pos start) (moved +ℤ pos n)) _ (above_window (start + window) (moved +ℤ pos n) (omega (arith, ints, is, low))))
 
 lies_in_moved : (start window n fetched : ℕ) (z moved : ℤ) → Moved z moved fetched → fetched ≤ 2 ^ 24 → start ≤ 2 ^ 30 + 1 → window ≤ 2 ^ 16 → n ≤ 2 ^ 16
     → lies_in (start + fetched) window (z +ℤ pos n) ≡ lies_in start window (moved +ℤ pos n)
 lies_in_moved start window n fetched z moved m few near short small =
     lies_by m.turns start window n fetched z moved m.is m.low m.high few near short small
 
-is_moved : (start fetched : ℕ) (z moved : ℤ) → Moved z moved fetched → fetched ≤ 2 ^ 24 → start ≤ 2 ^ 30 + 1
+pub is_moved : (start fetched : ℕ) (z moved : ℤ) → Moved z moved fetched → fetched ≤ 2 ^ 24 → start ≤ 2 ^ 30 + 1
     → int_eq z (pos (start + fetched)) ≡ int_eq moved (pos start)
 is_moved start fetched z moved m few near = grind (arith, ints, m.is, m.low, m.high)
 
@@ -169,32 +163,17 @@ accepts_of : (e : Tcb) (segment : Segment) → counts e segment ≡ true → acc
 accepts_of e segment h =
     acceptable_of (has_ack segment) (has_syn segment) (has_rst segment) (accepts e segment) (e.sending.syn_acked || int_le (pos 0) (ack_at e segment)) h
 
-and_when : (a b b' : Bool) → (a ≡ true → b ≡ b') → (a && b) ≡ (a && b')
-and_when true b b' same = same refl
-and_when false b b' same = refl
-
-and_right : (a b : Bool) → (a && b) ≡ true → b ≡ true
-and_right true b h = h
-and_right false b h = absurd (false≢true h)
-
-and_left : (a b : Bool) → (a && b) ≡ true → a ≡ true
-and_left true b h = refl
-and_left false b h = h
-
-no_gap_moves : (n k : ℕ) (z : ℤ) → int_le (z +ℤ pos k) (pos (n + k)) ≡ int_le z (pos n)
-no_gap_moves n k z = grind (arith, ints)
-
 continues_is : (p : Point) (e : Tcb) (segment : Segment) → Meets p e segment → model.continues p segment ≡ continues e segment
 continues_is p e segment m =
     (λ i. counts_is p e segment m i && not (m.receives.fin i) && int_le (first_of p.cisn segment) (pos (m.receives.long i)))
     ∙ and_when (counts e segment && not e.receiving.fin) _ _
-    (λ h. ap (λ z. int_le z (pos (taken e.receiving + p.fetched))) (first_is p e segment m (accepts_of e segment (and_left (counts e segment) (not e.receiving.fin) h)))
-    ∙ no_gap_moves (taken e.receiving) p.fetched (first e segment))
+    (λ h. ap (λ z. int_le z (pos (taken e.receiving + p.fetched))) (first_is p e segment m (accepts_of e segment (left_true (counts e segment) (not e.receiving.fin) h)))
+    ∙ under_shift (taken e.receiving) p.fetched (first e segment))
 
 continues_accepts : (e : Tcb) (segment : Segment) → continues e segment ≡ true → accepts e segment ≡ true
 continues_accepts e segment h =
-    accepts_of e segment (and_left (counts e segment) (not e.receiving.fin)
-    (and_left (counts e segment && not e.receiving.fin) (int_le (first e segment) (pos (taken e.receiving))) h))
+    accepts_of e segment (left_true (counts e segment) (not e.receiving.fin)
+    (left_true (counts e segment && not e.receiving.fin) (int_le (first e segment) (pos (taken e.receiving))) h))
 
 -- bytes are put behind all that were taken, and so behind those that aren't read
 abbrev brought : Tcb → Segment → List ℕ
@@ -273,9 +252,9 @@ ack_of_counts e segment h =
 acknowledged_is : (p : Point) (e : Tcb) (segment : Segment) → Meets p e segment → acknowledges e segment ≡ true
     → sender.acknowledged_by p segment ≡ nat_abs (ack_at e segment)
 acknowledged_is p e segment m does =
-    let is_ack : has_ack segment ≡ true = ack_of_counts e segment (and_left (counts e segment) (int_le (pos 0) (ack_at e segment)) does) in
+    let is_ack : has_ack segment ≡ true = ack_of_counts e segment (left_true (counts e segment) (int_le (pos 0) (ack_at e segment)) does) in
     (λ i. min (nat_abs (ack_is p e segment m i)) (m.sent i))
-    ∙ used_whole (ack_at e segment) e.sending.sent (and_right (counts e segment) (int_le (pos 0) (ack_at e segment)) does) (m.usual.sent is_ack)
+    ∙ used_whole (ack_at e segment) e.sending.sent (right_true (counts e segment) (int_le (pos 0) (ack_at e segment)) does) (m.usual.sent is_ack)
 
 pub una_is : (p : Point) (e : Tcb) (segment : Segment) → Meets p e segment
     → sender.acknowledged_after (Comes segment) p ≡ (if acknowledges e segment then una_after e.sending.una (nat_abs (ack_at e segment)) else e.sending.una)
@@ -287,7 +266,7 @@ una_is p e segment m =
 
 -- the window's test, once an acknowledgement has counted
 accepts_acknowledged : (e : Tcb) (segment : Segment) → acknowledges e segment ≡ true → accepts e segment ≡ true
-accepts_acknowledged e segment h = accepts_of e segment (and_left (counts e segment) (int_le (pos 0) (ack_at e segment)) h)
+accepts_acknowledged e segment h = accepts_of e segment (left_true (counts e segment) (int_le (pos 0) (ack_at e segment)) h)
 
 window_test_moves : (una wl2 : ℕ) (wl1 first : ℤ) (ack k : ℕ) → updates_window una (wl1 +ℤ pos k) wl2 (first +ℤ pos k) ack ≡ updates_window una wl1 wl2 first ack
 window_test_moves una wl2 wl1 first ack k =
@@ -324,7 +303,7 @@ window_is p e segment m does =
     window_whole segment.head.window (sender.acknowledged_by p segment) (nat_abs (ack_of p.sisn segment)) m.usual.window (acknowledged_is p e segment m does ∙ sym same)
 
 uses_acknowledges : (e : Tcb) (segment : Segment) → uses_window e segment ≡ true → acknowledges e segment ≡ true
-uses_acknowledges e segment h = and_left (acknowledges e segment) _ h
+uses_acknowledges e segment h = left_true (acknowledges e segment) _ h
 
 right_edge_is : (p : Point) (e : Tcb) (segment : Segment) → Meets p e segment
     → sender.edge_after (Comes segment) p ≡ (if uses_window e segment then nat_abs (ack_at e segment) + segment.head.window else e.sending.edge)

@@ -16,6 +16,7 @@ use Rattle.tcp_endpoint.specs.Sending.{with_syn_acked, acknowledged, fin_acked}
 use Rattle.tcp_endpoint.specs.Tcb.{Tcb}
 use Rattle.tcp_endpoint.specs.Arrival.{first, ack_at, owing_if, killed, entering, with_text_and_fin, with_fin_acked, with_first_ack, with_ack, check_ack, check_syn, check_rst, waiting_again, check_place, in_others, received_in, received, refusing}
 use Rattle.endpoint_laws.specs.Laws.{accepts, counts, continues, taken_by, IsBounded, IsUsual}
+use Rattle.ft_io.proofs.Booleans.{and_true}
 
 -- a choice that makes no difference to a part
 pub part_of_if : {A X : Type 0} (f : A → X) (b : Bool) (x y : A) → f (if b then x else y) ≡ (if b then f x else f y)
@@ -136,7 +137,7 @@ text_part e p =
     in part_of_if (λ (t : Tcb). t.receiving) (taking.receiving.fin && not e.receiving.fin) (entering (after_fin e.name) taking) taking
     ∙ same_if (taking.receiving.fin && not e.receiving.fin) taking.receiving
 
-acked_part : (e : Tcb) → (with_fin_acked e).receiving ≡ e.receiving
+pub acked_part : (e : Tcb) → (with_fin_acked e).receiving ≡ e.receiving
 unfolding with_fin_acked
 acked_part e =
     part_of_if (λ (t : Tcb). t.receiving) (fin_acked e.sending) (entering (after_fin_acked e.name) e) e ∙ same_if (fin_acked e.sending) e.receiving
@@ -198,10 +199,6 @@ by_law false rst syn false syn_acked acks_syn acked x y same = refl
 -- the window is what is announced beyond RCV.NXT
 pub window_is : (r : Receiving) → announced_edge r - next r ≡ window r
 window_is r = grind arith
-
-and_true : (b : Bool) → (b && true) ≡ b
-and_true true = refl
-and_true false = refl
 
 -- without SYN and RST all text and the FIN count
 text_whole : (p : Segment) → has_syn p ≡ false → has_rst p ≡ false → text_of p ≡ p.payload

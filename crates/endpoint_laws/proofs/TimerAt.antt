@@ -1,7 +1,7 @@
 -- The timer at the end of a turn is the one at the point that the law of the timer leads to.
 use Rattle.std.proofs.Common.{◌≡◌, ℕ, ◌≤◌, ◌-◌, ◌*◌, Bool, true, false, not, max, min, refl, sym, ap, subst, arith, ◌∙◌}
 use Rattle.std.specs.Prelude.{◌==◌, ◌&&◌, ◌||◌, nat_lt, if◌then◌else◌}
-use Rattle.std.proofs.lemmas.Bool.{false≢true}
+use Rattle.std.proofs.lemmas.Bool.{false≢true, or_parts}
 use Rattle.server_trait.specs.Service.{Machine}
 use Rattle.seq_arith.specs.Packet.{Segment}
 use Rattle.ft_model.specs.Point.{Point}
@@ -67,14 +67,10 @@ goes_on true false una una' sent goal goal' must up grows none = refl
 goes_on false false una una' sent goal goal' must up grows none = refl
 goes_on false true una una' sent goal goal' must up grows none = absurd (false≢true (sym none ∙ true_right (nat_lt una una')))
 
-left_off : (a b : Bool) → (a || b) ≡ false → (a ≡ false) × (b ≡ false)
-left_off true b h = absurd (false≢true (sym h))
-left_off false b h = (refl, h)
-
-some_left : (rest : ℕ) → (rest == 0) ≡ false → 1 ≤ rest
+pub some_left : (rest : ℕ) → (rest == 0) ≡ false → 1 ≤ rest
 some_left rest h = grind arith
 
-sent_more : (o : Bool) (una sent sent' goal : ℕ) → sent ≤ sent' → (not o || nat_lt una (max sent goal)) ≡ true → (not o || nat_lt una (max sent' goal)) ≡ true
+pub sent_more : (o : Bool) (una sent sent' goal : ℕ) → sent ≤ sent' → (not o || nat_lt una (max sent goal)) ≡ true → (not o || nat_lt una (max sent' goal)) ≡ true
 sent_more true una sent sent' goal more h = grind arith
 sent_more false una sent sent' goal more h = refl
 
@@ -104,7 +100,7 @@ runs_on : {State : Type 0} (service : Machine State) (news : News) (before after
 runs_on service news before after e m u t none =
     let s : Sending = e.sending in
     let k : Sending = m.sending in
-    let parts = left_off (s.rest == 0) (nat_lt s.una k.una || (k.syn_acked && not s.syn_acked))
+    let parts = or_parts (s.rest == 0) (nat_lt s.una k.una || (k.syn_acked && not s.syn_acked))
     (or_apart (s.rest == 0) (nat_lt s.una k.una) (k.syn_acked && not s.syn_acked) ∙ none) in
     let must : must_run s ≡ true = t.between.runs (some_left s.rest parts.0) in
     let on : must_run k ≡ true =

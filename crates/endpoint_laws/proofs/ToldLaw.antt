@@ -1,7 +1,7 @@
 -- What was last announced, when a segment without data goes out, and where a probe is right.
 use Rattle.std.proofs.Common.{◌≡◌, ℕ, ◌≤◌, ◌+◌, ◌-◌, Bool, true, false, not, List, ◌++◌, length, length-append, max, min, refl, sym, ap, arith, ◌∙◌}
 use Rattle.std.specs.Prelude.{pos, ◌==◌, ◌&&◌, ◌||◌, nat_lt, int_lt, if◌then◌else◌}
-use Rattle.std.proofs.lemmas.Bool.{false≢true}
+use Rattle.std.proofs.lemmas.Bool.{false≢true, and_parts}
 use Rattle.seq_arith.specs.Arrival.{int_eq, is_acceptable}
 use Rattle.seq_arith.specs.Packet.{Segment, has_syn, has_rst, has_ack}
 use Rattle.seq_arith.specs.Offset.{one_if, length_of}
@@ -16,8 +16,9 @@ use Rattle.tcp_endpoint.specs.Turning.{after_tick, timer_ticked, waited, after_w
 use Rattle.endpoint_laws.specs.Laws.{is_refused, owes, told, asks, IsBounded, IsUsual, ProbesRightly, IsShut}
 use Rattle.endpoint_laws.proofs.TakenLaw.{part_of_if, same_if, if_when, begun_is, Aside, at_ack, others_part, segment_taken}
 use Rattle.endpoint_laws.proofs.OwedLaw.{owed_law}
-use Rattle.endpoint_laws.proofs.Bounding.{text_facts}
+use Rattle.endpoint_laws.proofs.Bounding.{text_facts, two_more_off, three_off, four_off}
 use Rattle.endpoint_laws.proofs.TurnLaw.{after_steps, sent_law, timed_sent, by_probe}
+use Rattle.ft_io.proofs.Booleans.{or_other}
 
 -- a turn's end sends a segment without data where one is owed
 pub leaving_by : (u : Tcb) (owed : Bool) → has_begun u.name ≡ true → u.owed ≡ owed
@@ -111,17 +112,13 @@ stuck_ticked : (b : Bool) (s : Sending) (i r n : ℕ) → Stuck s → Stuck (if 
 stuck_ticked true s i r n h = h
 stuck_ticked false s i r n h = h
 
-probed_by : (probe x : Bool) → probe ≡ false → (probe || x) ≡ true → x ≡ true
-probed_by true x none h = absurd (false≢true (sym none))
-probed_by false x none h = h
-
 pub probed_by_tick : (e : Tcb) → e.probe ≡ false → IsBounded e → IsShut e.sending → ProbesRightly (after_tick e)
 unfolding after_tick timer_ticked waited
 probed_by_tick e none b shut =
     let s : Sending = e.sending in
     let due : Bool = expires s && not (not s.syn_acked || nat_lt s.una s.sent) in
     let right : (e.probe || due) ≡ true → Stuck (ticked s) = λ h.
-    let x = expiry s.rest s.una s.sent s.syn_acked (probed_by e.probe due none h) b.order in
+    let x = expiry s.rest s.una s.sent s.syn_acked (or_other e.probe due none h) b.order in
     stuck_ticked (expires s) s _ _ _ (x.2, shut.edge x.0 x.1 x.2, shut.waits x.0 x.1 x.2, x.1) in
     record { all_acked = λ h. (right h).0; shut = λ h. (right h).1; waits = λ h. (right h).2; syn_acked = λ h. (right h).3 }
 
@@ -139,26 +136,13 @@ shut_by_write e bytes shut = record {
 add_none : (m n : ℕ) → n ≡ 0 → m + n ≡ m
 add_none m n h = omega arith
 
-off_two : (t u : Bool) → (false && t && u) ≡ true → false ≡ true
-off_two t u h = h
-
-off_three : (d t u : Bool) → (false && d && t && u) ≡ true → false ≡ true
-off_three d t u h = h
-
-off_four : (c d t u : Bool) → (false && c && d && t && u) ≡ true → false ≡ true
-off_four c d t u h = h
-
 sendable_off : (o : Bool) (n : ℕ) → (if o && not true then n else 0) ≡ 0
 sendable_off true n = refl
 sendable_off false n = refl
 
-both_on : (x u : Bool) → (x && u) ≡ true → (x ≡ true) × (u ≡ true)
-both_on true u h = (refl, h)
-both_on false u h = absurd (false≢true h)
-
 probe_fin_facts : (a b c d t u : Bool) → (a && b && c && not d && t && u) ≡ true → (d ≡ false) × (u ≡ true) × (t ≡ true)
 probe_fin_facts a b c d t u h =
-    let f = both_on (a && b && c && not d && t) u h in
+    let f = and_parts (a && b && c && not d && t) u h in
     let g = text_facts a b c d t f.0 in (g.1, f.1, g.2)
 
 -- a turn's end leaves the target
@@ -181,9 +165,9 @@ target_of_if false x y n p q = q refl
 sends_facts : (o c d t u : Bool) → (o && c && not d && t && u) ≡ true → (c ≡ true) × (d ≡ false) × (t ≡ true)
 sends_facts true true false true u h = (refl, refl, refl)
 sends_facts true true false false u h = absurd (false≢true h)
-sends_facts true true true t u h = absurd (false≢true (off_two t u h))
-sends_facts true false d t u h = absurd (false≢true (off_three (not d) t u h))
-sends_facts false c d t u h = absurd (false≢true (off_four c (not d) t u h))
+sends_facts true true true t u h = absurd (false≢true (two_more_off t u h))
+sends_facts true false d t u h = absurd (false≢true (three_off (not d) t u h))
+sends_facts false c d t u h = absurd (false≢true (four_off c (not d) t u h))
 
 at_end : (una sent len : ℕ) → (sent == una + len) ≡ true → sent ≡ una + len
 at_end una sent len h = grind arith
@@ -282,6 +266,6 @@ shut_by_flush e begun b right =
     let goal : target a ≡ target s = ap target same ∙ after_probe e begun b (probes_text e) (probes_fin e) refl refl in
     let sent : a.sent ≡ max s.sent (min (target s) s.edge) + one_if e.probe = sym (timed_sent runs a) ∙ sent_law e begun b right in
     shut_timed runs a s.edge
-    (λ h. (both_on (has_begun after.name || is_syn_sent after.name) (must_run a) h).1)
+    (λ h. (and_parts (has_begun after.name || is_syn_sent after.name) (must_run a) h).1)
     edge
     (λ acked waits. stuck_by s.una s.sent a.sent (target s) s.edge (one_if e.probe) b.order sent (sym una ∙ acked) (omega (arith, waits, goal)))

@@ -17,6 +17,9 @@ use Rattle.endpoint_laws.specs.Standing.{SendsAt, HasWrittenAll, HasFilled, IsUs
 use Rattle.endpoint_laws.proofs.TurnLaw.{after_steps, by_probe, timed_sent}
 use Rattle.endpoint_laws.proofs.ToldLaw.{after_probe}
 use Rattle.endpoint_laws.proofs.Calls.{FinIsLast}
+use Rattle.ft_io.proofs.Booleans.{left_true, right_true, false_by}
+use Rattle.endpoint_laws.proofs.EndingLaw.{none_behind}
+use Rattle.endpoint_laws.proofs.TimerAt.{sent_more}
 
 -- a part of the sending half that neither the timer nor what is sent has a part in
 pub record IsSteady {X : Type 0} (g : Sending → X) : Type 0 where
@@ -97,13 +100,6 @@ all_sent_of true true false d u una len sent h = absurd (false≢true (off_three
 all_sent_of true false c d u una len sent h = absurd (false≢true (off_four c d (sent == una + len) u h))
 all_sent_of false o c d u una len sent h = absurd (false≢true h)
 
--- behind it no text goes out
-none_sendable : (b o f : Bool) (n : ℕ) → f ≡ true → (if b then (if o && not f then n else 0) else 0) ≡ 0
-none_sendable true true true n h = refl
-none_sendable true false true n h = refl
-none_sendable false o true n h = refl
-none_sendable b o false n h = absurd (false≢true h)
-
 last_steps : (begun pt pf : Bool) (s : Sending) → (pt ≡ true → s.fin_sent ≡ false) → (pf ≡ true → (s.closed ≡ true) × (length s.held ≡ s.sent - s.una))
     → FinIsLast s → FinIsLast (after_steps begun pt pf s)
 last_steps begun pt pf s unsent ends last =
@@ -113,29 +109,21 @@ last_steps begun pt pf s unsent ends last =
     last_if pt (with_sent s 1) _ (λ h. last_sent s 1 (λ k. absurd (false≢true (sym (unsent h) ∙ k))) last)
     (λ h. last_if pf (with_fin_sent s) s (λ k. last_fin s (ends k).0 (ends k).1) (λ k. last)) in
     let texted_last : FinIsLast texted =
-    last_sent probed _ (λ h. none_sendable begun probed.syn_acked probed.fin_sent (min (probed.una + length probed.held) probed.edge - probed.sent) h) probed_last in
+    last_sent probed _ (λ h. none_behind begun probed.syn_acked probed.fin_sent (min (probed.una + length probed.held) probed.edge - probed.sent) h) probed_last in
     last_if (begun && sends_fin texted) (with_fin_sent texted) texted
     (λ h. last_fin texted
     (closed_of begun texted.syn_acked texted.closed texted.fin_sent (texted.sent == texted.una + length texted.held) (nat_lt texted.sent texted.edge) h)
     (all_sent_of begun texted.syn_acked texted.closed texted.fin_sent (nat_lt texted.sent texted.edge) texted.una (length texted.held) texted.sent h))
     (λ h. texted_last)
 
-right_of : (a b : Bool) → (a && b) ≡ true → b ≡ true
-right_of true b h = h
-right_of false b h = absurd (false≢true h)
-
 last_timed : (runs : Bool) (s : Sending) → FinIsLast s → FinIsLast (timed runs s)
 last_timed true s last = last_if (s.rest == 0) (record s { interval = 1; rest = 1 }) s (λ h. last) (λ h. last)
 last_timed false s last = last
 
 -- a probe goes out where no FIN was sent, and the FIN as one where no byte waits to be sent
-unsent_of : (p b o f t : Bool) → (p && b && o && not f && t) ≡ true → f ≡ false
+pub unsent_of : (p b o f t : Bool) → (p && b && o && not f && t) ≡ true → f ≡ false
 unsent_of p b o false t h = refl
 unsent_of p b o true t h = grind arith
-
-left_of : (a b : Bool) → (a && b) ≡ true → a ≡ true
-left_of true b h = refl
-left_of false b h = absurd (false≢true h)
 
 none_waiting : (f : Bool) (una len sent : ℕ) → una ≤ sent → sent ≤ una + len + one_if f → f ≡ false → not (nat_lt (sent - una) len) ≡ true → len ≡ sent - una
 none_waiting true una len sent order flight unsent none = absurd (false≢true (sym unsent))
@@ -145,9 +133,9 @@ ends_of : (p b o f c : Bool) (una len sent : ℕ) → una ≤ sent → sent ≤ 
     → (c ≡ true) × (len ≡ sent - una)
 ends_of p b o f c una len sent order flight h =
     let none : Bool = not (nat_lt (sent - una) len) in
-    let probed : (p && b && o && not f && none) ≡ true = left_of (p && b && o && not f && none) c h in (
-      right_of (p && b && o && not f && none) c h,
-      none_waiting f una len sent order flight (unsent_of p b o f none probed) (right_of (p && b && o && not f) none probed),
+    let probed : (p && b && o && not f && none) ≡ true = left_true (p && b && o && not f && none) c h in (
+      right_true (p && b && o && not f && none) c h,
+      none_waiting f una len sent order flight (unsent_of p b o f none probed) (right_true (p && b && o && not f) none probed),
     )
 
 pub last_flushed : (u : Tcb) → IsBounded u → FinIsLast u.sending → FinIsLast (flushed u).sending
@@ -173,7 +161,7 @@ pub runs_flushed : (u : Tcb) → 1 ≤ (flushed u).sending.rest → must_run (fl
 unfolding flushed with_turn_ended announced
 runs_flushed u h =
     let v : Tcb = after_full u in
-    runs_timed (is_timed v) v.sending (λ r. right_of (has_begun v.name || is_syn_sent v.name) (must_run v.sending) r) h
+    runs_timed (is_timed v) v.sending (λ r. right_true (has_begun v.name || is_syn_sent v.name) (must_run v.sending) r) h
 
 -- the target, and whether the timer must run, at the point: behind a full buffer the rest of the output waits, which has no room
 target_by : (f c : Bool) (una len sent : ℕ) → (f ≡ true → (c ≡ true) × (1 ≤ sent)) → (if f then sent - 1 else una + len) + one_if c ≡ (if f then sent else una + len + one_if c)
@@ -184,10 +172,6 @@ target_by false c una len sent last = refl
 all_target : {State : Type 0} (service : Machine State) (p : Point) (s : Sending) → FinIsLast s → HasWrittenAll service p s → point.target service p ≡ target s
 all_target service p s last w =
     (λ i. w.written i + one_if (w.closed i)) ∙ target_by s.fin_sent s.closed s.una (length s.held) s.sent (λ h. ((last h).0, (last h).1))
-
-fin_unsent : (f c : Bool) → (f ≡ true → c ≡ true) → c ≡ false → f ≡ false
-fin_unsent true c ends h = absurd (false≢true (sym h ∙ ends refl))
-fin_unsent false c ends h = refl
 
 open_target : (f c : Bool) (una len sent : ℕ) → f ≡ false → c ≡ false → (if f then sent else una + len + one_if c) ≡ una + len
 open_target true c una len sent none h = absurd (false≢true (sym none))
@@ -204,7 +188,7 @@ filled_target : {State : Type 0} (service : Machine State) (p : Point) (u : Tcb)
     → FilledTarget u.sending.una u.sending.edge (target u.sending) (point.target service p)
 filled_target service p u b last w =
     let s : Sending = u.sending in
-    let unsent : s.fin_sent ≡ false = fin_unsent s.fin_sent s.closed (λ h. (last h).0) w.open_still in
+    let unsent : s.fin_sent ≡ false = false_by s.fin_sent s.closed (λ h. (last h).0) w.open_still in
     let goal : target s ≡ s.una + length s.held = open_target s.fin_sent s.closed s.una (length s.held) s.sent unsent w.open_still in
     let written : s.una + length s.held ≤ point.released service p =
     omega (arith, w.written, ap (λ v. if v then s.sent - 1 else s.una + length s.held) unsent) in
@@ -258,11 +242,6 @@ runs_at service p u begun b last s used sent =
     ∙ ap (λ w. not p.syn_acked || w) (waits_at service p u p.sent b last used)
     ∙ ap (λ n. not p.syn_acked || nat_lt n (max p.sent (point.target service p))) (sym s.una)
 
--- where the timer must run before the flush, it must at the point after it
-more_sent : (o : Bool) (una sent sent' goal : ℕ) → sent ≤ sent' → (not o || nat_lt una (max sent goal)) ≡ true → (not o || nat_lt una (max sent' goal)) ≡ true
-more_sent true una sent sent' goal more h = grind arith
-more_sent false una sent sent' goal more h = refl
-
 least_if : (b : Bool) (x y : Sending) (n : ℕ) → n ≤ x.sent → n ≤ y.sent → n ≤ (if b then x else y).sent
 least_if true x y n p q = p
 least_if false x y n p q = q
@@ -286,4 +265,4 @@ running_at service before after u b last s used was sent must =
     let more : u.sending.sent ≤ after.sent = omega (arith, steps_grow u, sent) in
     (λ i. not (s.syn_acked i) || nat_lt (s.una i) (max after.sent (point.target service after)))
     ∙ ap (λ w. not u.sending.syn_acked || w) (sym (waits_at service after u after.sent b last used))
-    ∙ more_sent u.sending.syn_acked u.sending.una u.sending.sent after.sent (target u.sending) more must
+    ∙ sent_more u.sending.syn_acked u.sending.una u.sending.sent after.sent (target u.sending) more must

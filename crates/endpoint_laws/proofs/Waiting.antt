@@ -26,7 +26,9 @@ use Rattle.endpoint_laws.specs.Waiting.{time_wait_ticks, brings_fin_again, ticks
 use Rattle.endpoint_laws.proofs.TakenLaw.{begun_is}
 use Rattle.endpoint_laws.proofs.TurnLaw.{after_steps}
 use Rattle.endpoint_laws.proofs.SegmentsLaw.{kept}
-use Rattle.endpoint_laws.proofs.EndingLaw.{IsPlaced, FollowsAt, holds_if, stays_closed, flushed_name, reset_closed, unreset_follows}
+use Rattle.endpoint_laws.proofs.EndingLaw.{IsPlaced, FollowsAt, flushed_name, reset_closed, unreset_follows}
+use Rattle.ft_io.proofs.Choices.{by_cases, holds_if}
+use Rattle.endpoint_laws.proofs.Listening.{closed_by_calls}
 
 -- an endpoint that enters TIME-WAIT has four ticks to go
 abbrev Enters : Tcb → Type 0
@@ -333,15 +335,11 @@ unfolding after_tick timer_ticked waited
 ticked_ends ticks e some w last =
     (λ i. if is_time_wait (w.name i) && nat_lt (w.wait_is i) 2 then Closed else w.name i) ∙ ap (λ b. if b then Closed else TimeWait) (last_tick ticks some ∙ last)
 
-by_last : {X : Type 0} (b : Bool) → (b ≡ true → X) → (b ≡ false → X) → X
-by_last true p q = p refl
-by_last false p q = q refl
-
 tick_turn : (ticks : ℕ) (calls : List Call) (e : Tcb) → 1 ≤ 4 - ticks → Waits (4 - ticks) e → Turned ticks Ticks calls e
 tick_turn ticks calls e some w =
-    by_last (ticks + 1 == 4)
+    by_cases (ticks + 1 == 4)
     (λ last. on_match _ _ (ticks + 1 == 4) last
-    (flushed_name (before_flush Ticks calls e) ∙ stays_closed calls (after_tick e) (ticked_ends ticks e some w last)))
+    (flushed_name (before_flush Ticks calls e) ∙ closed_by_calls calls (after_tick e) (ticked_ends ticks e some w last)))
     (λ more. let next_one = ticked_waits ticks e some w more in turn_waits ticks (ticks + 1) Ticks calls e refl next_one.0 next_one.1)
 
 a_turn : (ticks : ℕ) (news : News) (calls : List Call) (e : Tcb) → 1 ≤ 4 - ticks → Waits (4 - ticks) e → resets news e ≡ false → Turned ticks news calls e
@@ -391,7 +389,7 @@ ended LastAck o c f a h placed = absurd (false≢true h)
 killed_outside : (news : News) (calls : List Call) (e : Tcb) → has_begun e.name ≡ true → (resets news e ≡ true → (before_flush news calls e).name ≡ Closed)
     → is_time_wait (before_flush news calls e).name ≡ true → resets news e ≡ false
 killed_outside news calls e begun closes h =
-    by_last (resets news e) (λ r. absurd (false≢true (ap is_time_wait (sym (closes r)) ∙ h))) (λ r. r)
+    by_cases (resets news e) (λ r. absurd (false≢true (ap is_time_wait (sym (closes r)) ∙ h))) (λ r. r)
 
 pub wait_law : (news : News) (calls : List Call) (turns : List Events) (e : Tcb) → has_begun e.name ≡ true → IsBetweenTurns e → IsNamedRightly e
     → is_time_wait e.name ≡ false → is_time_wait (before_flush news calls e).name ≡ true → WaitsOut 0 (turned news calls e) turns

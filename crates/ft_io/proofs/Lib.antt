@@ -1,3 +1,5 @@
 pub mod Arrivals
+pub mod Booleans
+pub mod Choices
 pub mod Copies
 pub mod Outcomes

@@ -1,5 +1,5 @@
 -- A text is accepted line by line, and each accepted line keeps what every accepted schedule keeps.
-use Rattle.std.proofs.Common.{◌≡◌, ℕ, zero, suc, ◌+◌, ◌-◌, ◌*◌, ◌<◌, ◌≤◌, ◌^◌, List, [], ◌∷◌, ◌++◌, length, drop, refl, ◌∙◌, arith, append_assoc, length-append, Bool, true, false}
+use Rattle.std.proofs.Common.{◌≡◌, ℕ, ◌+◌, ◌-◌, ◌*◌, ◌<◌, ◌≤◌, ◌^◌, List, [], ◌∷◌, ◌++◌, length, drop, refl, arith, append_assoc, length-append, Bool, true, false}
 use Rattle.std.specs.Prelude.{cond, Option, Some, None, option_map, Result, Ok, Err, nat_le, ◌&&◌}
 use Rattle.std.specs.Option.{ok_or, option_and_then}
 use Rattle.std.specs.List.{AllByRecursion}
@@ -29,6 +29,7 @@ use Rattle.ft_model.specs.declared.schedule.Schedule.{Schedule}
 use Rattle.ft_model.specs.declared.schedule.Script.{Script}
 use Rattle.ft_model.specs.declared.schedule.Script.TheVariants.{Bytes, Fill}
 use Rattle.ft_model.proofs.Letters.{length_letters}
+use Rattle.ft_io.proofs.Booleans.{left_true, right_true}
 
 -- What an outcome that isn't a refusal says of the tests that gave it.
 pub bind_ok : {A B E : Type 0} (r : Result A E) (f : A → Result B E) (y : B) → (r >>= f) ≡ Ok y → (x : A) × (r ≡ Ok x) × (f x ≡ Ok y)
@@ -118,28 +119,20 @@ tested (Ok n) (Err d) ra rs make c e = absurd (cc)
 tested (Ok n) (Ok i) (Err d) rs make c e = absurd (cc)
 tested (Ok n) (Ok i) (Ok a) (Err d) make c e = absurd (cc)
 
-pub both_left : (a b : Bool) → (a && b) ≡ true → a ≡ true
-both_left true b e = refl
-both_left false b e = absurd (cc)
-
-pub both_right : (a b : Bool) → (a && b) ≡ true → b ≡ true
-both_right true b e = e
-both_right false b e = absurd (cc)
-
 not_both : (a b : Bool) → (a && b) ≡ false → b ≡ true → a ≡ false
 not_both true b e f = absurd (cc)
 not_both false b e f = refl
 
 hex_limit : (digits : List ℕ) → is_hex digits ≡ true → length digits ≤ 2 * 2 ^ 24
 unfolding is_hex
-hex_limit digits e = leb-true _ _ (both_right _ _ e)
+hex_limit digits e = leb-true _ _ (right_true _ _ e)
 
 hex_bound : (digits : List ℕ) (b : Bool) (s : Script) → is_hex digits ≡ b → cond b (Some (Bytes (hex_bytes digits))) None ≡ Some s → length (bytes_of s) ≤ 2 ^ 24
 hex_bound digits true s h e = let is : Bytes (hex_bytes digits) ≡ s = cc in rw (← is) (omega (arith, half digits, hex_limit digits h))
 hex_bound digits false s h e = absurd (cc)
 
 pub within_bound : (least most : ℕ) (o : Option ℕ) (n : ℕ) → option_and_then (within least most) o ≡ Some n → n ≤ most
-within_bound least most (Some m) n e = let is = cond_some (nat_le least m && nat_le m most) m n e in rw (← is.1) (leb-true _ _ (both_right _ _ is.0))
+within_bound least most (Some m) n e = let is = cond_some (nat_le least m && nat_le m most) m n e in rw (← is.1) (leb-true _ _ (right_true _ _ is.0))
 within_bound least most None n e = absurd (cc)
 
 pub number_bound : (least most : ℕ) (word : List ℕ) (n : ℕ) → number_of least most word ≡ Some n → n ≤ most
@@ -210,7 +203,7 @@ Kept (Begun s) = IsAccepted s
 
 pub room_for_client : (s : Schedule) (words : List (List ℕ)) → may_join s words ≡ true → length s.clients < 16
 unfolding may_join
-room_for_client s words e = ltb-true _ _ (both_right _ _ (both_left _ _ e))
+room_for_client s words e = ltb-true _ _ (right_true _ _ (left_true _ _ e))
 
 room_for_event : (s : Schedule) (text word : List ℕ) (words : List (List ℕ)) (v : Verb) → words_of text ≡ word ∷ words → verb_of word ≡ Some v → is_too_much (Begun s) text ≡ false → length s.events < 100000
 unfolding is_too_much

@@ -1,6 +1,7 @@
 -- No segment acknowledges what isn't logged, and what is logged of a client is the front of its script.
 use Rattle.std.proofs.Common.{⊎_elim, ◌≡◌, ℕ, ◌≤◌, ◌^◌, pos, ◌≤ℤ◌, le_of_eq, true, ◌&&◌, not, refl, sym, ap, ◌∙◌, subst, find, Option, Some, None, List, [], ◌∷◌, map, length, arith, ◌==◌}
 use Rattle.std.specs.List.{AllByRecursion, list_any}
+use Rattle.std.proofs.lemmas.Bool.{and_parts}
 use Rattle.ft_io.specs.declared.Addr.{Addr}
 use Rattle.ft_io.specs.declared.Key.{Key}
 use Rattle.ft_io.specs.Key.{key_eq}
@@ -13,7 +14,7 @@ use Rattle.ft_model.specs.Network.Packet.{To_server, To_client, To_logger, From_
 use Rattle.ft_model.specs.Growth.{IsPrefix, logged_units}
 use Rattle.ft_model.specs.Masked.{AcknowledgesLogged}
 use Rattle.ft_model.specs.World.{World, Moment, Joint, IsStart, IsNewClient, is_apart, are_apart, world_after}
-use Rattle.ft_model.proofs.Lists.{both, all_weaker, all_find, all_slice_get, same_key, none_is_some, not_true}
+use Rattle.ft_model.proofs.Lists.{all_weaker, all_find, all_slice_get, same_key, none_is_some}
 use Rattle.ft_model.proofs.Fetching.{full_front}
 use Rattle.ft_model.proofs.Keys.{AreDistinct, has_key_map, finds_itself, all_from_get}
 use Rattle.ft_model.proofs.LogAnswers.{all_answers}
@@ -27,12 +28,13 @@ use Rattle.ft_model.proofs.Scripts.{EntryFits}
 use Rattle.ft_model.proofs.Faithful.{PacketFits, IsFit, EntriesFit}
 use Rattle.ft_model.proofs.FaithfulKept.{ClientFits, IsFaithful}
 use Rattle.ft_model.proofs.FaithfulOver.{script_of, isn_of, script_in, isn_in, turn_faithful, faithful_goes_on}
+use Rattle.ft_io.proofs.Booleans.{not_true}
 
 apart_distinct : (server : Addr) (clients : List Client) → are_apart server clients ≡ true → AreDistinct (map (λ c. c.key) clients)
 apart_distinct server [] e = tt
 apart_distinct server (c ∷ clients) e =
-    let parts = both (is_apart server c.key clients) (are_apart server clients) e in
-    let none = not_true (list_any (λ x. key_eq x.key c.key) clients) (both (not (c.key.ip == server.ip && c.key.port == server.port)) (not (list_any (λ x. key_eq x.key c.key) clients)) parts.0).1 in
+    let parts = and_parts (is_apart server c.key clients) (are_apart server clients) e in
+    let none = not_true (list_any (λ x. key_eq x.key c.key) clients) (and_parts (not (c.key.ip == server.ip && c.key.port == server.port)) (not (list_any (λ x. key_eq x.key c.key) clients)) parts.0).1 in
     (sym (has_key_map (λ x. x.key) c.key clients) ∙ none, apart_distinct server clients parts.1)
 
 short_in : (server : Addr) (clients : List Client) (o : Option Client) (key : Key) → AllByRecursion (IsNewClient server) clients → find (λ c. key_eq c.key key) clients ≡ o → length (script_in o) ≤ 2 ^ 24

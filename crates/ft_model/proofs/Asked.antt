@@ -1,6 +1,7 @@
 -- Restart: the log agrees with the answers that an incarnation has yet to hear, and with what it has fetched.
 use Rattle.std.proofs.Common.{◌≡◌, ℕ, ◌<◌, ◌≤◌, true, false, ◌||◌, nat_le, refl, sym, ap, ap₂, ◌∙◌, subst, true≢false, ⊎_elim, Some, List, [], ◌∷◌, ◌++◌, map, length, arith, if◌then◌else◌}
 use Rattle.std.specs.List.{AllByRecursion, list_any}
+use Rattle.std.proofs.lemmas.Bool.{or_parts}
 use Rattle.ft_io.specs.declared.Key.{Key}
 use Rattle.ft_io.specs.Key.{key_eq}
 use Rattle.seq_arith.specs.Message.{Numbers, Body, Message}
@@ -17,7 +18,7 @@ use Rattle.ft_model.specs.Lawful.{LawfulTurn, hello}
 use Rattle.ft_model.specs.Growth.{EntryGrows}
 use Rattle.ft_model.specs.Masked.{is_restarting}
 use Rattle.ft_model.specs.World.{World, IsStart}
-use Rattle.ft_model.proofs.Lists.{of_choice, neither, all_weaker, all_both, all_append, none_is_some, some_is}
+use Rattle.ft_model.proofs.Lists.{all_weaker, all_both, all_append, none_is_some, some_is}
 use Rattle.ft_model.proofs.Grows.{part_grows, read_grows, done_grows}
 use Rattle.ft_model.proofs.Keys.{AreDistinct, distinct_more, has_key_map}
 use Rattle.ft_model.proofs.LogAnswers.{LogWent, log_went, all_answers}
@@ -28,6 +29,7 @@ use Rattle.ft_model.proofs.StageTurns.{Progress, StageWent, stage_went}
 use Rattle.ft_model.proofs.StageTurns.StageWent.{was_fenced, waited, held_off, asked_on, resumed, served}
 use Rattle.ft_model.proofs.Fenced.{IsFenced, IsLogged, IsOurs, IsSegment, IsNoChange, HasBoot, is_change, is_stale, turn_ours, was_restarting}
 use Rattle.ft_model.proofs.Fetching.{AgreesWith, AreFetched, told_agrees, fetched_agrees}
+use Rattle.ft_io.proofs.Choices.{holds_if}
 
 abbrev pub entry_keys : Log → List Key
 entry_keys log = map (λ e. e.key) log.entries
@@ -53,7 +55,7 @@ pub keys_stay : (key : Key) (change : Entry → Entry) (es : List Entry) → ((e
     → map (λ e. e.key) (map (λ e. if key_eq e.key key then change e else e) es) ≡ map (λ e. e.key) es
 keys_stay key change [] g = refl
 keys_stay key change (e ∷ es) g =
-    ap₂ ◌∷◌ (of_choice (λ x. x.key ≡ e.key) (key_eq e.key key) (change e) e (λ t. (g e).key) (λ t. refl)) (keys_stay key change es g)
+    ap₂ ◌∷◌ (holds_if (λ x. x.key ≡ e.key) (key_eq e.key key) (change e) e (λ t. (g e).key) (λ t. refl)) (keys_stay key change es g)
 
 pub map_more : {A B : Type 0} (f : A → B) (xs : List A) (x : A) → map f (xs ++ x ∷ []) ≡ map f xs ++ f x ∷ []
 map_more f [] x = refl
@@ -61,9 +63,9 @@ map_more f (y ∷ ys) x = ap (λ l. f y ∷ l) (map_more f ys x)
 
 opened_distinct : (n : Numbers) (log : Log) → AreDistinct (entry_keys log) → AreDistinct (entry_keys (opened n log))
 opened_distinct n log d =
-    of_choice (λ l. AreDistinct (entry_keys l)) (list_any (λ e. key_eq e.key n.key) log.entries || nat_le 64 (length log.entries)) log
+    holds_if (λ l. AreDistinct (entry_keys l)) (list_any (λ e. key_eq e.key n.key) log.entries || nat_le 64 (length log.entries)) log
     (record log { entries = log.entries ++ new_entry n ∷ [] }) (λ t. d)
-    (λ t. let none = (neither (list_any (λ e. key_eq e.key n.key) log.entries) (nat_le 64 (length log.entries)) t).0 in
+    (λ t. let none = (or_parts (list_any (λ e. key_eq e.key n.key) log.entries) (nat_le 64 (length log.entries)) t).0 in
     subst AreDistinct (sym (map_more (λ e. e.key) log.entries (new_entry n)))
     (distinct_more (entry_keys log) n.key d (sym (has_key_map (λ e. e.key) n.key log.entries) ∙ none)))
 

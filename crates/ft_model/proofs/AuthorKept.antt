@@ -1,6 +1,7 @@
 -- The author of the logged reads is kept by every moment of a trace.
 use Rattle.std.proofs.Common.{length-append, eqb-true, leb-true, sum, ◌≡◌, ℕ, ◌+◌, ◌-◌, ◌≤◌, true, false, ◌==◌, ◌&&◌, ◌||◌, not, nat_lt, nat_le, le_refl, refl, sym, ap, ◌∙◌, subst, true≢false, inl, inr, ⊎_elim, Option, Some, None, option_to_list, List, [], ◌∷◌, ◌++◌, map, length, drop, slice_get, arith, if◌then◌else◌}
 use Rattle.std.specs.List.{AllByRecursion, list_any}
+use Rattle.std.proofs.lemmas.Bool.{and_parts}
 use Rattle.ft_io.specs.declared.Key.{Key}
 use Rattle.ft_io.specs.Key.{key_eq}
 use Rattle.seq_arith.specs.Packet.{Segment, has_rst}
@@ -16,7 +17,7 @@ use Rattle.ft_model.specs.Node.{Node, is_for}
 use Rattle.ft_model.specs.Lawful.{asked, held}
 use Rattle.ft_model.specs.Growth.{IsPrefix, LogGrows}
 use Rattle.ft_model.specs.World.{World}
-use Rattle.ft_model.proofs.Lists.{of_choice, both, all_both, all_weaker, all_map, all_append, all_find, same_key}
+use Rattle.ft_model.proofs.Lists.{all_both, all_weaker, all_map, all_append, all_find, same_key}
 use Rattle.ft_model.proofs.Grows.{log_grows}
 use Rattle.ft_model.proofs.LogAnswers.{LogWent, log_went, all_answers}
 use Rattle.ft_model.proofs.LogAnswers.LogWent.{ignored, raised, changed}
@@ -35,6 +36,7 @@ use Rattle.ft_model.proofs.Services.{reads_go_on, sum_append}
 use Rattle.ft_model.proofs.Authored.{IsSpoken, CarriesOutput, carries_later, logged_run}
 use Rattle.ft_model.proofs.FaithfulOver.{IsHeadOf}
 use Rattle.ft_model.proofs.AuthorOver.{ReadOf, EntryOf, StageRuns, HasAuthor}
+use Rattle.ft_io.proofs.Choices.{holds_if}
 
 pub read_later : (author later : Key → List ℕ) → ((key : Key) → IsPrefix (author key) (later key)) → (body : Body) → ReadFits author body → ReadFits later body
 read_later author later g (ReadMsg key index n) f = subst (λ l. slice_get l index ≡ Some n) (g key).1 (get_left (author key) (g key).0 index n f)
@@ -96,25 +98,25 @@ pub change_all : (Q : Entry → Type 0) (key : Key) (change : Entry → Entry) (
     → AllByRecursion Q (map (λ e. if key_eq e.key key then change e else e) es)
 change_all Q key change es g a =
     all_map Q (λ e. if key_eq e.key key then change e else e) es
-    (all_weaker Q _ es (λ e p. of_choice Q (key_eq e.key key) (change e) e (λ t. g e (same_key e.key key t) p) (λ t. p)) a)
+    (all_weaker Q _ es (λ e p. holds_if Q (key_eq e.key key) (change e) e (λ t. g e (same_key e.key key t) p) (λ t. p)) a)
 
 part_of_author : (author : Key → List ℕ) (part : Part) (e : Entry) → EntryOf author e → EntryOf author (with_part part e)
 part_of_author author part e f =
     let x : Entry = with_bytes part e in
     let bytes : EntryOf author x =
-    of_choice (EntryOf author) (e.fin || nat_lt (length e.bytes) part.offset) e (record e { bytes = e.bytes ++ drop (length e.bytes - part.offset) part.bytes }) (λ t. f)
+    holds_if (EntryOf author) (e.fin || nat_lt (length e.bytes) part.offset) e (record e { bytes = e.bytes ++ drop (length e.bytes - part.offset) part.bytes }) (λ t. f)
     (λ t. let more = length-append e.bytes (drop (length e.bytes - part.offset) part.bytes) in (f.0, omega (arith, f.1, more))) in
     let fin : EntryOf author (with_its_fin part x) =
-    of_choice (EntryOf author) (part.fin && part.offset + length part.bytes == length x.bytes) (record x { fin = true }) x (λ t. bytes) (λ t. bytes) in
+    holds_if (EntryOf author) (part.fin && part.offset + length part.bytes == length x.bytes) (record x { fin = true }) x (λ t. bytes) (λ t. bytes) in
     fin
 
 read_of_author : (author : Key → List ℕ) (key : Key) (index n : ℕ) (e : Entry) → e.key ≡ key → slice_get (author key) index ≡ Some n → EntryOf author e → EntryOf author (with_read index n e)
 read_of_author author key index n e k r f =
-    of_choice (EntryOf author) (is_next_read e index n) (record e { lengths = e.lengths ++ n ∷ [] }) e
-    (λ t. let parts = both (index == length e.lengths) (may_follow (length e.bytes) e.fin e.lengths n) t in
+    holds_if (EntryOf author) (is_next_read e index n) (record e { lengths = e.lengths ++ n ∷ [] }) e
+    (λ t. let parts = and_parts (index == length e.lengths) (may_follow (length e.bytes) e.fin e.lengths n) t in
     let at : index ≡ length e.lengths = eqb-true _ _ parts.0 in
-    let two = both (not (list_any (λ k. k == 0) e.lengths) && nat_le (sum e.lengths + n) (length e.bytes)) (nat_lt 0 n || (e.fin && sum e.lengths == length e.bytes)) parts.1 in
-    let enough : sum e.lengths + n ≤ length e.bytes = leb-true _ _ (both (not (list_any (λ k. k == 0) e.lengths)) (nat_le (sum e.lengths + n) (length e.bytes)) two.0).1 in
+    let two = and_parts (not (list_any (λ k. k == 0) e.lengths) && nat_le (sum e.lengths + n) (length e.bytes)) (nat_lt 0 n || (e.fin && sum e.lengths == length e.bytes)) parts.1 in
+    let enough : sum e.lengths + n ≤ length e.bytes = leb-true _ _ (and_parts (not (list_any (λ k. k == 0) e.lengths)) (nat_le (sum e.lengths + n) (length e.bytes)) two.0).1 in
     let total = sum_append e.lengths n in
     let here : slice_get (e.lengths ++ f.0.0) (length e.lengths) ≡ Some n =
     subst (λ l. slice_get l (length e.lengths) ≡ Some n) (sym f.0.1) (subst (λ m. slice_get (author e.key) m ≡ Some n) at (subst (λ x. slice_get (author x) index ≡ Some n) (sym k) r)) in
@@ -122,7 +124,7 @@ read_of_author author key index n e k r f =
 
 kept_of_author : (author : Key → List ℕ) (body : Body) (log : Log) → ReadFits author body → AllByRecursion (EntryOf author) log.entries → AllByRecursion (EntryOf author) (with_body body log).entries
 kept_of_author author (OpenMsg n) log r a =
-    of_choice (λ l. AllByRecursion (EntryOf author) l.entries) (list_any (λ e. key_eq e.key n.key) log.entries || nat_le 64 (length log.entries)) log
+    holds_if (λ l. AllByRecursion (EntryOf author) l.entries) (list_any (λ e. key_eq e.key n.key) log.entries || nat_le 64 (length log.entries)) log
     (record log { entries = log.entries ++ new_entry n ∷ [] }) (λ t. a)
     (λ t. all_append (EntryOf author) log.entries (new_entry n ∷ []) a (((author n.key, refl), le_refl 0), tt))
 kept_of_author author (DataMsg part) log r a = change_all (EntryOf author) part.key (with_part part) log.entries (λ e k f. part_of_author author part e f) a
@@ -182,7 +184,7 @@ one_holds service script log node None g = tt
 pub held_speaks : {State : Type 0} (service : Machine State) (script : Key → List ℕ) (log : Log) (node : Node) (fetched : List Fetched) (segment : Segment) → AllByRecursion (IsHeadOf log) fetched
     → AllByRecursion (Speaks service script log) (held node fetched segment)
 held_speaks service script log node fetched segment heads =
-    of_choice (AllByRecursion (Speaks service script log)) (is_for node.server segment && not (has_rst segment))
+    holds_if (AllByRecursion (Speaks service script log)) (is_for node.server segment && not (has_rst segment))
     (map (λ f. To_client (holding_segment node.server f.head)) (option_to_list (live_entry (source_of segment) fetched))) []
     (λ t. one_holds service script log node (live_entry (source_of segment) fetched)
     (λ f e. all_find (IsHeadOf log) (λ x. key_eq x.head.key (source_of segment) && not x.head.done) fetched f heads e)) (λ t. tt)

@@ -1,13 +1,14 @@
 -- The author of the logged reads through a turn of the server.
 use Rattle.std.proofs.Common.{append-nil, flat_map, ◌≡◌, ℕ, ◌≤◌, ◌^◌, Bool, true, false, ◌&&◌, not, nat_lt, refl, sym, ap, ◌∙◌, subst, true≢false, inl, inr, ◌⊎◌, ⊎_elim, is_some, Option, Some, None, List, [], ◌∷◌, ◌++◌, map, length, if◌then◌else◌}
 use Rattle.std.specs.List.{AllByRecursion, list_any}
+use Rattle.std.proofs.lemmas.Bool.{and_parts, or_right, or_from}
 use Rattle.ft_io.specs.declared.Addr.{Addr}
 use Rattle.ft_io.specs.declared.Key.{Key}
 use Rattle.ft_io.specs.Key.{key_eq}
 use Rattle.seq_arith.specs.Packet.{Segment, has_rst, has_ack}
 use Rattle.seq_arith.specs.Message.Body.{OpenMsg}
 use Rattle.server_trait.specs.Service.{Machine}
-use Rattle.ft_model.specs.Log.{Log, opened, with_body}
+use Rattle.ft_model.specs.Log.{Log, opened}
 use Rattle.ft_model.specs.Network.{Packet, source_of}
 use Rattle.ft_model.specs.Network.Packet.{To_client}
 use Rattle.ft_model.specs.Point.{Point}
@@ -21,7 +22,7 @@ use Rattle.ft_model.specs.Node.Input.{Packet_comes, Message_comes, Noise_comes, 
 use Rattle.ft_model.specs.Serving.{AllGo, newcomers, refusals, is_strange, ServingTurn}
 use Rattle.ft_model.specs.Lawful.{asked}
 use Rattle.ft_model.specs.Growth.{IsPrefix}
-use Rattle.ft_model.proofs.Lists.{of_choice, both, or_left, or_right, all_append, all_find, found_passes, all_slice_get, same_key, none_is_some, some_is, not_true, or_cases, or_neither}
+use Rattle.ft_model.proofs.Lists.{or_left, all_append, all_find, found_passes, all_slice_get, same_key, none_is_some, some_is, or_cases}
 use Rattle.ft_model.proofs.Keys.{AreDistinct, finds_itself, all_from_get}
 use Rattle.ft_model.proofs.PlaceTurns.{PlaceWent}
 use Rattle.ft_model.proofs.PlaceTurns.PlaceWent.{stayed, went_on, began, dropped, ended, refused}
@@ -40,6 +41,8 @@ use Rattle.ft_model.proofs.Services.{more_bytes}
 use Rattle.ft_model.proofs.Running.{HasSmallOutputs}
 use Rattle.ft_model.proofs.Authored.{Follows, PlaceRuns, PlaceRan, IsAuthor, connection_runs, opened_runs}
 use Rattle.ft_model.proofs.FaithfulKept.{InputFits, place_fits, news_fit, new_fits}
+use Rattle.ft_io.proofs.Booleans.{not_true}
+use Rattle.ft_io.proofs.Choices.{holds_if}
 
 all_split : {A : Type 0} (P : A → Type 0) (xs ys : List A) → AllByRecursion P (xs ++ ys) → AllByRecursion P xs × AllByRecursion P ys
 all_split P [] ys a = (tt, a)
@@ -157,7 +160,7 @@ run_place service places old (Ended k) e r = tt
 settled_by : (key : Key) (places : List Place) (place : Place) → place_at key places ≡ Some place → settles key place ≡ true → is_settled key places ≡ true
 settled_by key [] place e s = none_is_some place e
 settled_by key (x ∷ xs) place e s =
-    of_choice (λ o. o ≡ Some place → is_settled key (x ∷ xs) ≡ true) (key_eq (key_of x) key) (Some x) (place_at key xs)
+    holds_if (λ o. o ≡ Some place → is_settled key (x ∷ xs) ≡ true) (key_eq (key_of x) key) (Some x) (place_at key xs)
     (λ t f. or_left (settles key x) (is_settled key xs) (subst (λ y. settles key y ≡ true) (sym (some_is x place f)) s))
     (λ t f. or_right (settles key x) (is_settled key xs) (settled_by key xs place f s)) e
 
@@ -172,15 +175,15 @@ rst_follows service script author log segment r = λ n. absurd (true≢false (sy
 closed_follows : {State : Type 0} (service : Machine State) (script author : Key → List ℕ) (log : Log) (server : Addr) (segment : Segment)
     → AllByRecursion (Follows service script author log) (map To_client (as_closed server segment))
 closed_follows service script author log server segment =
-    of_choice (λ x. AllByRecursion (Follows service script author log) (map To_client x)) (has_rst segment) [] (if has_ack segment then rst_at_ack server segment ∷ [] else rst_behind server segment ∷ []) (λ t. tt)
-    (λ t. of_choice (λ x. AllByRecursion (Follows service script author log) (map To_client x)) (has_ack segment) (rst_at_ack server segment ∷ []) (rst_behind server segment ∷ [])
+    holds_if (λ x. AllByRecursion (Follows service script author log) (map To_client x)) (has_rst segment) [] (if has_ack segment then rst_at_ack server segment ∷ [] else rst_behind server segment ∷ []) (λ t. tt)
+    (λ t. holds_if (λ x. AllByRecursion (Follows service script author log) (map To_client x)) (has_ack segment) (rst_at_ack server segment ∷ []) (rst_behind server segment ∷ [])
     (λ s. (rst_follows service script author log (rst_at_ack server segment) refl, tt)) (λ s. (rst_follows service script author log (rst_behind server segment) refl, tt)))
 
 listen_follows : {State : Type 0} (service : Machine State) (script author : Key → List ℕ) (log : Log) (node : Node) (input : Input) (places : List Place)
     → AllByRecursion (Follows service script author log) (refusals node input places)
 listen_follows service script author log node (Packet_comes segment) places =
-    of_choice (AllByRecursion (Follows service script author log)) (is_strange node segment places) (map To_client (as_listen node.server segment)) []
-    (λ t. of_choice (λ x. AllByRecursion (Follows service script author log) (map To_client x)) (has_ack segment && not (has_rst segment)) (rst_at_ack node.server segment ∷ []) []
+    holds_if (AllByRecursion (Follows service script author log)) (is_strange node segment places) (map To_client (as_listen node.server segment)) []
+    (λ t. holds_if (λ x. AllByRecursion (Follows service script author log) (map To_client x)) (has_ack segment && not (has_rst segment)) (rst_at_ack node.server segment ∷ []) []
     (λ t. (rst_follows service script author log (rst_at_ack node.server segment) refl, tt)) (λ t. tt)) (λ t. tt)
 listen_follows service script author log node (Message_comes message) places = tt
 listen_follows service script author log node Noise_comes places = tt
@@ -191,11 +194,11 @@ opens_follow : {State : Type 0} (service : Machine State) (script author : Key �
 opens_follow service script author log node input [] = tt
 opens_follow service script author log node input (Opens n ∷ places) =
     all_append (Follows service script author log) (opens_at node input (Opens n)) _
-    (of_choice (AllByRecursion (Follows service script author log)) (is_asked node input n) (told_by node.boot (OpenMsg n) ∷ []) [] (λ t. (tt, tt)) (λ t. tt)) (opens_follow service script author log node input places)
+    (holds_if (AllByRecursion (Follows service script author log)) (is_asked node input n) (told_by node.boot (OpenMsg n) ∷ []) [] (λ t. (tt, tt)) (λ t. tt)) (opens_follow service script author log node input places)
 opens_follow service script author log node input (Lives p ∷ places) = opens_follow service script author log node input places
 opens_follow service script author log node input (Ended k ∷ places) = opens_follow service script author log node input places
 
-one_of : {A : Type 0} (P : A → Type 0) (x : A) (xs : List A) → xs ≡ x ∷ [] → AllByRecursion P xs → P x
+pub one_of : {A : Type 0} (P : A → Type 0) (x : A) (xs : List A) → xs ≡ x ∷ [] → AllByRecursion P xs → P x
 one_of P x xs e a = (subst (AllByRecursion P) e a).0
 
 pub connection_after : {State : Type 0} (service : Machine State) (script old author : Key → List ℕ) (isn : Key → ℕ) (log : Log) (node : Node) (news : News) (p after : Point) (now : List Place) (sent : List Packet)
@@ -247,8 +250,8 @@ found_settles key places p e = found_passes (λ x. key_eq (key_of x) key) places
 not_settled : (key : Key) (places : List Place) → is_known key places ≡ false → is_settled key places ≡ false
 not_settled key [] e = refl
 not_settled key (place ∷ places) e =
-    of_choice (λ o. is_some o ≡ false → is_settled key (place ∷ places) ≡ false) (key_eq (key_of place) key) (Some place) (place_at key places)
-    (λ t f. absurd (true≢false f)) (λ t f. or_neither (settles key place) (is_settled key places) (not_settles key place t) (not_settled key places f)) e
+    holds_if (λ o. is_some o ≡ false → is_settled key (place ∷ places) ≡ false) (key_eq (key_of place) key) (Some place) (place_at key places)
+    (λ t f. absurd (true≢false f)) (λ t f. or_from (settles key place) (is_settled key places) (not_settles key place t) (not_settled key places f)) e
 
 -- a key that is neither live nor done has no reads
 abbrev pub OnlySettled : (Key → List ℕ) → List Place → Type 0
@@ -257,11 +260,11 @@ OnlySettled author places = (key : Key) → (author key ≡ []) ⊎ (is_settled 
 new_after : {State : Type 0} (service : Machine State) (script old : Key → List ℕ) (isn : Key → ℕ) (log : Log) (node : Node) (input : Input) (opened : ℕ) (places : List Place)
     → InputFits script isn log input → OnlySettled old places → AllByRecursion (After service script isn old log) (newcomers node input opened places)
 new_after service script old isn log node (Packet_comes segment) opened places i only =
-    of_choice (λ l. AllByRecursion (PlaceFits script isn log) l → AllByRecursion (After service script isn old log) l)
+    holds_if (λ l. AllByRecursion (PlaceFits script isn log) l → AllByRecursion (After service script isn old log) l)
     (is_strange node segment places && is_syn segment && nat_lt (pending_count places) 64) (Opens (numbers_for node.isn opened segment) ∷ []) []
-    (λ t f. let one = both (is_strange node segment places && is_syn segment) (nat_lt (pending_count places) 64) t in
-    let two = both (is_strange node segment places) (is_syn segment) one.0 in
-    let three = both (is_for node.server segment) (not (is_known (source_of segment) places)) two.0 in
+    (λ t f. let one = and_parts (is_strange node segment places && is_syn segment) (nat_lt (pending_count places) 64) t in
+    let two = and_parts (is_strange node segment places) (is_syn segment) one.0 in
+    let three = and_parts (is_for node.server segment) (not (is_known (source_of segment) places)) two.0 in
     let unknown : is_settled (source_of segment) places ≡ false = not_settled (source_of segment) places (not_true (is_known (source_of segment) places) three.1) in
     ((f.0, ⊎_elim (λ x. x) (λ x. absurd (true≢false (sym x ∙ unknown))) (only (source_of segment))), tt)) (λ t f. tt)
     (new_fits script isn log node (Packet_comes segment) opened places i)

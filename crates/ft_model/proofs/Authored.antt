@@ -26,7 +26,7 @@ use Rattle.ft_model.specs.Restart.{point_of}
 use Rattle.ft_model.specs.Node.{Place}
 use Rattle.ft_model.specs.Node.Place.{Opens, Lives, Ended}
 use Rattle.ft_model.specs.Growth.{IsPrefix, lengths_in, logged_lengths}
-use Rattle.ft_model.proofs.Lists.{take_first, of_choice, all_weaker, all_map, all_append, prefix_trans, none_is_some}
+use Rattle.ft_model.proofs.Lists.{take_first, all_weaker, all_map, all_append, prefix_trans, none_is_some}
 use Rattle.ft_model.proofs.Stands.{nothing_first, drop_prefix}
 use Rattle.ft_model.proofs.Scripts.{HasTaken, DataFits}
 use Rattle.ft_model.proofs.Faithful.{IsKnown, PlaceFits}
@@ -35,6 +35,7 @@ use Rattle.ft_model.proofs.Spoken.Spoken.{spoken_syn, spoken_text, spoken_fin, s
 use Rattle.ft_model.proofs.Services.{GoesOn, reads_go_on, more_bytes, prefix_length, sum_take}
 use Rattle.ft_model.proofs.Running.{HasSmallOutputs, ReadsWithin, reset_within, live_within}
 use Rattle.ft_model.proofs.StageTurns.{either_turn}
+use Rattle.ft_io.proofs.Choices.{holds_if}
 
 -- a Read of the log's own boot is its author's
 abbrev pub ReadFits : (Key → List ℕ) → Body → Type 0
@@ -187,7 +188,7 @@ data_follows script author _ f = absurd f
 
 dones_follow : (author : Key → List ℕ) (news : News) (p q : Point) → AllByRecursion (ReadFits author) (dones news p q)
 unfolding dones
-dones_follow author news p q = of_choice (AllByRecursion (ReadFits author)) (tells_done news p q) (DoneMsg q.key ∷ []) [] (λ t. (tt, tt)) (λ t. tt)
+dones_follow author news p q = holds_if (AllByRecursion (ReadFits author)) (tells_done news p q) (DoneMsg q.key ∷ []) [] (λ t. (tt, tt)) (λ t. tt)
 
 pub bodies_follow : {State : Type 0} (service : Machine State) (script author : Key → List ℕ) (log : Log) (boot : ℕ) (bodies : List Body) → AllByRecursion (ReadFits author) bodies
     → AllByRecursion (Follows service script author log) (map (told_by boot) bodies)

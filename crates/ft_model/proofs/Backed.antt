@@ -3,6 +3,7 @@
 use Rattle.std.proofs.Common.{◌≡◌, ℕ, ◌+◌, ◌≤◌, ℤ, pos, negsuc, ◌≤ℤ◌, true, ◌&&◌, ◌||◌, not, nat_lt, nat_le, int_le, nat_abs, max, le_trans, sym, ap, ◌∙◌, subst, true≢false, Some, List, [], ◌∷◌, ◌++◌, map, length, drop, arith, if◌then◌else◌}
 use Rattle.std.specs.List.{AllByRecursion, list_any}
 use Rattle.std.proofs.lemmas.Int.{ints}
+use Rattle.std.proofs.lemmas.Bool.{and_parts}
 use Rattle.ft_io.specs.declared.Addr.{Addr}
 use Rattle.ft_io.specs.declared.Key.{Key}
 use Rattle.ft_io.specs.Key.{key_eq}
@@ -31,7 +32,7 @@ use Rattle.ft_model.specs.Node.Stage.{Serving}
 use Rattle.ft_model.specs.Growth.{LogGrows, logged_lengths}
 use Rattle.ft_model.specs.World.{World}
 use Rattle.ft_model.specs.Node.{Node}
-use Rattle.ft_model.proofs.Lists.{of_choice, both, all_of, all_map, all_append, some_is}
+use Rattle.ft_model.proofs.Lists.{all_of, all_map, all_append, some_is}
 use Rattle.ft_model.proofs.Grows.{part_grows, found_later, logged_lengths_grow}
 use Rattle.ft_model.proofs.LogAnswers.{LogWent}
 use Rattle.ft_model.proofs.LogAnswers.LogWent.{ignored, raised, changed}
@@ -40,6 +41,7 @@ use Rattle.ft_model.proofs.Services.{reads_go_on, units_go_on}
 use Rattle.ft_model.proofs.Faithful.{IsKnown}
 use Rattle.ft_model.proofs.Authored.{logged_run}
 use Rattle.ft_model.proofs.AuthorKept.{change_all}
+use Rattle.ft_io.proofs.Choices.{holds_if}
 
 -- the units of the run over a client's logged reads: its output, and one more where it has closed
 abbrev pub run_units : {State : Type 0} → Run State → ℕ
@@ -109,7 +111,7 @@ place_later service script before after g (Ended key) f = tt
 kept_backed : {State : Type 0} (service : Machine State) (script : Key → List ℕ) (body : Body) (log : Log) → BodyBacked service script log body → AllByRecursion (EntryBacked service script log) log.entries
     → AllByRecursion (EntryBacked service script log) (with_body body log).entries
 kept_backed service script (OpenMsg n) log r a =
-    of_choice (λ l. AllByRecursion (EntryBacked service script log) l.entries) (list_any (λ e. key_eq e.key n.key) log.entries || nat_le 64 (length log.entries)) log
+    holds_if (λ l. AllByRecursion (EntryBacked service script log) l.entries) (list_any (λ e. key_eq e.key n.key) log.entries || nat_le 64 (length log.entries)) log
     (record log { entries = log.entries ++ new_entry n ∷ [] }) (λ t. a) (λ t. all_append (EntryBacked service script log) log.entries (new_entry n ∷ []) a (omega arith, tt))
 kept_backed service script (DataMsg part) log r a =
     change_all (EntryBacked service script log) part.key (with_part part) log.entries
@@ -117,7 +119,7 @@ kept_backed service script (DataMsg part) log r a =
     (let own : part.acked ≤ logged_output service script log e.key = subst (λ x. part.acked ≤ logged_output service script log x) (sym k) r in omega (arith, f, own))) a
 kept_backed service script (ReadMsg key index n) log r a =
     change_all (EntryBacked service script log) key (with_read index n) log.entries
-    (λ e k f. of_choice (EntryBacked service script log) (is_next_read e index n) (record e { lengths = e.lengths ++ n ∷ [] }) e (λ t. f) (λ t. f)) a
+    (λ e k f. holds_if (EntryBacked service script log) (is_next_read e index n) (record e { lengths = e.lengths ++ n ∷ [] }) e (λ t. f) (λ t. f)) a
 kept_backed service script (DoneMsg key) log r a = change_all (EntryBacked service script log) key (λ e. record e { done = true }) log.entries (λ e k f. f) a
 kept_backed service script _ log r a = a
 
@@ -152,13 +154,13 @@ una_backed : {State : Type 0} (service : Machine State) (script : Key → List �
 unfolding acknowledged_after counts
 una_backed service script log (Comes segment) p n h =
     let N : ℕ = logged_output service script log p.key in
-    of_choice (λ u. u ≤ N) (acknowledges p segment) (una_after p.una (acknowledged_by p segment)) p.una
-    (λ t. let two = both (counts p segment) (int_le (pos 0) (ack_of p.sisn segment)) t in
-    let all = both (has_ack segment && not (has_syn segment) && not (has_rst segment) && accepts p segment) (p.syn_acked || int_le (pos 0) (ack_of p.sisn segment)) two.0 in
-    let flags = both (has_ack segment && not (has_syn segment) && not (has_rst segment)) (accepts p segment) all.0 in
-    let ack = both (has_ack segment && not (has_syn segment)) (not (has_rst segment)) flags.0 in
-    let low : nat_abs (ack_of p.sisn segment) ≤ N = at_most (ack_of p.sisn segment) N two.1 (n (both (has_ack segment) (not (has_syn segment)) ack.0).0) in
-    of_choice (λ u. u ≤ N) (nat_lt p.una (acknowledged_by p segment)) (acknowledged_by p segment) p.una (λ s. omega (arith, low)) (λ s. h)) (λ t. h)
+    holds_if (λ u. u ≤ N) (acknowledges p segment) (una_after p.una (acknowledged_by p segment)) p.una
+    (λ t. let two = and_parts (counts p segment) (int_le (pos 0) (ack_of p.sisn segment)) t in
+    let all = and_parts (has_ack segment && not (has_syn segment) && not (has_rst segment) && accepts p segment) (p.syn_acked || int_le (pos 0) (ack_of p.sisn segment)) two.0 in
+    let flags = and_parts (has_ack segment && not (has_syn segment) && not (has_rst segment)) (accepts p segment) all.0 in
+    let ack = and_parts (has_ack segment && not (has_syn segment)) (not (has_rst segment)) flags.0 in
+    let low : nat_abs (ack_of p.sisn segment) ≤ N = at_most (ack_of p.sisn segment) N two.1 (n (and_parts (has_ack segment) (not (has_syn segment)) ack.0).0) in
+    holds_if (λ u. u ≤ N) (nat_lt p.una (acknowledged_by p segment)) (acknowledged_by p segment) p.una (λ s. omega (arith, low)) (λ s. h)) (λ t. h)
 una_backed service script log (Logged kept) p n h = h
 una_backed service script log Ticks p n h = h
 una_backed service script log Begins p n h = h
@@ -168,9 +170,9 @@ copies_backed : {State : Type 0} (service : Machine State) (script : Key → Lis
     → AllByRecursion (BodyBacked service script log) (copies news p q)
 unfolding copies
 copies_backed service script log (Comes segment) p q h =
-    of_choice (AllByRecursion (BodyBacked service script log)) (nat_lt 0 (length (copied_text q segment)) || copies_fin q segment) (DataMsg (copied_part q segment) ∷ [])
+    holds_if (AllByRecursion (BodyBacked service script log)) (nat_lt 0 (length (copied_text q segment)) || copies_fin q segment) (DataMsg (copied_part q segment) ∷ [])
     (if nat_lt p.una q.una then DataMsg (una_part q) ∷ [] else []) (λ t. (h, tt))
-    (λ t. of_choice (AllByRecursion (BodyBacked service script log)) (nat_lt p.una q.una) (DataMsg (una_part q) ∷ []) [] (λ x. (h, tt)) (λ x. tt))
+    (λ t. holds_if (AllByRecursion (BodyBacked service script log)) (nat_lt p.una q.una) (DataMsg (una_part q) ∷ []) [] (λ x. (h, tt)) (λ x. tt))
 copies_backed service script log (Logged kept) p q h = tt
 copies_backed service script log Ticks p q h = tt
 copies_backed service script log Begins p q h = tt
@@ -185,7 +187,7 @@ reads_backed service script log news p q = messages_backed service script log q.
 
 dones_backed : {State : Type 0} (service : Machine State) (script : Key → List ℕ) (log : Log) (news : News) (p q : Point) → AllByRecursion (BodyBacked service script log) (dones news p q)
 unfolding dones
-dones_backed service script log news p q = of_choice (AllByRecursion (BodyBacked service script log)) (tells_done news p q) (DoneMsg q.key ∷ []) [] (λ t. (tt, tt)) (λ t. tt)
+dones_backed service script log news p q = holds_if (AllByRecursion (BodyBacked service script log)) (tells_done news p q) (DoneMsg q.key ∷ []) [] (λ t. (tt, tt)) (λ t. tt)
 
 pub segments_backed : {State : Type 0} (service : Machine State) (script : Key → List ℕ) (log : Log) (segments : List Segment) → AllByRecursion (PacketBacked service script log) (map To_client segments)
 segments_backed service script log segments = all_map (PacketBacked service script log) To_client segments (all_of _ segments (λ s. tt))

@@ -1,7 +1,8 @@
 -- .. so it is in every joint trace.
-use Rattle.std.proofs.Common.{◌≡◌, ℕ, ◌+◌, ◌<◌, ◌≤◌, ◌^◌, pos, ◌≤ℤ◌, Bool, true, false, ◌&&◌, nat_lt, nat_le, le_refl, le_trans, refl, sym, ap, ◌∙◌, subst, true≢false, ⊎_elim, Option, Some, None, List, [], ◌∷◌, ◌++◌, length, arith}
+use Rattle.std.proofs.Common.{◌≡◌, ℕ, ◌+◌, ◌<◌, ◌≤◌, ◌^◌, pos, ◌≤ℤ◌, Bool, true, false, ◌&&◌, nat_lt, nat_le, le_trans, refl, sym, ap, ◌∙◌, subst, true≢false, ⊎_elim, Option, Some, None, List, [], ◌∷◌, ◌++◌, length, arith}
 use Rattle.std.specs.List.{AllByRecursion}
 use Rattle.std.proofs.lemmas.Int.{ints}
+use Rattle.std.proofs.lemmas.Bool.{and_parts}
 use Rattle.ft_io.specs.declared.Key.{Key}
 use Rattle.seq_arith.specs.Number.{number_at, offset_of}
 use Rattle.seq_arith.specs.Packet.{has_ack}
@@ -31,7 +32,7 @@ use Rattle.ft_model.specs.Lawful.{Revives, all_restored, asked}
 use Rattle.ft_model.specs.Growth.{LogGrows, logged_lengths}
 use Rattle.ft_model.specs.Masked.{is_restarting}
 use Rattle.ft_model.specs.World.{World, IsStart, with_client}
-use Rattle.ft_model.proofs.Lists.{of_choice, both, all_weaker, all_append, none_is_some, some_is}
+use Rattle.ft_model.proofs.Lists.{all_weaker, all_append, none_is_some, some_is}
 use Rattle.ft_model.proofs.Grows.{log_grows}
 use Rattle.ft_model.proofs.LogAnswers.{log_went, all_answers}
 use Rattle.ft_model.proofs.Happened.{Happened, IsBrought, IsUnderWay, all_sent, answers}
@@ -52,6 +53,8 @@ use Rattle.ft_model.proofs.AuthorOver.{HasAuthor}
 use Rattle.ft_model.proofs.AuthorWorld.{front_of}
 use Rattle.ft_model.proofs.Seen.{IsSeen}
 use Rattle.ft_model.proofs.Backed.{run_units, logged_output, IsBackedBy, PacketBacked, EntryBacked, PlaceBacked, StageBacked, IsBacked, NewsBacked, news_backed, output_later, packet_later, place_later, entries_backed, segments_backed, connection_backed}
+use Rattle.seq_arith.proofs.Units.{one_at_most}
+use Rattle.ft_io.proofs.Choices.{holds_if}
 
 -- places
 
@@ -59,7 +62,7 @@ use Rattle.ft_model.proofs.Backed.{run_units, logged_output, IsBackedBy, PacketB
 abbrev StandsBacked : {State : Type 0} → Machine State → (Key → List ℕ) → (Key → ℕ) → Log → Place → Type 0
 StandsBacked service script isn log place = PlaceFits script isn log place × PlaceBacked service script log place
 
-both_hold : {A : Type 0} (P Q : A → Type 0) (xs : List A) → AllByRecursion P xs → AllByRecursion Q xs → AllByRecursion (λ x. P x × Q x) xs
+pub both_hold : {A : Type 0} (P Q : A → Type 0) (xs : List A) → AllByRecursion P xs → AllByRecursion Q xs → AllByRecursion (λ x. P x × Q x) xs
 both_hold P Q [] p q = tt
 both_hold P Q (x ∷ xs) p q = ((p.0, q.0), both_hold P Q xs p.1 q.1)
 
@@ -121,7 +124,7 @@ revive_backed service script log node (Ended k) now sent b t =
 new_backed : {State : Type 0} (service : Machine State) (script : Key → List ℕ) (log : Log) (node : Node) (input : Input) (opened : ℕ) (places : List Place)
     → AllByRecursion (PlaceBacked service script log) (newcomers node input opened places)
 new_backed service script log node (Packet_comes segment) opened places =
-    of_choice (AllByRecursion (PlaceBacked service script log)) (is_strange node segment places && is_syn segment && nat_lt (pending_count places) 64) (Opens (numbers_for node.isn opened segment) ∷ []) []
+    holds_if (AllByRecursion (PlaceBacked service script log)) (is_strange node segment places && is_syn segment && nat_lt (pending_count places) 64) (Opens (numbers_for node.isn opened segment) ∷ []) []
     (λ t. (tt, tt)) (λ t. tt)
 new_backed service script log node (Message_comes message) opened places = tt
 new_backed service script log node Noise_comes opened places = tt
@@ -189,21 +192,17 @@ accepted_backed service script log c s =
     by_end (is_ended c.phase) c (logged_run service script log c.key) (prefix_length c.accepted (logged_run service script log c.key).output s.front) s.ended
 
 -- the run over logged reads is short
-logged_short : {State : Type 0} (service : Machine State) (script : Key → List ℕ) (w : World) → HasAuthor service script w → (key : Key) → length (logged_run service script w.log key).output ≤ 2 ^ 24
+pub logged_short : {State : Type 0} (service : Machine State) (script : Key → List ℕ) (w : World) → HasAuthor service script w → (key : Key) → length (logged_run service script w.log key).output ≤ 2 ^ 24
 logged_short service script w a key =
     le_trans (prefix_length _ _ (reads_go_on service (script key) (logged_lengths key w.log) (a.author key) (front_of a.author w.log key (entry_of key w.log) a.entries refl)).output) (a.short key)
 
-one_at_most : (b : Bool) → one_if b ≤ 1
-one_at_most true = le_refl 1
-one_at_most false = omega arith
-
 -- an acknowledging move is one of an open client
-open_move : (c : Client) (move : Move) → may_move c move ≡ true → (window : ℕ) → has_ack (segment_of c move window) ≡ true
+pub open_move : (c : Client) (move : Move) → may_move c move ≡ true → (window : ℕ) → has_ack (segment_of c move window) ≡ true
     → (is_open c.phase ≡ true) × ((segment_of c move window).head.ack ≡ number_at c.sisn (accepted_units c))
 open_move c (Syn mss) may window a = absurd (true≢false (sym a))
-open_move c (Text from len) may window a = ((both (is_open c.phase) (nat_le c.acknowledged (length c.script)) (both (suits_phase c (Text from len)) (suits_range c (Text from len)) may).0).0, refl)
-open_move c Fin may window a = ((both (is_open c.phase) (nat_le c.acknowledged (length c.script)) (both (suits_phase c Fin) (suits_range c Fin) may).0).0, refl)
-open_move c Acknowledge may window a = ((both (is_open c.phase) true may).0, refl)
+open_move c (Text from len) may window a = ((and_parts (is_open c.phase) (nat_le c.acknowledged (length c.script)) (and_parts (suits_phase c (Text from len)) (suits_range c (Text from len)) may).0).0, refl)
+open_move c Fin may window a = ((and_parts (is_open c.phase) (nat_le c.acknowledged (length c.script)) (and_parts (suits_phase c Fin) (suits_range c Fin) may).0).0, refl)
+open_move c Acknowledge may window a = ((and_parts (is_open c.phase) true may).0, refl)
 open_move c Rst may window a = absurd (true≢false (sym a))
 open_move c (Refuse number) may window a = absurd (true≢false (sym a))
 

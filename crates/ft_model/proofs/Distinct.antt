@@ -1,5 +1,6 @@
 -- No two places of a server have the same key, and a connection that is live or done stays known.
 use Rattle.std.proofs.Common.{◌≡◌, ℕ, true, false, ◌&&◌, nat_lt, not, refl, sym, ap, ◌∙◌, subst, true≢false, inl, inr, ◌⊎◌, ⊎_elim, Some, List, [], ◌∷◌, ◌++◌, map, append-nil}
+use Rattle.std.proofs.lemmas.Bool.{and_parts, or_parts, or_from}
 use Rattle.ft_io.specs.declared.Key.{Key}
 use Rattle.ft_io.specs.Key.{key_eq}
 use Rattle.seq_arith.specs.Message.{Numbers}
@@ -15,7 +16,7 @@ use Rattle.ft_model.specs.Growth.{IsPrefix}
 use Rattle.ft_model.specs.Lawful.{all_restored}
 use Rattle.ft_model.specs.Masked.{is_restarting}
 use Rattle.ft_model.specs.World.{World}
-use Rattle.ft_model.proofs.Lists.{of_choice, both, neither, none_is_some, some_is, not_true, or_neither}
+use Rattle.ft_model.proofs.Lists.{none_is_some, some_is}
 use Rattle.ft_model.proofs.Keys.{AreDistinct, has_key, absent_key, distinct_front, distinct_more}
 use Rattle.ft_model.proofs.Happened.{Happened, IsBrought}
 use Rattle.ft_model.proofs.Happened.Happened.{log_heard, client_heard, client_moved, server_turned, server_booted, server_down}
@@ -25,6 +26,8 @@ use Rattle.ft_model.proofs.StageTurns.{StageWent, stage_went, either_turn}
 use Rattle.ft_model.proofs.StageTurns.StageWent.{was_fenced, waited, held_off, asked_on, resumed, served}
 use Rattle.ft_model.proofs.Asked.{IsAsked, entry_keys, progress_agrees}
 use Rattle.ft_model.proofs.Resumed.{restored_keys, revived_keys, map_append}
+use Rattle.ft_io.proofs.Booleans.{not_true}
+use Rattle.ft_io.proofs.Choices.{holds_if}
 
 -- at most one place comes of one, with its key
 abbrev pub KeepsKey : Place → List Place → Type 0
@@ -52,11 +55,11 @@ pub no_key_after : (Goes : Place → List Place → List Packet → Type 0) → 
     → (key : Key) (before after : List Place) (sent : List Packet) → AllGo Goes before after sent → has_key key (map key_of before) ≡ false → has_key key (map key_of after) ≡ false
 no_key_after Goes keeps key [] after sent t h = ap (λ l. has_key key (map key_of l)) t.0
 no_key_after Goes keeps key (place ∷ places) after sent (now, later, first, others, places_are, sent_is, goes, rest) h =
-    let parts = neither (key_eq (key_of place) key) (has_key key (map key_of places)) h in
+    let parts = or_parts (key_eq (key_of place) key) (has_key key (map key_of places)) h in
     let there : has_key key (map key_of later) ≡ false = no_key_after Goes keeps key places later others rest parts.1 in
     ⊎_elim (λ n. ap (λ l. has_key key (map key_of l)) (places_are ∙ ap (λ l. l ++ later) n) ∙ there)
     (λ n. ap (λ l. has_key key (map key_of l)) (places_are ∙ ap (λ l. l ++ later) n.1)
-    ∙ or_neither (key_eq (key_of n.0) key) (has_key key (map key_of later)) (ap (λ k. key_eq k key) n.2 ∙ parts.0) there) (keeps place now first goes)
+    ∙ or_from (key_eq (key_of n.0) key) (has_key key (map key_of later)) (ap (λ k. key_eq k key) n.2 ∙ parts.0) there) (keeps place now first goes)
 
 pub distinct_goes_on : (Goes : Place → List Place → List Packet → Type 0) → ((place : Place) (now : List Place) (sent : List Packet) → Goes place now sent → KeepsKey place now)
     → (before after : List Place) (sent : List Packet) → AllGo Goes before after sent → AreDistinct (map key_of before) → AreDistinct (map key_of after)
@@ -71,11 +74,11 @@ distinct_goes_on Goes keeps (place ∷ places) after sent (now, later, first, ot
 with_new : (node : Node) (input : Input) (opened : ℕ) (before went : List Place) → AreDistinct (map key_of went)
     → ((key : Key) → has_key key (map key_of before) ≡ false → has_key key (map key_of went) ≡ false) → AreDistinct (map key_of (went ++ newcomers node input opened before))
 with_new node (Packet_comes segment) opened before went d none =
-    of_choice (λ l. AreDistinct (map key_of (went ++ l))) (is_strange node segment before && is_syn segment && nat_lt (pending_count before) 64)
+    holds_if (λ l. AreDistinct (map key_of (went ++ l))) (is_strange node segment before && is_syn segment && nat_lt (pending_count before) 64)
     (Opens (numbers_for node.isn opened segment) ∷ []) []
-    (λ t. let one = both (is_strange node segment before && is_syn segment) (nat_lt (pending_count before) 64) t in
-    let two = both (is_strange node segment before) (is_syn segment) one.0 in
-    let three = both (is_for node.server segment) (not (is_known (source_of segment) before)) two.0 in
+    (λ t. let one = and_parts (is_strange node segment before && is_syn segment) (nat_lt (pending_count before) 64) t in
+    let two = and_parts (is_strange node segment before) (is_syn segment) one.0 in
+    let three = and_parts (is_for node.server segment) (not (is_known (source_of segment) before)) two.0 in
     subst AreDistinct (sym (map_append key_of went (Opens (numbers_for node.isn opened segment) ∷ [])))
     (distinct_more (map key_of went) (source_of segment) d (none (source_of segment) (absent_key key_of (source_of segment) before (not_true _ three.1)))))
     (λ t. subst (λ l. AreDistinct (map key_of l)) (sym (append-nil went)) d)

@@ -1,5 +1,5 @@
 -- What is under way, logged and taken agrees with the clients' scripts and with the log.
-use Rattle.std.proofs.Common.{◌≡◌, ℕ, ◌+◌, ◌<◌, ◌≤◌, ◌^◌, pos, ◌≤ℤ◌, Bool, true, false, nat_lt, le_refl, le_trans, le_of_eq, refl, sym, ap, ◌∙◌, subst, Option, Some, None, List, [], ◌∷◌, ◌++◌, map, length, take, drop, slice_get, arith, length-append}
+use Rattle.std.proofs.Common.{◌≡◌, ℕ, ◌+◌, ◌<◌, ◌≤◌, ◌^◌, pos, ◌≤ℤ◌, true, false, nat_lt, le_trans, le_of_eq, refl, sym, ap, ◌∙◌, subst, Option, Some, None, List, [], ◌∷◌, ◌++◌, map, length, take, drop, slice_get, arith, length-append}
 use Rattle.std.specs.List.{AllByRecursion}
 use Rattle.std.proofs.lemmas.Int.{ints}
 use Rattle.ft_io.specs.declared.Addr.{Addr}
@@ -12,7 +12,7 @@ use Rattle.seq_arith.specs.Message.Body.{HelloMsg, ListMsg, EntryMsg, BytesMsg, 
 use Rattle.seq_arith.proofs.Shifts.{offset_of_number}
 use Rattle.server_trait.specs.Service.{Machine}
 use Rattle.ft_model.specs.Offset.{ack_of, one_if}
-use Rattle.ft_model.specs.Log.{Log, Entry, entry_of, kept_of, head_of, part_of, lens_of, opened, told, with_body, opened_answer}
+use Rattle.ft_model.specs.Log.{Log, Entry, entry_of, kept_of, head_of, part_of, lens_of, opened, told, opened_answer}
 use Rattle.ft_model.specs.Network.{Packet, source_of, destination_of}
 use Rattle.ft_model.specs.Network.Packet.{To_server, To_client, To_logger, From_logger}
 use Rattle.ft_model.specs.Point.{Point, acknowledgement}
@@ -28,12 +28,14 @@ use Rattle.ft_model.specs.Node.{Place, Stage}
 use Rattle.ft_model.specs.Node.Place.{Opens, Lives, Ended}
 use Rattle.ft_model.specs.Node.Stage.{Serving}
 use Rattle.ft_model.specs.Growth.{IsPrefix, LogGrows, units_in, lengths_in, logged_units, logged_lengths}
-use Rattle.ft_model.proofs.Lists.{of_choice, all_weaker, all_map, all_append, all_find, found_passes, same_key, none_is_some, some_is}
+use Rattle.ft_model.proofs.Lists.{all_weaker, all_map, all_append, all_find, found_passes, same_key, none_is_some, some_is}
 use Rattle.ft_model.proofs.Grows.{found_later, units_grow, lengths_grow, logged_units_grow, logged_lengths_grow}
 use Rattle.ft_model.proofs.Fetching.{own_entry, on_some, chosen_some}
 use Rattle.ft_model.proofs.Scripts.{FitsScript, HasTaken, PartFits, EntryFits, NewsFits, DataFits, taken_fits, copies_fit}
 use Rattle.ft_model.proofs.Spoken.{Spoken, segments_spoken, IsHeaded, headed}
 use Rattle.ft_model.proofs.StageTurns.{either_turn}
+use Rattle.seq_arith.proofs.Units.{one_at_most}
+use Rattle.ft_io.proofs.Choices.{holds_if}
 
 -- the log has the entry of these numbers
 abbrev pub HasEntry : Log → Numbers → Type 0
@@ -171,10 +173,6 @@ units_within script isn log key e fit found =
     let g : EntryFits (script key) (isn key) e = subst (λ k. EntryFits (script k) (isn k) e) same f in
     (g, prefix_length e.bytes (script key) g.front)
 
-one_at_most : (b : Bool) → one_if b ≤ 1
-one_at_most true = le_refl 1
-one_at_most false = omega arith
-
 -- an acknowledgement of what is logged
 pub acknowledges_units : (script : Key → List ℕ) (isn : Key → ℕ) (log : Log) (segment : Segment) (key : Key) (e : Entry) (n cisn : ℕ)
     → ((k : Key) → length (script k) ≤ 2 ^ 24) → EntriesFit script isn log.entries → entry_of key log ≡ Some e → n ≤ length e.bytes + one_if e.fin
@@ -232,7 +230,7 @@ reads_fit script isn key index (n ∷ lengths) = (tt, reads_fit script isn key (
 
 dones_fit : (script : Key → List ℕ) (isn : Key → ℕ) (news : News) (p q : Point) → AllByRecursion (BodyFits script isn) (dones news p q)
 unfolding dones
-dones_fit script isn news p q = of_choice (AllByRecursion (BodyFits script isn)) (tells_done news p q) (DoneMsg q.key ∷ []) [] (λ t. (tt, tt)) (λ t. tt)
+dones_fit script isn news p q = holds_if (AllByRecursion (BodyFits script isn)) (tells_done news p q) (DoneMsg q.key ∷ []) [] (λ t. (tt, tt)) (λ t. tt)
 
 told_reads_fit : (script : Key → List ℕ) (isn : Key → ℕ) (news : News) (p q : Point) → AllByRecursion (BodyFits script isn) (reads_told news p q)
 unfolding reads_told

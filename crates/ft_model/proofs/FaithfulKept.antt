@@ -1,6 +1,7 @@
 -- .. in every joint trace: so all that a client is told to be received is logged, and what is logged is its script's front.
 use Rattle.std.proofs.Common.{◌≡◌, ℕ, ◌-◌, ◌≤◌, ◌^◌, ℤ, pos, ◌+ℤ◌, int_lt, Bool, true, ◌==◌, ◌&&◌, ◌||◌, not, nat_lt, nat_le, refl, sym, ap, ◌∙◌, subst, true≢false, ⊎_elim, Option, Some, None, List, [], ◌∷◌, ◌++◌, map, length, take, drop, arith, if◌then◌else◌}
 use Rattle.std.specs.List.{AllByRecursion, list_any}
+use Rattle.std.proofs.lemmas.Bool.{and_parts}
 use Rattle.ft_io.specs.declared.Addr.{Addr}
 use Rattle.ft_io.specs.declared.Key.{Key}
 use Rattle.ft_io.specs.Key.{key_eq}
@@ -31,7 +32,7 @@ use Rattle.ft_model.specs.Serving.{newcomers, refusals, is_strange}
 use Rattle.ft_model.specs.Lawful.{asked}
 use Rattle.ft_model.specs.Growth.{LogGrows}
 use Rattle.ft_model.specs.World.{World, with_client}
-use Rattle.ft_model.proofs.Lists.{of_choice, both, all_weaker, all_map, all_append, same_key}
+use Rattle.ft_model.proofs.Lists.{all_weaker, all_map, all_append, same_key}
 use Rattle.ft_model.proofs.Grows.{log_grows, part_grows, read_grows}
 use Rattle.ft_model.proofs.LogAnswers.{LogWent, log_went, all_answers}
 use Rattle.ft_model.proofs.LogAnswers.LogWent.{ignored, raised, changed}
@@ -41,6 +42,7 @@ use Rattle.ft_model.proofs.PlaceTurns.PlaceWent.{stayed, went_on, began, dropped
 use Rattle.ft_model.proofs.Stands.{nothing_first}
 use Rattle.ft_model.proofs.Scripts.{FitsScript, PartFits, EntryFits, NewsFits, entry_fits}
 use Rattle.ft_model.proofs.Faithful.{HasEntry, BodyFits, AnswerFits, PacketFits, PlaceFits, StageFits, EntriesFit, IsFit, NewsKnown, place_later, packet_later, told_fits, units_within, connection_fits}
+use Rattle.ft_io.proofs.Choices.{holds_if}
 
 abbrev pub ClientFits : (Key → List ℕ) → (Key → ℕ) → Client → Type 0
 ClientFits script isn c = (c.script ≡ script c.key) × (c.isn ≡ isn c.key) × (length c.script ≤ 2 ^ 24)
@@ -66,13 +68,13 @@ then_same a b c p q = record { kind = q.kind ∙ p.kind; key = q.key ∙ p.key; 
 
 text_same : (c : Client) (first : ℤ) (text : List ℕ) → IsSameClient c (with_text c first text)
 text_same c first text =
-    of_choice (IsSameClient c) (is_ended c.phase || int_lt (pos (length c.accepted)) first) c
+    holds_if (IsSameClient c) (is_ended c.phase || int_lt (pos (length c.accepted)) first) c
     (record c { accepted = c.accepted ++ take (c.edge - length c.accepted) (drop (below (length c.accepted) first) text) })
     (λ t. same_client c) (λ t. record { kind = refl; key = refl; isn = refl; script = refl })
 
 fin_same : (c : Client) (behind : ℤ) (fin : Bool) → IsSameClient c (with_fin c behind fin)
 fin_same c behind fin =
-    of_choice (IsSameClient c) (fin && not (is_ended c.phase) && int_eq behind (pos (length c.accepted)) && nat_lt (length c.accepted) c.edge)
+    holds_if (IsSameClient c) (fin && not (is_ended c.phase) && int_eq behind (pos (length c.accepted)) && nat_lt (length c.accepted) c.edge)
     (record c { phase = phases.Ended }) c (λ t. record { kind = refl; key = refl; isn = refl; script = refl }) (λ t. same_client c)
 
 used_same : (c : Client) (segment : Segment) → IsSameClient c (used c segment)
@@ -80,7 +82,7 @@ used_same c segment =
     let acked : Client = with_ack c (ack_of c.isn segment) in
     let texted : Client = with_text acked (first_of c.sisn segment) (text_of segment) in
     let finned : Client = with_fin texted (first_of c.sisn segment +ℤ pos (length (text_of segment))) (fin_of segment) in
-    of_choice (IsSameClient c) (int_lt (pos c.sent) (ack_of c.isn segment)) c finned (λ t. same_client c)
+    holds_if (IsSameClient c) (int_lt (pos c.sent) (ack_of c.isn segment)) c finned (λ t. same_client c)
     (λ t. then_same c texted finned
     (then_same c acked texted (record { kind = refl; key = refl; isn = refl; script = refl }) (text_same acked (first_of c.sisn segment) (text_of segment)))
     (fin_same texted (first_of c.sisn segment +ℤ pos (length (text_of segment))) (fin_of segment)))
@@ -90,25 +92,25 @@ arrived_same c segment =
     let gone : Client = record c { phase = phases.Reset } in
     let rst : Client = if int_eq (first_of c.sisn segment) (pos (next_of c)) then gone else c in
     let other : Client = if has_syn segment || not (has_ack segment) then c else used c segment in
-    of_choice (IsSameClient c) (is_acceptable (next_of c) (room_of c) (first_of c.sisn segment) (length_of segment)) (if has_rst segment then rst else other) c
-    (λ t. of_choice (IsSameClient c) (has_rst segment) rst other
-    (λ r. of_choice (IsSameClient c) (int_eq (first_of c.sisn segment) (pos (next_of c))) gone c (λ x. record { kind = refl; key = refl; isn = refl; script = refl }) (λ x. same_client c))
-    (λ r. of_choice (IsSameClient c) (has_syn segment || not (has_ack segment)) c (used c segment) (λ x. same_client c) (λ x. used_same c segment)))
+    holds_if (IsSameClient c) (is_acceptable (next_of c) (room_of c) (first_of c.sisn segment) (length_of segment)) (if has_rst segment then rst else other) c
+    (λ t. holds_if (IsSameClient c) (has_rst segment) rst other
+    (λ r. holds_if (IsSameClient c) (int_eq (first_of c.sisn segment) (pos (next_of c))) gone c (λ x. record { kind = refl; key = refl; isn = refl; script = refl }) (λ x. same_client c))
+    (λ r. holds_if (IsSameClient c) (has_syn segment || not (has_ack segment)) c (used c segment) (λ x. same_client c) (λ x. used_same c segment)))
     (λ t. same_client c)
 
 opened_same : (c : Client) (segment : Segment) → IsSameClient c (opened_by c segment)
 opened_same c segment =
     let gone : Client = record c { phase = phases.Reset } in
     let stands : Client = record c { phase = phases.Established; sisn = segment.head.seq } in
-    of_choice (IsSameClient c) (has_ack segment && segment.head.ack == number_at c.isn 0) (if has_rst segment then gone else (if has_syn segment then stands else c)) c
-    (λ t. of_choice (IsSameClient c) (has_rst segment) gone (if has_syn segment then stands else c) (λ r. record { kind = refl; key = refl; isn = refl; script = refl })
-    (λ r. of_choice (IsSameClient c) (has_syn segment) stands c (λ x. record { kind = refl; key = refl; isn = refl; script = refl }) (λ x. same_client c)))
+    holds_if (IsSameClient c) (has_ack segment && segment.head.ack == number_at c.isn 0) (if has_rst segment then gone else (if has_syn segment then stands else c)) c
+    (λ t. holds_if (IsSameClient c) (has_rst segment) gone (if has_syn segment then stands else c) (λ r. record { kind = refl; key = refl; isn = refl; script = refl })
+    (λ r. holds_if (IsSameClient c) (has_syn segment) stands c (λ x. record { kind = refl; key = refl; isn = refl; script = refl }) (λ x. same_client c)))
     (λ t. same_client c)
 
 pub received_same : (c : Client) (segment : Segment) → IsSameClient c (received c segment)
 received_same c segment =
-    of_choice (IsSameClient c) (is_opening c.phase) (opened_by c segment) _ (λ t. opened_same c segment)
-    (λ t. of_choice (IsSameClient c) (is_open c.phase) (arrived c segment) c (λ x. arrived_same c segment) (λ x. same_client c))
+    holds_if (IsSameClient c) (is_opening c.phase) (opened_by c segment) _ (λ t. opened_same c segment)
+    (λ t. holds_if (IsSameClient c) (is_open c.phase) (arrived c segment) c (λ x. arrived_same c segment) (λ x. same_client c))
 
 pub client_fits : (script : Key → List ℕ) (isn : Key → ℕ) (c d : Client) → IsSameClient c d → ClientFits script isn c → ClientFits script isn d
 client_fits script isn c d s f =
@@ -119,7 +121,7 @@ pub clients_fit : (P : Client → Type 0) (key : Key) (change : Client → Clien
     → ((c : Client) → c.key ≡ key → P c → P (change c)) → AllByRecursion P clients → AllByRecursion P (with_client key change clients)
 clients_fit P key change clients g a =
     all_map P (λ c. if key_eq c.key key then change c else c) clients
-    (all_weaker P _ clients (λ c p. of_choice P (key_eq c.key key) (change c) c (λ t. g c (same_key c.key key t) p) (λ t. p)) a)
+    (all_weaker P _ clients (λ c p. holds_if P (key_eq c.key key) (change c) c (λ t. g c (same_key c.key key t) p) (λ t. p)) a)
 
 entry_changes : (script : Key → List ℕ) (isn : Key → ℕ) (key : Key) (change : Entry → Entry) (es : List Entry)
     → ((e : Entry) → e.key ≡ key → EntryFits (script e.key) (isn e.key) e → EntryFits (script (change e).key) (isn (change e).key) (change e))
@@ -127,18 +129,18 @@ entry_changes : (script : Key → List ℕ) (isn : Key → ℕ) (key : Key) (cha
 entry_changes script isn key change es g a =
     all_map (λ e. EntryFits (script e.key) (isn e.key) e) (λ e. if key_eq e.key key then change e else e) es
     (all_weaker (λ e. EntryFits (script e.key) (isn e.key) e) _ es
-    (λ e p. of_choice (λ x. EntryFits (script x.key) (isn x.key) x) (key_eq e.key key) (change e) e (λ t. g e (same_key e.key key t) p) (λ t. p)) a)
+    (λ e p. holds_if (λ x. EntryFits (script x.key) (isn x.key) x) (key_eq e.key key) (change e) e (λ t. g e (same_key e.key key t) p) (λ t. p)) a)
 
 opened_entries : (script : Key → List ℕ) (isn : Key → ℕ) (n : Numbers) (log : Log) → n.cisn ≡ isn n.key → EntriesFit script isn log.entries
     → EntriesFit script isn (opened n log).entries
 opened_entries script isn n log c a =
-    of_choice (λ l. EntriesFit script isn l.entries) (list_any _ log.entries || nat_le 64 (length log.entries)) log (record log { entries = log.entries ++ new_entry n ∷ [] }) (λ t. a)
+    holds_if (λ l. EntriesFit script isn l.entries) (list_any _ log.entries || nat_le 64 (length log.entries)) log (record log { entries = log.entries ++ new_entry n ∷ [] }) (λ t. a)
     (λ t. all_append (λ e. EntryFits (script e.key) (isn e.key) e) log.entries (new_entry n ∷ []) a
     (record { front = nothing_first (script n.key); fin = λ k. absurd (true≢false (sym k)); cisn = c }, tt))
 
 read_fits : (script : List ℕ) (isn : ℕ) (index n : ℕ) (e : Entry) → EntryFits script isn e → EntryFits script isn (with_read index n e)
 read_fits script isn index n e f =
-    of_choice (EntryFits script isn) (is_next_read e index n) _ e (λ t. record { front = f.front; fin = f.fin; cisn = f.cisn }) (λ t. f)
+    holds_if (EntryFits script isn) (is_next_read e index n) _ e (λ t. record { front = f.front; fin = f.fin; cisn = f.cisn }) (λ t. f)
 
 kept_entries : (script : Key → List ℕ) (isn : Key → ℕ) (body : Body) (log : Log) → BodyFits script isn body → EntriesFit script isn log.entries
     → EntriesFit script isn (with_body body log).entries
@@ -187,8 +189,8 @@ rst_fits script isn log segment r = (tt, λ a n. absurd (true≢false (sym r ∙
 pub listen_fits : (script : Key → List ℕ) (isn : Key → ℕ) (log : Log) (node : Node) (input : Input) (places : List Place)
     → AllByRecursion (IsFit script isn log) (refusals node input places)
 listen_fits script isn log node (Packet_comes segment) places =
-    of_choice (AllByRecursion (IsFit script isn log)) (is_strange node segment places) (map To_client (as_listen node.server segment)) []
-    (λ t. of_choice (λ x. AllByRecursion (IsFit script isn log) (map To_client x)) (has_ack segment && not (has_rst segment)) (rst_at_ack node.server segment ∷ []) []
+    holds_if (AllByRecursion (IsFit script isn log)) (is_strange node segment places) (map To_client (as_listen node.server segment)) []
+    (λ t. holds_if (λ x. AllByRecursion (IsFit script isn log) (map To_client x)) (has_ack segment && not (has_rst segment)) (rst_at_ack node.server segment ∷ []) []
     (λ t. (rst_fits script isn log (rst_at_ack node.server segment) refl, tt)) (λ t. tt)) (λ t. tt)
 listen_fits script isn log node (Message_comes message) places = tt
 listen_fits script isn log node Noise_comes places = tt
@@ -197,8 +199,8 @@ listen_fits script isn log node Tick_comes places = tt
 closed_fits : (script : Key → List ℕ) (isn : Key → ℕ) (log : Log) (server : Addr) (segment : Segment)
     → AllByRecursion (IsFit script isn log) (map To_client (as_closed server segment))
 closed_fits script isn log server segment =
-    of_choice (λ x. AllByRecursion (IsFit script isn log) (map To_client x)) (has_rst segment) [] _ (λ t. tt)
-    (λ t. of_choice (λ x. AllByRecursion (IsFit script isn log) (map To_client x)) (has_ack segment) (rst_at_ack server segment ∷ []) (rst_behind server segment ∷ [])
+    holds_if (λ x. AllByRecursion (IsFit script isn log) (map To_client x)) (has_rst segment) [] _ (λ t. tt)
+    (λ t. holds_if (λ x. AllByRecursion (IsFit script isn log) (map To_client x)) (has_ack segment) (rst_at_ack server segment ∷ []) (rst_behind server segment ∷ [])
     (λ s. (rst_fits script isn log (rst_at_ack server segment) refl, tt)) (λ s. (rst_fits script isn log (rst_behind server segment) refl, tt)))
 
 pub asked_fits : (script : Key → List ℕ) (isn : Key → ℕ) (log : Log) (node : Node) (w : Option Wanted) → AllByRecursion (IsFit script isn log) (asked node w)
@@ -264,12 +266,12 @@ place_fits service script isn log node input short entries i place now sent f (r
 pub new_fits : (script : Key → List ℕ) (isn : Key → ℕ) (log : Log) (node : Node) (input : Input) (opened : ℕ) (places : List Place) → InputFits script isn log input
     → AllByRecursion (PlaceFits script isn log) (newcomers node input opened places)
 new_fits script isn log node (Packet_comes segment) opened places i =
-    of_choice (AllByRecursion (PlaceFits script isn log)) (is_strange node segment places && is_syn segment && nat_lt (pending_count places) 64)
+    holds_if (AllByRecursion (PlaceFits script isn log)) (is_strange node segment places && is_syn segment && nat_lt (pending_count places) 64)
     (Opens (numbers_for node.isn opened segment) ∷ []) []
-    (λ t. let one = both (is_strange node segment places && is_syn segment) (nat_lt (pending_count places) 64) t in
-    let two = both (is_strange node segment places) (is_syn segment) one.0 in
-    let three = both (has_syn segment && not (has_ack segment)) (not (has_rst segment)) two.1 in
-    (i.syn (both (has_syn segment) (not (has_ack segment)) three.0).0, tt)) (λ t. tt)
+    (λ t. let one = and_parts (is_strange node segment places && is_syn segment) (nat_lt (pending_count places) 64) t in
+    let two = and_parts (is_strange node segment places) (is_syn segment) one.0 in
+    let three = and_parts (has_syn segment && not (has_ack segment)) (not (has_rst segment)) two.1 in
+    (i.syn (and_parts (has_syn segment) (not (has_ack segment)) three.0).0, tt)) (λ t. tt)
 new_fits script isn log node (Message_comes message) opened places i = tt
 new_fits script isn log node Noise_comes opened places i = tt
 new_fits script isn log node Tick_comes opened places i = tt

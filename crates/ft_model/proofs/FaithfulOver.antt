@@ -21,7 +21,7 @@ use Rattle.ft_model.specs.Node.Stage.{Asking, Fetching, Serving, Fenced}
 use Rattle.ft_model.specs.Lawful.{Revives, restored, all_restored, held}
 use Rattle.ft_model.specs.Masked.{is_restarting}
 use Rattle.ft_model.specs.World.{World, Moves, client_at}
-use Rattle.ft_model.proofs.Lists.{of_choice, all_weaker, all_append, all_find, all_slice_get, none_is_some, some_is}
+use Rattle.ft_model.proofs.Lists.{all_weaker, all_append, all_find, all_slice_get, none_is_some, some_is}
 use Rattle.ft_model.proofs.Keys.{AreDistinct, finds_itself, all_from_get}
 use Rattle.ft_model.proofs.Happened.{Happened, IsBrought}
 use Rattle.ft_model.proofs.Happened.Happened.{log_heard, client_heard, client_moved, server_turned, server_booted, server_down}
@@ -34,6 +34,7 @@ use Rattle.ft_model.proofs.Resumed.{nothing_missing}
 use Rattle.ft_model.proofs.Scripts.{FitsScript, EntryFits, move_fits}
 use Rattle.ft_model.proofs.Faithful.{PacketFits, PlaceFits, StageFits, EntriesFit, IsFit, units_within, acknowledges_units, connection_fits}
 use Rattle.ft_model.proofs.FaithfulKept.{ClientFits, IsFaithful, IsSameClient, received_same, client_fits, clients_fit, heard_faithful, listen_fits, asked_fits, InputFits, input_fits, place_fits, new_fits}
+use Rattle.ft_io.proofs.Choices.{holds_if}
 
 -- a fetched entry is headed as one of the log
 abbrev pub IsHeadOf : Log → Fetched → Type 0
@@ -63,7 +64,7 @@ one_held script isn log node short entries None g = tt
 held_fits : (script : Key → List ℕ) (isn : Key → ℕ) (log : Log) (node : Node) (fetched : List Fetched) (segment : Segment) → ((k : Key) → length (script k) ≤ 2 ^ 24)
     → EntriesFit script isn log.entries → AllByRecursion (IsHeadOf log) fetched → AllByRecursion (IsFit script isn log) (held node fetched segment)
 held_fits script isn log node fetched segment short entries heads =
-    of_choice (AllByRecursion (IsFit script isn log)) (is_for node.server segment && not (has_rst segment))
+    holds_if (AllByRecursion (IsFit script isn log)) (is_for node.server segment && not (has_rst segment))
     (map (λ f. To_client (holding_segment node.server f.head)) (option_to_list (live_entry (source_of segment) fetched))) []
     (λ t. one_held script isn log node short entries (live_entry (source_of segment) fetched)
     (λ f e. all_find (IsHeadOf log) (λ x. key_eq x.head.key (source_of segment) && not x.head.done) fetched f heads e)) (λ t. tt)
@@ -71,7 +72,7 @@ held_fits script isn log node fetched segment short entries heads =
 restored_one : {State : Type 0} (Q : Place → Type 0) (service : Machine State) (f : Fetched) (e : Entry) → Q (Lives (point_of service e)) → ((k : Key) → Q (Ended k)) → IsFront f e → IsWhole f
     → Q (restored service f)
 restored_one Q service f e q done front whole =
-    of_choice Q f.head.done (Ended f.head.key) (Lives (point_of service (entry_in f))) (λ t. done f.head.key)
+    holds_if Q f.head.done (Ended f.head.key) (Lives (point_of service (entry_in f))) (λ t. done f.head.key)
     (λ t. subst (λ x. Q (Lives (point_of service x))) (sym (whole_is f e front (sym (ap (λ h. h.done) front.head) ∙ t) whole)) q)
 
 -- what holds of the points of the log's entries holds of all that is restored

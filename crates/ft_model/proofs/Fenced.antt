@@ -8,7 +8,7 @@ use Rattle.seq_arith.specs.Message.{Body, Message}
 use Rattle.seq_arith.specs.Message.Body.{SummaryMsg, OpenMsg, DataMsg, ReadMsg, DoneMsg, StaleMsg}
 use Rattle.server_trait.specs.Service.{Machine}
 use Rattle.ft_model.specs.Client.{Client}
-use Rattle.ft_model.specs.Log.{Log, log_after, with_body}
+use Rattle.ft_model.specs.Log.{Log, log_after}
 use Rattle.ft_model.specs.Network.{Packet, source_of}
 use Rattle.ft_model.specs.Network.Packet.{To_server, To_client, To_logger, From_logger}
 use Rattle.ft_model.specs.Point.{Point}
@@ -29,7 +29,7 @@ use Rattle.ft_model.specs.Serving.{refusals, is_strange}
 use Rattle.ft_model.specs.Lawful.{Revives, LawfulTurn, all_restored, hello, asked, held}
 use Rattle.ft_model.specs.Masked.{is_restarting}
 use Rattle.ft_model.specs.World.{World, IsStart}
-use Rattle.ft_model.proofs.Lists.{of_choice, all_of, all_both, all_weaker, all_append, none_is_some, some_is}
+use Rattle.ft_model.proofs.Lists.{all_of, all_both, all_weaker, all_append, none_is_some, some_is}
 use Rattle.ft_model.proofs.Grows.{log_grows}
 use Rattle.ft_model.proofs.LogAnswers.{log_went, boot_after, all_answers}
 use Rattle.ft_model.proofs.Happened.{Happened, IsBrought, IsUnderWay, all_sent, answers}
@@ -38,6 +38,7 @@ use Rattle.ft_model.proofs.PlaceTurns.{PlaceWent, all_go_on, serving_goes_on}
 use Rattle.ft_model.proofs.PlaceTurns.PlaceWent.{stayed, went_on, began, dropped, ended, refused}
 use Rattle.ft_model.proofs.StageTurns.{Progress, StageWent, stage_went, either_turn}
 use Rattle.ft_model.proofs.StageTurns.StageWent.{was_fenced, waited, held_off, asked_on, resumed, served}
+use Rattle.ft_io.proofs.Choices.{holds_if}
 
 -- what an incarnation sends: segments to clients, and messages of its own boot
 abbrev pub IsOurs : ℕ → Packet → Type 0
@@ -129,13 +130,13 @@ all_opt P f None g = tt
 
 pub held_so : (P : Packet → Type 0) (node : Node) (fetched : List Fetched) (segment : Segment) → ((s : Segment) → P (To_client s)) → AllByRecursion P (held node fetched segment)
 held_so P node fetched segment g =
-    of_choice (AllByRecursion P) (is_for node.server segment && not (has_rst segment)) _ []
+    holds_if (AllByRecursion P) (is_for node.server segment && not (has_rst segment)) _ []
     (λ t. all_opt P _ (live_entry (source_of segment) fetched) (λ f. g (holding_segment node.server f.head))) (λ t. tt)
 
 pub refusals_so : (P : Packet → Type 0) (node : Node) (input : Input) (places : List Place) → ((s : Segment) → P (To_client s)) → AllByRecursion P (refusals node input places)
 refusals_so P node (Packet_comes segment) places g =
-    of_choice (AllByRecursion P) (is_strange node segment places) (map To_client (as_listen node.server segment)) []
-    (λ t. of_choice (λ x. AllByRecursion P (map To_client x)) (has_ack segment && not (has_rst segment)) (rst_at_ack node.server segment ∷ []) []
+    holds_if (AllByRecursion P) (is_strange node segment places) (map To_client (as_listen node.server segment)) []
+    (λ t. holds_if (λ x. AllByRecursion P (map To_client x)) (has_ack segment && not (has_rst segment)) (rst_at_ack node.server segment ∷ []) []
     (λ t. (g (rst_at_ack node.server segment), tt)) (λ t. tt)) (λ t. tt)
 refusals_so P node (Message_comes message) places g = tt
 refusals_so P node Noise_comes places g = tt

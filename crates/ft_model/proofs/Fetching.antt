@@ -1,6 +1,7 @@
 -- Restart: while an incarnation fetches, every answer of its boot agrees with the log as it stands, so what is fetched is a front of it.
 use Rattle.std.proofs.Common.{◌≡◌, ℕ, ◌+◌, ◌≤◌, Bool, true, false, ◌==◌, ◌&&◌, not, nat_lt, nat_le, refl, sym, ap, ap₂, ◌∙◌, subst, true≢false, eqb-true, find, Option, Some, None, List, [], ◌∷◌, ◌++◌, map, length, take, drop, slice_get, arith, append_assoc, ltb-false, if◌then◌else◌}
 use Rattle.std.specs.List.{AllByRecursion}
+use Rattle.std.proofs.lemmas.Bool.{and_parts}
 use Rattle.ft_io.specs.declared.Key.{Key}
 use Rattle.ft_io.specs.Key.{key_eq}
 use Rattle.seq_arith.specs.Message.{EntryHead, Body}
@@ -9,8 +10,10 @@ use Rattle.ft_model.specs.Log.{Log, Entry, entry_of, head_of, part_of, lens_of, 
 use Rattle.ft_model.specs.Restart.{Wanted, Fetched, wanted, next_entry, lacks_read_bytes, lacks_bytes, lacks_lengths, is_fetched, fetched_by, fetched_after, all_follow, entry_in}
 use Rattle.ft_model.specs.Restart.Wanted.{An_entry, Its_bytes, Its_lengths}
 use Rattle.ft_model.specs.Growth.{IsPrefix}
-use Rattle.ft_model.proofs.Lists.{take_first, of_choice, both, found_passes, same_key, none_is_some, some_is}
+use Rattle.ft_model.proofs.Lists.{take_first, found_passes, same_key, none_is_some, some_is}
 use Rattle.ft_model.proofs.Keys.{AreDistinct, finds_itself}
+use Rattle.ft_io.proofs.Choices.{holds_if}
+use Rattle.ft_io.proofs.Booleans.{first_of_three}
 
 -- an answer agrees with these entries
 abbrev pub AgreesWith : List Entry → Body → Type 0
@@ -77,11 +80,6 @@ chosen_is : {A : Type 0} (b : Bool) (x y : A) → (if b then Some x else None) �
 chosen_is true x y e = (refl, some_is x y e)
 chosen_is false x y e = none_is_some y e
 
-first_of_three : (a b c : Bool) → (a && b && c) ≡ true → a ≡ true
-first_of_three true b c e = refl
-first_of_three false true c e = absurd (true≢false (sym e))
-first_of_three false false c e = absurd (true≢false (sym e))
-
 drop_front : {A : Type 0} (xs ys : List A) → drop (length xs) (xs ++ ys) ≡ ys
 drop_front [] ys = refl
 drop_front (x ∷ xs) ys = drop_front xs ys
@@ -96,7 +94,7 @@ head_agrees : (entries : List Entry) (index : ℕ) (fetched more : List Fetched)
     → index ≡ length fetched → AgreesWith entries body → fetched_by (An_entry index) body fetched ≡ Some more → AreFetched entries more
 head_agrees entries index fetched more (EntryMsg i head) w a n g e =
     let parts = chosen_is (i == index && not (is_fetched head.key fetched)) (record { head = head; bytes = []; lengths = [] } ∷ fetched) more e in
-    let same : i ≡ index = eqb-true _ _ (both (i == index) (not (is_fetched head.key fetched)) parts.0).0 in
+    let same : i ≡ index = eqb-true _ _ (and_parts (i == index) (not (is_fetched head.key fetched)) parts.0).0 in
     subst (AreFetched entries) parts.1 (
       g.0,
       subst (λ k. slice_get entries k ≡ Some g.0) (same ∙ n) g.1,
@@ -110,7 +108,7 @@ next_agrees : (entries : List Entry) (count : ℕ) (fetched : List Fetched) (bod
     → AllByRecursion IsWhole fetched → AreFetched entries fetched → AgreesWith entries body
     → (more : List Fetched) → fetched_after (next_entry count (length fetched)) body fetched ≡ Some more → AreFetched entries more
 next_agrees entries count fetched body d w a g more =
-    of_choice (λ x. fetched_after x body fetched ≡ Some more → AreFetched entries more) (nat_lt (length fetched) count) (Some (An_entry (length fetched))) None
+    holds_if (λ x. fetched_after x body fetched ≡ Some more → AreFetched entries more) (nat_lt (length fetched) count) (Some (An_entry (length fetched))) None
     (λ t e. head_agrees entries (length fetched) fetched more body w a refl g e) (λ t e. none_is_some more e)
 
 -- the entry that the asked key finds is the one that is fetched
@@ -126,7 +124,7 @@ bytes_agree : (entries : List Entry) (f : Fetched) (earlier more : List Fetched)
     → AreFetched entries more
 bytes_agree entries f earlier more (PartMsg k o bytes) d a g e =
     let parts = chosen_is ((key_eq k f.head.key && o == length f.bytes) && nat_le (length f.bytes + length bytes) f.head.length) (record f { bytes = f.bytes ++ bytes } ∷ earlier) more e in
-    let fits = both (key_eq k f.head.key) (o == length f.bytes) (both (key_eq k f.head.key && o == length f.bytes) _ parts.0).0 in
+    let fits = and_parts (key_eq k f.head.key) (o == length f.bytes) (and_parts (key_eq k f.head.key && o == length f.bytes) _ parts.0).0 in
     let at : o ≡ length f.bytes = eqb-true _ _ fits.1 in
     let same : g.0 ≡ a.0 = same_entry entries f (length earlier) a.0 g.0 k d a.1 a.2 (same_key k f.head.key fits.0) g.1 in
     let more_bytes : IsPrefix bytes (drop (length f.bytes) a.0.bytes) = subst (λ x. IsPrefix bytes (drop (length f.bytes) x.bytes)) same (subst (λ n. IsPrefix bytes (drop n g.0.bytes)) at g.2) in
@@ -140,7 +138,7 @@ lengths_agree : (entries : List Entry) (f : Fetched) (earlier more : List Fetche
 lengths_agree entries f earlier more (LensMsg k o lens) d a g e =
     let fit : Bool = key_eq k f.head.key && o == length f.lengths in
     let parts = chosen_is (fit && nat_le (length f.lengths + length lens) f.head.reads && all_follow f.head.length f.head.fin f.lengths lens) (record f { lengths = f.lengths ++ lens } ∷ earlier) more e in
-    let fits = both (key_eq k f.head.key) (o == length f.lengths) (first_of_three fit (nat_le (length f.lengths + length lens) f.head.reads) (all_follow f.head.length f.head.fin f.lengths lens) parts.0) in
+    let fits = and_parts (key_eq k f.head.key) (o == length f.lengths) (first_of_three fit (nat_le (length f.lengths + length lens) f.head.reads) (all_follow f.head.length f.head.fin f.lengths lens) parts.0) in
     let at : o ≡ length f.lengths = eqb-true _ _ fits.1 in
     let same : g.0 ≡ a.0 = same_entry entries f (length earlier) a.0 g.0 k d a.1 a.2 (same_key k f.head.key fits.0) g.1 in
     let more_lengths : IsPrefix lens (drop (length f.lengths) a.0.lengths) = subst (λ x. IsPrefix lens (drop (length f.lengths) x.lengths)) same (subst (λ n. IsPrefix lens (drop n g.0.lengths)) at g.2) in
@@ -154,9 +152,9 @@ pub fetched_agrees : (entries : List Entry) (count : ℕ) (fetched more : List F
 fetched_agrees entries count [] more body d a g e = next_agrees entries count [] body d tt tt g more e
 fetched_agrees entries count (f ∷ earlier) more body d a g e =
     let Agrees : Option Wanted → Type 0 = λ w. fetched_after w body (f ∷ earlier) ≡ Some more → AreFetched entries more in
-    of_choice Agrees (lacks_read_bytes f) (Some (Its_bytes f.head.key (length f.bytes))) _ (λ t. bytes_agree entries f earlier more body d a g)
-    (λ t. of_choice Agrees (lacks_lengths f) (Some (Its_lengths f.head.key (length f.lengths))) _ (λ s. lengths_agree entries f earlier more body d a g)
-    (λ s. of_choice Agrees (lacks_bytes f) (Some (Its_bytes f.head.key (length f.bytes))) _ (λ r. bytes_agree entries f earlier more body d a g)
+    holds_if Agrees (lacks_read_bytes f) (Some (Its_bytes f.head.key (length f.bytes))) _ (λ t. bytes_agree entries f earlier more body d a g)
+    (λ t. holds_if Agrees (lacks_lengths f) (Some (Its_lengths f.head.key (length f.lengths))) _ (λ s. lengths_agree entries f earlier more body d a g)
+    (λ s. holds_if Agrees (lacks_bytes f) (Some (Its_bytes f.head.key (length f.bytes))) _ (λ r. bytes_agree entries f earlier more body d a g)
     (λ r. next_agrees entries count (f ∷ earlier) body d ((r, s), a.3) a g more))) e
 
 abbrev is_nil : {A : Type 0} → List A → Bool

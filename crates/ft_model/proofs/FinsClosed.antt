@@ -1,6 +1,7 @@
 -- Where what is sent lies within what may leave, a FIN's unit among it means that a logged read has closed the service. So of a new FIN the law on
 -- output asks nothing that the laws of sending don't give.
-use Rattle.std.proofs.Common.{◌≡◌, ℕ, ◌<◌, ◌≤◌, ◌+◌, Bool, true, false, ◌&&◌, nat_lt, nat_le, refl, ap, List, [], ◌∷◌, arith, ltb-true, leb-true, if◌then◌else◌}
+use Rattle.std.proofs.Common.{◌≡◌, ℕ, ◌<◌, ◌≤◌, ◌+◌, Bool, true, false, nat_lt, nat_le, refl, ap, [], ◌∷◌, arith, ltb-true, leb-true, if◌then◌else◌}
+use Rattle.std.proofs.lemmas.Bool.{and_parts}
 use Rattle.ft_io.specs.declared.Addr.{Addr}
 use Rattle.seq_arith.specs.Packet.{Segment}
 use Rattle.server_trait.specs.Service.{Machine}
@@ -8,7 +9,6 @@ use Rattle.ft_model.specs.Offset.{one_if}
 use Rattle.ft_model.specs.Point.{Point, answered_run, released, target}
 use Rattle.ft_model.specs.Sending.{sent_at_once}
 use Rattle.ft_model.specs.Segments.{fin_segment, sends_fin, new_fin}
-use Rattle.ft_model.proofs.Lists.{both}
 
 closed_by : (b : Bool) (n m : ℕ) → n < m → m ≤ n + one_if b → b ≡ true
 closed_by true n m h k = refl
@@ -23,7 +23,7 @@ pub new_fin_is : {State : Type 0} (service : Machine State) (server : Addr) (bef
 unfolding new_fin sent_at_once
 new_fin_is service server before after =
     one_fin (sends_fin service before after) (answered_run service after).closed (fin_segment service server after)
-    (λ t. let parts = both (nat_lt (released service after) (sent_at_once service before after)) (nat_le before.sent (released service after)) t in
+    (λ t. let parts = and_parts (nat_lt (released service after) (sent_at_once service before after)) (nat_le before.sent (released service after)) t in
     let past : released service after < sent_at_once service before after = ltb-true _ _ parts.0 in
     let behind : before.sent ≤ released service after = leb-true _ _ parts.1 in
     closed_by (answered_run service after).closed (released service after) (target service after) (omega (arith, past, behind)) (omega arith))

@@ -26,7 +26,8 @@ use Rattle.ft_model.specs.declared.schedule.Schedule.{Schedule}
 use Rattle.ft_model.specs.declared.schedule.Script.{Script}
 use Rattle.ft_model.specs.declared.schedule.Script.TheVariants.{Bytes, Fill}
 use Rattle.ft_model.specs.Readable.{FitsAddr, FitsEvent, FitsScript, FitsClient, FitsSchedule}
-use Rattle.ft_model.proofs.AcceptedLemmas.{Passes, bind_ok, ok_or_ok, unless, both_left, both_right, within_bound, number_bound, tested, says_client, room_for_client, all_push, text_keeps}
+use Rattle.ft_model.proofs.AcceptedLemmas.{Passes, bind_ok, ok_or_ok, unless, within_bound, number_bound, tested, says_client, room_for_client, all_push, text_keeps}
+use Rattle.ft_io.proofs.Booleans.{left_true, right_true}
 
 number_fits : (least most : ℕ) (word : List ℕ) (n : ℕ) → number least most word ≡ Ok n → n ≤ most
 number_fits least most word n e = number_bound least most word n (ok_or_ok (number_of least most word) why.Number n e)
@@ -89,14 +90,14 @@ unfolding hex_bytes
 hex_fits [] e i = no_bytes i
 hex_fits (high ∷ []) e i = no_bytes i
 hex_fits (high ∷ low ∷ more) e zero =
-    let first = digit_bound high (both_left _ _ e) in
-    let second = digit_bound low (both_left _ _ (both_right (is_ascii_hexdigit high) _ e)) in
+    let first = digit_bound high (left_true _ _ e) in
+    let second = digit_bound low (left_true _ _ (right_true (is_ascii_hexdigit high) _ e)) in
     omega (arith, first, second)
-hex_fits (high ∷ low ∷ more) e (suc i) = hex_fits more (both_right (is_ascii_hexdigit low) _ (both_right (is_ascii_hexdigit high) _ e)) i
+hex_fits (high ∷ low ∷ more) e (suc i) = hex_fits more (right_true (is_ascii_hexdigit low) _ (right_true (is_ascii_hexdigit high) _ e)) i
 
 hex_digits : (digits : List ℕ) → is_hex digits ≡ true → list_all is_ascii_hexdigit digits ≡ true
 unfolding is_hex
-hex_digits digits e = both_left _ _ (both_left _ _ (both_left _ _ e))
+hex_digits digits e = left_true _ _ (left_true _ _ (left_true _ _ e))
 
 hex_script : (digits : List ℕ) (b : Bool) (s : Script) → is_hex digits ≡ b → cond b (Some (Bytes (hex_bytes digits))) None ≡ Some s → FitsScript s
 hex_script digits true s h e = let same : Bytes (hex_bytes digits) ≡ s = cc in subst FitsScript same (hex_fits digits (hex_digits digits h))

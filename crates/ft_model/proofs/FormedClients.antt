@@ -1,6 +1,6 @@
 -- A client keeps the server's address, and the packet of its move is well formed.
 use Rattle.std.proofs.Common.{◌≡◌, ℕ, ◌+◌, ◌-◌, ◌<◌, ◌≤◌, ◌^◌, ◌==◌, ℤ, pos, ◌+ℤ◌, int_lt, Bool, true, ◌&&◌, ◌||◌, not, nat_lt, nat_le, refl, sym, ap, ◌∙◌, subst, eqb-true, Option, Some, None, IfSome, List, ◌++◌, length, take, drop, arith, leb-true, length-take, if◌then◌else◌}
-use Rattle.std.proofs.lemmas.Bool.{ltb-true}
+use Rattle.std.proofs.lemmas.Bool.{ltb-true, and_parts}
 use Rattle.seq_arith.specs.Number.{number_at}
 use Rattle.seq_arith.specs.Arrival.{int_eq, is_acceptable, below}
 use Rattle.seq_arith.specs.Packet.{Segment, has_syn, has_rst, has_ack}
@@ -12,26 +12,26 @@ use Rattle.ft_model.specs.Client.{Client, ClientKind, Move, IsMove, seq_of, ack_
 use Rattle.ft_model.specs.Client.Move.{Syn, Text, Fin, Acknowledge, Rst, Refuse}
 use Rattle.ft_model.specs.Network.Packet.{To_server}
 use Rattle.ft_model.specs.World.{World}
-use Rattle.ft_model.proofs.Lists.{of_choice, both}
 use Rattle.ft_model.proofs.FaithfulKept.{received_same}
 use Rattle.ft_model.proofs.Formed.{bytes_take, bytes_drop, HasClient, PacketFormed, ClientFormed}
+use Rattle.ft_io.proofs.Choices.{holds_if}
 
 -- a client keeps the server's address
 text_server : (c : Client) (first : ℤ) (text : List ℕ) → (with_text c first text).server ≡ c.server
 text_server c first text =
-    of_choice (λ x. x.server ≡ c.server) (is_ended c.phase || int_lt (pos (length c.accepted)) first) c
+    holds_if (λ x. x.server ≡ c.server) (is_ended c.phase || int_lt (pos (length c.accepted)) first) c
     (record c { accepted = c.accepted ++ take (c.edge - length c.accepted) (drop (below (length c.accepted) first) text) }) (λ t. refl) (λ t. refl)
 
 fin_server : (c : Client) (behind : ℤ) (fin : Bool) → (with_fin c behind fin).server ≡ c.server
 fin_server c behind fin =
-    of_choice (λ x. x.server ≡ c.server) (fin && not (is_ended c.phase) && int_eq behind (pos (length c.accepted)) && nat_lt (length c.accepted) c.edge)
+    holds_if (λ x. x.server ≡ c.server) (fin && not (is_ended c.phase) && int_eq behind (pos (length c.accepted)) && nat_lt (length c.accepted) c.edge)
     (record c { phase = phases.Ended }) c (λ t. refl) (λ t. refl)
 
 used_server : (c : Client) (segment : Segment) → (used c segment).server ≡ c.server
 used_server c segment =
     let acked : Client = with_ack c (ack_of c.isn segment) in
     let texted : Client = with_text acked (first_of c.sisn segment) (text_of segment) in
-    of_choice (λ x. x.server ≡ c.server) (int_lt (pos c.sent) (ack_of c.isn segment)) c
+    holds_if (λ x. x.server ≡ c.server) (int_lt (pos c.sent) (ack_of c.isn segment)) c
     (with_fin texted (first_of c.sisn segment +ℤ pos (length (text_of segment))) (fin_of segment)) (λ t. refl)
     (λ t. fin_server texted (first_of c.sisn segment +ℤ pos (length (text_of segment))) (fin_of segment) ∙ text_server acked (first_of c.sisn segment) (text_of segment))
 
@@ -41,10 +41,10 @@ arrived_server c segment =
     let gone : Client = record c { phase = phases.Reset } in
     let rst : Client = if int_eq (first_of c.sisn segment) (pos (next_of c)) then gone else c in
     let other : Client = if has_syn segment || not (has_ack segment) then c else used c segment in
-    of_choice P (is_acceptable (next_of c) (room_of c) (first_of c.sisn segment) (length_of segment)) (if has_rst segment then rst else other) c
-    (λ t. of_choice P (has_rst segment) rst other
-    (λ r. of_choice P (int_eq (first_of c.sisn segment) (pos (next_of c))) gone c (λ x. refl) (λ x. refl))
-    (λ r. of_choice P (has_syn segment || not (has_ack segment)) c (used c segment) (λ x. refl) (λ x. used_server c segment)))
+    holds_if P (is_acceptable (next_of c) (room_of c) (first_of c.sisn segment) (length_of segment)) (if has_rst segment then rst else other) c
+    (λ t. holds_if P (has_rst segment) rst other
+    (λ r. holds_if P (int_eq (first_of c.sisn segment) (pos (next_of c))) gone c (λ x. refl) (λ x. refl))
+    (λ r. holds_if P (has_syn segment || not (has_ack segment)) c (used c segment) (λ x. refl) (λ x. used_server c segment)))
     (λ t. refl)
 
 opened_server : (c : Client) (segment : Segment) → (opened_by c segment).server ≡ c.server
@@ -52,16 +52,16 @@ opened_server c segment =
     let P : Client → Type 0 = λ x. x.server ≡ c.server in
     let gone : Client = record c { phase = phases.Reset } in
     let stands : Client = record c { phase = phases.Established; sisn = segment.head.seq } in
-    of_choice P (has_ack segment && segment.head.ack == number_at c.isn 0) (if has_rst segment then gone else (if has_syn segment then stands else c)) c
-    (λ t. of_choice P (has_rst segment) gone (if has_syn segment then stands else c) (λ r. refl)
-    (λ r. of_choice P (has_syn segment) stands c (λ x. refl) (λ x. refl)))
+    holds_if P (has_ack segment && segment.head.ack == number_at c.isn 0) (if has_rst segment then gone else (if has_syn segment then stands else c)) c
+    (λ t. holds_if P (has_rst segment) gone (if has_syn segment then stands else c) (λ r. refl)
+    (λ r. holds_if P (has_syn segment) stands c (λ x. refl) (λ x. refl)))
     (λ t. refl)
 
 received_server : (c : Client) (segment : Segment) → (received c segment).server ≡ c.server
 received_server c segment =
     let P : Client → Type 0 = λ x. x.server ≡ c.server in
-    of_choice P (is_opening c.phase) (opened_by c segment) _ (λ t. opened_server c segment)
-    (λ t. of_choice P (is_open c.phase) (arrived c segment) c (λ x. arrived_server c segment) (λ x. refl))
+    holds_if P (is_opening c.phase) (opened_by c segment) _ (λ t. opened_server c segment)
+    (λ t. holds_if P (is_open c.phase) (arrived c segment) c (λ x. arrived_server c segment) (λ x. refl))
 
 pub received_formed : (start : World) (c : Client) (segment : Segment) → ClientFormed start c → ClientFormed start (received c segment)
 received_formed start c segment h =
@@ -98,10 +98,10 @@ seq_small c (Text from len) isn r = omega arith
 seq_small c Fin isn r = omega arith
 seq_small c Acknowledge isn r = omega arith
 seq_small c Rst isn r = omega arith
-seq_small c (Refuse number) isn r = ltb-true _ _ (both (nat_lt number (2 ^ 32)) (not (number == number_at c.isn 0)) r).0
+seq_small c (Refuse number) isn r = ltb-true _ _ (and_parts (nat_lt number (2 ^ 32)) (not (number == number_at c.isn 0)) r).0
 
 offered_small : (kind : ClientKind) (mss : Option ℕ) → may_offer kind mss ≡ true → IfSome mss (λ n. n < 2 ^ 16)
-offered_small kind (Some mss) e = ltb-true _ _ (both (is_live kind) (nat_lt mss (2 ^ 16)) e).1
+offered_small kind (Some mss) e = ltb-true _ _ (and_parts (is_live kind) (nat_lt mss (2 ^ 16)) e).1
 offered_small kind None e = tt
 
 mss_small : (kind : ClientKind) (m : Move) → suits_kind kind m ≡ true → IfSome (mss_of m) (λ n. n < 2 ^ 16)
@@ -118,8 +118,8 @@ option_small None = omega arith
 
 packet_small : (c : Client) (m : Move) (window : ℕ) → suits_range c m ≡ true → packet_length (segment_of c m window) ≤ 1500
 packet_small c (Text from len) window r =
-    let one = both (nat_le c.acknowledged from && nat_le from c.sent && nat_le 1 len && nat_le len 1460) (nat_le (from + len) (length c.script)) r in
-    let short : len ≤ 1460 = leb-true _ _ (both (nat_le c.acknowledged from && nat_le from c.sent && nat_le 1 len) (nat_le len 1460) one.0).1 in
+    let one = and_parts (nat_le c.acknowledged from && nat_le from c.sent && nat_le 1 len && nat_le len 1460) (nat_le (from + len) (length c.script)) r in
+    let short : len ≤ 1460 = leb-true _ _ (and_parts (nat_le c.acknowledged from && nat_le from c.sent && nat_le 1 len) (nat_le len 1460) one.0).1 in
     let size = length-take len (drop from c.script) in omega (arith, short, size)
 packet_small c (Syn mss) window r = let option = option_small mss in omega (arith, option)
 packet_small c Fin window r = omega arith
@@ -131,10 +131,10 @@ pub move_formed : (start : World) (c later : Client) (segment : Segment) → Cli
     → IsMove c segment later → PacketFormed start (To_server segment)
 move_formed start c later segment h isn script mv =
     let m : Move = mv.move in
-    let parts = both (suits_kind c.kind m && suits_phase c m) (suits_range c m) mv.may in
-    let kind = both (suits_kind c.kind m) (suits_phase c m) parts.0 in
+    let parts = and_parts (suits_kind c.kind m && suits_phase c m) (suits_range c m) mv.may in
+    let kind = and_parts (suits_kind c.kind m) (suits_phase c m) parts.0 in
     let ack : ack_number_of c m < 2 ^ 32 =
-    of_choice (λ n. n < 2 ^ 32) (is_acknowledging m) (number_at c.sisn (accepted_units c)) 0 (λ t. omega arith) (λ t. omega arith) in
+    holds_if (λ n. n < 2 ^ 32) (is_acknowledging m) (number_at c.sisn (accepted_units c)) 0 (λ t. omega arith) (λ t. omega arith) in
     subst (λ s. PacketFormed start (To_server s)) (sym mv.segment_is) (
       h.key,
       (ap (λ a. a.ip) h.server, ap (λ a. a.port) h.server),

@@ -1,7 +1,7 @@
 -- The log keeps what is well formed, and tells nothing else.
 use Rattle.std.proofs.Common.{◌≡◌, ℕ, zero, suc, ◌+◌, ◌-◌, ◌<◌, ◌≤◌, ◌^◌, Bool, true, false, ◌==◌, ◌&&◌, ◌||◌, not, nat_lt, nat_le, refl, sym, subst, Option, Some, None, List, [], ◌∷◌, ◌++◌, map, length, take, drop, sum, slice_get, arith, length-append, length-take, length-drop, leb-true, ltb-true, if◌then◌else◌}
 use Rattle.std.specs.List.{AllByRecursion, list_any}
-use Rattle.std.proofs.lemmas.Bool.{leb-false}
+use Rattle.std.proofs.lemmas.Bool.{leb-false, and_parts, or_parts}
 use Rattle.ft_io.specs.declared.Key.{Key}
 use Rattle.ft_io.specs.Key.{key_eq}
 use Rattle.seq_arith.specs.Message.{Numbers, Part, Body, Message}
@@ -9,7 +9,7 @@ use Rattle.seq_arith.specs.Message.Body.{HelloMsg, ListMsg, EntryMsg, BytesMsg, 
 use Rattle.server_trait.specs.Service.{AreBytes}
 use Rattle.ft_model.specs.Log.{Log, Entry, entry_of, new_entry, opened, with_bytes, with_its_fin, with_part, may_follow, is_next_read, with_read, with_body, kept_of, head_of, part_of, lens_of, opened_answer, told}
 use Rattle.ft_model.specs.World.{World}
-use Rattle.ft_model.proofs.Lists.{of_choice, both, neither, not_true, all_weaker, all_map, all_append, all_find, all_slice_get, none_is_some, some_is}
+use Rattle.ft_model.proofs.Lists.{all_weaker, all_map, all_append, all_find, all_slice_get, none_is_some, some_is}
 use Rattle.ft_model.proofs.Services.{sum_append, sum_more, prefix_length}
 use Rattle.ft_model.proofs.LogAnswers.{LogWent, kept_boot}
 use Rattle.ft_model.proofs.LogAnswers.LogWent.{ignored, raised, changed}
@@ -19,12 +19,14 @@ use Rattle.ft_model.proofs.Scripts.{EntryFits}
 use Rattle.ft_model.proofs.Faithful.{EntriesFit}
 use Rattle.ft_model.proofs.FaithfulOver.{script_of, isn_of}
 use Rattle.ft_model.proofs.Formed.{bytes_take, bytes_drop, bytes_front, HasClient, AreLengths, NumbersFormed, KeptFormed, HeadFormed, AckWithin, BodyFormed, MessageFormed, StartFormed, EntryFormed}
+use Rattle.ft_io.proofs.Booleans.{not_true}
+use Rattle.ft_io.proofs.Choices.{holds_if}
 
 -- no read has length 0: there are no more of them than bytes
 pub no_zero : (xs : List ℕ) → list_any (λ n. n == 0) xs ≡ false → length xs ≤ sum xs
 no_zero [] e = omega arith
 no_zero (x ∷ xs) e =
-    let parts = neither (x == 0) (list_any (λ n. n == 0) xs) e in
+    let parts = or_parts (x == 0) (list_any (λ n. n == 0) xs) e in
     let more = sum_more x xs in
     let rest = no_zero xs parts.1 in
     let some : 0 < x = grind (arith, parts.0) in
@@ -37,11 +39,11 @@ part_formed : (start : World) (part : Part) (e : Entry) → EntryFormed start e 
 part_formed start part e h =
     let more = length-append e.bytes (drop (length e.bytes - part.offset) part.bytes) in
     let bytes : EntryFormed start (with_bytes part e) =
-    of_choice (EntryFormed start) (e.fin || nat_lt (length e.bytes) part.offset) e _ (λ t. h)
+    holds_if (EntryFormed start) (e.fin || nat_lt (length e.bytes) part.offset) e _ (λ t. h)
     (λ t. record { key = h.key; sisn = h.sisn; mss = h.mss; enough = omega (arith, more, h.enough); count = h.count; lengths = h.lengths }) in
     let x : Entry = with_bytes part e in
     let fin : EntryFormed start (with_its_fin part x) =
-    of_choice (EntryFormed start) (part.fin && part.offset + length part.bytes == length x.bytes) (record x { fin = true }) x
+    holds_if (EntryFormed start) (part.fin && part.offset + length part.bytes == length x.bytes) (record x { fin = true }) x
     (λ t. record { key = bytes.key; sisn = bytes.sisn; mss = bytes.mss; enough = bytes.enough; count = bytes.count; lengths = bytes.lengths }) (λ t. bytes) in
     record {
       key = fin.key;
@@ -54,10 +56,10 @@ part_formed start part e h =
 
 read_formed : (start : World) (index n : ℕ) (e : Entry) → n ≤ 2048 → EntryFormed start e → EntryFormed start (with_read index n e)
 read_formed start index n e low h =
-    of_choice (EntryFormed start) (is_next_read e index n) (record e { lengths = e.lengths ++ n ∷ [] }) e
-    (λ t. let follows = (both (index == length e.lengths) (may_follow (length e.bytes) e.fin e.lengths n) t).1 in
-    let two = (both (not (list_any (λ k. k == 0) e.lengths) && nat_le (sum e.lengths + n) (length e.bytes)) (nat_lt 0 n || (e.fin && sum e.lengths == length e.bytes)) follows).0 in
-    let parts = both (not (list_any (λ k. k == 0) e.lengths)) (nat_le (sum e.lengths + n) (length e.bytes)) two in
+    holds_if (EntryFormed start) (is_next_read e index n) (record e { lengths = e.lengths ++ n ∷ [] }) e
+    (λ t. let follows = (and_parts (index == length e.lengths) (may_follow (length e.bytes) e.fin e.lengths n) t).1 in
+    let two = (and_parts (not (list_any (λ k. k == 0) e.lengths) && nat_le (sum e.lengths + n) (length e.bytes)) (nat_lt 0 n || (e.fin && sum e.lengths == length e.bytes)) follows).0 in
+    let parts = and_parts (not (list_any (λ k. k == 0) e.lengths)) (nat_le (sum e.lengths + n) (length e.bytes)) two in
     let few = no_zero e.lengths (not_true (list_any (λ k. k == 0) e.lengths) parts.0) in
     let within : sum e.lengths + n ≤ length e.bytes = leb-true _ _ parts.1 in
     let total = sum_append e.lengths n in
@@ -79,7 +81,7 @@ changed_formed : (start : World) (key : Key) (change : Entry → Entry) (es : Li
     → AllByRecursion (EntryFormed start) es → AllByRecursion (EntryFormed start) (map (λ e. if key_eq e.key key then change e else e) es)
 changed_formed start key change es f a =
     all_map (EntryFormed start) (λ e. if key_eq e.key key then change e else e) es
-    (all_weaker (EntryFormed start) _ es (λ e h. of_choice (EntryFormed start) (key_eq e.key key) (change e) e (λ t. f e h) (λ t. h)) a)
+    (all_weaker (EntryFormed start) _ es (λ e h. holds_if (EntryFormed start) (key_eq e.key key) (change e) e (λ t. f e h) (λ t. h)) a)
 
 -- entries that are well formed, and few
 abbrev pub LogFormed : World → List Entry → Type 0
@@ -87,9 +89,9 @@ LogFormed start entries = AllByRecursion (EntryFormed start) entries × (length 
 
 opened_formed : (start : World) (n : Numbers) (log : Log) → NumbersFormed start n → LogFormed start log.entries → LogFormed start (opened n log).entries
 opened_formed start n log h a =
-    of_choice (λ l. LogFormed start l.entries) (list_any (λ e. key_eq e.key n.key) log.entries || nat_le 64 (length log.entries)) log
+    holds_if (λ l. LogFormed start l.entries) (list_any (λ e. key_eq e.key n.key) log.entries || nat_le 64 (length log.entries)) log
     (record log { entries = log.entries ++ new_entry n ∷ [] }) (λ t. a)
-    (λ t. let room : length log.entries < 64 = leb-false _ _ (neither (list_any (λ e. key_eq e.key n.key) log.entries) (nat_le 64 (length log.entries)) t).1 in
+    (λ t. let room : length log.entries < 64 = leb-false _ _ (or_parts (list_any (λ e. key_eq e.key n.key) log.entries) (nat_le 64 (length log.entries)) t).1 in
     let size = length-append log.entries (new_entry n ∷ []) in
     (all_append (EntryFormed start) log.entries (new_entry n ∷ []) a.0 (new_formed start n h, tt), omega (arith, room, size)))
 

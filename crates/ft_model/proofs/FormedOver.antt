@@ -18,7 +18,7 @@ use Rattle.ft_model.specs.Lawful.{Revives, all_restored, asked, held}
 use Rattle.ft_model.specs.Serving.{newcomers}
 use Rattle.ft_model.specs.Masked.{is_restarting}
 use Rattle.ft_model.specs.World.{World}
-use Rattle.ft_model.proofs.Lists.{of_choice, all_weaker, all_both, all_find, all_slice_get, none_is_some, some_is}
+use Rattle.ft_model.proofs.Lists.{all_weaker, all_both, all_find, all_slice_get, none_is_some, some_is}
 use Rattle.ft_model.proofs.Services.{prefix_length}
 use Rattle.ft_model.proofs.Happened.{IsBrought, all_sent}
 use Rattle.ft_model.proofs.Fetching.{AreFetched}
@@ -34,6 +34,7 @@ use Rattle.ft_model.proofs.Acknowledged.{IsTrue}
 use Rattle.ft_model.proofs.Formed.{HasClient, IsBoot, PacketFormed, StartFormed, EntryFormed, PointFormed, PlaceFormed, StageFormed, WorldFormed}
 use Rattle.ft_model.proofs.FormedLog.{EntryTells, AckedWithin, entries_tell}
 use Rattle.ft_model.proofs.FormedTurns.{InputFormed, PlaceSound, connection_formed, listen_formed, new_formed, place_formed}
+use Rattle.ft_io.proofs.Choices.{holds_if}
 
 -- what a restart asks
 abbrev WantedFormed : World → Wanted → Type 0
@@ -54,7 +55,7 @@ newest_formed start entries f earlier e a =
 
 next_formed : (start : World) (count index : ℕ) (w : Wanted) → count ≤ 64 → next_entry count index ≡ Some w → WantedFormed start w
 next_formed start count index w h =
-    of_choice (λ o. o ≡ Some w → WantedFormed start w) (nat_lt index count) (Some (An_entry index)) None
+    holds_if (λ o. o ≡ Some w → WantedFormed start w) (nat_lt index count) (Some (An_entry index)) None
     (λ t e. subst (WantedFormed start) (some_is _ _ e) (let less : index < count = ltb-true _ _ t in omega (arith, less, h))) (λ t e. none_is_some w e)
 
 wanted_formed : (start : World) (entries : List Entry) (count : ℕ) (fetched : List Fetched) (w : Wanted) → count ≤ 64 → AllByRecursion (EntryTells start) entries
@@ -63,9 +64,9 @@ wanted_formed start entries count [] w few e a g = next_formed start count 0 w f
 wanted_formed start entries count (f ∷ earlier) w few e a missing =
     let newest = newest_formed start entries f earlier e a in
     let Asks : Option Wanted → Type 0 = λ o. o ≡ Some w → WantedFormed start w in
-    of_choice Asks (lacks_read_bytes f) (Some (Its_bytes f.head.key (length f.bytes))) _ (λ t g. subst (WantedFormed start) (some_is _ _ g) (newest.0, newest.1))
-    (λ t. of_choice Asks (lacks_lengths f) (Some (Its_lengths f.head.key (length f.lengths))) _ (λ x g. subst (WantedFormed start) (some_is _ _ g) (newest.0, newest.2))
-    (λ x. of_choice Asks (lacks_bytes f) (Some (Its_bytes f.head.key (length f.bytes))) _ (λ y g. subst (WantedFormed start) (some_is _ _ g) (newest.0, newest.1))
+    holds_if Asks (lacks_read_bytes f) (Some (Its_bytes f.head.key (length f.bytes))) _ (λ t g. subst (WantedFormed start) (some_is _ _ g) (newest.0, newest.1))
+    (λ t. holds_if Asks (lacks_lengths f) (Some (Its_lengths f.head.key (length f.lengths))) _ (λ x g. subst (WantedFormed start) (some_is _ _ g) (newest.0, newest.2))
+    (λ x. holds_if Asks (lacks_bytes f) (Some (Its_bytes f.head.key (length f.bytes))) _ (λ y g. subst (WantedFormed start) (some_is _ _ g) (newest.0, newest.1))
     (λ y g. next_formed start count (length (f ∷ earlier)) w few g))) missing
 
 asked_formed : (start : World) (node : Node) (o : Option Wanted) → IsBoot node.boot → ((w : Wanted) → o ≡ Some w → WantedFormed start w)
@@ -90,7 +91,7 @@ one_held start node None at h = tt
 held_formed : (start : World) (node : Node) (fetched : List Fetched) (segment : Segment) → node.server ≡ start.server
     → AllByRecursion (λ f. HasClient start f.head.key) fetched → AllByRecursion (PacketFormed start) (held node fetched segment)
 held_formed start node fetched segment at heads =
-    of_choice (AllByRecursion (PacketFormed start)) (is_for node.server segment && not (has_rst segment))
+    holds_if (AllByRecursion (PacketFormed start)) (is_for node.server segment && not (has_rst segment))
     (map (λ f. To_client (holding_segment node.server f.head)) (option_to_list (live_entry (source_of segment) fetched))) []
     (λ t. one_held start node (live_entry (source_of segment) fetched) at
     (λ f e. all_find (λ x. HasClient start x.head.key) (λ x. key_eq x.head.key (source_of segment) && not x.head.done) fetched f heads e)) (λ t. tt)

@@ -1,6 +1,7 @@
 -- A server that hears what is well formed sends nothing else.
 use Rattle.std.proofs.Common.{◌≡◌, ℕ, ◌+◌, ◌-◌, ◌<◌, ◌≤◌, ◌^◌, ◌==◌, ℤ, pos, negsuc, ◌+ℤ◌, true, ◌&&◌, ◌||◌, not, nat_lt, nat_le, max, min, sym, ap, subst, inl, inr, ◌⊎◌, ⊎_elim, Option, Some, None, List, [], ◌∷◌, ◌++◌, map, length, take, drop, sum, arith, append-nil, append_assoc, length-append, length-drop, length-take, ltb-true, leb-true}
 use Rattle.std.specs.List.{AllByRecursion, list_any}
+use Rattle.std.proofs.lemmas.Bool.{and_parts}
 use Rattle.ft_io.specs.declared.Addr.{Addr}
 use Rattle.ft_io.specs.declared.Key.{Key}
 use Rattle.seq_arith.specs.Arrival.{int_eq, below}
@@ -28,7 +29,7 @@ use Rattle.ft_model.specs.Node.Place.{Opens, Lives}
 use Rattle.ft_model.specs.Node.Input.{Packet_comes, Message_comes, Noise_comes, Tick_comes}
 use Rattle.ft_model.specs.Serving.{newcomers, refusals, is_strange}
 use Rattle.ft_model.specs.World.{World}
-use Rattle.ft_model.proofs.Lists.{not_true, of_choice, both, or_cases, all_weaker, all_map, all_append, none_is_some, some_is}
+use Rattle.ft_model.proofs.Lists.{or_cases, all_weaker, all_map, all_append, none_is_some, some_is}
 use Rattle.ft_model.proofs.Services.{sum_append, prefix_length}
 use Rattle.ft_model.specs.Taken.{end_of, taken_after}
 use Rattle.ft_model.proofs.Running.{next_within, taken_grows}
@@ -43,21 +44,23 @@ use Rattle.ft_model.proofs.FaithfulKept.{InputFits, news_fit, opened_point}
 use Rattle.ft_model.proofs.FaithfulOver.{script_of, isn_of}
 use Rattle.ft_model.proofs.Formed.{bytes_take, bytes_drop, bytes_front, bytes_output, HasClient, IsSize, AreLengths, IsBoot, NumbersFormed, BodyFormed, SegmentFormed, PacketFormed, StartFormed, PointFormed, PlaceFormed}
 use Rattle.ft_model.proofs.FormedLog.{no_zero, lengths_drop}
+use Rattle.ft_io.proofs.Booleans.{not_true}
+use Rattle.ft_io.proofs.Choices.{holds_if}
 
 -- the reads of a turn: each has a byte, or is the only one of length 0
 has_byte : {State : Type 0} (service : Machine State) (p : Point) (n : ℕ) → next_read service p ≡ Some n → (0 < n) ⊎ (length p.lengths ≤ sum p.lengths)
 unfolding next_length
 has_byte service p n =
     let P : Option ℕ → Type 0 = λ o. o ≡ Some n → (0 < n) ⊎ (length p.lengths ≤ sum p.lengths) in
-    of_choice P (may_read service p) (next_length p) None
-    (λ m. of_choice P (nat_lt (sum p.lengths) p.fetched) (Some (min 2048 (p.fetched - sum p.lengths))) _
+    holds_if P (may_read service p) (next_length p) None
+    (λ m. holds_if P (nat_lt (sum p.lengths) p.fetched) (Some (min 2048 (p.fetched - sum p.lengths))) _
     (λ t e. let same : min 2048 (p.fetched - sum p.lengths) ≡ n = some_is _ _ e in
     let less : sum p.lengths < p.fetched = ltb-true _ _ t in inl (omega (arith, same, less)))
-    (λ t. of_choice P (nat_lt (sum p.lengths) (length p.taken)) (Some (min 2048 (length p.taken - sum p.lengths))) _
+    (λ t. holds_if P (nat_lt (sum p.lengths) (length p.taken)) (Some (min 2048 (length p.taken - sum p.lengths))) _
     (λ s e. let same : min 2048 (length p.taken - sum p.lengths) ≡ n = some_is _ _ e in
     let less : sum p.lengths < length p.taken = ltb-true _ _ s in inl (omega (arith, same, less)))
-    (λ s. of_choice P (p.fin && not (list_any (λ n. n == 0) p.lengths)) (Some 0) None
-    (λ x e. inr (no_zero p.lengths (not_true (list_any (λ n. n == 0) p.lengths) (both p.fin (not (list_any (λ n. n == 0) p.lengths)) x).1)))
+    (λ s. holds_if P (p.fin && not (list_any (λ n. n == 0) p.lengths)) (Some 0) None
+    (λ x e. inr (no_zero p.lengths (not_true (list_any (λ n. n == 0) p.lengths) (and_parts p.fin (not (list_any (λ n. n == 0) p.lengths)) x).1)))
     (λ x e. none_is_some n e))))
     (λ m e. none_is_some n e)
 
@@ -133,27 +136,27 @@ segment_formed service start server news p q segment writes at h bytes (spoken_b
 
 -- and its messages
 text_bytes : (segment : Segment) → AreBytes segment.payload → AreBytes (text_of segment)
-text_bytes segment h = of_choice AreBytes (has_syn segment || has_rst segment) [] segment.payload (λ t. tt) (λ t. h)
+text_bytes segment h = holds_if AreBytes (has_syn segment || has_rst segment) [] segment.payload (λ t. tt) (λ t. h)
 
 -- a segment's text is short, as the segment is
 text_short : (segment : Segment) → packet_length segment ≤ 1500 → length (text_of segment) ≤ 1460
 text_short segment h =
-    of_choice (λ t. length t ≤ 1460) (has_syn segment || has_rst segment) [] segment.payload (λ t. omega arith) (λ t. omega (arith, h))
+    holds_if (λ t. length t ≤ 1460) (has_syn segment || has_rst segment) [] segment.payload (λ t. omega arith) (λ t. omega (arith, h))
 
 -- the part that is copied begins within what is taken, where its FIN alone is copied
-begins_within : (answered : ℕ) (first : ℤ) (text taken : ℕ) → int_eq (first +ℤ pos text) (pos taken) ≡ true → answered ≤ taken
+pub begins_within : (answered : ℕ) (first : ℤ) (text taken : ℕ) → int_eq (first +ℤ pos text) (pos taken) ≡ true → answered ≤ taken
     → max answered (from_start first) ≤ taken
 begins_within answered (pos n) text taken e h = let same = int_same (n + text) taken e in omega (arith, same, h)
 begins_within answered (negsuc n) text taken e h = omega (arith, h)
 
-copied_within : (q : Point) (segment : Segment) → (nat_lt 0 (length (copied_text q segment)) || copies_fin q segment) ≡ true
+pub copied_within : (q : Point) (segment : Segment) → (nat_lt 0 (length (copied_text q segment)) || copies_fin q segment) ≡ true
     → copy_start q segment + length (copied_text q segment) ≤ length q.taken
 copied_within q segment e =
     let size = length-take (length q.taken - copy_start q segment) (drop (below q.answered (first_of q.cisn segment)) (text_of segment)) in
     ⊎_elim
     (λ t. let some : 0 < length (copied_text q segment) = ltb-true _ _ t in omega (arith, size, some))
-    (λ t. let one = both (fin_of segment && q.fin && int_eq (end_of q segment) (pos (length q.taken))) (nat_le q.answered (length q.taken)) t in
-    let two = both (fin_of segment && q.fin) (int_eq (end_of q segment) (pos (length q.taken))) one.0 in
+    (λ t. let one = and_parts (fin_of segment && q.fin && int_eq (end_of q segment) (pos (length q.taken))) (nat_le q.answered (length q.taken)) t in
+    let two = and_parts (fin_of segment && q.fin) (int_eq (end_of q segment) (pos (length q.taken))) one.0 in
     let low : q.answered ≤ length q.taken = leb-true _ _ one.1 in
     let at = begins_within q.answered (first_of q.cisn segment) (length (text_of segment)) (length q.taken) two.1 low in
     omega (arith, size, at))
@@ -167,7 +170,7 @@ copies_formed start boot (Comes segment) p q n key s =
     let cut = length-take (length q.taken - copy_start q segment) (drop (below q.answered (first_of q.cisn segment)) text) in
     let behind = length-drop (below q.answered (first_of q.cisn segment)) text in
     let short = text_short segment n.6 in
-    of_choice (AllByRecursion (BodyFormed start boot)) (nat_lt 0 (length (copied_text q segment)) || copies_fin q segment) (DataMsg (copied_part q segment) ∷ []) _
+    holds_if (AllByRecursion (BodyFormed start boot)) (nat_lt 0 (length (copied_text q segment)) || copies_fin q segment) (DataMsg (copied_part q segment) ∷ []) _
     (λ t. let within = copied_within q segment t in (
       (
         key,
@@ -177,7 +180,7 @@ copies_formed start boot (Comes segment) p q n key s =
       ),
       tt,
     ))
-    (λ t. of_choice (AllByRecursion (BodyFormed start boot)) (nat_lt p.una q.una) (DataMsg (una_part q) ∷ []) []
+    (λ t. holds_if (AllByRecursion (BodyFormed start boot)) (nat_lt p.una q.una) (DataMsg (una_part q) ∷ []) []
     (λ x. ((key, omega (arith, s.short), tt, omega arith), tt)) (λ x. tt))
 copies_formed start boot (Logged kept) p q n key s = tt
 copies_formed start boot Ticks p q n key s = tt
@@ -200,7 +203,7 @@ reads_formed start boot news p q h s =
 
 dones_formed : (start : World) (boot : ℕ) (news : News) (p q : Point) → HasClient start q.key → AllByRecursion (BodyFormed start boot) (dones news p q)
 unfolding dones
-dones_formed start boot news p q h = of_choice (AllByRecursion (BodyFormed start boot)) (tells_done news p q) (DoneMsg q.key ∷ []) [] (λ t. (h, tt)) (λ t. tt)
+dones_formed start boot news p q h = holds_if (AllByRecursion (BodyFormed start boot)) (tells_done news p q) (DoneMsg q.key ∷ []) [] (λ t. (h, tt)) (λ t. tt)
 
 bodies_sent : (start : World) (boot : ℕ) (bodies : List Body) → IsBoot boot → AllByRecursion (BodyFormed start boot) bodies → AllByRecursion (PacketFormed start) (map (told_by boot) bodies)
 bodies_sent start boot [] b a = tt
@@ -281,8 +284,8 @@ news_formed start node input Begins p h n = absurd n
 pub listen_formed : (start : World) (node : Node) (input : Input) (places : List Place) → node.server ≡ start.server → InputFormed start input
     → AllByRecursion (PacketFormed start) (refusals node input places)
 listen_formed start node (Packet_comes segment) places at h =
-    of_choice (AllByRecursion (PacketFormed start)) (is_strange node segment places) (map To_client (as_listen node.server segment)) []
-    (λ t. of_choice (λ x. AllByRecursion (PacketFormed start) (map To_client x)) (has_ack segment && not (has_rst segment)) (rst_at_ack node.server segment ∷ []) []
+    holds_if (AllByRecursion (PacketFormed start)) (is_strange node segment places) (map To_client (as_listen node.server segment)) []
+    (λ t. holds_if (λ x. AllByRecursion (PacketFormed start) (map To_client x)) (has_ack segment && not (has_rst segment)) (rst_at_ack node.server segment ∷ []) []
     (λ s. ((h.0, (ap (λ a. a.ip) at, ap (λ a. a.port) at), (h.2.1, omega arith, omega arith, omega arith, tt, tt, omega arith)), tt)) (λ s. tt)) (λ t. tt)
 listen_formed start node (Message_comes message) places at h = tt
 listen_formed start node Noise_comes places at h = tt
@@ -291,8 +294,8 @@ listen_formed start node Tick_comes places at h = tt
 closed_formed : (start : World) (server : Addr) (segment : Segment) → server ≡ start.server → PacketFormed start (To_server segment)
     → AllByRecursion (PacketFormed start) (map To_client (as_closed server segment))
 closed_formed start server segment at h =
-    of_choice (λ x. AllByRecursion (PacketFormed start) (map To_client x)) (has_rst segment) [] _ (λ t. tt)
-    (λ t. of_choice (λ x. AllByRecursion (PacketFormed start) (map To_client x)) (has_ack segment) (rst_at_ack server segment ∷ []) (rst_behind server segment ∷ [])
+    holds_if (λ x. AllByRecursion (PacketFormed start) (map To_client x)) (has_rst segment) [] _ (λ t. tt)
+    (λ t. holds_if (λ x. AllByRecursion (PacketFormed start) (map To_client x)) (has_ack segment) (rst_at_ack server segment ∷ []) (rst_behind server segment ∷ [])
     (λ s. ((h.0, (ap (λ a. a.ip) at, ap (λ a. a.port) at), (h.2.1, omega arith, omega arith, omega arith, tt, tt, omega arith)), tt))
     (λ s. ((h.0, (ap (λ a. a.ip) at, ap (λ a. a.port) at), (omega arith, omega arith, omega arith, omega arith, tt, tt, omega arith)), tt)))
 
@@ -307,7 +310,7 @@ is_size None = (omega arith, omega arith)
 pub new_formed : (start : World) (node : Node) (input : Input) (opened : ℕ) (places : List Place) → InputFormed start input
     → AllByRecursion (PlaceFormed start) (newcomers node input opened places)
 new_formed start node (Packet_comes segment) opened places h =
-    of_choice (AllByRecursion (PlaceFormed start)) (is_strange node segment places && is_syn segment && nat_lt (pending_count places) 64)
+    holds_if (AllByRecursion (PlaceFormed start)) (is_strange node segment places && is_syn segment && nat_lt (pending_count places) 64)
     (Opens (numbers_for node.isn opened segment) ∷ []) [] (λ t. ((h.0, h.2.0, omega arith, is_size segment.head.mss), tt)) (λ t. tt)
 new_formed start node (Message_comes message) opened places h = tt
 new_formed start node Noise_comes opened places h = tt

@@ -8,7 +8,6 @@ use Rattle.ft_io.specs.Key.{key_eq}
 use Rattle.seq_arith.specs.Message.{Body, Message}
 use Rattle.seq_arith.specs.Message.Body.{DataMsg}
 use Rattle.server_trait.specs.Service.{Machine, AreBytes, WritesBytes}
-use Rattle.ft_model.specs.Offset.{one_if}
 use Rattle.ft_model.specs.Client.{Client, received}
 use Rattle.ft_model.specs.Growth.{logged_lengths}
 use Rattle.ft_model.specs.Log.{Log, entry_of, log_after}
@@ -16,9 +15,9 @@ use Rattle.ft_model.specs.Network.{Packet, destination_of}
 use Rattle.ft_model.specs.Network.Packet.{To_server, To_logger}
 use Rattle.ft_model.specs.Wire.{HasWire}
 use Rattle.ft_model.specs.Node.{Node, booted}
-use Rattle.ft_model.specs.World.{World, Moment, client_at, with_client, Moves, IsNewClient, IsStart, Joint, world_after}
+use Rattle.ft_model.specs.World.{World, Moment, with_client, Moves, IsNewClient, IsStart, Joint, world_after}
 use Rattle.ft_model.specs.Report.{number_of_client}
-use Rattle.ft_model.proofs.Lists.{of_choice, all_weaker, all_both, all_append, all_find, all_slice_get, none_is_some, some_is, key_is}
+use Rattle.ft_model.proofs.Lists.{all_weaker, all_both, all_append, all_find, all_slice_get, none_is_some, some_is, key_is}
 use Rattle.ft_model.proofs.Keys.{all_from_get}
 use Rattle.ft_model.proofs.Happened.{Happened, IsUnderWay, all_sent, answers, happened}
 use Rattle.ft_model.proofs.Happened.Happened.{log_heard, client_heard, client_moved, server_turned, server_booted, server_down}
@@ -27,7 +26,7 @@ use Rattle.ft_model.proofs.Services.{reads_go_on, prefix_length}
 use Rattle.ft_model.proofs.StageTurns.{stage_went}
 use Rattle.ft_model.proofs.Faithful.{EntriesFit}
 use Rattle.ft_model.proofs.FaithfulKept.{ClientFits, clients_fit}
-use Rattle.ft_model.proofs.FaithfulOver.{script_in, isn_in, script_of, isn_of}
+use Rattle.ft_model.proofs.FaithfulOver.{script_in, isn_in, script_of, isn_of, client_there}
 use Rattle.ft_model.proofs.Acknowledged.{start_is, short_scripts, true_after}
 use Rattle.ft_model.proofs.Running.{HasSmallOutputs}
 use Rattle.ft_model.proofs.Authored.{logged_run}
@@ -42,10 +41,8 @@ use Rattle.ft_model.proofs.FormedOver.{Knows, turn_formed}
 use Rattle.ft_model.proofs.Wires.{PacketAckWithin, packet_wire}
 use Rattle.ft_model.proofs.OneTrace.{goes_on}
 use Rattle.ft_model.specs.Image.{HasWires}
-
-client_there : (P : Client → Type 0) (clients : List Client) (number : ℕ) (c : Client) → AllByRecursion P clients → client_at clients number ≡ Some c → P c
-client_there P clients zero c a e = none_is_some c e
-client_there P clients (suc n) c a e = all_slice_get P clients n c a e
+use Rattle.seq_arith.proofs.Units.{one_at_most}
+use Rattle.ft_io.proofs.Choices.{holds_if}
 
 abbrev Outcome : World → List Packet → World → Type 0
 Outcome start sent after = AllByRecursion (PacketFormed start) sent × WorldFormed start after
@@ -164,14 +161,14 @@ passes_within : (p : Client → Bool) (xs : List Client) (i : ℕ) (x : Client) 
 passes_within p [] i x e h = none_is_some x e
 passes_within p (y ∷ ys) zero x e h =
     let here : p y ≡ true = ap p (some_is y x e) ∙ h in
-    of_choice (λ n. n < length (y ∷ ys)) (not (p y)) (1 + position_or_len p ys) 0 (λ t. absurd (true≢false (sym t ∙ ap not here))) (λ t. omega arith)
+    holds_if (λ n. n < length (y ∷ ys)) (not (p y)) (1 + position_or_len p ys) 0 (λ t. absurd (true≢false (sym t ∙ ap not here))) (λ t. omega arith)
 passes_within p (y ∷ ys) (suc i) x e h =
     let rest = passes_within p ys i x e h in
-    of_choice (λ n. n < length (y ∷ ys)) (not (p y)) (1 + position_or_len p ys) 0 (λ t. omega (arith, rest)) (λ t. omega arith)
+    holds_if (λ n. n < length (y ∷ ys)) (not (p y)) (1 + position_or_len p ys) 0 (λ t. omega (arith, rest)) (λ t. omega arith)
 
 place_known : (at len : ℕ) → at < len → 0 < option_map_or (λ i. i + 1) (if nat_lt at len then Some at else None) 0
 place_known at len less =
-    of_choice (λ o. 0 < option_map_or (λ i. i + 1) o 0) (nat_lt at len) (Some at) None (λ t. omega arith)
+    holds_if (λ o. 0 < option_map_or (λ i. i + 1) o 0) (nat_lt at len) (Some at) None (λ t. omega arith)
     (λ t. absurd (let far = ltb-false at len t in omega (arith, less, far)))
 
 client_known : (clients : List Client) (i : ℕ) (c : Client) → slice_get clients i ≡ Some c → 0 < number_of_client clients c.key
@@ -205,10 +202,6 @@ start_formed start s = record {
 }
 
 -- no client acknowledged more than a stream and its FIN
-one_at_most : (b : Bool) → one_if b ≤ 1
-one_at_most true = omega arith
-one_at_most false = omega arith
-
 output_within : {State : Type 0} (service : Machine State) (script : Key → List ℕ) (w : World) → HasAuthor service script w → (key : Key) → logged_output service script w.log key ≤ 2 ^ 24 + 1
 output_within service script w a key =
     let front = front_of a.author w.log key (entry_of key w.log) a.entries refl in

@@ -1,6 +1,7 @@
 -- The log only grows.
 use Rattle.std.proofs.Common.{◌≡◌, ℕ, ◌+◌, ◌<◌, ◌≤◌, Bool, true, false, ◌&&◌, ◌||◌, nat_lt, nat_le, ◌==◌, max, le_refl, le_of_eq, refl, sym, ap, ◌∙◌, subst, true≢false, find, Option, Some, None, List, [], ◌∷◌, ◌++◌, map, length, arith, length-append, if◌then◌else◌, ltb-true, ⊎_elim}
 use Rattle.std.specs.List.{list_any}
+use Rattle.std.proofs.lemmas.Bool.{or_parts, or_right}
 use Rattle.ft_io.specs.declared.Key.{Key}
 use Rattle.ft_io.specs.Key.{key_eq}
 use Rattle.seq_arith.specs.Message.{Numbers, Part, Body, Message}
@@ -8,7 +9,8 @@ use Rattle.seq_arith.specs.Message.Body.{HelloMsg, OpenMsg, DataMsg, ReadMsg, Do
 use Rattle.ft_model.specs.Offset.{one_if}
 use Rattle.ft_model.specs.Log.{Entry, Log, entry_of, new_entry, opened, with_bytes, with_its_fin, with_part, is_next_read, with_read, with_body, is_hello, is_answer, heard, log_after}
 use Rattle.ft_model.specs.Growth.{IsPrefix, EntryGrows, EntriesGrow, LogGrows, lengths_in, units_in, logged_lengths, logged_units}
-use Rattle.ft_model.proofs.Lists.{of_choice, neither, or_right, prefix_refl, prefix_more, prefix_trans, none_is_some, some_is, or_cases}
+use Rattle.ft_model.proofs.Lists.{prefix_refl, prefix_more, prefix_trans, none_is_some, some_is, or_cases}
+use Rattle.ft_io.proofs.Choices.{holds_if}
 
 pub entry_refl : (e : Entry) → EntryGrows e e
 entry_refl e = record {
@@ -56,7 +58,7 @@ log_trans a b c p q = record { boot = omega (arith, p.boot, q.boot); entries = e
 
 bytes_grow : (part : Part) (e : Entry) → EntryGrows e (with_bytes part e)
 bytes_grow part e =
-    of_choice (EntryGrows e) (e.fin || nat_lt (length e.bytes) part.offset) e _ (λ t. entry_refl e)
+    holds_if (EntryGrows e) (e.fin || nat_lt (length e.bytes) part.offset) e _ (λ t. entry_refl e)
     (λ t. record {
       key = refl;
       cisn = refl;
@@ -64,7 +66,7 @@ bytes_grow part e =
       mss = refl;
       bytes = prefix_more e.bytes _;
       fin = λ h. h;
-      ended = λ h. absurd (true≢false (sym h ∙ (neither e.fin (nat_lt (length e.bytes) part.offset) t).0));
+      ended = λ h. absurd (true≢false (sym h ∙ (or_parts e.fin (nat_lt (length e.bytes) part.offset) t).0));
       lengths = prefix_refl e.lengths;
       acknowledged = le_refl e.acknowledged;
       done = λ h. h;
@@ -72,7 +74,7 @@ bytes_grow part e =
 
 fin_grows : (part : Part) (e : Entry) → EntryGrows e (with_its_fin part e)
 fin_grows part e =
-    of_choice (EntryGrows e) (part.fin && part.offset + length part.bytes == length e.bytes) _ e
+    holds_if (EntryGrows e) (part.fin && part.offset + length part.bytes == length e.bytes) _ e
     (λ t. record {
       key = refl;
       cisn = refl;
@@ -109,7 +111,7 @@ part_grows part e =
 
 pub read_grows : (index n : ℕ) (e : Entry) → EntryGrows e (with_read index n e)
 read_grows index n e =
-    of_choice (EntryGrows e) (is_next_read e index n) _ e
+    holds_if (EntryGrows e) (is_next_read e index n) _ e
     (λ t. record {
       key = refl;
       cisn = refl;
@@ -142,7 +144,7 @@ changed_grow : (key : Key) (change : Entry → Entry) (es : List Entry) → ((e 
     → EntriesGrow es (map (λ e. if key_eq e.key key then change e else e) es)
 changed_grow key change [] g = tt
 changed_grow key change (e ∷ es) g =
-    (of_choice (EntryGrows e) (key_eq e.key key) (change e) e (λ t. g e) (λ t. entry_refl e), changed_grow key change es g)
+    (holds_if (EntryGrows e) (key_eq e.key key) (change e) e (λ t. g e) (λ t. entry_refl e), changed_grow key change es g)
 
 more_grow : (es fs : List Entry) → EntriesGrow es (es ++ fs)
 more_grow [] fs = tt
@@ -150,7 +152,7 @@ more_grow (e ∷ es) fs = (entry_refl e, more_grow es fs)
 
 opened_grows : (n : Numbers) (log : Log) → LogGrows log (opened n log)
 opened_grows n log =
-    of_choice (LogGrows log) (list_any (λ e. key_eq e.key n.key) log.entries || nat_le 64 (length log.entries)) log _ (λ t. log_refl log)
+    holds_if (LogGrows log) (list_any (λ e. key_eq e.key n.key) log.entries || nat_le 64 (length log.entries)) log _ (λ t. log_refl log)
     (λ t. record { boot = le_refl log.boot; entries = more_grow log.entries (new_entry n ∷ []) })
 
 pub kept_grows : (body : Body) (log : Log) → LogGrows log (with_body body log)
@@ -162,14 +164,14 @@ kept_grows _ log = log_refl log
 
 heard_grows : (message : Message) (log : Log) → log.boot ≤ message.boot → LogGrows log (heard message log)
 heard_grows message log h =
-    of_choice (LogGrows log) (is_hello message.body) _ _ (λ t. record { boot = h; entries = entries_refl log.entries })
-    (λ t. of_choice (LogGrows log) (message.boot == log.boot) _ _ (λ s. kept_grows message.body log) (λ s. log_refl log))
+    holds_if (LogGrows log) (is_hello message.body) _ _ (λ t. record { boot = h; entries = entries_refl log.entries })
+    (λ t. holds_if (LogGrows log) (message.boot == log.boot) _ _ (λ s. kept_grows message.body log) (λ s. log_refl log))
 
 pub log_grows : (log : Log) (message : Message) → LogGrows log (log_after log message)
 unfolding log_after
 log_grows log message =
-    of_choice (LogGrows log) (is_answer message.body || nat_lt message.boot log.boot) log _ (λ t. log_refl log)
-    (λ t. let parts = neither (is_answer message.body) (nat_lt message.boot log.boot) t in
+    holds_if (LogGrows log) (is_answer message.body || nat_lt message.boot log.boot) log _ (λ t. log_refl log)
+    (λ t. let parts = or_parts (is_answer message.body) (nat_lt message.boot log.boot) t in
     let h : log.boot ≤ message.boot = grind (arith, parts) in
     heard_grows message log h)
 
@@ -231,18 +233,18 @@ logged_units_grow key before after g = units_of key before after (entry_of key b
 pub logged_lengths_grow : (key : Key) (before after : Log) → LogGrows before after → IsPrefix (logged_lengths key before) (logged_lengths key after)
 logged_lengths_grow key before after g = lengths_of key before after (entry_of key before) g refl
 
-no_answer : (body : Body) → is_hello body ≡ true → is_answer body ≡ false
+pub no_answer : (body : Body) → is_hello body ≡ true → is_answer body ≡ false
 no_answer HelloMsg h = refl
 no_answer _ h = absurd (true≢false (sym h))
 
 -- after a Hello the log's boot is at least the Hello's
-hello_raises : (log : Log) (hello : Message) → is_hello hello.body ≡ true → hello.boot ≤ (log_after log hello).boot
+pub hello_raises : (log : Log) (hello : Message) → is_hello hello.body ≡ true → hello.boot ≤ (log_after log hello).boot
 unfolding log_after
 hello_raises log hello h =
-    of_choice (λ l. hello.boot ≤ l.boot) (is_answer hello.body || nat_lt hello.boot log.boot) log (heard hello log)
+    holds_if (λ l. hello.boot ≤ l.boot) (is_answer hello.body || nat_lt hello.boot log.boot) log (heard hello log)
     (λ t. ⊎_elim (λ a. absurd (true≢false (sym a ∙ no_answer hello.body h)))
     (λ b. let less : hello.boot < log.boot = ltb-true _ _ b in omega (arith, less)) (or_cases (is_answer hello.body) (nat_lt hello.boot log.boot) t))
-    (λ t. of_choice (λ l. hello.boot ≤ l.boot) (is_hello hello.body) (record log { boot = hello.boot }) (if hello.boot == log.boot then with_body hello.body log else log)
+    (λ t. holds_if (λ l. hello.boot ≤ l.boot) (is_hello hello.body) (record log { boot = hello.boot }) (if hello.boot == log.boot then with_body hello.body log else log)
     (λ x. le_refl hello.boot) (λ x. absurd (true≢false (sym h ∙ x))))
 
 -- so from then on no message of an older boot changes it

@@ -5,6 +5,7 @@ use Rattle.ft_model.proofs.Scripts.{EntryFits}
 use Rattle.ft_model.proofs.Keys.{finds_itself, all_from_get}
 use Rattle.ft_model.specs.Restart.{run_of}
 use Rattle.std.specs.List.{AllByRecursion}
+use Rattle.std.proofs.lemmas.Bool.{false_from_ne_true}
 use Rattle.ft_io.specs.declared.Key.{Key}
 use Rattle.seq_arith.specs.Number.{number_at}
 use Rattle.seq_arith.specs.Packet.{Segment, has_syn, has_rst, has_ack}
@@ -18,7 +19,7 @@ use Rattle.ft_model.specs.Network.Packet.{To_client}
 use Rattle.ft_model.specs.Growth.{IsPrefix, logged_lengths, lengths_in}
 use Rattle.ft_model.specs.Masked.{SeesFront, unfailing, Masked}
 use Rattle.ft_model.specs.World.{World, Moment, Joint, IsStart, IsNewClient, world_after}
-use Rattle.ft_model.proofs.Lists.{of_choice, all_both, all_weaker, all_slice_get, none_is_some, some_is}
+use Rattle.ft_model.proofs.Lists.{all_both, all_weaker, all_slice_get, none_is_some, some_is}
 use Rattle.ft_model.proofs.Grows.{log_grows}
 use Rattle.ft_model.proofs.Happened.{Happened, holds_after, all_sent}
 use Rattle.ft_model.proofs.Happened.Happened.{log_heard, client_heard, client_moved, server_turned, server_booted, server_down}
@@ -37,19 +38,20 @@ use Rattle.ft_model.proofs.AuthorWorld.{author_goes_on, start_author}
 use Rattle.ft_model.proofs.Backed.{EntryBacked, IsBacked}
 use Rattle.ft_model.proofs.BackedOver.{start_backed, backed_goes_on}
 use Rattle.ft_model.proofs.Seen.{Sees, IsSeen, SaysRun, seen_later, received_sees, moved_seen}
+use Rattle.ft_io.proofs.Choices.{holds_if}
 
 opened_closed : (c : Client) (segment : Segment) → has_rst segment ≡ true → is_open c.phase ≡ false → is_open (opened_by c segment).phase ≡ false
 opened_closed c segment rst closed =
     let gone : Client = record c { phase = phases.Reset } in
     let stands : Client = record c { phase = phases.Established; sisn = segment.head.seq } in
-    of_choice (λ x. is_open x.phase ≡ false) (has_ack segment && segment.head.ack == number_at c.isn 0) (if has_rst segment then gone else (if has_syn segment then stands else c)) c
-    (λ a. of_choice (λ x. is_open x.phase ≡ false) (has_rst segment) gone (if has_syn segment then stands else c) (λ r. refl) (λ r. absurd (true≢false (sym rst ∙ r)))) (λ a. closed)
+    holds_if (λ x. is_open x.phase ≡ false) (has_ack segment && segment.head.ack == number_at c.isn 0) (if has_rst segment then gone else (if has_syn segment then stands else c)) c
+    (λ a. holds_if (λ x. is_open x.phase ≡ false) (has_rst segment) gone (if has_syn segment then stands else c) (λ r. refl) (λ r. absurd (true≢false (sym rst ∙ r)))) (λ a. closed)
 
 -- a RST opens nothing
 received_closed : (c : Client) (segment : Segment) → has_rst segment ≡ true → is_open c.phase ≡ false → is_open (received c segment).phase ≡ false
 received_closed c segment rst closed =
-    of_choice (λ x. is_open x.phase ≡ false) (is_opening c.phase) (opened_by c segment) (if is_open c.phase then arrived c segment else c) (λ o. opened_closed c segment rst closed)
-    (λ o. of_choice (λ x. is_open x.phase ≡ false) (is_open c.phase) (arrived c segment) c (λ x. absurd (true≢false (sym x ∙ closed))) (λ x. closed))
+    holds_if (λ x. is_open x.phase ≡ false) (is_opening c.phase) (opened_by c segment) (if is_open c.phase then arrived c segment else c) (λ o. opened_closed c segment rst closed)
+    (λ o. holds_if (λ x. is_open x.phase ≡ false) (is_open c.phase) (arrived c segment) c (λ x. absurd (true≢false (sym x ∙ closed))) (λ x. closed))
 
 says : {State : Type 0} (service : Machine State) (script : Key → List ℕ) (log : Log) (key : Key) (e : Entry) (segment : Segment) → entry_of key log ≡ Some e
     → (has_rst segment ≡ false → IsSpoken service script log key segment) → SaysRun (logged_run service script log key) e.sisn segment
@@ -69,12 +71,8 @@ seen_as service script log c d k front ended sisn = record {
   sisn = λ o. subst (λ x. (e : Entry) × (entry_of x log ≡ Some e) × (e.sisn ≡ d.sisn)) (sym k) (sisn o);
 }
 
-open_or : (b : Bool) → (b ≡ true → ⊥) → b ≡ false
-open_or true f = absurd (f refl)
-open_or false f = refl
-
 not_open : {State : Type 0} (service : Machine State) (script : Key → List ℕ) (log : Log) (c : Client) → IsSeen service script log c → entry_of c.key log ≡ None → is_open c.phase ≡ false
-not_open service script log c s none = open_or (is_open c.phase) (λ o. let x = s.sisn o in none_is_some x.0 (sym none ∙ x.1))
+not_open service script log c s none = false_from_ne_true (is_open c.phase) (λ o. let x = s.sisn o in none_is_some x.0 (sym none ∙ x.1))
 
 -- a client that receives, by whether its entry is in the log
 received_by : {State : Type 0} (service : Machine State) (script : Key → List ℕ) (log : Log) (c : Client) (segment : Segment) (o : Option Entry) (b : Bool) → entry_of c.key log ≡ o → has_rst segment ≡ b

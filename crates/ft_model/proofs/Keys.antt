@@ -1,10 +1,12 @@
 -- Lists in which no two elements have the same key: each element is the one that its key finds.
 use Rattle.std.proofs.Common.{◌≡◌, ℕ, zero, suc, Bool, true, false, ◌||◌, cond, refl, sym, ap, ◌∙◌, subst, true≢false, find, is_some, Some, List, [], ◌∷◌, ◌++◌, map, length, slice_get}
 use Rattle.std.specs.List.{AllByRecursion, list_any}
+use Rattle.std.proofs.lemmas.Bool.{or_parts, or_right, or_from}
 use Rattle.ft_io.specs.declared.Key.{Key}
 use Rattle.ft_io.specs.Key.{key_eq}
 use Rattle.ft_model.specs.Growth.{IsPrefix}
-use Rattle.ft_model.proofs.Lists.{of_choice, neither, or_left, or_right, same_key, key_is, none_is_some, some_is, or_neither}
+use Rattle.ft_model.proofs.Lists.{or_left, same_key, key_is, none_is_some, some_is}
+use Rattle.ft_io.proofs.Choices.{holds_if}
 
 -- the key stands in the list
 abbrev pub has_key : Key → List Key → Bool
@@ -24,24 +26,24 @@ key_eq_turns a b e = turns a b (key_eq b a) e refl
 no_key_front : (key : Key) (xs ys : List Key) → has_key key (xs ++ ys) ≡ false → has_key key xs ≡ false
 no_key_front key [] ys e = refl
 no_key_front key (x ∷ xs) ys e =
-    let parts = neither (key_eq x key) (has_key key (xs ++ ys)) e in
-    or_neither (key_eq x key) (has_key key xs) parts.0 (no_key_front key xs ys parts.1)
+    let parts = or_parts (key_eq x key) (has_key key (xs ++ ys)) e in
+    or_from (key_eq x key) (has_key key xs) parts.0 (no_key_front key xs ys parts.1)
 
 pub distinct_front : (xs ys : List Key) → AreDistinct (xs ++ ys) → AreDistinct xs
 distinct_front [] ys d = tt
 distinct_front (x ∷ xs) ys d = (no_key_front x xs ys d.0, distinct_front xs ys d.1)
 
 no_key_more : (key : Key) (xs : List Key) (y : Key) → has_key key xs ≡ false → key_eq y key ≡ false → has_key key (xs ++ y ∷ []) ≡ false
-no_key_more key [] y e f = or_neither (key_eq y key) false f refl
+no_key_more key [] y e f = or_from (key_eq y key) false f refl
 no_key_more key (x ∷ xs) y e f =
-    let parts = neither (key_eq x key) (has_key key xs) e in
-    or_neither (key_eq x key) (has_key key (xs ++ y ∷ [])) parts.0 (no_key_more key xs y parts.1 f)
+    let parts = or_parts (key_eq x key) (has_key key xs) e in
+    or_from (key_eq x key) (has_key key (xs ++ y ∷ [])) parts.0 (no_key_more key xs y parts.1 f)
 
 -- a new key keeps them distinct
 pub distinct_more : (xs : List Key) (y : Key) → AreDistinct xs → has_key y xs ≡ false → AreDistinct (xs ++ y ∷ [])
 distinct_more [] y d e = (refl, tt)
 distinct_more (x ∷ xs) y d e =
-    let parts = neither (key_eq x y) (has_key y xs) e in
+    let parts = or_parts (key_eq x y) (has_key y xs) e in
     (no_key_more x xs y d.0 (key_eq_turns x y parts.0), distinct_more xs y d.1 parts.1)
 
 pub has_key_map : {A : Type 0} (of : A → Key) (key : Key) (xs : List A) → list_any (λ x. key_eq (of x) key) xs ≡ has_key key (map of xs)
@@ -51,8 +53,8 @@ has_key_map of key (x ∷ xs) = ap (λ b. key_eq (of x) key || b) (has_key_map o
 not_there : {A : Type 0} (of : A → Key) (key : Key) (xs : List A) (i : ℕ) (x : A) → has_key key (map of xs) ≡ false → slice_get xs i ≡ Some x → key_eq (of x) key ≡ false
 not_there of key [] i x h e = none_is_some x e
 not_there of key (y ∷ ys) zero x h e =
-    subst (λ z. key_eq (of z) key ≡ false) (some_is y x e) (neither (key_eq (of y) key) (has_key key (map of ys)) h).0
-not_there of key (y ∷ ys) (suc i) x h e = not_there of key ys i x (neither (key_eq (of y) key) (has_key key (map of ys)) h).1 e
+    subst (λ z. key_eq (of z) key ≡ false) (some_is y x e) (or_parts (key_eq (of y) key) (has_key key (map of ys)) h).0
+not_there of key (y ∷ ys) (suc i) x h e = not_there of key ys i x (or_parts (key_eq (of y) key) (has_key key (map of ys)) h).1 e
 
 -- each element is the one that its key finds
 pub finds_itself : {A : Type 0} (of : A → Key) (xs : List A) (i : ℕ) (x : A) → AreDistinct (map of xs) → slice_get xs i ≡ Some x
@@ -82,12 +84,12 @@ all_from_get P (x ∷ xs) f = (f zero x refl, all_from_get P xs (λ i y e. f (su
 pub found_has_key : {A : Type 0} (of : A → Key) (key : Key) (xs : List A) (x : A) → find (λ y. key_eq (of y) key) xs ≡ Some x → has_key key (map of xs) ≡ true
 found_has_key of key [] x f = none_is_some x f
 found_has_key of key (y ∷ ys) x f =
-    of_choice (λ o. o ≡ Some x → (key_eq (of y) key || has_key key (map of ys)) ≡ true) (key_eq (of y) key) (Some y) (find (λ z. key_eq (of z) key) ys)
+    holds_if (λ o. o ≡ Some x → (key_eq (of y) key || has_key key (map of ys)) ≡ true) (key_eq (of y) key) (Some y) (find (λ z. key_eq (of z) key) ys)
     (λ t g. or_left (key_eq (of y) key) (has_key key (map of ys)) t) (λ t g. or_right (key_eq (of y) key) (has_key key (map of ys)) (found_has_key of key ys x g)) f
 
 -- .. and one that finds nothing doesn't
 pub absent_key : {A : Type 0} (of : A → Key) (key : Key) (xs : List A) → is_some (find (λ y. key_eq (of y) key) xs) ≡ false → has_key key (map of xs) ≡ false
 absent_key of key [] e = refl
 absent_key of key (y ∷ ys) e =
-    of_choice (λ o. is_some o ≡ false → (key_eq (of y) key || has_key key (map of ys)) ≡ false) (key_eq (of y) key) (Some y) (find (λ z. key_eq (of z) key) ys)
-    (λ t g. absurd (true≢false g)) (λ t g. or_neither (key_eq (of y) key) (has_key key (map of ys)) t (absent_key of key ys g)) e
+    holds_if (λ o. is_some o ≡ false → (key_eq (of y) key || has_key key (map of ys)) ≡ false) (key_eq (of y) key) (Some y) (find (λ z. key_eq (of z) key) ys)
+    (λ t g. absurd (true≢false g)) (λ t g. or_from (key_eq (of y) key) (has_key key (map of ys)) t (absent_key of key ys g)) e

@@ -3,6 +3,7 @@
 use Rattle.std.proofs.Common.{◌≡◌, ℕ, ◌+◌, Bool, true, false, ◌&&◌, ◌||◌, not, nat_lt, refl, sym, ap, ◌∙◌, subst, true≢false, inl, inr, ◌⊎◌, ⊎_elim, eq-eqb, Some, List, [], ◌∷◌, ◌++◌, map, length, drop, arith, if◌then◌else◌}
 use Rattle.std.specs.List.{AllByRecursion}
 use Rattle.std.proofs.lemmas.List.Folds.{list_any-append}
+use Rattle.std.proofs.lemmas.Bool.{and_parts, or_right}
 use Rattle.ft_io.specs.declared.Addr.{Addr}
 use Rattle.ft_io.specs.declared.Key.{Key}
 use Rattle.ft_io.specs.Key.{key_eq}
@@ -30,7 +31,7 @@ use Rattle.ft_model.specs.Node.Input.{Packet_comes, Message_comes, Noise_comes, 
 use Rattle.ft_model.specs.Serving.{PlaceTurn, AllGo, newcomers, refusals, is_strange, opens_at, ServingTurn}
 use Rattle.ft_model.specs.Lawful.{asked}
 use Rattle.ft_model.specs.World.{World}
-use Rattle.ft_model.proofs.Lists.{of_choice, both, or_left, or_right, all_both, all_weaker, all_map, all_append, same_key, key_is, not_true, or_cases}
+use Rattle.ft_model.proofs.Lists.{or_left, all_both, all_weaker, all_map, all_append, same_key, key_is, or_cases}
 use Rattle.ft_model.proofs.Grows.{log_grows}
 use Rattle.ft_model.proofs.Keys.{has_key, absent_key}
 use Rattle.ft_model.proofs.LogAnswers.{log_went, all_answers}
@@ -46,6 +47,8 @@ use Rattle.ft_model.proofs.Faithful.{AnswerFits, HasEntry, PlaceFits, EntriesFit
 use Rattle.ft_model.proofs.FaithfulKept.{InputFits}
 use Rattle.ft_model.proofs.Distinct.{stays_or_drops}
 use Rattle.ft_model.proofs.Refused.{ResetsEnded, HasCaller, IsDone, IsShut, BodySays, Says, KeysGo, keys_go, done_later, shut_later}
+use Rattle.ft_io.proofs.Booleans.{not_true}
+use Rattle.ft_io.proofs.Choices.{holds_if}
 
 -- the key has a place
 abbrev pub Knows : List Place → Key → Type 0
@@ -181,8 +184,8 @@ bodies_plain log boot (body ∷ bodies) a = ((tt, a.0), bodies_plain log boot bo
 copies_plain : (news : News) (p q : Point) → AllByRecursion NoOpen (copies news p q)
 unfolding copies
 copies_plain (Comes segment) p q =
-    of_choice (AllByRecursion NoOpen) (nat_lt 0 (length (copied_text q segment)) || copies_fin q segment) (DataMsg (copied_part q segment) ∷ []) _ (λ t. (refl, tt))
-    (λ t. of_choice (AllByRecursion NoOpen) (nat_lt p.una q.una) (DataMsg (una_part q) ∷ []) [] (λ u. (refl, tt)) (λ u. tt))
+    holds_if (AllByRecursion NoOpen) (nat_lt 0 (length (copied_text q segment)) || copies_fin q segment) (DataMsg (copied_part q segment) ∷ []) _ (λ t. (refl, tt))
+    (λ t. holds_if (AllByRecursion NoOpen) (nat_lt p.una q.una) (DataMsg (una_part q) ∷ []) [] (λ u. (refl, tt)) (λ u. tt))
 copies_plain (Logged kept) p q = tt
 copies_plain Ticks p q = tt
 copies_plain Begins p q = tt
@@ -197,7 +200,7 @@ reads_plain news p q = messages_plain q.key (first_told news p q) (drop (first_t
 
 dones_plain : (news : News) (p q : Point) → AllByRecursion NoOpen (dones news p q)
 unfolding dones
-dones_plain news p q = of_choice (AllByRecursion NoOpen) (tells_done news p q) (DoneMsg q.key ∷ []) [] (λ t. (refl, tt)) (λ t. tt)
+dones_plain news p q = holds_if (AllByRecursion NoOpen) (tells_done news p q) (DoneMsg q.key ∷ []) [] (λ t. (refl, tt)) (λ t. tt)
 
 pub connection_plain : {State : Type 0} (service : Machine State) (log : Log) (server : Addr) (boot : ℕ) (news : News) (p q : Point) (sent : List Packet)
     → ConnectionTurn service server boot news p q sent → AllByRecursion (IsPlain log) sent
@@ -217,8 +220,8 @@ done_reset log segment d = (λ r. inl d, tt)
 
 closed_plain : (log : Log) (server : Addr) (segment : Segment) → IsDone log (source_of segment) → AllByRecursion (IsPlain log) (map To_client (as_closed server segment))
 closed_plain log server segment d =
-    of_choice (λ x. AllByRecursion (IsPlain log) (map To_client x)) (has_rst segment) [] (if has_ack segment then rst_at_ack server segment ∷ [] else rst_behind server segment ∷ []) (λ t. tt)
-    (λ t. of_choice (λ x. AllByRecursion (IsPlain log) (map To_client x)) (has_ack segment) (rst_at_ack server segment ∷ []) (rst_behind server segment ∷ [])
+    holds_if (λ x. AllByRecursion (IsPlain log) (map To_client x)) (has_rst segment) [] (if has_ack segment then rst_at_ack server segment ∷ [] else rst_behind server segment ∷ []) (λ t. tt)
+    (λ t. holds_if (λ x. AllByRecursion (IsPlain log) (map To_client x)) (has_ack segment) (rst_at_ack server segment ∷ []) (rst_behind server segment ∷ [])
     (λ u. (done_reset log (rst_at_ack server segment) d, tt)) (λ u. (done_reset log (rst_behind server segment) d, tt)))
 
 -- what the answers that come say
@@ -306,17 +309,17 @@ input_calls w keys Tick_comes a b = tt
 refusals_plain : (log : Log) (node : Node) (input : Input) (places : List Place) → ((key : Key) → has_key key (entry_keys log) ≡ true → Knows places key)
     → InputCalls (entry_keys log) input → AllByRecursion (IsPlain log) (refusals node input places)
 refusals_plain log node (Packet_comes segment) places g calls =
-    of_choice (AllByRecursion (IsPlain log)) (is_strange node segment places) (map To_client (as_listen node.server segment)) []
-    (λ t. let unknown = absent_key key_of (source_of segment) places (not_true _ (both (is_for node.server segment) (not (is_known (source_of segment) places)) t).1) in
-    of_choice (λ x. AllByRecursion (IsPlain log) (map To_client x)) (has_ack segment && not (has_rst segment)) (rst_at_ack node.server segment ∷ []) []
-    (λ u. absurd (true≢false (sym (g (source_of segment) (calls (both (has_ack segment) (not (has_rst segment)) u).0)) ∙ unknown))) (λ u. tt)) (λ t. tt)
+    holds_if (AllByRecursion (IsPlain log)) (is_strange node segment places) (map To_client (as_listen node.server segment)) []
+    (λ t. let unknown = absent_key key_of (source_of segment) places (not_true _ (and_parts (is_for node.server segment) (not (is_known (source_of segment) places)) t).1) in
+    holds_if (λ x. AllByRecursion (IsPlain log) (map To_client x)) (has_ack segment && not (has_rst segment)) (rst_at_ack node.server segment ∷ []) []
+    (λ u. absurd (true≢false (sym (g (source_of segment) (calls (and_parts (has_ack segment) (not (has_rst segment)) u).0)) ∙ unknown))) (λ u. tt)) (λ t. tt)
 refusals_plain log node (Message_comes message) places g calls = tt
 refusals_plain log node Noise_comes places g calls = tt
 refusals_plain log node Tick_comes places g calls = tt
 
 new_ends : (log : Log) (node : Node) (input : Input) (opened : ℕ) (places : List Place) → AllByRecursion (PlaceEnds log) (newcomers node input opened places)
 new_ends log node (Packet_comes segment) opened places =
-    of_choice (AllByRecursion (PlaceEnds log)) (is_strange node segment places && is_syn segment && nat_lt (pending_count places) 64) (Opens (numbers_for node.isn opened segment) ∷ []) []
+    holds_if (AllByRecursion (PlaceEnds log)) (is_strange node segment places && is_syn segment && nat_lt (pending_count places) 64) (Opens (numbers_for node.isn opened segment) ∷ []) []
     (λ t. (tt, tt)) (λ t. tt)
 new_ends log node (Message_comes message) opened places = tt
 new_ends log node Noise_comes opened places = tt

@@ -1,28 +1,10 @@
 -- Lists: what holds of all elements, look-ups, and fronts.
 use Rattle.std.proofs.Common.{◌≡◌, ℕ, zero, suc, Bool, true, false, ◌&&◌, ◌||◌, refl, sym, ap, ap₂, ◌∙◌, subst, true≢false, inl, inr, ◌⊎◌, not, find, is_none, Option, Some, None, List, [], ◌∷◌, ◌++◌, map, slice_get, append-nil, append_assoc, take, drop, take-append-drop, eqb-true, eq-eqb, if◌then◌else◌, ◌==◌}
 use Rattle.std.specs.List.{AllByRecursion}
+use Rattle.std.proofs.lemmas.Bool.{and_parts}
 use Rattle.ft_io.specs.declared.Key.{Key}
 use Rattle.ft_io.specs.Key.{key_eq}
 use Rattle.ft_model.specs.Growth.{IsPrefix}
-
--- a choice has what both of its sides have
-pub of_choice : {A : Type 0} (P : A → Type 0) (b : Bool) (x y : A) → (b ≡ true → P x) → (b ≡ false → P y) → P (if b then x else y)
-of_choice P true x y h k = h refl
-of_choice P false x y h k = k refl
-
-pub both : (a b : Bool) → (a && b) ≡ true → (a ≡ true) × (b ≡ true)
-both true true e = (refl, refl)
-both true false e = absurd (true≢false (sym e))
-both false b e = absurd (true≢false (sym e))
-
-pub neither : (a b : Bool) → (a || b) ≡ false → (a ≡ false) × (b ≡ false)
-neither false false e = (refl, refl)
-neither false true e = absurd (true≢false e)
-neither true b e = absurd (true≢false e)
-
-pub or_neither : (a b : Bool) → a ≡ false → b ≡ false → (a || b) ≡ false
-or_neither true b e f = e
-or_neither false b e f = f
 
 pub or_cases : (a b : Bool) → (a || b) ≡ true → (a ≡ true) ⊎ (b ≡ true)
 or_cases true b e = inl refl
@@ -38,17 +20,9 @@ three_true false b c e f g = absurd (true≢false (sym e))
 three_true true false c e f g = absurd (true≢false (sym f))
 three_true true true true e f g = absurd (true≢false g)
 
-pub not_true : (b : Bool) → not b ≡ true → b ≡ false
-not_true false e = refl
-not_true true e = absurd (true≢false (sym e))
-
 pub or_left : (a b : Bool) → a ≡ true → (a || b) ≡ true
 or_left true b e = refl
 or_left false b e = absurd (true≢false (sym e))
-
-pub or_right : (a b : Bool) → b ≡ true → (a || b) ≡ true
-or_right true b e = refl
-or_right false b e = e
 
 pub all_weaker : {A : Type 0} (P Q : A → Type 0) (xs : List A) → ((x : A) → P x → Q x) → AllByRecursion P xs → AllByRecursion Q xs
 all_weaker P Q [] f a = tt
@@ -105,7 +79,7 @@ all_find P p (y ∷ ys) x a e =
 
 pub same_key : (a b : Key) → key_eq a b ≡ true → a ≡ b
 same_key a b e =
-    let parts = both (a.ip == b.ip) (a.port == b.port) e in
+    let parts = and_parts (a.ip == b.ip) (a.port == b.port) e in
     let ip : a.ip ≡ b.ip = eqb-true _ _ parts.0 in
     let port : a.port ≡ b.port = eqb-true _ _ parts.1 in
     ap₂ (λ (x y : ℕ). let k : Key = record { ip = x; port = y } in k) ip port

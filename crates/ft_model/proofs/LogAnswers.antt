@@ -1,17 +1,19 @@
 -- What the log answers: Stale to an older boot, and else what the log after the message tells, in the log's boot.
 use Rattle.std.proofs.Common.{◌≡◌, ℕ, ◌<◌, ◌≤◌, Bool, true, false, ◌==◌, ◌||◌, nat_lt, nat_le, refl, sym, ◌∙◌, subst, eqb-true, ltb-true, ⊎_elim, inl, inr, ◌⊎◌, Option, Some, None, option_map, option_to_list, [], ◌∷◌, ◌++◌, length, arith, if◌then◌else◌}
 use Rattle.std.specs.List.{AllByRecursion, list_any}
+use Rattle.std.proofs.lemmas.Bool.{or_parts, or_from}
 use Rattle.seq_arith.specs.Message.{Numbers, Body, Message}
 use Rattle.seq_arith.specs.Message.Body.{OpenMsg, DataMsg, ReadMsg, DoneMsg, StaleMsg}
 use Rattle.ft_model.specs.Log.{Log, log_after, answer_to, answer_body, told, heard, with_body, opened, new_entry, is_hello, is_answer}
 use Rattle.ft_model.specs.Network.{Packet}
 use Rattle.ft_model.specs.Network.Packet.{From_logger}
-use Rattle.ft_model.proofs.Lists.{of_choice, neither, none_is_some, some_is, or_neither}
+use Rattle.ft_model.proofs.Lists.{none_is_some, some_is}
 use Rattle.ft_model.proofs.Happened.{answers}
+use Rattle.ft_io.proofs.Choices.{holds_if}
 
 opened_boot : (n : Numbers) (log : Log) → (opened n log).boot ≡ log.boot
 opened_boot n log =
-    of_choice (λ l. l.boot ≡ log.boot) (list_any _ log.entries || nat_le 64 (length log.entries)) log (record log { entries = log.entries ++ new_entry n ∷ [] }) (λ t. refl) (λ t. refl)
+    holds_if (λ l. l.boot ≡ log.boot) (list_any _ log.entries || nat_le 64 (length log.entries)) log (record log { entries = log.entries ++ new_entry n ∷ [] }) (λ t. refl) (λ t. refl)
 
 pub kept_boot : (body : Body) (log : Log) → (with_body body log).boot ≡ log.boot
 kept_boot (OpenMsg n) log = opened_boot n log
@@ -29,11 +31,11 @@ pub data LogWent (log : Log) (message : Message) (after : Log) : Type 0 where
 pub log_went : (log : Log) (message : Message) → LogWent log message (log_after log message)
 unfolding log_after
 log_went log message =
-    of_choice (LogWent log message) (is_answer message.body || nat_lt message.boot log.boot) log (heard message log) (λ t. ignored refl)
-    (λ t. let parts = neither (is_answer message.body) (nat_lt message.boot log.boot) t in
+    holds_if (LogWent log message) (is_answer message.body || nat_lt message.boot log.boot) log (heard message log) (λ t. ignored refl)
+    (λ t. let parts = or_parts (is_answer message.body) (nat_lt message.boot log.boot) t in
     let larger : log.boot ≤ message.boot = grind (arith, parts) in
-    of_choice (LogWent log message) (is_hello message.body) _ _ (λ h. raised h larger refl)
-    (λ h. of_choice (LogWent log message) (message.boot == log.boot) (with_body message.body log) log (λ b. changed (eqb-true _ _ b) refl) (λ b. ignored refl)))
+    holds_if (LogWent log message) (is_hello message.body) _ _ (λ h. raised h larger refl)
+    (λ h. holds_if (LogWent log message) (message.boot == log.boot) (with_body message.body log) log (λ b. changed (eqb-true _ _ b) refl) (λ b. ignored refl)))
 
 pub boot_after : (log : Log) (message : Message) (after : Log) (top : ℕ) → LogWent log message after → log.boot ≤ top → message.boot ≤ top → after.boot ≤ top
 boot_after log message after top (ignored e) l m = subst (λ x. x.boot ≤ top) (sym e) l
@@ -55,13 +57,13 @@ by_hello : (log : Log) (message : Message) (b : Bool) → (b || message.boot == 
 by_hello log message true own = refl
 by_hello log message false own =
     let same : message.boot ≡ log.boot = eqb-true _ _ own in
-    of_choice (λ l. message.boot ≡ l.boot) (message.boot == log.boot) (with_body message.body log) log (λ t. same ∙ sym (kept_boot message.body log)) (λ t. same)
+    holds_if (λ l. message.boot ≡ l.boot) (message.boot == log.boot) (with_body message.body log) log (λ t. same ∙ sym (kept_boot message.body log)) (λ t. same)
 
 own_boot : (log : Log) (message : Message) → (is_hello message.body || message.boot == log.boot) ≡ true → is_answer message.body ≡ false
     → nat_lt message.boot log.boot ≡ false → message.boot ≡ (log_after log message).boot
 unfolding log_after
 own_boot log message own quiet current =
-    subst (λ b. message.boot ≡ (if b then log else heard message log).boot) (sym (or_neither (is_answer message.body) (nat_lt message.boot log.boot) quiet current))
+    subst (λ b. message.boot ≡ (if b then log else heard message log).boot) (sym (or_from (is_answer message.body) (nat_lt message.boot log.boot) quiet current))
     (by_hello log message (is_hello message.body) own)
 
 by_answer : (log : Log) (message : Message) (body : Body) (a b c : Bool) → is_answer message.body ≡ a → nat_lt message.boot log.boot ≡ b

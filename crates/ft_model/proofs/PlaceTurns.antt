@@ -1,6 +1,7 @@
 -- What becomes of one place in one turn, and how what holds of each place and each packet holds of a whole turn.
 use Rattle.std.proofs.Common.{◌≡◌, ℕ, Bool, true, false, ◌==◌, MatchBool, refl, sym, ap, ◌∙◌, subst, eqb-true, List, [], ◌∷◌, map, flat_map, inl, inr, ◌⊎◌}
 use Rattle.std.specs.List.{AllByRecursion}
+use Rattle.std.proofs.lemmas.Bool.{and_parts}
 use Rattle.ft_io.specs.declared.Key.{Key}
 use Rattle.seq_arith.specs.Packet.{Segment}
 use Rattle.seq_arith.specs.Message.{Numbers, Body, Message}
@@ -18,7 +19,8 @@ use Rattle.ft_model.specs.Node.{Node, Place, Input, key_of, is_for}
 use Rattle.ft_model.specs.Node.Place.{Opens, Lives, Ended}
 use Rattle.ft_model.specs.Node.Input.{Packet_comes, Message_comes, Tick_comes}
 use Rattle.ft_model.specs.Serving.{Stays, LivesOn, Hears, Meets, PlaceTurn, concerns, names, AllGo, newcomers, refusals, is_asked, opens_at, ServingTurn}
-use Rattle.ft_model.proofs.Lists.{both, same_key, all_append, of_choice}
+use Rattle.ft_model.proofs.Lists.{same_key, all_append}
+use Rattle.ft_io.proofs.Choices.{holds_if}
 
 -- the news that an input has for a connection
 abbrev pub IsNews : Node → Input → News → Point → Type 0
@@ -86,11 +88,11 @@ hears service node message body place now sent e b n t = stays service node (Mes
 meets : {State : Type 0} (service : Machine State) (node : Node) (input : Input) (place : Place) (now : List Place) (sent : List Packet)
     → concerns node input (key_of place) ≡ true → Meets service node input place now sent → PlaceWent service node input place now sent
 meets service node (Packet_comes segment) (Lives p) now sent c t =
-    went_on (Comes segment) p t.0 refl (refl, same_key (source_of segment) p.key (both (is_for node.server segment) _ c).1) t.1 t.2
+    went_on (Comes segment) p t.0 refl (refl, same_key (source_of segment) p.key (and_parts (is_for node.server segment) _ c).1) t.1 t.2
 meets service node (Packet_comes segment) (Ended key) now sent c t =
-    refused key segment refl refl (same_key (source_of segment) key (both (is_for node.server segment) _ c).1) t.0 t.1
+    refused key segment refl refl (same_key (source_of segment) key (and_parts (is_for node.server segment) _ c).1) t.0 t.1
 meets service node (Message_comes message) place now sent c t =
-    let parts = both (message.boot == node.boot) (names message.body (key_of place)) c in
+    let parts = and_parts (message.boot == node.boot) (names message.body (key_of place)) c in
     hears service node message message.body place now sent refl (eqb-true _ _ parts.0) parts.1 t
 meets service node Tick_comes (Lives p) now sent c t = went_on Ticks p t.0 refl refl t.1 t.2
 meets service node input place now sent c t = stays service node input place now sent t
@@ -126,7 +128,7 @@ all_flat R P f (x ∷ xs) g a = all_append P (f x) (flat_map f xs) (g x a.0) (al
 pub asks_so : (node : Node) (input : Input) (R : Place → Type 0) (P : Packet → Type 0)
     → ((numbers : Numbers) → R (Opens numbers) → P (told_by node.boot (OpenMsg numbers))) → (place : Place) → R place → AllByRecursion P (opens_at node input place)
 asks_so node input R P asks (Opens numbers) r =
-    of_choice (AllByRecursion P) (is_asked node input numbers) (told_by node.boot (OpenMsg numbers) ∷ []) [] (λ t. (asks numbers r, tt)) (λ t. tt)
+    holds_if (AllByRecursion P) (is_asked node input numbers) (told_by node.boot (OpenMsg numbers) ∷ []) [] (λ t. (asks numbers r, tt)) (λ t. tt)
 asks_so node input R P asks (Lives p) r = tt
 asks_so node input R P asks (Ended key) r = tt
 

@@ -1,6 +1,6 @@
 -- Each accepted line keeps the addresses apart and the initial numbers modulo 2^32, so what the lines spell can be played.
-use Rattle.std.proofs.Common.{◌≡◌, ℕ, ◌<◌, ◌≤◌, ◌^◌, List, [], ◌∷◌, ◌++◌, length, refl, sym, ap, ap₂, ◌∙◌, arith, Bool, true, false}
-use Rattle.std.specs.Prelude.{◌==◌, ◌&&◌, ◌||◌, not, Ok}
+use Rattle.std.proofs.Common.{◌≡◌, ℕ, ◌<◌, ◌≤◌, ◌^◌, List, [], ◌∷◌, ◌++◌, length, refl, ◌∙◌, arith, Bool, true, false}
+use Rattle.std.specs.Prelude.{◌==◌, ◌&&◌, not, Ok}
 use Rattle.std.specs.List.{AllByRecursion, list_any}
 use Rattle.std.proofs.lemmas.Bool.{and_from, or_from}
 use Rattle.std.proofs.lemmas.Grind.{common_steps}
@@ -12,7 +12,7 @@ use Rattle.ft_model.specs.Client.{Client}
 use Rattle.ft_model.specs.Grammar.{read_text, with_line, no_objection, is_taken, is_too_much}
 use Rattle.ft_model.specs.Legal.{start_of}
 use Rattle.ft_model.specs.Playable.{IsPlayable}
-use Rattle.ft_model.specs.Schedule.{bytes_of, client_of, clients_of}
+use Rattle.ft_model.specs.Schedule.{bytes_of, clients_of}
 use Rattle.ft_model.specs.World.{is_apart, are_apart, IsNewClient, IsStart}
 use Rattle.ft_model.specs.declared.event.Event.{Event}
 use Rattle.ft_model.specs.declared.line.Draft.{Draft}
@@ -24,18 +24,11 @@ use Rattle.ft_model.specs.declared.schedule.Schedule.{Schedule}
 use Rattle.ft_model.specs.Readable.{FitsClient, FitsSchedule}
 use Rattle.ft_model.proofs.FitsLemmas.{text_fits}
 use Rattle.ft_model.proofs.ScriptBytes.{script_bytes}
-use Rattle.ft_model.proofs.AcceptedLemmas.{Passes, says_client, client_kept, both_left, both_right, all_push, text_keeps, accepted}
+use Rattle.ft_model.proofs.AcceptedLemmas.{Passes, says_client, client_kept, all_push, text_keeps, accepted}
+use Rattle.ft_io.proofs.Booleans.{left_true, right_true, left_false, right_false}
 
-equal_either_way : (a b : ℕ) → (a == b) ≡ (b == a)
+pub equal_either_way : (a b : ℕ) → (a == b) ≡ (b == a)
 equal_either_way a b = grind (arith, common_steps)
-
-neither_left : (a b : Bool) → (a || b) ≡ false → a ≡ false
-neither_left false b e = refl
-neither_left true b e = absurd (cc)
-
-neither_right : (a b : Bool) → (a || b) ≡ false → b ≡ false
-neither_right false b e = e
-neither_right true b e = absurd (cc)
 
 -- whether a client line has this key
 abbrev has : Key → ClientLine → Bool
@@ -46,7 +39,7 @@ still_none : (server : Addr) (key : Key) (clients : List ClientLine) (c : Client
     → list_any (λ x. key_eq x.key key) (clients_of server (clients ++ c ∷ [])) ≡ false
 still_none server key [] c e f = or_from (key_eq c.key key) false f refl
 still_none server key (x ∷ xs) c e f =
-    or_from (key_eq x.key key) (list_any (λ x. key_eq x.key key) (clients_of server (xs ++ c ∷ []))) (neither_left _ _ e) (still_none server key xs c (neither_right (key_eq x.key key) _ e) f)
+    or_from (key_eq x.key key) (list_any (λ x. key_eq x.key key) (clients_of server (xs ++ c ∷ []))) (left_false _ _ e) (still_none server key xs c (right_false (key_eq x.key key) _ e) f)
 
 still_apart : (server : Addr) (key : Key) (clients : List ClientLine) (c : ClientLine) → is_apart server key (clients_of server clients) ≡ true → key_eq c.key key ≡ false
     → is_apart server key (clients_of server (clients ++ c ∷ [])) ≡ true
@@ -59,7 +52,7 @@ still_apart server key clients c e f =
     by_parts true true b' e f = absurd (cc)
     by_parts false b b' e f = absurd (cc)
 
-same_either_way : (a b : Key) → key_eq a b ≡ key_eq b a
+pub same_either_way : (a b : Key) → key_eq a b ≡ key_eq b a
 same_either_way a b = rw (equal_either_way a.ip b.ip, equal_either_way a.port b.port) refl
 
 apart_push : (server : Addr) (clients : List ClientLine) (c : ClientLine) → are_apart server (clients_of server clients) ≡ true → (server.ip == c.key.ip && server.port == c.key.port) ≡ false → list_any (has c.key) clients ≡ false
@@ -67,15 +60,15 @@ apart_push : (server : Addr) (clients : List ClientLine) (c : ClientLine) → ar
 apart_push server [] c e own none = rw (equal_either_way c.key.ip server.ip, equal_either_way c.key.port server.port, own) refl
 apart_push server (x ∷ xs) c e own none =
     and_from (is_apart server x.key (clients_of server (xs ++ c ∷ []))) (are_apart server (clients_of server (xs ++ c ∷ [])))
-    (still_apart server x.key xs c (both_left _ _ e) (same_either_way c.key x.key ∙ neither_left _ _ none))
-    (apart_push server xs c (both_right (is_apart server x.key (clients_of server xs)) _ e) own (neither_right (has c.key x) _ none))
+    (still_apart server x.key xs c (left_true _ _ e) (same_either_way c.key x.key ∙ left_false _ _ none))
+    (apart_push server xs c (right_true (is_apart server x.key (clients_of server xs)) _ e) own (right_false (has c.key x) _ none))
 
 -- an address that nobody has yet keeps all apart
 free_apart : (s : Schedule) (c : ClientLine) → are_apart s.server (clients_of s.server s.clients) ≡ true → is_taken (Begun s) (record { ip = c.key.ip; port = c.key.port }) ≡ false
     → are_apart s.server (clients_of s.server (s.clients ++ c ∷ [])) ≡ true
 unfolding is_taken
 free_apart s c e free =
-    apart_push s.server s.clients c e (neither_left _ _ free) (neither_right (s.server.ip == c.key.ip && s.server.port == c.key.port) _ free)
+    apart_push s.server s.clients c e (left_false _ _ free) (right_false (s.server.ip == c.key.ip && s.server.port == c.key.port) _ free)
 
 -- the initial numbers are modulo 2^32, and the addresses differ
 record IsApart (s : Schedule) : Type 0 where

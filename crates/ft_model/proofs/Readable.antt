@@ -16,16 +16,17 @@ use Rattle.ft_model.specs.Legal.{start_of, Legal}
 use Rattle.ft_model.specs.Report.{number_of_client}
 use Rattle.ft_model.specs.Readable.{Fits, FitsEvent, FitsSchedule, HasEnds, IsReadable, IsReadableTurn}
 use Rattle.ft_model.specs.declared.schedule.Schedule.{Schedule}
-use Rattle.ft_model.proofs.Lists.{of_choice, all_front}
+use Rattle.ft_model.proofs.Lists.{all_front}
 use Rattle.ft_model.proofs.Resumed.{length_map}
 use Rattle.ft_model.proofs.Running.{HasSmallOutputs}
 use Rattle.ft_model.proofs.Formed.{PacketFormed}
 use Rattle.ft_model.proofs.FormedWorld.{sent_formed, wires_sent}
+use Rattle.ft_io.proofs.Choices.{holds_if}
 
 -- the number of a client is at most their count
 place_within : (at len : ℕ) → option_map_or (λ i. i + 1) (if nat_lt at len then Some at else None) 0 ≤ len
 place_within at len =
-    of_choice (λ o. option_map_or (λ i. i + 1) o 0 ≤ len) (nat_lt at len) (Some at) None (λ t. grind (arith, t)) (λ t. omega arith)
+    holds_if (λ o. option_map_or (λ i. i + 1) o 0 ≤ len) (nat_lt at len) (Some at) None (λ t. grind (arith, t)) (λ t. omega arith)
 
 number_within : (clients : List Client) (key : Key) → number_of_client clients key ≤ length clients
 number_within clients key = place_within (position_or_len (λ c. key_eq c.key key) clients) (length clients)

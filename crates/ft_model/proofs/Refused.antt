@@ -2,6 +2,7 @@
 use Rattle.std.proofs.Common.{◌≡◌, ◌<◌, ◌≤◌, Bool, true, false, ◌==◌, ◌||◌, nat_lt, nat_le, refl, sym, ap, ◌∙◌, subst, true≢false, inl, inr, ◌⊎◌, ⊎_elim, eq-eqb, ltb-true, is_some, Option, Some, None, List, [], ◌∷◌, ◌++◌, map, length, take, drop, slice_get, arith, if◌then◌else◌}
 use Rattle.std.proofs.lemmas.List.Folds.{list_any-append}
 use Rattle.std.specs.List.{AllByRecursion, list_any}
+use Rattle.std.proofs.lemmas.Bool.{or_parts, or_right}
 use Rattle.ft_io.specs.declared.Key.{Key}
 use Rattle.ft_io.specs.Key.{key_eq}
 use Rattle.seq_arith.specs.Packet.{has_rst, has_ack}
@@ -11,7 +12,7 @@ use Rattle.ft_model.specs.Log.{Log, Entry, entry_of, new_entry, opened, with_par
 use Rattle.ft_model.specs.Network.{Packet, source_of, destination_of}
 use Rattle.ft_model.specs.Network.Packet.{To_server, To_client, To_logger, From_logger}
 use Rattle.ft_model.specs.Growth.{LogGrows}
-use Rattle.ft_model.proofs.Lists.{of_choice, neither, or_left, or_right, all_of, all_map, all_find, found_passes, key_is, none_is_some, some_is, or_second}
+use Rattle.ft_model.proofs.Lists.{or_left, all_of, all_map, all_find, found_passes, key_is, none_is_some, some_is, or_second}
 use Rattle.ft_model.proofs.Grows.{found_later, part_grows, read_grows, done_grows}
 use Rattle.ft_model.proofs.Keys.{has_key, has_key_map, absent_key}
 use Rattle.ft_model.proofs.LogAnswers.{LogWent, all_answers}
@@ -21,6 +22,7 @@ use Rattle.ft_model.proofs.Fenced.{is_change}
 use Rattle.ft_model.proofs.Fetching.{on_some, chosen_some}
 use Rattle.ft_model.proofs.Resumed.{length_map}
 use Rattle.ft_model.proofs.Asked.{entry_keys, keys_stay, map_more}
+use Rattle.ft_io.proofs.Choices.{holds_if}
 
 -- the log has an entry of this key, and it is done
 abbrev pub IsDone : Log → Key → Type 0
@@ -54,9 +56,9 @@ KeysGo log message after =
 opened_keys : (n : Numbers) (log : Log)
     → (entry_keys (opened n log) ≡ entry_keys log) ⊎ ((length (entry_keys log) < 64) × (entry_keys (opened n log) ≡ entry_keys log ++ n.key ∷ []))
 opened_keys n log =
-    of_choice (λ l. (entry_keys l ≡ entry_keys log) ⊎ ((length (entry_keys log) < 64) × (entry_keys l ≡ entry_keys log ++ n.key ∷ [])))
+    holds_if (λ l. (entry_keys l ≡ entry_keys log) ⊎ ((length (entry_keys log) < 64) × (entry_keys l ≡ entry_keys log ++ n.key ∷ [])))
     (list_any (λ e. key_eq e.key n.key) log.entries || nat_le 64 (length log.entries)) log (record log { entries = log.entries ++ new_entry n ∷ [] }) (λ t. inl refl)
-    (λ t. let few = (neither (list_any (λ e. key_eq e.key n.key) log.entries) (nat_le 64 (length log.entries)) t).1 in
+    (λ t. let few = (or_parts (list_any (λ e. key_eq e.key n.key) log.entries) (nat_le 64 (length log.entries)) t).1 in
     let room : length log.entries < 64 = grind (arith, few) in
     let size = length_map (λ e. e.key) log.entries in
     inr (omega (arith, room, size), map_more (λ e. e.key) log.entries (new_entry n)))
@@ -123,7 +125,7 @@ all_done : (key : Key) (es : List Entry) → AllByRecursion (EndsSo key) (map (�
 all_done key es =
     all_map (EndsSo key) (λ e. if key_eq e.key key then as_done e else e) es
     (all_of (λ e. EndsSo key (if key_eq e.key key then as_done e else e)) es
-    (λ e. of_choice (EndsSo key) (key_eq e.key key) (as_done e) e (λ t k. refl) (λ t k. absurd (true≢false (sym k ∙ t)))))
+    (λ e. holds_if (EndsSo key) (key_eq e.key key) (as_done e) e (λ t k. refl) (λ t k. absurd (true≢false (sym k ∙ t)))))
 
 ended_says : (log after : Log) (key : Key) (answer : Body) → after ≡ with_body (DoneMsg key) log → told (DoneMsg key) after ≡ Some answer → BodySays after answer
 ended_says log after key answer c t =
@@ -140,7 +142,7 @@ last_key key (k ∷ keys) = or_right (key_eq k key) (has_key key (keys ++ key �
 -- an Open that leaves its key without an entry found the log full
 opened_shut : (n : Numbers) (log : Log) → has_key n.key (entry_keys (opened n log)) ≡ false → 64 ≤ length (entry_keys (opened n log))
 opened_shut n log =
-    of_choice (λ l. has_key n.key (entry_keys l) ≡ false → 64 ≤ length (entry_keys l)) (list_any (λ e. key_eq e.key n.key) log.entries || nat_le 64 (length log.entries)) log
+    holds_if (λ l. has_key n.key (entry_keys l) ≡ false → 64 ≤ length (entry_keys l)) (list_any (λ e. key_eq e.key n.key) log.entries || nat_le 64 (length log.entries)) log
     (record log { entries = log.entries ++ new_entry n ∷ [] })
     (λ t none. let many = or_second (list_any (λ e. key_eq e.key n.key) log.entries) (nat_le 64 (length log.entries)) t (has_key_map (λ e. e.key) n.key log.entries ∙ none) in
     let full : 64 ≤ length log.entries = grind (arith, many) in

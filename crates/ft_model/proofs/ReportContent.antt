@@ -1,5 +1,5 @@
 -- No word of a packet's line has a space or a line feed in it.
-use Rattle.std.proofs.Common.{◌≡◌, ℕ, ◌<◌, ◌^◌, ◌/◌, ◌%◌, ◌==◌, Bool, true, false, zero, suc, nat_lt, ◌&&◌, if◌then◌else◌, Option, None, Some, List, [], ◌∷◌, ◌++◌, codes, decimal, length, slice_index, refl, subst, sym, arith}
+use Rattle.std.proofs.Common.{◌≡◌, ℕ, ◌<◌, ◌^◌, ◌/◌, ◌%◌, ◌==◌, Bool, true, false, zero, suc, nat_lt, if◌then◌else◌, Option, None, Some, List, [], ◌∷◌, ◌++◌, codes, decimal, length, slice_index, refl, subst, sym, arith}
 use Rattle.std.specs.List.{AllByRecursion, list_all}
 use Rattle.std.proofs.lemmas.Bool.{ltb-true, false≢true}
 use Rattle.hex.specs.Hex.{IsBytes, encode_lower, encode_with, lower_digits}
@@ -19,19 +19,12 @@ use Rattle.ft_model.specs.Readable.{IsWord, Fits, FitsOption, FitsWay, FitsKey, 
 use Rattle.ft_model.proofs.ReportRanges.{FitsSegment, FitsNumbers, FitsKept, FitsEntry, FitsPart, FitsBody, segment_fits, message_fits}
 use Rattle.ft_model.proofs.ReportWords.{all_append, word_decimal}
 use Rattle.ft_model.proofs.ReportParts.{or_dash_cons, list_text_nil, list_text_cons}
-
-pub and_left : (x y : Bool) → (x && y) ≡ true → x ≡ true
-and_left true y e = refl
-and_left false y e = e
-
-pub and_right : (x y : Bool) → (x && y) ≡ true → y ≡ true
-and_right true y e = e
-and_right false y e = absurd (false≢true e)
+use Rattle.ft_io.proofs.Booleans.{left_true, right_true}
 
 -- a literal word, by a test that computes
 pub lit : (w : List ℕ) → list_all (λ c. nat_lt 32 c) w ≡ true → IsWord w
 lit [] e = tt
-lit (x ∷ w) e = (ltb-true 32 x (and_left _ _ e), lit w (and_right (nat_lt 32 x) _ e))
+lit (x ∷ w) e = (ltb-true 32 x (left_true _ _ e), lit w (right_true (nat_lt 32 x) _ e))
 
 word_or_dash : (t : List ℕ) → IsWord t → IsWord (or_dash t)
 word_or_dash [] p = lit (codes "-") refl

@@ -23,7 +23,8 @@ use Rattle.ft_model.specs.Readable.{Fits, FitsWay, FitsKey, IsOf, IsReadable}
 use Rattle.ft_model.proofs.ReportRanges.{FitsSegment, FitsNumbers, FitsKept, FitsEntry, FitsPart, FitsBody, segment_fits, message_fits}
 use Rattle.ft_model.proofs.ReportWords.{rest_same, word_decimal}
 use Rattle.ft_model.proofs.ReportParts.{hex_same, list_same, address_same, flags_same, mss_same, bit_same, way_same}
-use Rattle.ft_model.proofs.ReportContent.{and_left, and_right, words_content, word_way}
+use Rattle.ft_model.proofs.ReportContent.{words_content, word_way}
+use Rattle.ft_io.proofs.Booleans.{left_true, right_true}
 
 pub key_same : (k l : Key) → FitsKey k → FitsKey l → key_text k ≡ key_text l → k ≡ l
 key_same k l p q e =
@@ -132,8 +133,8 @@ segment_same s t p q from to e =
 
 key_is : (k l : Key) → key_eq k l ≡ true → k ≡ l
 key_is k l e =
-    let a : k.ip ≡ l.ip = eqb-true k.ip l.ip (and_left _ _ e) in
-    let b : k.port ≡ l.port = eqb-true k.port l.port (and_right (k.ip == l.ip) _ e) in
+    let a : k.ip ≡ l.ip = eqb-true k.ip l.ip (left_true _ _ e) in
+    let b : k.port ≡ l.port = eqb-true k.port l.port (right_true (k.ip == l.ip) _ e) in
     λ i. record { ip = a i; port = b i }
 
 -- the client at a place that `position` gives has the key

@@ -1,6 +1,7 @@
 -- What has a wire has numbers of at most 64 bits, addresses of their own size, and bytes: so its line can be read.
 use Rattle.std.proofs.Common.{◌≡◌, ℕ, ◌<◌, ◌≤◌, ◌^◌, true, nat_le, Option, IfSome, Some, None, List, [], ◌∷◌, arith, leb-true}
 use Rattle.std.specs.List.{AllByRecursion, list_all}
+use Rattle.std.proofs.lemmas.Bool.{and_parts}
 use Rattle.hex.specs.Hex.{IsBytes}
 use Rattle.seq_arith.specs.Packet.{Segment}
 use Rattle.seq_arith.specs.Message.{Numbers, Kept, EntryHead, Part, Body, Message}
@@ -9,7 +10,6 @@ use Rattle.seq_arith.specs.MessageGrammar.{fields_of, kind_of, numbers_of, behin
 use Rattle.server_trait.specs.Service.{AreBytes}
 use Rattle.ft_model.specs.Wire.{CanBeSent, CanBeTold}
 use Rattle.ft_model.specs.Readable.{Fits, FitsOption, FitsKey}
-use Rattle.ft_model.proofs.Lists.{both}
 use Rattle.ft_model.proofs.Formed.{bytes_of_all}
 
 -- the sizes of a segment's fields
@@ -60,7 +60,7 @@ segment_fits s h =
 lengths_fit : (lens : List ℕ) → list_all (λ len. nat_le len 2048) lens ≡ true → AllByRecursion Fits lens
 lengths_fit [] e = tt
 lengths_fit (n ∷ lens) e =
-    let parts = both (nat_le n 2048) (list_all (λ len. nat_le len 2048) lens) e in
+    let parts = and_parts (nat_le n 2048) (list_all (λ len. nat_le len 2048) lens) e in
     let low : n ≤ 2048 = leb-true _ _ parts.0 in (omega (arith, low), lengths_fit lens parts.1)
 
 body_fits : (body : Body) → AllFit (fields_of (kind_of body)) (numbers_of body) → AreBytes (behind_of body) → list_all (λ len. nat_le len 2048) (lens_of body) ≡ true → FitsBody body
@@ -90,7 +90,7 @@ body_fits (FullMsg key) h b l = (h.0, h.1.0)
 
 lens_sound : (m : Message) → CanBeTold m → list_all (λ len. nat_le len 2048) (lens_of m.body) ≡ true
 unfolding is_sound
-lens_sound m h = (both _ (list_all (λ len. nat_le len 2048) (lens_of m.body)) h.0.sound).1
+lens_sound m h = (and_parts _ (list_all (λ len. nat_le len 2048) (lens_of m.body)) h.0.sound).1
 
 pub message_fits : (m : Message) → CanBeTold m → Fits m.boot × FitsBody m.body
 message_fits m h = (omega (arith, h.0.boot), body_fits m.body h.0.numbers h.1 (lens_sound m h))

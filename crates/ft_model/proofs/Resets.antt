@@ -1,6 +1,7 @@
 -- No RST goes to a client whose entry is in the log and not done: over a whole trace the server knows what the log has.
 use Rattle.std.proofs.Common.{◌≡◌, ℕ, true, false, ◌&&◌, not, refl, sym, ap, ◌∙◌, subst, true≢false, ⊎_elim, IfSome, Option, Some, None, List, [], ◌∷◌, ◌++◌, map, length, arith}
 use Rattle.std.specs.List.{AllByRecursion}
+use Rattle.std.proofs.lemmas.Bool.{and_parts}
 use Rattle.ft_io.specs.declared.Key.{Key}
 use Rattle.seq_arith.specs.Packet.{Segment, has_rst}
 use Rattle.seq_arith.specs.Message.{Body, Message}
@@ -22,7 +23,7 @@ use Rattle.ft_model.specs.Lawful.{Revives, LawfulTurn, restored, all_restored, a
 use Rattle.ft_model.specs.Masked.{is_restarting}
 use Rattle.ft_model.specs.Resets.{ResetsNoLogged}
 use Rattle.ft_model.specs.World.{World, Moment, Moves, Joint, IsStart, client_at, world_after}
-use Rattle.ft_model.proofs.Lists.{of_choice, both, all_weaker, all_append, none_is_some, some_is}
+use Rattle.ft_model.proofs.Lists.{all_weaker, all_append, none_is_some, some_is}
 use Rattle.ft_model.proofs.Grows.{log_grows}
 use Rattle.ft_model.proofs.Keys.{has_key, found_has_key}
 use Rattle.ft_model.proofs.LogAnswers.{log_went, all_answers}
@@ -44,13 +45,14 @@ use Rattle.ft_model.proofs.Running.{HasSmallOutputs}
 use Rattle.ft_model.proofs.JointMasked.{IsSound, start_sound, sound_goes_on}
 use Rattle.ft_model.proofs.Refused.{ResetsEnded, HasCaller, resets_later, caller_later, Says, KeysGo, keys_go, says_later, answers_say}
 use Rattle.ft_model.proofs.KnownKeys.{AsksFor, Asks, PlaceEnds, StageKnows, KnowsLog, stage_hears, IsPlain, connection_plain, input_says, input_calls, IsFair, plain_fair, Goes, knows_after, serving_knows}
+use Rattle.ft_io.proofs.Choices.{holds_if}
 
 -- the turn that ends a restart
 restored_ends : {State : Type 0} (service : Machine State) (log : Log) (fetched : List Fetched) → AllByRecursion (IsHeadOf log) fetched → AllByRecursion (PlaceEnds log) (all_restored service fetched)
 restored_ends service log [] a = tt
 restored_ends service log (f ∷ earlier) a =
     all_append (PlaceEnds log) (all_restored service earlier) (restored service f ∷ []) (restored_ends service log earlier a.1) (
-      of_choice (PlaceEnds log) f.head.done (Ended f.head.key) (Lives (point_of service (entry_in f)))
+      holds_if (PlaceEnds log) f.head.done (Ended f.head.key) (Lives (point_of service (entry_in f)))
           (λ t. let h : IsHeadOf log f = a.0 in
           (h.0, subst (λ k. entry_of k log ≡ Some h.0) (sym (ap (λ x. x.key) h.2)) h.1, sym (ap (λ x. x.done) h.2) ∙ t)) (λ t. tt),
       tt,
@@ -95,7 +97,7 @@ asked_spares log node None = tt
 
 held_spares : (log : Log) (node : Node) (fetched : List Fetched) (segment : Segment) → AllByRecursion (ResetsEnded log) (held node fetched segment)
 held_spares log node fetched segment =
-    of_choice (AllByRecursion (ResetsEnded log)) (is_for node.server segment && not (has_rst segment)) _ []
+    holds_if (AllByRecursion (ResetsEnded log)) (is_for node.server segment && not (has_rst segment)) _ []
     (λ t. all_opt (ResetsEnded log) _ (live_entry (source_of segment) fetched) (λ f r. absurd (true≢false (sym r)))) (λ t. tt)
 
 restart_knows : (log : Log) (packets : List Packet) (boot : ℕ) (stage : Stage) → is_restarting stage ≡ true → StageKnows log packets boot stage
@@ -156,9 +158,9 @@ ours_call keys boot (From_logger message) o = absurd o
 move_calls : (c : Client) (move : Move) (window : ℕ) (keys : List Key) → may_move c move ≡ true → (is_open c.phase ≡ true → has_key c.key keys ≡ true)
     → HasCaller keys (To_server (segment_of c move window))
 move_calls c (Text from len) window keys may open_ =
-    λ a. open_ (both (is_open c.phase) _ (both (suits_phase c (Text from len)) (suits_range c (Text from len)) may).0).0
-move_calls c Fin window keys may open_ = λ a. open_ (both (is_open c.phase) _ (both (suits_phase c Fin) (suits_range c Fin) may).0).0
-move_calls c Acknowledge window keys may open_ = λ a. open_ (both (is_open c.phase) _ may).0
+    λ a. open_ (and_parts (is_open c.phase) _ (and_parts (suits_phase c (Text from len)) (suits_range c (Text from len)) may).0).0
+move_calls c Fin window keys may open_ = λ a. open_ (and_parts (is_open c.phase) _ (and_parts (suits_phase c Fin) (suits_range c Fin) may).0).0
+move_calls c Acknowledge window keys may open_ = λ a. open_ (and_parts (is_open c.phase) _ may).0
 move_calls c (Syn mss) window keys may open_ = λ a. absurd (true≢false (sym a))
 move_calls c Rst window keys may open_ = λ a. absurd (true≢false (sym a))
 move_calls c (Refuse number) window keys may open_ = λ a. absurd (true≢false (sym a))

@@ -21,17 +21,18 @@ use Rattle.ft_model.specs.Lawful.{Revives, LawfulTurn, restored, all_restored}
 use Rattle.ft_model.specs.Growth.{IsPrefix}
 use Rattle.ft_model.specs.Masked.{IsResumed, is_restarting, Resumes, RestartIsExact}
 use Rattle.ft_model.specs.World.{World}
-use Rattle.ft_model.proofs.Lists.{of_choice, none_is_some, some_is}
+use Rattle.ft_model.proofs.Lists.{none_is_some, some_is}
 use Rattle.ft_model.proofs.Keys.{AreDistinct, distinct_front, finds_itself, front_more, all_from_get}
 use Rattle.ft_model.proofs.Happened.{IsBrought}
 use Rattle.ft_model.proofs.StageTurns.{StageWent, stage_went, either_turn}
 use Rattle.ft_model.proofs.StageTurns.StageWent.{was_fenced, waited, held_off, asked_on, resumed, served}
 use Rattle.ft_model.proofs.Fetching.{IsFront, IsWhole, AreFetched, whole_is}
 use Rattle.ft_model.proofs.Asked.{IsAsked, progress_agrees}
+use Rattle.ft_io.proofs.Choices.{holds_if}
 
 no_next : (count n : ℕ) → next_entry count n ≡ None → count ≤ n
 no_next count n =
-    of_choice (λ w. w ≡ None → count ≤ n) (nat_lt n count) (Some (An_entry n)) None (λ t e. none_is_some (An_entry n) (sym e)) (λ t e. ltb-false _ _ t)
+    holds_if (λ w. w ≡ None → count ≤ n) (nat_lt n count) (Some (An_entry n)) None (λ t e. none_is_some (An_entry n) (sym e)) (λ t e. ltb-false _ _ t)
 
 -- nothing is missing: all are whole, and there are as many as the Summary told
 pub nothing_missing : (entries : List Entry) (count : ℕ) (fetched : List Fetched) → AreFetched entries fetched → wanted count fetched ≡ None
@@ -39,13 +40,13 @@ pub nothing_missing : (entries : List Entry) (count : ℕ) (fetched : List Fetch
 nothing_missing entries count [] a e = (tt, no_next count 0 e)
 nothing_missing entries count (f ∷ earlier) a none =
     let Ends : Option Wanted → Type 0 = λ w. w ≡ None → AllByRecursion IsWhole (f ∷ earlier) × (count ≤ length (f ∷ earlier)) in
-    of_choice Ends (lacks_read_bytes f) (Some (Its_bytes f.head.key (length f.bytes))) _ (λ t e. none_is_some _ (sym e))
-    (λ t. of_choice Ends (lacks_lengths f) (Some (Its_lengths f.head.key (length f.lengths))) _ (λ s e. none_is_some _ (sym e))
-    (λ s. of_choice Ends (lacks_bytes f) (Some (Its_bytes f.head.key (length f.bytes))) _ (λ r e. none_is_some _ (sym e))
+    holds_if Ends (lacks_read_bytes f) (Some (Its_bytes f.head.key (length f.bytes))) _ (λ t e. none_is_some _ (sym e))
+    (λ t. holds_if Ends (lacks_lengths f) (Some (Its_lengths f.head.key (length f.lengths))) _ (λ s e. none_is_some _ (sym e))
+    (λ s. holds_if Ends (lacks_bytes f) (Some (Its_bytes f.head.key (length f.bytes))) _ (λ r e. none_is_some _ (sym e))
     (λ r e. (((r, s), a.3), no_next count (length (f ∷ earlier)) e)))) none
 
 restored_key : {State : Type 0} (service : Machine State) (f : Fetched) → key_of (restored service f) ≡ f.head.key
-restored_key service f = of_choice (λ p. key_of p ≡ f.head.key) f.head.done (Ended f.head.key) (Lives (point_of service (entry_in f))) (λ t. refl) (λ t. refl)
+restored_key service f = holds_if (λ p. key_of p ≡ f.head.key) f.head.done (Ended f.head.key) (Lives (point_of service (entry_in f))) (λ t. refl) (λ t. refl)
 
 pub restored_live : {State : Type 0} (service : Machine State) (f : Fetched) (e : Entry) → IsFront f e → e.done ≡ false → IsWhole f
     → restored service f ≡ Lives (point_of service e)

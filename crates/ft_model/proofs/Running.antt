@@ -1,6 +1,7 @@
 -- A live connection reads no more than it has taken, and keeps its output within a stream.
 use Rattle.std.proofs.Common.{◌≡◌, ℕ, ◌+◌, ◌-◌, ◌<◌, ◌≤◌, ◌^◌, ◌==◌, ◌&&◌, not, nat_lt, nat_le, min, sum, le_trans, sym, ap, subst, Some, None, List, [], ◌∷◌, ◌++◌, length, append-nil, append_assoc, arith, length-append, ltb-true, leb-true}
 use Rattle.std.specs.List.{list_any}
+use Rattle.std.proofs.lemmas.Bool.{and_parts}
 use Rattle.ft_io.specs.declared.Addr.{Addr}
 use Rattle.server_trait.specs.Service.{Machine, reference}
 use Rattle.ft_model.specs.Network.{Packet}
@@ -12,8 +13,10 @@ use Rattle.ft_model.specs.Answered.{reads_answered_after}
 use Rattle.ft_model.specs.Reads.{next_length, may_read, next_read, with_read, Makes}
 use Rattle.ft_model.specs.Connection.{ResetTurn, LiveTurn}
 use Rattle.ft_model.specs.Growth.{IsPrefix}
-use Rattle.ft_model.proofs.Lists.{of_choice, both, prefix_refl, prefix_more, none_is_some, some_is}
+use Rattle.ft_model.proofs.Lists.{prefix_refl, prefix_more, none_is_some, some_is}
 use Rattle.ft_model.proofs.Services.{more_bytes, one_more_read, sum_append, prefix_length}
+use Rattle.ft_io.proofs.Choices.{holds_if}
+use Rattle.ft_model.proofs.LiveTurns.{counts_within}
 
 -- the law of services on the size of one output
 abbrev pub HasSmallOutputs : {State : Type 0} → Machine State → Type 0
@@ -29,15 +32,15 @@ length_within : (p : Point) (n : ℕ) → p.fetched ≤ length p.taken → sum p
     → (sum p.lengths + n ≤ length p.taken) × (n ≤ 2048)
 unfolding next_length
 length_within p n fetched enough =
-    of_choice (λ o. o ≡ Some n → (sum p.lengths + n ≤ length p.taken) × (n ≤ 2048)) (nat_lt (sum p.lengths) p.fetched) (Some (min 2048 (p.fetched - sum p.lengths))) _
+    holds_if (λ o. o ≡ Some n → (sum p.lengths + n ≤ length p.taken) × (n ≤ 2048)) (nat_lt (sum p.lengths) p.fetched) (Some (min 2048 (p.fetched - sum p.lengths))) _
     (λ t e. let same : min 2048 (p.fetched - sum p.lengths) ≡ n = some_is _ _ e in
     let less : sum p.lengths < p.fetched = ltb-true _ _ t in
     (omega (arith, same, less, fetched), omega (arith, same)))
-    (λ t. of_choice (λ o. o ≡ Some n → (sum p.lengths + n ≤ length p.taken) × (n ≤ 2048)) (nat_lt (sum p.lengths) (length p.taken)) (Some (min 2048 (length p.taken - sum p.lengths))) _
+    (λ t. holds_if (λ o. o ≡ Some n → (sum p.lengths + n ≤ length p.taken) × (n ≤ 2048)) (nat_lt (sum p.lengths) (length p.taken)) (Some (min 2048 (length p.taken - sum p.lengths))) _
     (λ s e. let same : min 2048 (length p.taken - sum p.lengths) ≡ n = some_is _ _ e in
     let less : sum p.lengths < length p.taken = ltb-true _ _ s in
     (omega (arith, same, less), omega (arith, same)))
-    (λ s. of_choice (λ o. o ≡ Some n → (sum p.lengths + n ≤ length p.taken) × (n ≤ 2048)) (p.fin && not (list_any (λ n. n == 0) p.lengths)) (Some 0) None
+    (λ s. holds_if (λ o. o ≡ Some n → (sum p.lengths + n ≤ length p.taken) × (n ≤ 2048)) (p.fin && not (list_any (λ n. n == 0) p.lengths)) (Some 0) None
     (λ x e. let same : 0 ≡ n = some_is _ _ e in (omega (arith, same, enough), omega (arith, same))) (λ x e. none_is_some n e)))
 
 -- a read that is made
@@ -45,9 +48,9 @@ pub next_within : {State : Type 0} (service : Machine State) (p : Point) (n : �
     → (sum p.lengths + n ≤ length p.taken) × (n ≤ 2048) × (made service p ≤ 2 ^ 24 - 2 ^ 20)
 unfolding next_length may_read
 next_within service p n fetched enough =
-    of_choice (λ o. o ≡ Some n → (sum p.lengths + n ≤ length p.taken) × (n ≤ 2048) × (made service p ≤ 2 ^ 24 - 2 ^ 20)) (may_read service p) (next_length p) None
-    (λ t e. let two = both (nat_le (made service p) (min (released service p) (p.una + 65535)) && nat_le (made service p) (2 ^ 24 - 2 ^ 20)) (nat_lt (length p.lengths - p.reads_answered) 32) t in
-    let low : made service p ≤ 2 ^ 24 - 2 ^ 20 = leb-true _ _ (both (nat_le (made service p) (min (released service p) (p.una + 65535))) (nat_le (made service p) (2 ^ 24 - 2 ^ 20)) two.0).1 in
+    holds_if (λ o. o ≡ Some n → (sum p.lengths + n ≤ length p.taken) × (n ≤ 2048) × (made service p ≤ 2 ^ 24 - 2 ^ 20)) (may_read service p) (next_length p) None
+    (λ t e. let two = and_parts (nat_le (made service p) (min (released service p) (p.una + 65535)) && nat_le (made service p) (2 ^ 24 - 2 ^ 20)) (nat_lt (length p.lengths - p.reads_answered) 32) t in
+    let low : made service p ≤ 2 ^ 24 - 2 ^ 20 = leb-true _ _ (and_parts (nat_le (made service p) (min (released service p) (p.una + 65535))) (nat_le (made service p) (2 ^ 24 - 2 ^ 20)) two.0).1 in
     let length_is = length_within p n fetched enough e in
     (length_is.0, length_is.1, low)) (λ t e. none_is_some n e)
 
@@ -68,21 +71,14 @@ makes_within service p (n ∷ ns) small f e s m =
 
 pub taken_grows : (news : News) (p : Point) → IsPrefix p.taken (taken_after news p)
 unfolding taken_after
-taken_grows (Comes segment) p = of_choice (IsPrefix p.taken) (continues p segment) _ p.taken (λ t. prefix_more p.taken _) (λ t. prefix_refl p.taken)
+taken_grows (Comes segment) p = holds_if (IsPrefix p.taken) (continues p segment) _ p.taken (λ t. prefix_more p.taken _) (λ t. prefix_refl p.taken)
 taken_grows (Logged kept) p = prefix_refl p.taken
 taken_grows Ticks p = prefix_refl p.taken
 taken_grows Begins p = prefix_refl p.taken
 
-reads_count : (news : News) (p : Point) → p.reads_answered ≤ length p.lengths → reads_answered_after news p ≤ length p.lengths
-unfolding reads_answered_after
-reads_count (Logged kept) p h = omega (arith, h)
-reads_count (Comes segment) p h = h
-reads_count Ticks p h = h
-reads_count Begins p h = h
-
 pub reset_within : {State : Type 0} (service : Machine State) (boot : ℕ) (news : News) (p q : Point) (sent : List Packet) → ReadsWithin service p → ResetTurn boot news p q sent → ReadsWithin service q
 reset_within service boot news p q sent r t =
-    subst (ReadsWithin service) (sym t.point) (record { enough = r.enough; fetched = r.fetched; short = r.short; counts = reads_count news p r.counts })
+    subst (ReadsWithin service) (sym t.point) (record { enough = r.enough; fetched = r.fetched; short = r.short; counts = counts_within news p r.counts })
 
 pub live_within : {State : Type 0} (service : Machine State) (server : Addr) (boot : ℕ) (news : News) (p q : Point) (sent : List Packet) → HasSmallOutputs service
     → ReadsWithin service p → LiveTurn service server boot news p q sent → ReadsWithin service q
@@ -94,7 +90,7 @@ live_within service server boot news p q sent small r t =
     let fetched : q.fetched ≤ length q.taken = omega (arith, t.same.fetched, r.fetched, longer) in
     let m = makes_within service start t.reads.news small fetched (le_trans r.enough longer) (subst (λ x. length x.output ≤ 2 ^ 24) (sym same) r.short) t.reads.makes in
     let size = length-append p.lengths t.reads.news in
-    let count : reads_answered_after news p ≤ length p.lengths = reads_count news p r.counts in
+    let count : reads_answered_after news p ≤ length p.lengths = counts_within news p r.counts in
     let all : length q.lengths ≡ length (p.lengths ++ t.reads.news) = ap length t.reads.lengths in
     record {
       enough = subst (λ l. sum l ≤ length q.taken) (sym t.reads.lengths) m.0;

@@ -1,6 +1,7 @@
 -- Every byte of a client that is under way, logged or taken is its script's at that offset, and a FIN stands only at the script's end.
 use Rattle.std.proofs.Common.{ap₂, ◌≡◌, ℕ, ◌+◌, ◌-◌, ◌≤◌, ◌^◌, pos, ◌+ℤ◌, int_le, Bool, true, false, ◌==◌, ◌&&◌, ◌||◌, not, nat_lt, nat_le, min, refl, sym, ap, ◌∙◌, subst, true≢false, inl, inr, ◌⊎◌, ⊎_elim, List, [], ◌∷◌, ◌++◌, length, take, drop, arith, append-nil, length-take, length-drop, leb-true, ltb-false, eqb-true, if◌then◌else◌}
 use Rattle.std.specs.List.{AllByRecursion}
+use Rattle.std.proofs.lemmas.Bool.{and_parts, or_parts}
 use Rattle.ft_io.specs.declared.Key.{Key}
 use Rattle.seq_arith.specs.Arrival.{int_eq, below}
 use Rattle.seq_arith.specs.Packet.{Segment, has_syn}
@@ -17,8 +18,10 @@ use Rattle.ft_model.specs.News.News.{Comes, Logged, Ticks, Begins}
 use Rattle.ft_model.specs.Taken.{counts, continues, end_of, taken_after, takes_fin, fin_after}
 use Rattle.ft_model.specs.Copy.{from_start, copy_start, copied_text, copies_fin, una_part, copied_part, copies}
 use Rattle.ft_model.specs.Growth.{IsPrefix}
-use Rattle.ft_model.proofs.Lists.{take_first, of_choice, both, neither, or_cases}
+use Rattle.ft_model.proofs.Lists.{take_first, or_cases}
 use Rattle.ft_model.proofs.Stands.{nothing_first, part_stands, goes_on, goes_on_all, take_nothing}
+use Rattle.ft_io.proofs.Choices.{holds_if}
+use Rattle.ft_io.proofs.Booleans.{middle_false}
 
 -- a segment carries a part of its client's script, or nothing
 abbrev pub Carries : List ℕ → ℕ → Segment → Type 0
@@ -63,7 +66,7 @@ taken_stands : (script : List ℕ) (isn : ℕ) (segment : Segment) (p : Point) �
     → IsPrefix (taken_after (Comes segment) p) script
 unfolding taken_after
 taken_stands script isn segment p f h =
-    of_choice (λ l. IsPrefix l script) (continues p segment) _ p.taken
+    holds_if (λ l. IsPrefix l script) (continues p segment) _ p.taken
     (λ t. let within : int_le (first_of p.cisn segment) (pos (length p.taken)) ≡ true = last_of_three (counts p segment) (not p.fin) _ t in
     ⊎_elim
     (λ c. let at : first_of p.cisn segment ≡ pos c.0 = subst (λ n. first_of n segment ≡ pos c.0) (sym h.cisn) c.1 in
@@ -75,21 +78,16 @@ taken_stands script isn segment p f h =
     (subst (λ x. IsPrefix x script) (sym (append-nil p.taken)) h.front))) f.text)
     (λ t. h.front)
 
-and_false : (a b c : Bool) → b ≡ false → (a && b && c) ≡ false
-and_false true false c e = refl
-and_false false false c e = refl
-and_false a true c e = absurd (true≢false e)
-
 -- behind a FIN nothing is taken
 ended_taken : (segment : Segment) (p : Point) → p.fin ≡ true → taken_after (Comes segment) p ≡ p.taken
 unfolding taken_after
 ended_taken segment p e =
     ap (λ b. if b then p.taken ++ take (receive_edge p - length p.taken) (drop (below (length p.taken) (first_of p.cisn segment)) (text_of segment)) else p.taken)
-    (and_false (counts p segment) (not p.fin) (int_le (first_of p.cisn segment) (pos (length p.taken))) (ap not e))
+    (middle_false (counts p segment) (not p.fin) (int_le (first_of p.cisn segment) (pos (length p.taken))) (ap not e))
 
 pub int_same : (m n : ℕ) → int_eq (pos m) (pos n) ≡ true → m ≡ n
 int_same m n e =
-    let parts = both (int_le (pos m) (pos n)) (int_le (pos n) (pos m)) e in
+    let parts = and_parts (int_le (pos m) (pos n)) (int_le (pos n) (pos m)) e in
     let low : m ≤ n = leb-true _ _ parts.0 in
     let high : n ≤ m = leb-true _ _ parts.1 in
     omega (arith, low, high)
@@ -102,9 +100,9 @@ fin_stands script isn segment p f h e =
     ⊎_elim (λ was. ap length (ended_taken segment p was) ∙ h.fin was)
     (λ takes.
     let L : ℕ = length (taken_after (Comes segment) p) in
-    let one = both (continues p segment && fin_of segment && int_eq (end_of p segment) (pos L)) (nat_lt L (receive_edge p)) takes in
-    let three = both (continues p segment && fin_of segment) (int_eq (end_of p segment) (pos L)) one.0 in
-    let two = both (continues p segment) (fin_of segment) three.0 in
+    let one = and_parts (continues p segment && fin_of segment && int_eq (end_of p segment) (pos L)) (nat_lt L (receive_edge p)) takes in
+    let three = and_parts (continues p segment && fin_of segment) (int_eq (end_of p segment) (pos L)) one.0 in
+    let two = and_parts (continues p segment) (fin_of segment) three.0 in
     ⊎_elim
     (λ c. let at : first_of p.cisn segment ≡ pos c.0 = subst (λ n. first_of n segment ≡ pos c.0) (sym h.cisn) c.1 in
     let same : c.0 + length (text_of segment) ≡ L = int_same (c.0 + length (text_of segment)) L (subst (λ z. int_eq (z +ℤ pos (length (text_of segment))) (pos L) ≡ true) at three.1) in
@@ -147,9 +145,9 @@ copied_fits script isn segment p f h =
           (subst (λ k. IsPrefix (take (length p.taken - (o + (p.answered - o))) (drop (p.answered - o) text)) (drop k script)) (sym start)
           (part_stands (length p.taken - (o + (p.answered - o))) (p.answered - o) o text script c.2));
       fin = λ k.
-          let one = both (fin_of segment && p.fin && int_eq (end_of p segment) (pos (length p.taken))) (nat_le p.answered (length p.taken)) k in
-          let three = both (fin_of segment && p.fin) (int_eq (end_of p segment) (pos (length p.taken))) one.0 in
-          let two = both (fin_of segment) p.fin three.0 in
+          let one = and_parts (fin_of segment && p.fin && int_eq (end_of p segment) (pos (length p.taken))) (nat_le p.answered (length p.taken)) k in
+          let three = and_parts (fin_of segment && p.fin) (int_eq (end_of p segment) (pos (length p.taken))) one.0 in
+          let two = and_parts (fin_of segment) p.fin three.0 in
           let same : o + length text ≡ length p.taken = int_same (o + length text) (length p.taken) (subst (λ z. int_eq (z +ℤ pos (length text)) (pos (length p.taken)) ≡ true) at three.1) in
           let low : p.answered ≤ length p.taken = leb-true _ _ one.1 in
           let all : o + length text ≡ length script = c.3 two.0 in
@@ -162,7 +160,7 @@ copied_fits script isn segment p f h =
       stands = subst (λ x. IsPrefix (take (length p.taken - copy_start p segment) (drop (below p.answered (first_of p.cisn segment)) x)) (drop (copy_start p segment) script)) (sym c.0)
           (subst (λ x. IsPrefix x (drop (copy_start p segment) script)) (sym (take_nothing (length p.taken - copy_start p segment) (below p.answered (first_of p.cisn segment))))
           (nothing_first (drop (copy_start p segment) script)));
-      fin = λ k. absurd (true≢false (sym (both (fin_of segment) p.fin (both (fin_of segment && p.fin) (int_eq (end_of p segment) (pos (length p.taken))) (both (fin_of segment && p.fin && int_eq (end_of p segment) (pos (length p.taken))) (nat_le p.answered (length p.taken)) k).0).0).0 ∙ c.1));
+      fin = λ k. absurd (true≢false (sym (and_parts (fin_of segment) p.fin (and_parts (fin_of segment && p.fin) (int_eq (end_of p segment) (pos (length p.taken))) (and_parts (fin_of segment && p.fin && int_eq (end_of p segment) (pos (length p.taken))) (nat_le p.answered (length p.taken)) k).0).0).0 ∙ c.1));
     }) f.text
 
 -- the law Copy: a Data carries the script's bytes at its offset, and a FIN only at the script's end
@@ -170,9 +168,9 @@ pub copies_fit : (script : Key → List ℕ) (isn : ℕ) (news : News) (before p
     → AllByRecursion (DataFits script) (copies news before p)
 unfolding copies
 copies_fit script isn (Comes segment) before p f h =
-    of_choice (AllByRecursion (DataFits script)) (nat_lt 0 (length (copied_text p segment)) || copies_fin p segment) (DataMsg (copied_part p segment) ∷ []) _
+    holds_if (AllByRecursion (DataFits script)) (nat_lt 0 (length (copied_text p segment)) || copies_fin p segment) (DataMsg (copied_part p segment) ∷ []) _
     (λ t. (copied_fits (script p.key) isn segment p f h, tt))
-    (λ t. of_choice (AllByRecursion (DataFits script)) (nat_lt before.una p.una) (DataMsg (una_part p) ∷ []) []
+    (λ t. holds_if (AllByRecursion (DataFits script)) (nat_lt before.una p.una) (DataMsg (una_part p) ∷ []) []
     (λ s. (record { stands = nothing_first (drop (una_part p).offset (script p.key)); fin = λ k. absurd (true≢false (sym k)) }, tt)) (λ s. tt))
 copies_fit script isn (Logged kept) before p f h = tt
 copies_fit script isn Ticks before p f h = tt
@@ -181,8 +179,8 @@ copies_fit script isn Begins before p f h = tt
 by_move : (c : Client) (move : Move) (window : ℕ) → length c.script ≤ 2 ^ 24 → may_move c move ≡ true → FitsScript c.script c.isn (segment_of c move window)
 by_move c (Syn mss) window short may = record { syn = λ e. refl; text = inr (refl, refl) }
 by_move c (Text from len) window short may =
-    let range = (both (suits_phase c (Text from len)) (suits_range c (Text from len)) may).1 in
-    let four = (both (nat_le c.acknowledged from && nat_le from c.sent && nat_le 1 len && nat_le len 1460) (nat_le (from + len) (length c.script)) range).1 in
+    let range = (and_parts (suits_phase c (Text from len)) (suits_range c (Text from len)) may).1 in
+    let four = (and_parts (nat_le c.acknowledged from && nat_le from c.sent && nat_le 1 len && nat_le len 1460) (nat_le (from + len) (length c.script)) range).1 in
     let within : from + len ≤ length c.script = leb-true _ _ four in
     record {
       syn = λ e. absurd (true≢false (sym e));
@@ -204,8 +202,8 @@ move_fits c later segment short m = subst (FitsScript c.script c.isn) (sym m.seg
 pub entry_fits : (script : List ℕ) (isn : ℕ) (part : Part) (e : Entry) → PartFits script part → EntryFits script isn e → EntryFits script isn (with_part part e)
 entry_fits script isn part e p f =
     let bytes : EntryFits script isn (with_bytes part e) =
-    of_choice (EntryFits script isn) (e.fin || nat_lt (length e.bytes) part.offset) e _ (λ t. f)
-    (λ t. let parts = neither e.fin (nat_lt (length e.bytes) part.offset) t in
+    holds_if (EntryFits script isn) (e.fin || nat_lt (length e.bytes) part.offset) e _ (λ t. f)
+    (λ t. let parts = or_parts e.fin (nat_lt (length e.bytes) part.offset) t in
     record {
       front = goes_on_all part.offset e.bytes part.bytes script f.front p.stands (ltb-false _ _ parts.1);
       fin = λ k. absurd (true≢false (sym k ∙ parts.0));
@@ -213,7 +211,7 @@ entry_fits script isn part e p f =
     }) in
     let x : Entry = with_bytes part e in
     let fin : EntryFits script isn (with_its_fin part x) =
-    of_choice (EntryFits script isn) (part.fin && part.offset + length part.bytes == length x.bytes) _ x
-    (λ t. let parts = both part.fin (part.offset + length part.bytes == length x.bytes) t in
+    holds_if (EntryFits script isn) (part.fin && part.offset + length part.bytes == length x.bytes) _ x
+    (λ t. let parts = and_parts part.fin (part.offset + length part.bytes == length x.bytes) t in
     record { front = bytes.front; fin = λ k. sym (eqb-true _ _ parts.1) ∙ p.fin parts.0; cisn = bytes.cisn }) (λ t. bytes) in
     record { front = fin.front; fin = fin.fin; cisn = fin.cisn }

@@ -1,5 +1,6 @@
 -- What a client has accepted is the front of the uncrashed server's output on its script, read as the log says.
-use Rattle.std.proofs.Common.{◌≡◌, ℕ, ◌+◌, ◌-◌, ◌≤◌, ℤ, pos, ◌+ℤ◌, int_lt, Bool, true, false, ◌==◌, ◌&&◌, ◌||◌, not, nat_lt, refl, sym, ap, ap₂, ◌∙◌, subst, true≢false, ◌⊎◌, ⊎_elim, Some, List, [], ◌++◌, length, take, drop, arith, append-nil, ltb-false, if◌then◌else◌}
+use Rattle.std.proofs.Common.{◌≡◌, ℕ, ◌+◌, ◌-◌, ◌≤◌, ℤ, pos, ◌+ℤ◌, int_lt, true, false, ◌==◌, ◌&&◌, ◌||◌, not, nat_lt, refl, sym, ap, ap₂, ◌∙◌, subst, true≢false, ◌⊎◌, ⊎_elim, Some, List, [], ◌++◌, length, take, drop, arith, append-nil, ltb-false, if◌then◌else◌}
+use Rattle.std.proofs.lemmas.Bool.{and_parts, or_parts}
 use Rattle.ft_io.specs.declared.Key.{Key}
 use Rattle.seq_arith.specs.Number.{number_at}
 use Rattle.seq_arith.specs.Arrival.{int_eq, is_acceptable, below}
@@ -11,13 +12,14 @@ use Rattle.ft_model.specs.Client.Move.{Syn, Text, Fin, Acknowledge, Rst, Refuse}
 use Rattle.ft_model.specs.declared.phase.Phase.TheVariants as phases
 use Rattle.ft_model.specs.Log.{Log, Entry, entry_of}
 use Rattle.ft_model.specs.Growth.{IsPrefix, LogGrows, logged_lengths}
-use Rattle.ft_model.proofs.Lists.{of_choice, both, neither, prefix_trans}
+use Rattle.ft_model.proofs.Lists.{prefix_trans}
 use Rattle.ft_model.proofs.Grows.{found_later, logged_lengths_grow}
 use Rattle.ft_model.proofs.Fetching.{full_front}
 use Rattle.ft_model.proofs.Stands.{goes_on, take_nothing}
 use Rattle.ft_model.proofs.Scripts.{int_same}
 use Rattle.ft_model.proofs.Services.{reads_go_on}
 use Rattle.ft_model.proofs.Authored.{CarriesOutput, logged_run}
+use Rattle.ft_io.proofs.Choices.{holds_if}
 
 -- what a client has accepted of a run; while its connection is open it knows the number that the log keeps
 pub record Sees {State : Type 0} (run : Run State) (sisn : ℕ) (c : Client) : Type 0 where
@@ -40,17 +42,13 @@ seen_later service script before after c g s =
       sisn = λ o. let x = s.sisn o in let later = found_later c.key before.entries after.entries x.0 g.entries x.1 in (later.0, later.1, later.2.sisn ∙ x.2);
     }
 
-not_yet : (a b : Bool) → (a || b) ≡ false → b ≡ false
-not_yet true b e = absurd (true≢false e)
-not_yet false b e = e
-
 -- text continues what is accepted
 text_seen : {State : Type 0} (run : Run State) (sisn : ℕ) (c : Client) (segment : Segment) → Sees run sisn c → c.sisn ≡ sisn
     → CarriesOutput run sisn segment ⊎ ((text_of segment ≡ []) × (fin_of segment ≡ false)) → Sees run sisn (with_text c (first_of c.sisn segment) (text_of segment))
 text_seen run sisn c segment s same t =
-    of_choice (Sees run sisn) (is_ended c.phase || int_lt (pos (length c.accepted)) (first_of c.sisn segment)) c
+    holds_if (Sees run sisn) (is_ended c.phase || int_lt (pos (length c.accepted)) (first_of c.sisn segment)) c
     (record c { accepted = c.accepted ++ take (c.edge - length c.accepted) (drop (below (length c.accepted) (first_of c.sisn segment)) (text_of segment)) }) (λ x. s)
-    (λ x. let parts = neither (is_ended c.phase) (int_lt (pos (length c.accepted)) (first_of c.sisn segment)) x in
+    (λ x. let parts = or_parts (is_ended c.phase) (int_lt (pos (length c.accepted)) (first_of c.sisn segment)) x in
     record {
       front = ⊎_elim
           (λ y. let at : first_of c.sisn segment ≡ pos y.0 = ap (λ n. first_of n segment) same ∙ y.1 in
@@ -69,10 +67,10 @@ fin_seen : {State : Type 0} (run : Run State) (sisn : ℕ) (c : Client) (first :
     → CarriesOutput run sisn segment ⊎ ((text_of segment ≡ []) × (fin_of segment ≡ false)) → Sees run sisn (with_fin c (first +ℤ pos (length (text_of segment))) (fin_of segment))
 fin_seen run sisn c first segment s open_ first_is t =
     let behind : ℤ = first +ℤ pos (length (text_of segment)) in
-    of_choice (Sees run sisn) (fin_of segment && not (is_ended c.phase) && int_eq behind (pos (length c.accepted)) && nat_lt (length c.accepted) c.edge) (record c { phase = phases.Ended }) c
-    (λ x. let one = both (fin_of segment && not (is_ended c.phase) && int_eq behind (pos (length c.accepted))) (nat_lt (length c.accepted) c.edge) x in
-    let two = both (fin_of segment && not (is_ended c.phase)) (int_eq behind (pos (length c.accepted))) one.0 in
-    let three = both (fin_of segment) (not (is_ended c.phase)) two.0 in
+    holds_if (Sees run sisn) (fin_of segment && not (is_ended c.phase) && int_eq behind (pos (length c.accepted)) && nat_lt (length c.accepted) c.edge) (record c { phase = phases.Ended }) c
+    (λ x. let one = and_parts (fin_of segment && not (is_ended c.phase) && int_eq behind (pos (length c.accepted))) (nat_lt (length c.accepted) c.edge) x in
+    let two = and_parts (fin_of segment && not (is_ended c.phase)) (int_eq behind (pos (length c.accepted))) one.0 in
+    let three = and_parts (fin_of segment) (not (is_ended c.phase)) two.0 in
     record {
       front = s.front;
       ended = λ e. ⊎_elim
@@ -87,7 +85,7 @@ fin_seen run sisn c first segment s open_ first_is t =
 
 text_phase : (c : Client) (first : ℤ) (text : List ℕ) → (with_text c first text).phase ≡ c.phase
 text_phase c first text =
-    of_choice (λ x. x.phase ≡ c.phase) (is_ended c.phase || int_lt (pos (length c.accepted)) first) c
+    holds_if (λ x. x.phase ≡ c.phase) (is_ended c.phase || int_lt (pos (length c.accepted)) first) c
     (record c { accepted = c.accepted ++ take (c.edge - length c.accepted) (drop (below (length c.accepted) first) text) }) (λ t. refl) (λ t. refl)
 
 used_seen : {State : Type 0} (run : Run State) (sisn : ℕ) (c : Client) (segment : Segment) → Sees run sisn c → is_open c.phase ≡ true
@@ -100,7 +98,7 @@ used_seen run sisn c segment s open_ t =
     let one : Sees run sisn acked = record { front = s.front; ended = s.ended; sisn_is = s.sisn_is } in
     let two : Sees run sisn texted = text_seen run sisn acked segment one same t in
     let phase : is_open texted.phase ≡ true = ap is_open (text_phase acked (first_of c.sisn segment) (text_of segment)) ∙ open_ in
-    of_choice (Sees run sisn) (int_lt (pos c.sent) (ack_of c.isn segment)) c finned (λ x. s)
+    holds_if (Sees run sisn) (int_lt (pos c.sent) (ack_of c.isn segment)) c finned (λ x. s)
     (λ x. fin_seen run sisn texted (first_of c.sisn segment) segment two phase (ap (λ n. first_of n segment) same) t)
 
 reset_seen : {State : Type 0} (run : Run State) (sisn : ℕ) (c : Client) → Sees run sisn c → Sees run sisn (record c { phase = phases.Reset })
@@ -116,26 +114,26 @@ arrived_seen run sisn c segment s open_ t =
     let gone : Client = record c { phase = phases.Reset } in
     let rst : Client = if int_eq (first_of c.sisn segment) (pos (next_of c)) then gone else c in
     let other : Client = if has_syn segment || not (has_ack segment) then c else used c segment in
-    of_choice (Sees run sisn) (is_acceptable (next_of c) (room_of c) (first_of c.sisn segment) (length_of segment)) (if has_rst segment then rst else other) c
-    (λ a. of_choice (Sees run sisn) (has_rst segment) rst other
-    (λ r. of_choice (Sees run sisn) (int_eq (first_of c.sisn segment) (pos (next_of c))) gone c (λ x. reset_seen run sisn c s) (λ x. s))
-    (λ r. of_choice (Sees run sisn) (has_syn segment || not (has_ack segment)) c (used c segment) (λ x. s) (λ x. used_seen run sisn c segment s open_ (t r).1)))
+    holds_if (Sees run sisn) (is_acceptable (next_of c) (room_of c) (first_of c.sisn segment) (length_of segment)) (if has_rst segment then rst else other) c
+    (λ a. holds_if (Sees run sisn) (has_rst segment) rst other
+    (λ r. holds_if (Sees run sisn) (int_eq (first_of c.sisn segment) (pos (next_of c))) gone c (λ x. reset_seen run sisn c s) (λ x. s))
+    (λ r. holds_if (Sees run sisn) (has_syn segment || not (has_ack segment)) c (used c segment) (λ x. s) (λ x. used_seen run sisn c segment s open_ (t r).1)))
     (λ a. s)
 
 opened_seen : {State : Type 0} (run : Run State) (sisn : ℕ) (c : Client) (segment : Segment) → Sees run sisn c → SaysRun run sisn segment → Sees run sisn (opened_by c segment)
 opened_seen run sisn c segment s t =
     let gone : Client = record c { phase = phases.Reset } in
     let stands : Client = record c { phase = phases.Established; sisn = segment.head.seq } in
-    of_choice (Sees run sisn) (has_ack segment && segment.head.ack == number_at c.isn 0) (if has_rst segment then gone else (if has_syn segment then stands else c)) c
-    (λ a. of_choice (Sees run sisn) (has_rst segment) gone (if has_syn segment then stands else c) (λ r. reset_seen run sisn c s)
-    (λ r. of_choice (Sees run sisn) (has_syn segment) stands c
+    holds_if (Sees run sisn) (has_ack segment && segment.head.ack == number_at c.isn 0) (if has_rst segment then gone else (if has_syn segment then stands else c)) c
+    (λ a. holds_if (Sees run sisn) (has_rst segment) gone (if has_syn segment then stands else c) (λ r. reset_seen run sisn c s)
+    (λ r. holds_if (Sees run sisn) (has_syn segment) stands c
     (λ x. record { front = s.front; ended = λ e. absurd (true≢false (sym e)); sisn_is = λ o. (t r).0 x }) (λ x. s)))
     (λ a. s)
 
 pub received_sees : {State : Type 0} (run : Run State) (sisn : ℕ) (c : Client) (segment : Segment) → Sees run sisn c → SaysRun run sisn segment → Sees run sisn (received c segment)
 received_sees run sisn c segment s t =
-    of_choice (Sees run sisn) (is_opening c.phase) (opened_by c segment) (if is_open c.phase then arrived c segment else c) (λ o. opened_seen run sisn c segment s t)
-    (λ o. of_choice (Sees run sisn) (is_open c.phase) (arrived c segment) c (λ x. arrived_seen run sisn c segment s x t) (λ x. s))
+    holds_if (Sees run sisn) (is_opening c.phase) (opened_by c segment) (if is_open c.phase then arrived c segment else c) (λ o. opened_seen run sisn c segment s t)
+    (λ o. holds_if (Sees run sisn) (is_open c.phase) (arrived c segment) c (λ x. arrived_seen run sisn c segment s x t) (λ x. s))
 
 pub moved_seen : {State : Type 0} (service : Machine State) (script : Key → List ℕ) (log : Log) (c : Client) (move : Move) (window : ℕ) → IsSeen service script log c → IsSeen service script log (moved c move window)
 moved_seen service script log c (Syn mss) window s = record { front = s.front; ended = λ e. absurd (true≢false (sym e)); sisn = λ o. absurd (true≢false (sym o)) }

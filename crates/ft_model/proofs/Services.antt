@@ -5,7 +5,8 @@ use Rattle.std.proofs.lemmas.List.Sums.{sum_by-cons}
 use Rattle.server_trait.specs.Service.{Machine, Run, begun, with_served, fed, fold_from, fold, cut, reference}
 use Rattle.ft_model.specs.Offset.{one_if}
 use Rattle.ft_model.specs.Growth.{IsPrefix}
-use Rattle.ft_model.proofs.Lists.{of_choice, prefix_refl, prefix_more, prefix_trans}
+use Rattle.ft_model.proofs.Lists.{prefix_refl, prefix_more, prefix_trans}
+use Rattle.ft_io.proofs.Choices.{holds_if}
 
 -- a run goes on: its output is a front of the later one's, and once closed it stays as it is
 pub record GoesOn {State : Type 0} (before after : Run State) : Type 0 where
@@ -23,7 +24,7 @@ goes_trans a b c p q = record {
 
 fed_goes : {State : Type 0} (service : Machine State) (run : Run State) (chunk : List ℕ) → GoesOn run (fed service run chunk)
 fed_goes service run chunk =
-    of_choice (GoesOn run) run.closed run (with_served run (service.after run.state chunk)) (λ t. goes_refl run)
+    holds_if (GoesOn run) run.closed run (with_served run (service.after run.state chunk)) (λ t. goes_refl run)
     (λ t. record { output = prefix_more run.output (service.after run.state chunk).output; closed = λ c. absurd (true≢false (sym c ∙ t)) })
 
 fold_goes : {State : Type 0} (service : Machine State) (run : Run State) (chunks : List (List ℕ)) → GoesOn run (fold_from service run chunks)
@@ -55,7 +56,7 @@ reads_go_on service bytes xs zs p =
     subst (λ l. GoesOn (reference service bytes xs) (reference service bytes l)) p.1
     (subst (GoesOn (reference service bytes xs)) (sym (more_reads service bytes xs p.0)) (fold_goes service (reference service bytes xs) (cut (rest_of bytes xs) p.0)))
 
-drop_within : (n : ℕ) (xs ys : List ℕ) → n ≤ length xs → drop n (xs ++ ys) ≡ drop n xs ++ ys
+pub drop_within : (n : ℕ) (xs ys : List ℕ) → n ≤ length xs → drop n (xs ++ ys) ≡ drop n xs ++ ys
 drop_within zero xs ys h = refl
 drop_within (suc n) [] ys h = absurd (omega (arith, h))
 drop_within (suc n) (x ∷ xs) ys h = drop_within n xs ys (omega (arith, h))
@@ -100,7 +101,7 @@ fed_small : {State : Type 0} (service : Machine State) (run : Run State) (chunk 
     → ((s : State) (chunk : List ℕ) → length chunk ≤ 2048 → length (service.after s chunk).output ≤ 2 ^ 20) → length chunk ≤ 2048
     → length (fed service run chunk).output ≤ length run.output + 2 ^ 20
 fed_small service run chunk small h =
-    of_choice (λ r. length r.output ≤ length run.output + 2 ^ 20) run.closed run (with_served run (service.after run.state chunk)) (λ t. omega arith)
+    holds_if (λ r. length r.output ≤ length run.output + 2 ^ 20) run.closed run (with_served run (service.after run.state chunk)) (λ t. omega arith)
     (λ t. let more = length-append run.output (service.after run.state chunk).output in
     let low = small run.state chunk h in omega (arith, more, low))
 

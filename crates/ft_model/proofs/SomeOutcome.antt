@@ -46,7 +46,7 @@ CanHappen service w event = (sent : List Packet) × (after : World) × Happens s
 quiet_event : (w : World) (event : Event) (sent : List Packet) (after : World) → move_asked event ≡ None → IsScripted w event sent after
 quiet_event w event sent after none number move client is at = none_is_some (number, move) (sym none ∙ is)
 
-is_none : {A : Type 0} (o : Option A) → is_some o ≡ false → o ≡ None
+pub is_none : {A : Type 0} (o : Option A) → is_some o ≡ false → o ≡ None
 is_none (Some x) e = absurd (cc)
 is_none None e = refl
 
@@ -122,7 +122,7 @@ named_with_bit (Some packet) bit e = (packet, refl, leb-false _ _ (not_refused (
 named_with_bit None bit e = none_is_some why.Packet (sym e)
 
 -- a scripted client makes a move that its state allows
-move_may : (client : Client) (event : Event) (move : Move) → move_of event ≡ Some move → refusal_of_move client move ≡ None → may_move client move ≡ true
+pub move_may : (client : Client) (event : Event) (move : Move) → move_of event ≡ Some move → refusal_of_move client move ≡ None → may_move client move ≡ true
 move_may client event move asked free =
     let parts = allowed (suits_phase client move) (suits_range client move) free in
     and_from (suits_kind client.kind move && suits_phase client move) (suits_range client move)

@@ -11,7 +11,8 @@ use Rattle.ft_model.specs.Point.{Point, acknowledgement, answered_run, released}
 use Rattle.ft_model.specs.Owed.{is_owed}
 use Rattle.ft_model.specs.Segments.{new_length, texts, syn_acks, syn_ack, opens_with, fin_if_closed, first_unacknowledged, probe, probed_length, is_unacknowledged, resent, resent_length, new_texts, sends_fin, new_fin, full_segments, or_bare, bare_segment, segments_of, segment_at, text_at, fin_segment}
 use Rattle.ft_model.specs.Timer.{expires}
-use Rattle.ft_model.proofs.Lists.{of_choice, all_append}
+use Rattle.ft_model.proofs.Lists.{all_append}
+use Rattle.ft_io.proofs.Choices.{holds_if}
 
 pub data Spoken {State : Type 0} (service : Machine State) (server : Addr) (news : News) (before after : Point) (segment : Segment) : Type 0 where
   spoken_syn : segment ≡ syn_ack server after → Spoken service server news before after segment
@@ -27,7 +28,7 @@ texts_spoken : {State : Type 0} (service : Machine State) (server : Addr) (news 
     → AllByRecursion (Spoken service server news before p) (texts service server p k offset left)
 texts_spoken service server news before p zero offset left = tt
 texts_spoken service server news before p (suc k) offset left =
-    of_choice (AllByRecursion (Spoken service server news before p)) (nat_lt 0 left)
+    holds_if (AllByRecursion (Spoken service server news before p)) (nat_lt 0 left)
     (text_at service server p offset (min left p.mss) ∷ texts service server p k (offset + min left p.mss) (left - min left p.mss)) []
     (λ t. (spoken_text offset (min left p.mss) (omega arith) refl, texts_spoken service server news before p k (offset + min left p.mss) (left - min left p.mss))) (λ t. tt)
 
@@ -40,14 +41,14 @@ first_spoken : {State : Type 0} (service : Machine State) (server : Addr) (news 
     → AllByRecursion (Spoken service server news before after) (first_unacknowledged service server before after)
 first_spoken service server news before after =
     let All : List Segment → Type 0 = AllByRecursion (Spoken service server news before after) in
-    of_choice All (not after.syn_acked) (syn_ack server after ∷ []) _ (λ t. (spoken_syn refl, tt))
-    (λ t. of_choice All (after.una == released service after) (fin_if_closed service server after) _ (λ s. fin_spoken service server news before after)
+    holds_if All (not after.syn_acked) (syn_ack server after ∷ []) _ (λ t. (spoken_syn refl, tt))
+    (λ t. holds_if All (after.una == released service after) (fin_if_closed service server after) _ (λ s. fin_spoken service server news before after)
     (λ s. (spoken_text after.una (resent_length service before after) (omega arith) refl, tt)))
 
 probe_spoken : {State : Type 0} (service : Machine State) (server : Addr) (news : News) (before after : Point)
     → AllByRecursion (Spoken service server news before after) (probe service server before after)
 probe_spoken service server news before after =
-    of_choice (AllByRecursion (Spoken service server news before after)) (nat_lt before.sent (released service after)) _ (fin_if_closed service server after)
+    holds_if (AllByRecursion (Spoken service server news before after)) (nat_lt before.sent (released service after)) _ (fin_if_closed service server after)
     (λ t. (spoken_text before.sent probed_length (omega arith) refl, tt)) (λ t. fin_spoken service server news before after)
 
 resent_spoken : {State : Type 0} (service : Machine State) (server : Addr) (news : News) (before after : Point)
@@ -55,8 +56,8 @@ resent_spoken : {State : Type 0} (service : Machine State) (server : Addr) (news
 unfolding resent
 resent_spoken service server news before after =
     let All : List Segment → Type 0 = AllByRecursion (Spoken service server news before after) in
-    of_choice All (expires news before) _ []
-    (λ e. of_choice All (is_unacknowledged before after) _ (probe service server before after) (λ t. first_spoken service server news before after)
+    holds_if All (expires news before) _ []
+    (λ e. holds_if All (is_unacknowledged before after) _ (probe service server before after) (λ t. first_spoken service server news before after)
     (λ t. probe_spoken service server news before after))
     (λ e. tt)
 
@@ -75,7 +76,7 @@ segments_spoken service server news before after =
     (all_append P (resent service server news before after) _ (resent_spoken service server news before after)
     (all_append P (new_texts service server before after) (new_fin service server before after)
     (texts_spoken service server news before after (new_length service before after) before.sent (new_length service before after))
-    (of_choice (AllByRecursion P) (sends_fin service before after) (fin_if_closed service server after) [] (λ t. fin_spoken service server news before after) (λ t. tt)))))
+    (holds_if (AllByRecursion P) (sends_fin service before after) (fin_if_closed service server after) [] (λ t. fin_spoken service server news before after) (λ t. tt)))))
 
 -- whom it is for, and what it acknowledges
 pub record IsHeaded (p : Point) (segment : Segment) : Type 0 where

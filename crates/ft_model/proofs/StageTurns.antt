@@ -1,5 +1,5 @@
 -- A turn of a server by its stage: it waits, it asks on, its restart ends, it serves, or a newer incarnation has fenced it.
-use Rattle.std.proofs.Common.{◌≡◌, ℕ, ◌+◌, Bool, true, false, ◌==◌, refl, sym, ap, ◌∙◌, eqb-true, inl, inr, ◌⊎◌, MatchBool, MatchOption, Option, Some, None, List, [], length, if◌then◌else◌}
+use Rattle.std.proofs.Common.{◌≡◌, ℕ, ◌+◌, Bool, true, false, ◌==◌, refl, sym, ap, ◌∙◌, eqb-true, inl, inr, ◌⊎◌, MatchBool, MatchOption, Option, Some, None, List, [], length}
 use Rattle.ft_io.specs.declared.Addr.{Addr}
 use Rattle.seq_arith.specs.Packet.{Segment}
 use Rattle.seq_arith.specs.Message.{Body, Message}
@@ -18,6 +18,7 @@ use Rattle.ft_model.specs.Serving.{AllGo, newcomers, ServingTurn}
 use Rattle.ft_model.specs.Lawful.{Rests, Revives, Continues, Fetches, StageTurn, NodeTurn, LawfulTurn, all_restored, restored_count, hello, asked, held, fence, count_told, summary_count, fetched_then}
 use Rattle.ft_model.specs.Masked.{is_restarting}
 use Rattle.ft_model.proofs.Lists.{none_is_some, some_is}
+use Rattle.ft_io.proofs.Choices.{some_if}
 
 -- an answer to the present question has come: so much is fetched now
 pub record Progress (node : Node) (input : Input) (count : ℕ) (fetched : List Fetched) : Type 0 where
@@ -61,15 +62,11 @@ summary : (body : Body) (count : ℕ) → summary_count body ≡ Some count → 
 summary (SummaryMsg n) count e = ap SummaryMsg (some_is n count e)
 summary _ count e = none_is_some count e
 
-told_some : {A : Type 0} (b : Bool) (o : Option A) (x : A) → (if b then o else None) ≡ Some x → (b ≡ true) × (o ≡ Some x)
-told_some true o x e = (refl, e)
-told_some false o x e = none_is_some x e
-
 asks_so : {State : Type 0} (service : Machine State) (node : Node) (message : Message) (after : Stage) (sent : List Packet) (o : Option ℕ)
     → node.stage ≡ Asking → (count_told node message) ≡ o → Asks service node o after sent
     → StageWent service node (Message_comes message) sent after
 asks_so service node message after sent (Some count) s e t =
-    let parts = told_some (message.boot == node.boot) (summary_count message.body) count e in
+    let parts = some_if (message.boot == node.boot) (summary_count message.body) count e in
     continues service node (Message_comes message) count [] after sent (wanted count []) refl
     (record { message = message; comes = refl; boot = eqb-true _ _ parts.0; how = inl (s, summary message.body count parts.1, refl) }) t
 asks_so service node message after sent None s e t = waited (ap is_restarting s) (t.0 ∙ sym s) (inr (None, t.1, tt))
@@ -78,7 +75,7 @@ fetches : {State : Type 0} (service : Machine State) (node : Node) (message : Me
     (o : Option (List Fetched)) → node.stage ≡ Fetching count fetched → fetched_then node message count fetched ≡ o
     → Gets service node count fetched o after sent → StageWent service node (Message_comes message) sent after
 fetches service node message count fetched after sent (Some more) s e t =
-    let parts = told_some (message.boot == node.boot) (fetched_after (wanted count fetched) message.body fetched) more e in
+    let parts = some_if (message.boot == node.boot) (fetched_after (wanted count fetched) message.body fetched) more e in
     continues service node (Message_comes message) count more after sent (wanted count more) refl
     (record { message = message; comes = refl; boot = eqb-true _ _ parts.0; how = inr (fetched, s, parts.1) }) t
 fetches service node message count fetched after sent None s e t = waited (ap is_restarting s) (t.0 ∙ sym s) (inr (None, t.1, tt))

@@ -1,6 +1,7 @@
 -- After each turn the last acknowledgement sent to a live client is what is both taken and known to be logged.
 use Rattle.std.proofs.Common.{◌≡◌, ℕ, Bool, true, false, ◌&&◌, not, refl, sym, ap, ap₂, ◌∙◌, subst, subst₂, true≢false, MatchBool, inl, inr, ◌⊎◌, ⊎_elim, Option, Some, None, List, [], ◌∷◌, ◌++◌, map, if◌then◌else◌}
 use Rattle.std.specs.List.{AllByRecursion, list_any}
+use Rattle.std.proofs.lemmas.Bool.{and_right, or_parts, or_from}
 use Rattle.ft_io.specs.declared.Addr.{Addr}
 use Rattle.ft_io.specs.declared.Key.{Key}
 use Rattle.ft_io.specs.Key.{key_eq}
@@ -25,13 +26,14 @@ use Rattle.ft_model.specs.Node.{Node, Place, Input, key_of}
 use Rattle.ft_model.specs.Node.Place.{Opens, Lives, Ended}
 use Rattle.ft_model.specs.Serving.{AllGo}
 use Rattle.ft_model.specs.Masked.{told_to, or_before, last_told, IsToldLast}
-use Rattle.ft_model.proofs.Lists.{of_choice, neither, three_true, all_both, all_weaker, all_append, key_is, or_neither}
+use Rattle.ft_model.proofs.Lists.{three_true, all_both, all_weaker, all_append, key_is}
 use Rattle.ft_model.proofs.Keys.{AreDistinct, has_key, key_eq_turns}
 use Rattle.ft_model.proofs.PlaceTurns.{PlaceWent}
 use Rattle.ft_model.proofs.PlaceTurns.PlaceWent.{stayed, went_on, began, dropped, ended, refused}
 use Rattle.ft_model.proofs.Spoken.{Spoken, segments_spoken, IsHeaded, headed}
 use Rattle.ft_model.proofs.TurnTells.{told, begins_told}
 use Rattle.ft_model.proofs.Distinct.{KeepsKey}
+use Rattle.ft_io.proofs.Choices.{holds_if}
 
 pub or_none : (o : Option ℕ) → o ≡ or_before o None
 or_none (Some a) = refl
@@ -78,13 +80,9 @@ other_silent : (key other : Key) (segment : Segment) → destination_of segment 
 other_silent key other segment d e =
     ap (λ b. if b then Some segment.head.ack else None) (false_and (key_eq (destination_of segment) other) (has_ack segment) (not (has_rst segment)) (ap (λ k. key_eq k other) d ∙ e))
 
-last_false : (a b : Bool) → b ≡ false → (a && b) ≡ false
-last_false true b e = e
-last_false false b e = refl
-
 pub rst_silent : (other : Key) (segment : Segment) → has_rst segment ≡ true → told_to other (To_client segment) ≡ None
 rst_silent other segment r =
-    ap (λ b. if b then Some segment.head.ack else None) (last_false (key_eq (destination_of segment) other && has_ack segment) (not (has_rst segment)) (ap not r))
+    ap (λ b. if b then Some segment.head.ack else None) (and_right (key_eq (destination_of segment) other && has_ack segment) (not (has_rst segment)) (ap not r))
 
 segments_only : (q : Point) (segments : List Segment) → AllByRecursion (IsHeaded q) segments → TellsOnly q.key (map To_client segments)
 segments_only q [] a other e = refl
@@ -149,7 +147,7 @@ by_reset service server boot news p q sent false e f g t = g e t
 
 was_not_reset : (news : News) (p : Point) → reset_after news p ≡ false → p.reset ≡ false
 unfolding reset_after
-was_not_reset (Comes segment) p e = (neither p.reset _ e).0
+was_not_reset (Comes segment) p e = (or_parts p.reset _ e).0
 was_not_reset (Logged kept) p e = e
 was_not_reset Ticks p e = e
 was_not_reset Begins p e = e
@@ -205,8 +203,8 @@ nothing_said key sent e = ap (last_told key) e
 
 closed_silent : (key : Key) (server : Addr) (segment : Segment) → IsSilentTo key (map To_client (as_closed server segment))
 closed_silent key server segment =
-    of_choice (λ x. IsSilentTo key (map To_client x)) (has_rst segment) [] (if has_ack segment then rst_at_ack server segment ∷ [] else rst_behind server segment ∷ []) (λ t. refl)
-    (λ t. of_choice (λ x. IsSilentTo key (map To_client x)) (has_ack segment) (rst_at_ack server segment ∷ []) (rst_behind server segment ∷ [])
+    holds_if (λ x. IsSilentTo key (map To_client x)) (has_rst segment) [] (if has_ack segment then rst_at_ack server segment ∷ [] else rst_behind server segment ∷ []) (λ t. refl)
+    (λ t. holds_if (λ x. IsSilentTo key (map To_client x)) (has_ack segment) (rst_at_ack server segment ∷ []) (rst_behind server segment ∷ [])
     (λ s. ap (λ o. or_before None o) (rst_silent key (rst_at_ack server segment) refl)) (λ s. ap (λ o. or_before None o) (rst_silent key (rst_behind server segment) refl)))
 
 still_told : (packets : List Packet) (place : Place) → WasTold packets place → TellsNow packets [] place
@@ -248,18 +246,18 @@ tells_there packets first others (Ended k) s t = tt
 no_key_all : (key : Key) (places : List Place) → has_key key (map key_of places) ≡ false → AllByRecursion (λ x. key_eq (key_of x) key ≡ false) places
 no_key_all key [] e = tt
 no_key_all key (place ∷ places) e =
-    let parts = neither (key_eq (key_of place) key) (has_key key (map key_of places)) e in (parts.0, no_key_all key places parts.1)
+    let parts = or_parts (key_eq (key_of place) key) (has_key key (map key_of places)) e in (parts.0, no_key_all key places parts.1)
 
 no_key_later : (Goes : Place → List Place → List Packet → Type 0) (Q : Place → Type 0) → ((place : Place) (now : List Place) (sent : List Packet) → Q place → Goes place now sent → KeepsKey place now)
     → (key : Key) (before after : List Place) (sent : List Packet) → AllByRecursion Q before → AllGo Goes before after sent → has_key key (map key_of before) ≡ false
     → has_key key (map key_of after) ≡ false
 no_key_later Goes Q keeps key [] after sent q t h = ap (λ l. has_key key (map key_of l)) t.0
 no_key_later Goes Q keeps key (place ∷ places) after sent q (now, later, first, others, places_are, sent_is, goes, rest) h =
-    let parts = neither (key_eq (key_of place) key) (has_key key (map key_of places)) h in
+    let parts = or_parts (key_eq (key_of place) key) (has_key key (map key_of places)) h in
     let there : has_key key (map key_of later) ≡ false = no_key_later Goes Q keeps key places later others q.1 rest parts.1 in
     ⊎_elim (λ n. ap (λ l. has_key key (map key_of l)) (places_are ∙ ap (λ l. l ++ later) n) ∙ there)
     (λ n. ap (λ l. has_key key (map key_of l)) (places_are ∙ ap (λ l. l ++ later) n.1)
-    ∙ or_neither (key_eq (key_of n.0) key) (has_key key (map key_of later)) (ap (λ k. key_eq k key) n.2 ∙ parts.0) there) (keeps place now first q.0 goes)
+    ∙ or_from (key_eq (key_of n.0) key) (has_key key (map key_of later)) (ap (λ k. key_eq k key) n.2 ∙ parts.0) there) (keeps place now first q.0 goes)
 
 -- a whole list of places
 pub all_tell : (Goes : Place → List Place → List Packet → Type 0) (Q : Place → Type 0) (packets : List Packet)
@@ -282,6 +280,6 @@ all_tell Goes Q packets step (place ∷ places) after sent d q (now, later, firs
     all_both (λ x. key_eq (key_of x) (key_of place) ≡ false) (TellsNow packets others) (TellsNow packets (first ++ others)) later
     (λ x k tells. tells_there packets first others x (here.1 (key_of x) (key_eq_turns (key_of x) (key_of place) k)) tells) (no_key_all (key_of place) later apart) there.0 in (
       subst₂ (λ a s. AllByRecursion (TellsNow packets s) a) (sym places_are) (sym sent_is) (all_append (TellsNow packets (first ++ others)) now later now_tells later_tells),
-      λ other e. let parts = neither (key_eq (key_of place) other) (has_key other (map key_of places)) e in
+      λ other e. let parts = or_parts (key_eq (key_of place) other) (has_key other (map key_of places)) e in
           ap (last_told other) sent_is ∙ silent_append other first others (here.1 other parts.0) (there.1 other parts.1),
     )

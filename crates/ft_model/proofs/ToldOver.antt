@@ -19,7 +19,7 @@ use Rattle.ft_model.specs.Serving.{PlaceTurn, newcomers, refusals, is_strange, i
 use Rattle.ft_model.specs.Lawful.{Revives, all_restored}
 use Rattle.ft_model.specs.Masked.{or_before, last_told, IsToldLast, AllAreTold, is_restarting}
 use Rattle.ft_model.specs.World.{World, Moment, Joint, world_after}
-use Rattle.ft_model.proofs.Lists.{of_choice, all_weaker, all_append, none_is_some, some_is}
+use Rattle.ft_model.proofs.Lists.{all_weaker, all_append, none_is_some, some_is}
 use Rattle.ft_model.proofs.Keys.{AreDistinct}
 use Rattle.ft_model.proofs.Happened.{Happened, holds_after, IsBrought}
 use Rattle.ft_model.proofs.Happened.Happened.{log_heard, client_heard, client_moved, server_turned, server_booted, server_down}
@@ -38,11 +38,12 @@ use Rattle.ft_model.specs.Growth.{IsPrefix}
 use Rattle.ft_model.specs.Log.{answer_to}
 use Rattle.ft_model.proofs.Resumed.{restored_keys}
 use Rattle.ft_model.proofs.ToldLast.{last_append, IsSilentTo, TellsOnly, TellsNow, WasTold, silent_append, rst_silent, nothing_said, beginning_tells, place_tells, tells_here, all_tell}
+use Rattle.ft_io.proofs.Choices.{holds_if}
 
 listen_silent : (key : Key) (node : Node) (input : Input) (places : List Place) → IsSilentTo key (refusals node input places)
 listen_silent key node (Packet_comes segment) places =
-    of_choice (IsSilentTo key) (is_strange node segment places) (map To_client (as_listen node.server segment)) []
-    (λ t. of_choice (λ x. IsSilentTo key (map To_client x)) (has_ack segment && not (has_rst segment)) (rst_at_ack node.server segment ∷ []) []
+    holds_if (IsSilentTo key) (is_strange node segment places) (map To_client (as_listen node.server segment)) []
+    (λ t. holds_if (λ x. IsSilentTo key (map To_client x)) (has_ack segment && not (has_rst segment)) (rst_at_ack node.server segment ∷ []) []
     (λ t. ap (λ o. or_before None o) (rst_silent key (rst_at_ack node.server segment) refl)) (λ t. refl)) (λ t. refl)
 listen_silent key node (Message_comes message) places = refl
 listen_silent key node Noise_comes places = refl
@@ -52,13 +53,13 @@ opens_silent : (key : Key) (node : Node) (input : Input) (places : List Place) �
 opens_silent key node input [] = refl
 opens_silent key node input (Opens n ∷ places) =
     silent_append key (opens_at node input (Opens n)) (flat_map (opens_at node input) places)
-    (of_choice (IsSilentTo key) (is_asked node input n) (told_by node.boot (OpenMsg n) ∷ []) [] (λ t. refl) (λ t. refl)) (opens_silent key node input places)
+    (holds_if (IsSilentTo key) (is_asked node input n) (told_by node.boot (OpenMsg n) ∷ []) [] (λ t. refl) (λ t. refl)) (opens_silent key node input places)
 opens_silent key node input (Lives p ∷ places) = opens_silent key node input places
 opens_silent key node input (Ended k ∷ places) = opens_silent key node input places
 
 new_told : (packets sent : List Packet) (node : Node) (input : Input) (opened : ℕ) (places : List Place) → AllByRecursion (TellsNow packets sent) (newcomers node input opened places)
 new_told packets sent node (Packet_comes segment) opened places =
-    of_choice (AllByRecursion (TellsNow packets sent)) (is_strange node segment places && is_syn segment && nat_lt (pending_count places) 64) (Opens (numbers_for node.isn opened segment) ∷ []) [] (λ t. (tt, tt)) (λ t. tt)
+    holds_if (AllByRecursion (TellsNow packets sent)) (is_strange node segment places && is_syn segment && nat_lt (pending_count places) 64) (Opens (numbers_for node.isn opened segment) ∷ []) [] (λ t. (tt, tt)) (λ t. tt)
 new_told packets sent node (Message_comes message) opened places = tt
 new_told packets sent node Noise_comes opened places = tt
 new_told packets sent node Tick_comes opened places = tt

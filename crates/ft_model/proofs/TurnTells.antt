@@ -22,6 +22,7 @@ use Rattle.ft_model.specs.Timer.{expires}
 use Rattle.ft_model.specs.Told.{is_segment, Tells, IsTold}
 use Rattle.ft_model.specs.Connection.{LiveTurn, told_by}
 use Rattle.ft_model.proofs.Lists.{all_append}
+use Rattle.ft_io.proofs.Choices.{holds_either_way}
 
 -- a segment tells the point
 abbrev TellsIn : Point → Segment → Type 0
@@ -31,14 +32,10 @@ one_or_none : {A : Type 0} (P : A → Type 0) (b : Bool) (x : A) → P x → All
 one_or_none P true x h = (h, tt)
 one_or_none P false x h = tt
 
-either : {A : Type 0} (P : A → Type 0) (b : Bool) (x y : A) → P x → P y → P (if b then x else y)
-either P true x y h k = h
-either P false x y h k = k
-
 texts_tell : {State : Type 0} (service : Machine State) (server : Addr) (p : Point) (k offset left : ℕ) → AllByRecursion (TellsIn p) (texts service server p k offset left)
 texts_tell service server p zero offset left = tt
 texts_tell service server p (suc k) offset left =
-    either (AllByRecursion (TellsIn p)) (nat_lt 0 left)
+    holds_either_way (AllByRecursion (TellsIn p)) (nat_lt 0 left)
     (text_at service server p offset (min left p.mss) ∷ texts service server p k (offset + min left p.mss) (left - min left p.mss)) []
     ((refl, refl), texts_tell service server p k (offset + min left p.mss) (left - min left p.mss)) tt
 
@@ -48,11 +45,11 @@ fin_tells service server p = one_or_none (TellsIn p) (answered_run service p).cl
 first_tells : {State : Type 0} (service : Machine State) (server : Addr) (before after : Point) → AllByRecursion (TellsIn after) (first_unacknowledged service server before after)
 first_tells service server before after =
     let All : List Segment → Type 0 = AllByRecursion (TellsIn after) in
-    either All (not after.syn_acked) _ _ ((refl, refl), tt) (either All (after.una == _) _ _ (fin_tells service server after) ((refl, refl), tt))
+    holds_either_way All (not after.syn_acked) _ _ ((refl, refl), tt) (holds_either_way All (after.una == _) _ _ (fin_tells service server after) ((refl, refl), tt))
 
 probe_tells : {State : Type 0} (service : Machine State) (server : Addr) (before after : Point) → AllByRecursion (TellsIn after) (probe service server before after)
 probe_tells service server before after =
-    either (AllByRecursion (TellsIn after)) (nat_lt before.sent (released service after)) (text_at service server after before.sent probed_length ∷ []) (fin_if_closed service server after)
+    holds_either_way (AllByRecursion (TellsIn after)) (nat_lt before.sent (released service after)) (text_at service server after before.sent probed_length ∷ []) (fin_if_closed service server after)
     ((refl, refl), tt) (fin_tells service server after)
 
 or_bare_tells : (p : Point) (owed : Bool) (bare : Segment) (segments : List Segment) → TellsIn p bare → AllByRecursion (TellsIn p) segments
@@ -66,13 +63,13 @@ segments_tell service server news before after =
     let syns : AllByRecursion (TellsIn after) (syn_acks server news before after) = one_or_none (TellsIn after) (opens_with news before) (syn_ack server after) (refl, refl) in
     let All : List Segment → Type 0 = AllByRecursion (TellsIn after) in
     let again : All (resent service server news before after) =
-    either All (expires news before) _ []
-    (either All (is_unacknowledged before after) (first_unacknowledged service server before after) (probe service server before after)
+    holds_either_way All (expires news before) _ []
+    (holds_either_way All (is_unacknowledged before after) (first_unacknowledged service server before after) (probe service server before after)
     (first_tells service server before after) (probe_tells service server before after)) tt in
     let fresh : AllByRecursion (TellsIn after) (new_texts service server before after) =
     texts_tell service server after (new_length service before after) before.sent (new_length service before after) in
     let last : All (new_fin service server before after) =
-    either All (sends_fin service before after) (fin_if_closed service server after) [] (fin_tells service server after) tt in
+    holds_either_way All (sends_fin service before after) (fin_if_closed service server after) [] (fin_tells service server after) tt in
     or_bare_tells after (is_owed service news before after) (bare_segment server after) (full_segments service server news before after) (refl, refl)
     (all_append (TellsIn after) (syn_acks server news before after) _ syns
     (all_append (TellsIn after) (resent service server news before after) _ again

@@ -14,13 +14,14 @@ use Rattle.ft_model.specs.Node.Stage.{Asking, Fetching, Serving, Fenced}
 use Rattle.ft_model.specs.Node.Input.{Packet_comes, Message_comes, Noise_comes, Tick_comes}
 use Rattle.ft_model.specs.Lawful.{Continues, StageTurn, NodeTurn, LawfulTurn, fence, newer_than, count_told, fetched_then, is_fenced}
 use Rattle.ft_model.specs.World.{World, Moment, MayCome, Joint, IsStart, world_after}
-use Rattle.ft_model.proofs.Lists.{of_choice, all_weaker, all_append, none_is_some, some_is}
+use Rattle.ft_model.proofs.Lists.{all_weaker, all_append, none_is_some, some_is}
 use Rattle.ft_model.proofs.LogAnswers.{all_answers}
 use Rattle.ft_model.proofs.Fetching.{on_some, chosen_some}
 use Rattle.ft_model.proofs.Happened.{Happened, IsBrought, all_sent, answers, holds_after}
 use Rattle.ft_model.proofs.Happened.Happened.{log_heard, client_heard, client_moved, server_turned, server_booted, server_down}
 use Rattle.ft_model.proofs.StageTurns.{Asks, Gets, stage_went}
 use Rattle.ft_model.proofs.Fenced.{IsFenced, IsOurs, turn_ours, start_fenced, fenced_goes_on}
+use Rattle.ft_io.proofs.Choices.{holds_if}
 
 -- a Stale names at most this boot
 abbrev pub NamesAtMost : ℕ → Body → Type 0
@@ -79,14 +80,14 @@ ours_stale own boot _ o = tt
 -- no message that names no larger boot fences
 not_newer : (boot : ℕ) (body : Body) → NamesAtMost boot body → newer_than boot body ≡ None
 not_newer boot (StaleMsg newer) n =
-    of_choice (λ o. o ≡ None) (nat_lt boot newer) (Some newer) None (λ t. let less : boot < newer = ltb-true _ _ t in absurd (omega (arith, n, less))) (λ t. refl)
+    holds_if (λ o. o ≡ None) (nat_lt boot newer) (Some newer) None (λ t. let less : boot < newer = ltb-true _ _ t in absurd (omega (arith, n, less))) (λ t. refl)
 not_newer boot _ n = refl
 
 never : (w : World) (node : Node) (input : Input) → IsFenced w → Unfenced w → w.node ≡ Some node → MayCome w input → fence node input ≡ None
 never w node (Message_comes message) f u e brought =
     let own : node.boot ≡ w.boot = (f.node node e).boot in
     let names : NamesAtMost w.boot message.body = all_sent (StaleWithin w.boot) w (From_logger message) u.packets brought in
-    of_choice (λ o. o ≡ None) (message.boot == node.boot) (newer_than node.boot message.body) None
+    holds_if (λ o. o ≡ None) (message.boot == node.boot) (newer_than node.boot message.body) None
     (λ t. not_newer node.boot message.body (subst (λ n. NamesAtMost n message.body) (sym own) names)) (λ t. refl)
 never w node (Packet_comes segment) f u e brought = refl
 never w node Noise_comes f u e brought = refl
@@ -173,7 +174,7 @@ both_after service start trace j =
     holds_after service (λ w. IsFenced w × Unfenced w) start (λ s. (start_fenced start s, start_unfenced start s))
     (λ before sent after h x. (fenced_goes_on service before sent after h.0 x, unfenced_goes_on service before sent after h.0 h.1 x)) trace j
 
-if_some : {A : Type 0} (P : A → Type 0) (o : Option A) → ((x : A) → o ≡ Some x → P x) → IfSome o P
+pub if_some : {A : Type 0} (P : A → Type 0) (o : Option A) → ((x : A) → o ≡ Some x → P x) → IfSome o P
 if_some P (Some x) f = f x refl
 if_some P None f = tt
 

@@ -16,7 +16,7 @@ use Rattle.ft_model.specs.World.{World}
 use Rattle.ft_model.proofs.Formed.{AreLengths, AckWithin, BodyFormed, MessageFormed, PacketFormed}
 
 -- a flag's byte
-flag_low : (b : Bool) → flag b ≤ 1
+pub flag_low : (b : Bool) → flag b ≤ 1
 flag_low true = omega arith
 flag_low false = omega arith
 
@@ -25,7 +25,7 @@ unfolding two
 bytes_of_lens [] = tt
 bytes_of_lens (n ∷ lens) = (omega arith, (omega arith, bytes_of_lens lens))
 
-length_of_lens : (lens : List ℕ) → length (lens_bytes lens) ≡ 2 * length lens
+pub length_of_lens : (lens : List ℕ) → length (lens_bytes lens) ≡ 2 * length lens
 unfolding two
 length_of_lens [] = refl
 length_of_lens (n ∷ lens) = let rest = length_of_lens lens in omega (arith, rest)
@@ -58,39 +58,35 @@ numbers_fit start boot (EndedMsg key) h k = (h.0.0, (h.0.1, tt))
 numbers_fit start boot (StaleMsg newer) h k = (h.1, tt)
 numbers_fit start boot (FullMsg key) h k = (h.0.0, (h.0.1, tt))
 
--- one test after another
-then_and : (a b : Bool) → a ≡ true → b ≡ true → (a && b) ≡ true
-then_and a b p q = and_from a b p q
-
-is_low : (m n : ℕ) → m ≤ n → nat_le m n ≡ true
+pub is_low : (m n : ℕ) → m ≤ n → nat_le m n ≡ true
 is_low m n h = le-leb m n h
 
 -- .. and are in their ranges
 ranges_hold : (start : World) (boot : ℕ) (body : Body) → BodyFormed start boot body → AckWithin body
     → messages.all_in_range boot (length (behind_of body)) (fields_of (kind_of body)) (numbers_of body) ≡ true
 ranges_hold start boot HelloMsg h k = refl
-ranges_hold start boot (SummaryMsg count) h k = then_and _ _ (is_low count 64 h) refl
-ranges_hold start boot (ListMsg index) h k = then_and _ _ (is_low index 63 h) refl
+ranges_hold start boot (SummaryMsg count) h k = and_from _ _ (is_low count 64 h) refl
+ranges_hold start boot (ListMsg index) h k = and_from _ _ (is_low index 63 h) refl
 ranges_hold start boot (EntryMsg index e) h k =
-    then_and _ _ (is_low index 63 h.0) (then_and _ _ (then_and _ _ (is_low 64 e.mss h.1.3.0) (is_low e.mss 1460 h.1.3.1))
-    (then_and _ _ (is_low e.length (2 ^ 24) h.1.4) (then_and _ _ (is_low (flag e.fin) 1 (flag_low e.fin)) (then_and _ _ (is_low (flag e.done) 1 (flag_low e.done))
-    (then_and _ _ (is_low e.reads (2 ^ 24 + 1) h.1.5) (then_and _ _ (is_low e.acked (2 ^ 24 + 1) h.1.6) refl))))))
-ranges_hold start boot (BytesMsg key offset) h k = then_and _ _ (is_low (offset + 0) (2 ^ 24) (omega (arith, h.1))) refl
-ranges_hold start boot (PartMsg key offset bytes) h k = then_and _ _ (is_low (offset + length bytes) (2 ^ 24) h.1) refl
-ranges_hold start boot (CutsMsg key first) h k = then_and _ _ (is_low first (2 ^ 24 + 1) h.1) refl
-ranges_hold start boot (LensMsg key first lens) h k = then_and _ _ (is_low first (2 ^ 24 + 1) h.1) refl
-ranges_hold start boot (OpenMsg n) h k = then_and _ _ (then_and _ _ (is_low 64 n.mss h.3.0) (is_low n.mss 1460 h.3.1)) refl
-ranges_hold start boot (OpenedMsg n) h k = then_and _ _ (then_and _ _ (is_low 64 n.mss h.3.0) (is_low n.mss 1460 h.3.1)) refl
+    and_from _ _ (is_low index 63 h.0) (and_from _ _ (and_from _ _ (is_low 64 e.mss h.1.3.0) (is_low e.mss 1460 h.1.3.1))
+    (and_from _ _ (is_low e.length (2 ^ 24) h.1.4) (and_from _ _ (is_low (flag e.fin) 1 (flag_low e.fin)) (and_from _ _ (is_low (flag e.done) 1 (flag_low e.done))
+    (and_from _ _ (is_low e.reads (2 ^ 24 + 1) h.1.5) (and_from _ _ (is_low e.acked (2 ^ 24 + 1) h.1.6) refl))))))
+ranges_hold start boot (BytesMsg key offset) h k = and_from _ _ (is_low (offset + 0) (2 ^ 24) (omega (arith, h.1))) refl
+ranges_hold start boot (PartMsg key offset bytes) h k = and_from _ _ (is_low (offset + length bytes) (2 ^ 24) h.1) refl
+ranges_hold start boot (CutsMsg key first) h k = and_from _ _ (is_low first (2 ^ 24 + 1) h.1) refl
+ranges_hold start boot (LensMsg key first lens) h k = and_from _ _ (is_low first (2 ^ 24 + 1) h.1) refl
+ranges_hold start boot (OpenMsg n) h k = and_from _ _ (and_from _ _ (is_low 64 n.mss h.3.0) (is_low n.mss 1460 h.3.1)) refl
+ranges_hold start boot (OpenedMsg n) h k = and_from _ _ (and_from _ _ (is_low 64 n.mss h.3.0) (is_low n.mss 1460 h.3.1)) refl
 ranges_hold start boot (DataMsg part) h k =
-    then_and _ _ (is_low (part.offset + length part.bytes) (2 ^ 24) h.1) (then_and _ _ (is_low part.acked (2 ^ 24 + 1) k) (then_and _ _ (is_low (flag part.fin) 1 (flag_low part.fin)) refl))
+    and_from _ _ (is_low (part.offset + length part.bytes) (2 ^ 24) h.1) (and_from _ _ (is_low part.acked (2 ^ 24 + 1) k) (and_from _ _ (is_low (flag part.fin) 1 (flag_low part.fin)) refl))
 ranges_hold start boot (StableMsg n) h k =
-    then_and _ _ (is_low n.length (2 ^ 24) h.1) (then_and _ _ (is_low (flag n.fin) 1 (flag_low n.fin)) (then_and _ _ (is_low n.reads (2 ^ 24 + 1) h.2) refl))
-ranges_hold start boot (ReadMsg key index n) h k = then_and _ _ (is_low index (2 ^ 24 + 1) h.1) (then_and _ _ (is_low n 2048 h.2) refl)
+    and_from _ _ (is_low n.length (2 ^ 24) h.1) (and_from _ _ (is_low (flag n.fin) 1 (flag_low n.fin)) (and_from _ _ (is_low n.reads (2 ^ 24 + 1) h.2) refl))
+ranges_hold start boot (ReadMsg key index n) h k = and_from _ _ (is_low index (2 ^ 24 + 1) h.1) (and_from _ _ (is_low n 2048 h.2) refl)
 ranges_hold start boot (ReadsMsg n) h k =
-    then_and _ _ (is_low n.length (2 ^ 24) h.1) (then_and _ _ (is_low (flag n.fin) 1 (flag_low n.fin)) (then_and _ _ (is_low n.reads (2 ^ 24 + 1) h.2) refl))
+    and_from _ _ (is_low n.length (2 ^ 24) h.1) (and_from _ _ (is_low (flag n.fin) 1 (flag_low n.fin)) (and_from _ _ (is_low n.reads (2 ^ 24 + 1) h.2) refl))
 ranges_hold start boot (DoneMsg key) h k = refl
 ranges_hold start boot (EndedMsg key) h k = refl
-ranges_hold start boot (StaleMsg newer) h k = then_and _ _ (lt-ltb boot newer h.0) refl
+ranges_hold start boot (StaleMsg newer) h k = and_from _ _ (lt-ltb boot newer h.0) refl
 ranges_hold start boot (FullMsg key) h k = refl
 
 lens_low : (start : World) (boot : ℕ) (body : Body) → BodyFormed start boot body → list_all (λ len. nat_le len 2048) (lens_of body) ≡ true
@@ -105,7 +101,7 @@ body_sound start boot body up h k =
     (and_from (nat_le 1 boot) _ (le-leb 1 boot up) (ranges_hold start boot body h k)) (lens_low start boot body h)
 
 -- and so many bytes stand behind the fields
-has_size : (front fewest most n : ℕ) → fewest ≤ n → n ≤ most → (nat_le (front + fewest) (front + n) && nat_le (front + n) (front + most)) ≡ true
+pub has_size : (front fewest most n : ℕ) → fewest ≤ n → n ≤ most → (nat_le (front + fewest) (front + n) && nat_le (front + n) (front + most)) ≡ true
 has_size front fewest most n low high =
     and_from (nat_le (front + fewest) (front + n)) (nat_le (front + n) (front + most)) (le-leb _ _ (omega (arith, low))) (le-leb _ _ (omega (arith, high)))
 

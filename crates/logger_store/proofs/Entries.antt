@@ -1,8 +1,7 @@
 -- The entries of the log in the store's map: each key names one of them.
-use Rattle.std.proofs.Common.{◌≡◌, ◌∙◌, ℕ, Bool, true, false, ◌&&◌, ◌||◌, ◌==◌, refl, sym, ap, ap₂, subst, arith, List, [], ◌∷◌, ◌++◌, length, ◌≤◌, ◌<◌, ◌+◌, map, cond, Some, None, Option, find, is_some, true≢false, eqb-true, eq-eqb, if◌then◌else◌}
+use Rattle.std.proofs.Common.{◌≡◌, ◌∙◌, ℕ, Bool, true, false, ◌||◌, refl, sym, ap, ap₂, subst, arith, List, [], ◌∷◌, ◌++◌, length, ◌≤◌, ◌<◌, ◌+◌, map, cond, Some, None, Option, find, is_some, true≢false, if◌then◌else◌}
 use Rattle.std.specs.List.{AllByRecursion, IsDistinct, list_any}
 use Rattle.std.specs.Map.{lookup, set_value, keys_of, values_of}
-use Rattle.std.specs.Option.{unwrap_or}
 use Rattle.std.proofs.lemmas.List.{map-append}
 use Rattle.std.proofs.lemmas.Map.{keys-set_value, length-set_value}
 use Rattle.std.proofs.lemmas.Map.Entries.{length-values_of}
@@ -13,25 +12,17 @@ use Rattle.ft_model.specs.Log.{Log, Entry, with_entry, entry_of, opened, new_ent
 use Rattle.indexmap.specs.IndexMap.{insert_entry}
 use Rattle.indexmap.proofs.MapLemmas.{absent_from_lookup, insert_entry-absent}
 use Rattle.std.proofs.lemmas.Map.Steps.{set_value_same}
-use Rattle.std.proofs.lemmas.Bool.{leb-false}
+use Rattle.std.proofs.lemmas.Bool.{leb-false, or_parts}
 use Rattle.std.proofs.lemmas.List.{length-append}
 use Rattle.std.specs.Prelude.{nat_le}
+use Rattle.ft_io.proofs.Choices.{same_some}
+use Rattle.ft_model.proofs.PlayableLemmas.{same_either_way}
+use Rattle.ft_model.proofs.Lists.{same_key}
+use Rattle.ft_model.proofs.SomeOutcome.{is_none}
 
 -- what a test finds by an entry's own key
 abbrev has_key : Key → Entry → Bool
 has_key key e = key_eq e.key key
-
-eq_turned : (a b : ℕ) → (a == b) ≡ (b == a)
-eq_turned a b = go (a == b) (b == a) refl refl
-  where
-    go : (p q : Bool) → (a == b) ≡ p → (b == a) ≡ q → p ≡ q
-    go true true e f = refl
-    go false false e f = refl
-    go true false e f = absurd (true≢false (sym (eq-eqb b a (sym (eqb-true a b e))) ∙ f))
-    go false true e f = absurd (true≢false (sym (eq-eqb a b (sym (eqb-true b a f))) ∙ e))
-
-pub keys_turned : (a b : Key) → key_eq a b ≡ key_eq b a
-keys_turned a b = ap₂ ◌&&◌ (eq_turned a.ip b.ip) (eq_turned a.port b.port)
 
 -- the keys of a map's entries are those in its values
 abbrev pub AreKept : List (Key × Entry) → Type 0
@@ -47,14 +38,14 @@ rest_kept e es kept = cc
 pub found : (key : Key) (es : List (Key × Entry)) → AreKept es → find (has_key key) (values_of es) ≡ lookup (key_eq key) es
 found key [] kept = refl
 found key (e ∷ es) kept =
-    let same : key_eq e.1.key key ≡ key_eq key e.0 = ap (λ k. key_eq k key) (sym (first_kept e es kept)) ∙ keys_turned e.0 key in
+    let same : key_eq e.1.key key ≡ key_eq key e.0 = ap (λ k. key_eq k key) (sym (first_kept e es kept)) ∙ same_either_way e.0 key in
     ap (λ b. cond b (Some e.1) (find (has_key key) (values_of es))) same ∙ ap (cond (key_eq key e.0) (Some e.1)) (found key es (rest_kept e es kept))
 
 -- .. and says whether there is one
 pub known : (key : Key) (es : List (Key × Entry)) → AreKept es → list_any (has_key key) (values_of es) ≡ is_some (lookup (key_eq key) es)
 known key [] kept = refl
 known key (e ∷ es) kept =
-    let same : key_eq e.1.key key ≡ key_eq key e.0 = ap (λ k. key_eq k key) (sym (first_kept e es kept)) ∙ keys_turned e.0 key in
+    let same : key_eq e.1.key key ≡ key_eq key e.0 = ap (λ k. key_eq k key) (sym (first_kept e es kept)) ∙ same_either_way e.0 key in
     ap (λ b. b || list_any (has_key key) (values_of es)) same
     ∙ (ap (λ b. key_eq key e.0 || b) (known key es (rest_kept e es kept)) ∙ or_some (key_eq key e.0) e.1 (lookup (key_eq key) es))
   where
@@ -71,7 +62,7 @@ others_stay : (key : Key) (change : Entry → Entry) (es : List (Key × Entry)) 
     → changed key change (values_of es) ≡ values_of es
 others_stay key change [] kept none = refl
 others_stay key change (e ∷ es) kept none =
-    let other : key_eq e.1.key key ≡ false = ap (λ k. key_eq k key) (sym (first_kept e es kept)) ∙ (keys_turned e.0 key ∙ none.0) in
+    let other : key_eq e.1.key key ≡ false = ap (λ k. key_eq k key) (sym (first_kept e es kept)) ∙ (same_either_way e.0 key ∙ none.0) in
     ap₂ ◌∷◌ (ap (λ b. if b then change e.1 else e.1) other) (others_stay key change es (rest_kept e es kept) none.1)
 
 -- a look-up that finds nothing finds none of the keys
@@ -88,21 +79,6 @@ pub none_changed : (key : Key) (change : Entry → Entry) (es : List (Key × Ent
     → values_of es ≡ changed key change (values_of es)
 none_changed key change es kept e = sym (others_stay key change es kept (none_found key es e))
 
-both : (a b : Bool) → (a && b) ≡ true → (a ≡ true) × (b ≡ true)
-both true true e = (refl, refl)
-both true false e = absurd (true≢false (sym e))
-both false b e = absurd (true≢false (sym e))
-
-same_key : (a b : Key) → key_eq a b ≡ true → a ≡ b
-same_key a b e =
-    let parts = both (a.ip == b.ip) (a.port == b.port) e in
-    let ip : a.ip ≡ b.ip = eqb-true _ _ parts.0 in
-    let port : a.port ≡ b.port = eqb-true _ _ parts.1 in
-    ap₂ (λ (x y : ℕ). let k : Key = record { ip = x; port = y } in k) ip port
-
-found_one : {X : Type 0} {x y : X} → Some x ≡ Some y → x ≡ y
-found_one {X} {x} e = ap (λ o. unwrap_or o x) e
-
 -- the entry of a key is changed where it stands
 pub one_changed : (key : Key) (change : Entry → Entry) (was now : Entry) (es : List (Key × Entry)) → AreKept es → IsDistinct key_eq (keys_of es)
     → lookup (key_eq key) es ≡ Some was → now ≡ change was → values_of (set_value (key_eq key) es now) ≡ changed key change (values_of es)
@@ -112,13 +88,13 @@ one_changed key change was now (e ∷ es) kept distinct found is =
     go (key_eq key e.0) refl (λ f. one_changed key change was now es (rest_kept e es kept) distinct.1 f is)
   where
     same : key_eq e.1.key key ≡ key_eq key e.0
-    same = ap (λ k. key_eq k key) (sym (first_kept e es kept)) ∙ keys_turned e.0 key
+    same = ap (λ k. key_eq k key) (sym (first_kept e es kept)) ∙ same_either_way e.0 key
 
     go : (b : Bool) → key_eq key e.0 ≡ b
         → (lookup (key_eq key) es ≡ Some was → values_of (set_value (key_eq key) es now) ≡ changed key change (values_of es))
         → values_of (set_value (key_eq key) (e ∷ es) now) ≡ changed key change (values_of (e ∷ es))
     go true t rest =
-        let here : e.1 ≡ was = found_one (sym (ap (λ b. cond b (Some e.1) (lookup (key_eq key) es)) t) ∙ found) in
+        let here : e.1 ≡ was = same_some (sym (ap (λ b. cond b (Some e.1) (lookup (key_eq key) es)) t) ∙ found) in
         let others = subst (λ k. AllByRecursion (λ y. key_eq k y ≡ false) (keys_of es)) (sym (same_key key e.0 t)) distinct.0 in
         ap (λ b. values_of (cond b ((e.0, now) ∷ es) (e ∷ set_value (key_eq key) es now))) t
         ∙ ap₂ ◌∷◌ (is ∙ (ap change (sym here) ∙ ap (λ b. if b then change e.1 else e.1) (sym (same ∙ t))))
@@ -138,7 +114,7 @@ own_keys test was now (e ∷ es) found is = go (test e.0) refl (λ f. own_keys t
         → (lookup test es ≡ Some was → map (λ x. x.key) (values_of (set_value test es now)) ≡ map (λ x. x.key) (values_of es))
         → map (λ x. x.key) (values_of (set_value test (e ∷ es) now)) ≡ map (λ x. x.key) (values_of (e ∷ es))
     go true t rest =
-        let here : e.1 ≡ was = found_one (sym (ap (λ b. cond b (Some e.1) (lookup test es)) t) ∙ found) in
+        let here : e.1 ≡ was = same_some (sym (ap (λ b. cond b (Some e.1) (lookup test es)) t) ∙ found) in
         ap (λ b. map (λ x. x.key) (values_of (cond b ((e.0, now) ∷ es) (e ∷ set_value test es now)))) t
         ∙ ap (λ k. k ∷ map (λ x. x.key) (values_of es)) (is ∙ ap (λ x. x.key) (sym here))
     go false t rest =
@@ -201,22 +177,13 @@ any_found test (e ∷ es) = ap (λ b. test e || b) (any_found test es) ∙ or_so
     or_some true x o = refl
     or_some false x o = refl
 
-none_of : {X : Type 0} (o : Option X) → is_some o ≡ false → o ≡ None
-none_of None e = refl
-none_of (Some x) e = absurd (true≢false e)
-
-neither : (a b : Bool) → (a || b) ≡ false → (a ≡ false) × (b ≡ false)
-neither true b e = absurd (true≢false e)
-neither false true e = absurd (true≢false e)
-neither false false e = (refl, refl)
-
 -- an entry of another key is added last
 pub opening : (boot : ℕ) (es after : List (Key × Entry)) (n : Numbers) → AreKept es
     → (list_any (λ e. key_eq e.key n.key) (values_of es) || nat_le 64 (length (values_of es))) ≡ false → after ≡ insert_entry key_eq es n.key (new_entry n)
     → (AreKept after × (length (values_of after) ≤ 64)) × (log_of boot after ≡ opened n (log_of boot es))
 opening boot es after n kept room added =
-    let parts = neither _ _ room in
-    let nothing : lookup (key_eq n.key) es ≡ None = none_of _ (sym (known n.key es kept) ∙ parts.0) in
+    let parts = or_parts _ _ room in
+    let nothing : lookup (key_eq n.key) es ≡ None = is_none _ (sym (known n.key es kept) ∙ parts.0) in
     let last : after ≡ es ++ (n.key, new_entry n) ∷ [] = added ∙ insert_entry-absent key_eq n.key (new_entry n) es (absent_from_lookup (key_eq n.key) es nothing) in
     let values : values_of after ≡ values_of es ++ new_entry n ∷ [] = ap values_of last ∙ one_more es n.key (new_entry n) in
     let few : length (values_of es) < 64 = leb-false 64 (length (values_of es)) parts.1 in

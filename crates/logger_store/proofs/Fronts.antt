@@ -1,9 +1,8 @@
 -- What an answer gives of an entry: a front of what stands behind a place.
 use Rattle.std.proofs.Common.{◌≡◌, ◌∙◌, ℕ, zero, suc, ◌-◌, Bool, true, ap, refl, List, [], ◌∷◌, length, take, drop, min}
 use Rattle.std.specs.List.{list_all}
-use Rattle.std.proofs.lemmas.Bool.{and_from}
+use Rattle.std.proofs.lemmas.Bool.{and_from, and_parts}
 use Rattle.std.proofs.lemmas.List.{length-take, length-drop}
-use Rattle.seq_arith.proofs.MessageSpelling.{both_hold}
 
 pub front_length : (n from : ℕ) (xs : List ℕ) → length (take n (drop from xs)) ≡ min n (length xs - from)
 front_length n from xs = length-take n (drop from xs) ∙ ap (min n) (length-drop from xs)
@@ -12,12 +11,12 @@ taken : (test : ℕ → Bool) (n : ℕ) (xs : List ℕ) → list_all test xs ≡
 taken test zero xs all = refl
 taken test (suc n) [] all = refl
 taken test (suc n) (x ∷ xs) all =
-    let parts = both_hold (test x) (list_all test xs) all in and_from (test x) (list_all test (take n xs)) parts.0 (taken test n xs parts.1)
+    let parts = and_parts (test x) (list_all test xs) all in and_from (test x) (list_all test (take n xs)) parts.0 (taken test n xs parts.1)
 
 left : (test : ℕ → Bool) (n : ℕ) (xs : List ℕ) → list_all test xs ≡ true → list_all test (drop n xs) ≡ true
 left test zero xs all = all
 left test (suc n) [] all = refl
-left test (suc n) (x ∷ xs) all = left test n xs (both_hold (test x) (list_all test xs) all).1
+left test (suc n) (x ∷ xs) all = left test n xs (and_parts (test x) (list_all test xs) all).1
 
 pub front_holds : (test : ℕ → Bool) (n from : ℕ) (xs : List ℕ) → list_all test xs ≡ true → list_all test (take n (drop from xs)) ≡ true
 front_holds test n from xs all = taken test n (drop from xs) (left test from xs all)

@@ -6,10 +6,7 @@ use Rattle.std.proofs.lemmas.List.{length-take, length-drop, take_all, drop_all,
 use Rattle.std.proofs.Math.Seq.{drop-append-add, take-append_seam, take-append-add, take-length}
 use Rattle.std.proofs.lemmas.Bool.{cases_lt}
 use Rattle.logger_store.specs.Pages.{IsFull, IsLast, page_of}
-use Rattle.logger_store.proofs.Filling.{length_full, length_is}
-
-rest : {X : Type 0} (P : X → Type 0) (x : X) (xs : List X) → All P (x ∷ xs) → All P xs
-rest P x xs h = λ k d lt. h (suc k) d (omega arith)
+use Rattle.logger_store.proofs.Filling.{length_full, length_is, rest}
 
 -- behind a full page the pages count on
 next_page : (p ys : List ℕ) (i : ℕ) → IsFull p → page_of (p ++ ys) (suc i) ≡ page_of ys i

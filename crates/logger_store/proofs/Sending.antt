@@ -2,17 +2,12 @@
 use Rattle.std.proofs.Common.{◌≡◌, ℕ, ◌+◌, ◌*◌, ◌%◌, ◌^◌, ◌≤◌, true, refl, List, [], ◌∷◌, length, eq-eqb, arith}
 use Rattle.std.specs.Prelude.{nat_le, nat_eq, ◌&&◌}
 use Rattle.std.specs.List.{list_all}
-use Rattle.std.proofs.lemmas.Bool.{le-leb, leb-true}
+use Rattle.std.proofs.lemmas.Bool.{le-leb, leb-true, and_parts}
 use Rattle.seq_arith.specs.declared.kinds.Kind.TheVariants as kinds
-use Rattle.seq_arith.specs.Bytes.{two}
 use Rattle.seq_arith.specs.MessageGrammar.{lens_bytes, is_sound, has_length, all_in_range, fields_of}
-use Rattle.seq_arith.proofs.MessageSpelling.{both_hold, bounded}
+use Rattle.seq_arith.proofs.MessageSpelling.{bounded}
 use Rattle.seq_arith.specs.declared.kinds.Kind.{Kind}
-
-pub two_each : (lens : List ℕ) → length (lens_bytes lens) ≡ 2 * length lens
-unfolding two
-two_each [] = refl
-two_each (n ∷ lens) = omega (arith, two_each lens)
+use Rattle.ft_model.proofs.Wires.{length_of_lens}
 
 pub lens_sound : (boot first behind ip port : ℕ) (lens : List ℕ) → 1 ≤ boot → first ≤ 2 ^ 24 + 1 → list_all (λ n. nat_le n 2048) lens ≡ true
     → is_sound kinds.Lens boot behind (ip ∷ port ∷ first ∷ []) lens ≡ true
@@ -25,7 +20,7 @@ lens_sound boot first behind ip port lens some within each =
 pub lens_size : (lens : List ℕ) → 1 ≤ length lens → length lens ≤ 512 → has_length kinds.Lens (26 + length (lens_bytes lens)) ≡ true
 unfolding has_length
 lens_size lens some few =
-    let count : length (lens_bytes lens) ≡ 2 * length lens = two_each lens in
+    let count : length (lens_bytes lens) ≡ 2 * length lens = length_of_lens lens in
     let n : ℕ = 26 + length (lens_bytes lens) in
     let least : nat_le 28 n ≡ true = le-leb 28 n (omega (arith, count, some)) in
     let most : nat_le n 1050 ≡ true = le-leb n 1050 (omega (arith, count, few)) in
@@ -35,32 +30,32 @@ lens_size lens some few =
 -- the ranges of what is read
 pub some_boot : (kind : Kind) (boot behind : ℕ) (numbers lens : List ℕ) → is_sound kind boot behind numbers lens ≡ true → 1 ≤ boot
 unfolding is_sound
-some_boot kind boot behind numbers lens s = leb-true 1 boot (both_hold _ _ (both_hold _ _ s).0).0
+some_boot kind boot behind numbers lens s = leb-true 1 boot (and_parts _ _ (and_parts _ _ s).0).0
 
 fields : (kind : Kind) (boot behind : ℕ) (numbers lens : List ℕ) → is_sound kind boot behind numbers lens ≡ true
     → all_in_range boot behind (fields_of kind) numbers ≡ true
 unfolding is_sound
-fields kind boot behind numbers lens s = (both_hold _ _ (both_hold _ _ s).0).1
+fields kind boot behind numbers lens s = (and_parts _ _ (and_parts _ _ s).0).1
 
 pub open_ranges : (boot behind ip port cisn sisn mss : ℕ) (lens : List ℕ) → is_sound kinds.Open boot behind (ip ∷ port ∷ cisn ∷ sisn ∷ mss ∷ []) lens ≡ true
     → (64 ≤ mss) × (mss ≤ 1460)
 open_ranges boot behind ip port cisn sisn mss lens s =
-    let m = both_hold (nat_le 64 mss) (nat_le mss 1460) (both_hold (nat_le 64 mss && nat_le mss 1460) true (fields kinds.Open boot behind _ lens s)).0 in
+    let m = and_parts (nat_le 64 mss) (nat_le mss 1460) (and_parts (nat_le 64 mss && nat_le mss 1460) true (fields kinds.Open boot behind _ lens s)).0 in
     (leb-true 64 mss m.0, leb-true mss 1460 m.1)
 
 pub data_ranges : (boot behind ip port offset acked fin : ℕ) (lens : List ℕ) → is_sound kinds.Data boot behind (ip ∷ port ∷ offset ∷ acked ∷ fin ∷ []) lens ≡ true
     → (offset + behind ≤ 2 ^ 24) × (acked ≤ 2 ^ 24 + 1)
 data_ranges boot behind ip port offset acked fin lens s =
-    let f = both_hold (nat_le (offset + behind) (2 ^ 24)) (nat_le acked (2 ^ 24 + 1) && (nat_le fin 1 && true)) (fields kinds.Data boot behind _ lens s) in
-    (leb-true (offset + behind) (2 ^ 24) f.0, leb-true acked (2 ^ 24 + 1) (both_hold (nat_le acked (2 ^ 24 + 1)) (nat_le fin 1 && true) f.1).0)
+    let f = and_parts (nat_le (offset + behind) (2 ^ 24)) (nat_le acked (2 ^ 24 + 1) && (nat_le fin 1 && true)) (fields kinds.Data boot behind _ lens s) in
+    (leb-true (offset + behind) (2 ^ 24) f.0, leb-true acked (2 ^ 24 + 1) (and_parts (nat_le acked (2 ^ 24 + 1)) (nat_le fin 1 && true) f.1).0)
 
 pub data_few : (n : ℕ) → has_length kinds.Data (31 + n) ≡ true → n ≤ 1460
 data_few n h = omega (arith, (bounded kinds.Data (31 + n) h).1)
 
 pub read_range : (boot behind ip port index len : ℕ) (lens : List ℕ) → is_sound kinds.Read boot behind (ip ∷ port ∷ index ∷ len ∷ []) lens ≡ true → len ≤ 2048
 read_range boot behind ip port index len lens s =
-    let f = both_hold (nat_le index (2 ^ 24 + 1)) (nat_le len 2048 && true) (fields kinds.Read boot behind _ lens s) in
-    leb-true len 2048 (both_hold (nat_le len 2048) true f.1).0
+    let f = and_parts (nat_le index (2 ^ 24 + 1)) (nat_le len 2048 && true) (fields kinds.Read boot behind _ lens s) in
+    leb-true len 2048 (and_parts (nat_le len 2048) true f.1).0
 
 pub list_range : (boot behind index : ℕ) (lens : List ℕ) → is_sound kinds.List boot behind (index ∷ []) lens ≡ true → index ≤ 63
-list_range boot behind index lens s = leb-true index 63 (both_hold (nat_le index 63) true (fields kinds.List boot behind _ lens s)).0
+list_range boot behind index lens s = leb-true index 63 (and_parts (nat_le index 63) true (fields kinds.List boot behind _ lens s)).0

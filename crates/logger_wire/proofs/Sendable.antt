@@ -2,7 +2,7 @@
 use Rattle.std.proofs.Common.{◌≡◌, ℕ, zero, suc, ◌≤◌, ◌+◌, ◌-◌, ◌%◌, ◌^◌, Bool, true, not, List, [], ◌∷◌, length, length-drop, take, drop, ap, refl, sym, subst, arith, ◌∙◌}
 use Rattle.std.specs.Prelude.{◌&&◌, ◌||◌, nat_eq, nat_le, slice_index}
 use Rattle.std.specs.List.{list_all}
-use Rattle.std.proofs.lemmas.Bool.{leb-true, and_from}
+use Rattle.std.proofs.lemmas.Bool.{leb-true, and_from, and_parts}
 use Rattle.std.proofs.lemmas.List.{take_rest}
 use Rattle.seq_arith.specs.declared.kinds.Kind.{Kind}
 use Rattle.seq_arith.specs.declared.kinds.Kind.TheVariants as kinds
@@ -10,7 +10,7 @@ use Rattle.seq_arith.specs.declared.kinds.Field.{Field}
 use Rattle.seq_arith.specs.Bytes.{two}
 use Rattle.seq_arith.specs.Message.{Body, Message}
 use Rattle.seq_arith.specs.MessageGrammar.{number_in, fields_of, most_behind, width, behind_at, has_length, is_lens, all_in_range, numbers_in, lens_in, lens_bytes, kind_of, numbers_of, behind_of, lens_of, flag, body_in, message_in, is_sound, is_sound_in, AllFit, IsSpellable}
-use Rattle.seq_arith.proofs.MessageSpelling.{both_hold, bounded}
+use Rattle.seq_arith.proofs.MessageSpelling.{bounded}
 use Rattle.logger_wire.specs.declared.Msg.{Msg}
 use Rattle.logger_wire.specs.Tested.{flags_in, left_over_in}
 use Rattle.logger_wire.specs.Value.{IsSendable, message_of, flags_of, left_over}
@@ -54,10 +54,10 @@ same_kind kinds.Full numbers behind = refl
 -- the flags among the tests of an entry's numbers
 entry_flags : (place least most len fin done rest : Bool) → (place && ((least && most) && (len && (fin && (done && rest))))) ≡ true → (fin && (done && true)) ≡ true
 entry_flags place least most len fin done rest good =
-    let from_mss = (both_hold place ((least && most) && (len && (fin && (done && rest)))) good).1
-    in let from_length = (both_hold (least && most) (len && (fin && (done && rest))) from_mss).1
-    in let from_fin = both_hold fin (done && rest) (both_hold len (fin && (done && rest)) from_length).1
-    in and_from fin (done && true) from_fin.0 (and_from done true (both_hold done rest from_fin.1).0 refl)
+    let from_mss = (and_parts place ((least && most) && (len && (fin && (done && rest)))) good).1
+    in let from_length = (and_parts (least && most) (len && (fin && (done && rest))) from_mss).1
+    in let from_fin = and_parts fin (done && rest) (and_parts len (fin && (done && rest)) from_length).1
+    in and_from fin (done && true) from_fin.0 (and_from done true (and_parts done rest from_fin.1).0 refl)
 
 -- flags in their range are flags
 flags_good : (kind : Kind) (boot behind : ℕ) (bytes : List ℕ) → all_in_range boot behind (fields_of kind) (read kind bytes) ≡ true
@@ -75,12 +75,12 @@ flags_good kinds.Cuts boot behind bytes good = refl
 flags_good kinds.Lens boot behind bytes good = refl
 flags_good kinds.Open boot behind bytes good = refl
 flags_good kinds.Opened boot behind bytes good = refl
-flags_good kinds.Data boot behind bytes good = (both_hold _ _ (both_hold _ _ good).1).1
+flags_good kinds.Data boot behind bytes good = (and_parts _ _ (and_parts _ _ good).1).1
 flags_good kinds.Stable boot behind bytes good =
-    let from_flag = (both_hold _ _ good).1 in and_from _ _ (both_hold _ _ from_flag).0 refl
+    let from_flag = (and_parts _ _ good).1 in and_from _ _ (and_parts _ _ from_flag).0 refl
 flags_good kinds.Read boot behind bytes good = refl
 flags_good kinds.Reads boot behind bytes good =
-    let from_flag = (both_hold _ _ good).1 in and_from _ _ (both_hold _ _ from_flag).0 refl
+    let from_flag = (and_parts _ _ good).1 in and_from _ _ (and_parts _ _ from_flag).0 refl
 flags_good kinds.Done boot behind bytes good = refl
 flags_good kinds.Ended boot behind bytes good = refl
 flags_good kinds.Stale boot behind bytes good = refl
@@ -94,9 +94,9 @@ numbers_again kinds.Summary bytes behind flags = refl
 numbers_again kinds.List bytes behind flags = refl
 numbers_again kinds.Entry bytes behind flags =
     let at : ℕ → ℕ = λ i. slice_index (read kinds.Entry bytes) i
-    in let both = both_hold (nat_le (at 7) 1) (nat_le (at 8) 1 && true) flags
+    in let both = and_parts (nat_le (at 7) 1) (nat_le (at 8) 1 && true) flags
     in let fin : flag (nat_eq (at 7) 1) ≡ at 7 = flag_again (at 7) both.0
-    in let done : flag (nat_eq (at 8) 1) ≡ at 8 = flag_again (at 8) (both_hold (nat_le (at 8) 1) true both.1).0
+    in let done : flag (nat_eq (at 8) 1) ≡ at 8 = flag_again (at 8) (and_parts (nat_le (at 8) 1) true both.1).0
     in cc (fin, done)
 numbers_again kinds.Bytes bytes behind flags = refl
 numbers_again kinds.Part bytes behind flags = refl
@@ -105,12 +105,12 @@ numbers_again kinds.Lens bytes behind flags = refl
 numbers_again kinds.Open bytes behind flags = refl
 numbers_again kinds.Opened bytes behind flags = refl
 numbers_again kinds.Data bytes behind flags =
-    let n : ℕ = slice_index (read kinds.Data bytes) 4 in let fin : flag (nat_eq n 1) ≡ n = flag_again n (both_hold (nat_le n 1) true flags).0 in cc fin
+    let n : ℕ = slice_index (read kinds.Data bytes) 4 in let fin : flag (nat_eq n 1) ≡ n = flag_again n (and_parts (nat_le n 1) true flags).0 in cc fin
 numbers_again kinds.Stable bytes behind flags =
-    let n : ℕ = slice_index (read kinds.Stable bytes) 3 in let fin : flag (nat_eq n 1) ≡ n = flag_again n (both_hold (nat_le n 1) true flags).0 in cc fin
+    let n : ℕ = slice_index (read kinds.Stable bytes) 3 in let fin : flag (nat_eq n 1) ≡ n = flag_again n (and_parts (nat_le n 1) true flags).0 in cc fin
 numbers_again kinds.Read bytes behind flags = refl
 numbers_again kinds.Reads bytes behind flags =
-    let n : ℕ = slice_index (read kinds.Reads bytes) 3 in let fin : flag (nat_eq n 1) ≡ n = flag_again n (both_hold (nat_le n 1) true flags).0 in cc fin
+    let n : ℕ = slice_index (read kinds.Reads bytes) 3 in let fin : flag (nat_eq n 1) ≡ n = flag_again n (and_parts (nat_le n 1) true flags).0 in cc fin
 numbers_again kinds.Done bytes behind flags = refl
 numbers_again kinds.Ended bytes behind flags = refl
 numbers_again kinds.Stale bytes behind flags = refl
@@ -173,7 +173,7 @@ none_left kinds.Full behind even = refl
 no_rest : (kind : Kind) (n : ℕ) (behind : List ℕ) → n ≡ behind_at kind + length behind → has_length kind n ≡ true → left_over_in kind behind ≡ 0
 unfolding has_length
 no_rest kind n behind is size =
-    let even : (not (is_lens kind) || nat_eq (n % 2) 0) ≡ true = (both_hold _ _ size).1
+    let even : (not (is_lens kind) || nat_eq (n % 2) 0) ≡ true = (and_parts _ _ size).1
     in none_left kind behind (ap (λ k. not (is_lens kind) || nat_eq (k % 2) 0) (sym is) ∙ even)
 
 pub long_enough : (kind : Kind) (n : ℕ) → has_length kind n ≡ true → behind_at kind ≤ n
@@ -191,7 +191,7 @@ read_spellable kind bytes are size sound =
     in let within = bounded kind (length bytes) size
     in let count : length bytes ≡ behind_at kind + length behind = omega (arith, length-drop (behind_at kind) bytes)
     in let few : length behind ≤ most_behind kind = omega arith
-    in let good : all_in_range boot (length behind) (fields_of kind) (read kind fields) ≡ true = (both_hold _ _ (both_hold _ _ sound).0).1
+    in let good : all_in_range boot (length behind) (fields_of kind) (read kind fields) ≡ true = (and_parts _ _ (and_parts _ _ sound).0).1
     in let again : numbers_of body ≡ read kind fields = numbers_again kind fields behind (flags_good kind boot (length behind) fields good)
     in let as_many : length (behind_of body) ≡ length behind = same_behind kind (read kind fields) behind few (no_rest kind (length bytes) behind count size)
     in let Fit : Kind → List ℕ → Type 0 = λ k numbers. AllFit (fields_of k) numbers
@@ -220,7 +220,7 @@ unfolding is_sound is_sound_in message_in
 read_sendable kind bytes msg are size sound says flags at at_is lens =
     let behind : List ℕ = drop (behind_at kind) bytes
     in let count : length bytes ≡ behind_at kind + length behind = omega (arith, length-drop (behind_at kind) bytes, long_enough kind (length bytes) size)
-    in let good = (both_hold _ _ (both_hold _ _ sound).0).1
+    in let good = (and_parts _ _ (and_parts _ _ sound).0).1
     in record {
       flags = ap are_flags (flags ∙ ap (λ b. flags_in kind (read kind b)) (take_rest bytes 16)) ∙ flags_good kind (number_in 8 (drop 8 bytes)) (length behind) (drop 16 bytes) good;
       lens = lens ∙ ap (left_over_in kind) (take_rest bytes at ∙ ap (λ n. drop n bytes) at_is) ∙ no_rest kind (length bytes) behind count size;

@@ -5,7 +5,7 @@ use Rattle.std.proofs.lemmas.Bool.{lt-ltb}
 use Rattle.std.proofs.lemmas.List.{take-append-le, take_all}
 use Rattle.seq_arith.specs.PacketGrammar.{spelling}
 use Rattle.server_trait.specs.Service.{Machine}
-use Rattle.ft_model.specs.Client.{Client, Move, move_asked, mover_of, move_of, window_of, refusal_of_move, may_move, suits_kind, suits_phase, suits_range, may_announce, segment_of, moved}
+use Rattle.ft_model.specs.Client.{Client, Move, move_asked, mover_of, move_of, window_of, may_announce, segment_of, moved}
 use Rattle.ft_model.specs.Client.Move.{Syn, Text, Fin, Acknowledge, Rst}
 use Rattle.ft_model.specs.Legal.{refusal, refusal_of_client}
 use Rattle.ft_model.specs.Network.{Packet}
@@ -16,7 +16,6 @@ use Rattle.ft_model.specs.declared.event.Event.TheVariants as events
 use Rattle.ft_model.specs.declared.event.EventWhy.{EventWhy}
 use Rattle.ft_model.specs.declared.event.EventWhy.TheVariants as why
 use Rattle.ft_model.specs.declared.way.Way.TheVariants.{ClientToServer}
-use Rattle.ft_model.proofs.ClientKinds.{suits_either}
 use Rattle.ft_model.proofs.Keys.{AreDistinct}
 use Rattle.ft_model.proofs.Lists.{none_is_some, some_is, same_key}
 use Rattle.peer_client.specs.Scripted.{Makes, Refuses as RefusesMove}
@@ -29,6 +28,7 @@ use Rattle.net_schedule.proofs.Keeping.{sent_kept}
 use Rattle.net_schedule.proofs.Numbered.{past}
 use Rattle.net_schedule.proofs.Peers.{keys_in, number_is, at_first, first_is, keys_stay, changed_past, within}
 use Rattle.net_schedule.proofs.Bringing.{distinct_keys}
+use Rattle.ft_model.proofs.SomeOutcome.{move_may as may}
 
 -- an element that is written over is changed
 pub changed_set : {X : Type 0} (change : X → X) (xs : List X) (i : ℕ) (d y : X) → i < length xs → y ≡ change (get_or xs i d) → set xs i y ≡ changed_at i change xs
@@ -71,9 +71,6 @@ may_if true true true k e = refl
 may_if true true false k e = none_is_some why.Range (sym e)
 may_if true false range k e = none_is_some why.State (sym e)
 may_if false phase range k e = absurd (cc)
-
-may : (client : Client) (event : Event) (move : Move) → move_of event ≡ Some move → refusal_of_move client move ≡ None → may_move client move ≡ true
-may client event move m e = may_if (suits_kind client.kind move) (suits_phase client move) (suits_range client move) (suits_either client.kind event move m) e
 
 -- it may announce its window
 announces : (client : Client) (event : Event) (move : Move) → move_of event ≡ Some move → window_of client event < 2 ^ 16 → may_announce move (window_of client event) ≡ true

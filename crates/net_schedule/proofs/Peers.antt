@@ -1,19 +1,22 @@
 -- Clients whose keys differ: what is done to the one of a key is done to the one of its number, and the keys stay.
-use Rattle.std.proofs.Common.{◌≡◌, ◌∙◌, sym, ap, subst, refl, ℕ, zero, suc, ◌+◌, ◌≤◌, ◌<◌, ◌&&◌, ◌==◌, not, nat_lt, cond, Bool, true, false, Some, None, List, [], ◌∷◌, length, map, slice_get, arith}
+use Rattle.std.proofs.Common.{◌≡◌, ◌∙◌, sym, ap, subst, refl, ℕ, zero, suc, ◌+◌, ◌≤◌, ◌<◌, ◌&&◌, ◌==◌, not, nat_lt, cond, true, false, Some, None, List, [], ◌∷◌, length, map, slice_get, arith}
 use Rattle.std.specs.List.{prefix_len, list_any}
 use Rattle.std.specs.Option.{option_map_or}
 use Rattle.std.proofs.lemmas.List.{length-map}
 use Rattle.std.proofs.lemmas.Bool.Decides.{nat_tests}
+use Rattle.std.proofs.lemmas.Bool.{and_parts, or_parts}
 use Rattle.ft_io.specs.declared.Addr.{Addr}
 use Rattle.ft_io.specs.declared.Key.{Key}
 use Rattle.ft_io.specs.Key.{key_eq}
 use Rattle.ft_model.specs.Client.{Client}
 use Rattle.ft_model.specs.World.{with_client, is_apart, are_apart}
 use Rattle.ft_model.specs.Report.{number_of_client}
-use Rattle.ft_model.proofs.Lists.{both, neither, not_true, some_is, none_is_some, key_is, same_key}
+use Rattle.ft_model.proofs.Lists.{some_is, none_is_some, key_is, same_key}
 use Rattle.ft_model.proofs.Keys.{AreDistinct, has_key, has_key_map, key_eq_turns}
 use Rattle.net_schedule.specs.Carried.{number_in}
 use Rattle.net_schedule.specs.Hearing.{changed_at}
+use Rattle.ft_io.proofs.Booleans.{not_true}
+use Rattle.ft_io.proofs.Choices.{by_cases}
 
 abbrev pub keys_in : List Client → List Key
 keys_in clients = map (λ c. c.key) clients
@@ -22,14 +25,9 @@ keys_in clients = map (λ c. c.key) clients
 pub apart_distinct : (server : Addr) (clients : List Client) → are_apart server clients ≡ true → AreDistinct (keys_in clients)
 apart_distinct server [] e = tt
 apart_distinct server (c ∷ clients) e =
-    let parts = both (is_apart server c.key clients) (are_apart server clients) e in
-    let none = not_true (list_any (λ x. key_eq x.key c.key) clients) (both (not (c.key.ip == server.ip && c.key.port == server.port)) (not (list_any (λ x. key_eq x.key c.key) clients)) parts.0).1 in
+    let parts = and_parts (is_apart server c.key clients) (are_apart server clients) e in
+    let none = not_true (list_any (λ x. key_eq x.key c.key) clients) (and_parts (not (c.key.ip == server.ip && c.key.port == server.port)) (not (list_any (λ x. key_eq x.key c.key) clients)) parts.0).1 in
     (sym (has_key_map (λ x. x.key) c.key clients) ∙ none, apart_distinct server clients parts.1)
-
--- a test, either way
-pub either : {P : Type 0} (b : Bool) → (b ≡ true → P) → (b ≡ false → P) → P
-either true t f = t refl
-either false t f = f refl
 
 one_more : (n : ℕ) → 1 + n ≡ suc n
 one_more n = omega arith
@@ -38,7 +36,7 @@ one_more n = omega arith
 no_one : (key : Key) (change : Client → Client) (cs : List Client) → has_key key (keys_in cs) ≡ false → with_client key change cs ≡ cs
 no_one key change [] h = refl
 no_one key change (c ∷ cs) h =
-    let parts = neither (key_eq c.key key) (has_key key (keys_in cs)) h in
+    let parts = or_parts (key_eq c.key key) (has_key key (keys_in cs)) h in
     ap (λ b. cond b (change c) c ∷ with_client key change cs) parts.0 ∙ ap (λ xs. c ∷ xs) (no_one key change cs parts.1)
 
 -- the first with the key, if there is one, is the only one
@@ -48,7 +46,7 @@ first_of key keys = prefix_len (λ k. not (key_eq k key)) keys
 pub at_first : (key : Key) (change : Client → Client) (cs : List Client) → AreDistinct (keys_in cs) → with_client key change cs ≡ changed_at (first_of key (keys_in cs)) change cs
 at_first key change [] d = refl
 at_first key change (c ∷ cs) d =
-    either (key_eq c.key key)
+    by_cases (key_eq c.key key)
     (λ e.
     let none : has_key key (keys_in cs) ≡ false = subst (λ k. has_key k (keys_in cs) ≡ false) (same_key c.key key e) d.0 in
     ap (λ b. cond b (change c) c ∷ with_client key change cs) e ∙ ap (λ xs. change c ∷ xs) (no_one key change cs none)
@@ -66,8 +64,8 @@ changed_past (suc n) change (x ∷ xs) h = ap (λ ys. x ∷ ys) (changed_past n 
 
 not_there : (key : Key) (cs : List Client) (i : ℕ) (c : Client) → has_key key (keys_in cs) ≡ false → slice_get cs i ≡ Some c → key_eq c.key key ≡ false
 not_there key [] i c h e = none_is_some c e
-not_there key (x ∷ cs) zero c h e = subst (λ y. key_eq y.key key ≡ false) (some_is x c e) (neither (key_eq x.key key) (has_key key (keys_in cs)) h).0
-not_there key (x ∷ cs) (suc i) c h e = not_there key cs i c (neither (key_eq x.key key) (has_key key (keys_in cs)) h).1 e
+not_there key (x ∷ cs) zero c h e = subst (λ y. key_eq y.key key ≡ false) (some_is x c e) (or_parts (key_eq x.key key) (has_key key (keys_in cs)) h).0
+not_there key (x ∷ cs) (suc i) c h e = not_there key cs i c (or_parts (key_eq x.key key) (has_key key (keys_in cs)) h).1 e
 
 -- each client is the first with its key
 pub first_is : (cs : List Client) (i : ℕ) (c : Client) → AreDistinct (keys_in cs) → slice_get cs i ≡ Some c → first_of c.key (keys_in cs) ≡ i
@@ -98,7 +96,7 @@ number_is cs i c d e =
 pub by_number : (P : ℕ → Type 0) (keys : List Key) (key : Key) → (first_of key keys < length keys → P (suc (first_of key keys))) → (length keys ≤ first_of key keys → P 0) → P (number_in keys key)
 by_number P keys key there none =
     let n : ℕ = first_of key keys in
-    either (nat_lt n (length keys))
+    by_cases (nat_lt n (length keys))
     (λ e.
     let inside : n < length keys = grind (arith, nat_tests) in
     let next : n + 1 ≡ suc n = omega arith in
@@ -110,7 +108,7 @@ by_number P keys key there none =
 -- the keys stay, where the one of the key keeps its own
 head_key : (key : Key) (change : Client → Client) (c : Client) → (key_eq c.key key ≡ true → (change c).key ≡ c.key) → (cond (key_eq c.key key) (change c) c).key ≡ c.key
 head_key key change c keeps =
-    either (key_eq c.key key)
+    by_cases (key_eq c.key key)
     (λ e. ap (λ b. (cond b (change c) c).key) e ∙ keeps e)
     (λ e. ap (λ b. (cond b (change c) c).key) e)
 

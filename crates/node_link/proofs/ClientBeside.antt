@@ -1,6 +1,6 @@
 -- The client machine goes on beside a client, turn by turn, as long as what comes is near.
-use Rattle.std.proofs.Common.{◌≡◌, inl, inr, ℕ, ◌-◌, Bool, true, false, None, List, [], ◌∷◌, ◌++◌, length, length-drop, take, drop, refl, sym, ap, ap₂, subst, arith, ◌∙◌, append-nil, Result, Ok, Err}
-use Rattle.std.specs.Prelude.{ℤ, pos, ◌-ℤ◌, ◌≤ℤ◌, ◌^◌, ◌==◌, ◌&&◌, ◌||◌, not, int_lt, nat_lt, if◌then◌else◌}
+use Rattle.std.proofs.Common.{◌≡◌, inl, inr, ℕ, ◌-◌, Bool, None, List, [], ◌∷◌, ◌++◌, length, length-drop, take, drop, refl, sym, ap, ap₂, subst, arith, ◌∙◌, append-nil, Result, Ok, Err}
+use Rattle.std.specs.Prelude.{ℤ, pos, ◌-ℤ◌, ◌≤ℤ◌, ◌^◌, ◌==◌, ◌&&◌, ◌||◌, not, int_lt, nat_lt}
 use Rattle.std.proofs.Math.Seq.{drop-append_seam}
 use Rattle.seq_arith.specs.Arrival.{int_eq, is_acceptable, below}
 use Rattle.seq_arith.specs.Number.{number_at}
@@ -8,20 +8,17 @@ use Rattle.seq_arith.specs.Packet.{Segment, has_syn, has_rst, has_ack}
 use Rattle.seq_arith.specs.PacketGrammar.{reading}
 use Rattle.seq_arith.specs.declared.BadPacket.{BadPacket}
 use Rattle.ft_model.specs.Offset.{first_of, ack_of, text_of, fin_of, length_of}
-use Rattle.ft_model.specs.Client.{Client, IsMove, is_opening, is_open, is_ended, next_of, room_of, opened_by, with_text, with_fin, with_ack, used, arrived}
+use Rattle.ft_model.specs.Client.{Client, is_opening, is_open, is_ended, next_of, room_of, opened_by, with_text, with_fin, with_ack, used, arrived}
 use Rattle.ft_model.specs.Client as machine
 use Rattle.peer_client.specs.Live.{LiveState, is_of, unread, sent_by, turned}
 use Rattle.peer_client.specs.Standing.{AreMoves, IsBetween, IsDue, HasHeard, AcksNear, receiving, handed_out, Moves}
-use Rattle.peer_client.proofs.Whole.{due_handed, flush_moves, unread_is, due_outcome}
+use Rattle.peer_client.proofs.Whole.{due_handed, flush_moves, unread_is, due_outcome, heard_of}
 use Rattle.node_link.specs.Received.{Received, datagram, silence, failure}
 use Rattle.node_link.specs.ClientTurns.{ClientTurn, after_receive, emptied, due_at, accepted_in}
 use Rattle.node_link.specs.ClientMachine.{IsNear, machine_then, GoesBeside, HasMachine}
 use Rattle.node_link.specs.ClientParts.{IsLimited, BeginsBeside}
 use Rattle.node_link.proofs.ClientLimits.{turned_limited, turned_read, receive_reads, limited_at}
-
-both : {X : Type 0} (P : X → Type 0) (b : Bool) (x y : X) → P x → P y → P (if b then x else y)
-both P true x y p q = p
-both P false x y p q = q
+use Rattle.ft_io.proofs.Choices.{holds_either_way}
 
 -- what a machine has accepted only grows at its end
 abbrev Grows : Client → Client → Type 0
@@ -30,39 +27,39 @@ Grows c d = (more : List ℕ) × (d.accepted ≡ c.accepted ++ more)
 opening_grows : (c : Client) (p : Segment) → Grows c (opened_by c p)
 opening_grows c p =
     let none : Grows c c = ([], sym (append-nil c.accepted)) in
-    both (Grows c) (has_ack p && p.head.ack == number_at c.isn 0) _ c
-    (both (Grows c) (has_rst p) _ _ none (both (Grows c) (has_syn p) _ c none none)) none
+    holds_either_way (Grows c) (has_ack p && p.head.ack == number_at c.isn 0) _ c
+    (holds_either_way (Grows c) (has_rst p) _ _ none (holds_either_way (Grows c) (has_syn p) _ c none none)) none
 
 text_grows : (c d : Client) (z : ℤ) (text : List ℕ) → d.accepted ≡ c.accepted → Grows c (with_text d z text)
 text_grows c d z text same =
     let more : List ℕ = take (d.edge - length d.accepted) (drop (below (length d.accepted) z) text) in
-    both (Grows c) (is_ended d.phase || int_lt (pos (length d.accepted)) z) d (record d { accepted = d.accepted ++ more })
+    holds_either_way (Grows c) (is_ended d.phase || int_lt (pos (length d.accepted)) z) d (record d { accepted = d.accepted ++ more })
     ([], same ∙ sym (append-nil c.accepted)) (more, ap (λ l. l ++ more) same)
 
 fin_grows : (c d : Client) (z : ℤ) (fin : Bool) → Grows c d → Grows c (with_fin d z fin)
 fin_grows c d z fin g =
-    both (Grows c) (fin && not (is_ended d.phase) && int_eq z (pos (length d.accepted)) && nat_lt (length d.accepted) d.edge) _ d g g
+    holds_either_way (Grows c) (fin && not (is_ended d.phase) && int_eq z (pos (length d.accepted)) && nat_lt (length d.accepted) d.edge) _ d g g
 
 used_grows : (c : Client) (p : Segment) → Grows c (used c p)
 used_grows c p =
-    both (Grows c) (int_lt (pos c.sent) (ack_of c.isn p)) c _ ([], sym (append-nil c.accepted))
+    holds_either_way (Grows c) (int_lt (pos c.sent) (ack_of c.isn p)) c _ ([], sym (append-nil c.accepted))
     (fin_grows c (with_text (with_ack c (ack_of c.isn p)) (first_of c.sisn p) (text_of p)) _ (fin_of p) (text_grows c (with_ack c (ack_of c.isn p)) (first_of c.sisn p) (text_of p) refl))
 
 arrival_grows : (c : Client) (p : Segment) → Grows c (arrived c p)
 arrival_grows c p =
     let none : Grows c c = ([], sym (append-nil c.accepted)) in
-    both (Grows c) (is_acceptable (next_of c) (room_of c) (first_of c.sisn p) (length_of p)) _ c
-    (both (Grows c) (has_rst p) _ _ (both (Grows c) (int_eq (first_of c.sisn p) (pos (next_of c))) _ c none none)
-    (both (Grows c) (has_syn p || not (has_ack p)) c (used c p) none (used_grows c p)))
+    holds_either_way (Grows c) (is_acceptable (next_of c) (room_of c) (first_of c.sisn p) (length_of p)) _ c
+    (holds_either_way (Grows c) (has_rst p) _ _ (holds_either_way (Grows c) (int_eq (first_of c.sisn p) (pos (next_of c))) _ c none none)
+    (holds_either_way (Grows c) (has_syn p || not (has_ack p)) c (used c p) none (used_grows c p)))
     none
 
 received_grows : (c : Client) (p : Segment) → Grows c (machine.received c p)
 received_grows c p =
-    both (Grows c) (is_opening c.phase) (opened_by c p) _ (opening_grows c p)
-    (both (Grows c) (is_open c.phase) (arrived c p) c (arrival_grows c p) ([], sym (append-nil c.accepted)))
+    holds_either_way (Grows c) (is_opening c.phase) (opened_by c p) _ (opening_grows c p)
+    (holds_either_way (Grows c) (is_open c.phase) (arrived c p) c (arrival_grows c p) ([], sym (append-nil c.accepted)))
 
 bytes_grow : (l : LiveState) (c : Client) (r : Result Segment BadPacket) → Grows c (receiving l c r)
-bytes_grow l c (Ok p) = both (Grows c) (is_of l.local l.server p) (machine.received c p) c (received_grows c p) ([], sym (append-nil c.accepted))
+bytes_grow l c (Ok p) = holds_either_way (Grows c) (is_of l.local l.server p) (machine.received c p) c (received_grows c p) ([], sym (append-nil c.accepted))
 bytes_grow l c (Err bad) = ([], sym (append-nil c.accepted))
 
 then_grows : (l : LiveState) (c : Client) (r : Received) → Grows c (machine_then l c r)
@@ -74,12 +71,6 @@ then_grows l c failure = ([], sym (append-nil c.accepted))
 moves_accept : (segments : List Segment) (c d : Client) → AreMoves c segments d → d.accepted ≡ c.accepted
 moves_accept [] c d h = ap (λ (x : Client). x.accepted) h
 moves_accept (p ∷ segments) c d h = moves_accept segments h.0 d h.2 ∙ ap (λ (x : Client). x.accepted) h.1.after_is
-
--- what the machine beside a client has accepted
-due_heard : (l : LiveState) (c : Client) → IsDue l c → HasHeard l.tcb.receiving c
-due_heard l c (inl h) = record { count = h.agrees.hears.count; rest = h.agrees.hears.rest }
-due_heard l c (inr (inl h)) = record { count = h.agrees.hears.count; rest = h.agrees.hears.rest }
-due_heard l c (inr (inr h)) = h.heard
 
 -- near is said by the client's number alone
 between_isn : (l : LiveState) (c : Client) → IsBetween l c → c.isn ≡ l.tcb.sending.iss
@@ -115,7 +106,7 @@ steps isn l first c r limited own none due all near goes =
     let d : Client = machine_then (turned l) m.later r in
     let due_then : IsDue after d = goes m.later between none (near_same first m.later r same near) in
     let reads = receive_reads isn (turned l) r t in
-    let heard : HasHeard l.tcb.receiving c = due_heard l c due in
+    let heard : HasHeard l.tcb.receiving c = heard_of l c due in
     let seen : after.seen ≡ 0 = reads.1 in
     let count : handed_out after ≡ length c.accepted = omega (arith, reads.0, seen, turned_read isn l limited, all, heard.count) in
     let grows : Grows m.later d = then_grows (turned l) m.later r in
@@ -141,7 +132,7 @@ pub record Beside (start : LiveState) (first : Client) (turns : List ClientTurn)
 pub beside_none : (start : LiveState) (first : Client) → BeginsBeside start first → Beside start first []
 unfolding due_at accepted_in GoesBeside
 beside_none start first h =
-    let heard : HasHeard start.tcb.receiving first = due_heard start first h.due in
+    let heard : HasHeard start.tcb.receiving first = heard_of start first h.due in
     let count : length start.tcb.receiving.unread ≡ 0 = omega (arith, heard.count, ap length h.nothing) in
     record { machine = first; goes = refl; due = h.due; accepted = sym h.nothing; all = h.unseen ∙ sym count }
 

@@ -20,25 +20,17 @@ use Rattle.tcp_endpoint.specs.Tcb.{Tcb, listening, connecting}
 use Rattle.tcp_endpoint.specs.Arrival.{ack_at, first, owing_if, killed, received, received_in, in_closed, in_listen, begun, refusing, refusing_without_ack, answered, in_syn_sent, in_others, check_place, waiting_again, check_rst, check_syn, check_ack, with_ack, with_first_ack, with_fin_acked, with_text_and_fin}
 use Rattle.tcp_endpoint.specs.Leaving.{probes_text, probes_fin, with_probe, with_text_sent, new_fin, with_fin_out, after_full, announced, is_timed, with_turn_ended, flushed}
 use Rattle.tcp_endpoint.specs.Turning.{after_tick, timer_ticked, waited, after_read, after_write, closing, write_room}
-use Rattle.endpoint_laws.proofs.Bounding.{text_facts}
+use Rattle.endpoint_laws.proofs.Bounding.{text_facts, new_within}
 use Rattle.endpoint_laws.proofs.SendingLaw.{held_field}
 use Rattle.peer_client.specs.Live.{LiveState, new_live, is_of, met, hearing, ticked, unread, given_up, supplied, next_part, closes, before_flush, turned}
 use Rattle.node_link.specs.Received.{Received, datagram, silence, failure}
 use Rattle.node_link.specs.ClientTurns.{ClientTurn, after_receive, emptied, due_at}
 use Rattle.node_link.specs.ClientParts.{HasLimits, IsWithin, IsLimited}
-
-both : {X : Type 0} (P : X → Type 0) (b : Bool) (x y : X) → P x → P y → P (if b then x else y)
-both P true x y p q = p
-both P false x y p q = q
-
-by_test : {X : Type 0} (P : X → Type 0) (b : Bool) (x y : X) → (b ≡ true → P x) → (b ≡ false → P y) → P (if b then x else y)
-by_test P true x y p q = p refl
-by_test P false x y p q = q refl
+use Rattle.ft_io.proofs.Booleans.{left_true, right_true}
+use Rattle.seq_arith.proofs.Units.{one_at_most}
+use Rattle.ft_io.proofs.Choices.{holds_if, holds_either_way}
 
 -- the sending half, as an acknowledgement comes
-new_within : (una sent : ℕ) (z : ℤ) → una ≤ sent → (if is_new_ack una sent z then nat_abs z else una) ≤ sent
-new_within una sent z h = grind (arith, ints)
-
 moved_within : (una sent : ℕ) (z : ℤ) (c : Bool) → (int_le (pos una) z && int_le z (pos sent) && c) ≡ true → nat_abs z ≤ sent
 moved_within una sent z c h = grind (arith, ints)
 
@@ -53,7 +45,7 @@ module _ (isn written read : ℕ) where
       record {
         isn_is = h.isn_is;
         order = una;
-        wl2_within = by_test within (moves_edge s seq z) (nat_abs z) s.wl2 (λ k. moved_within s.una s.sent z _ k) (λ k. h.wl2_within);
+        wl2_within = holds_if within (moves_edge s seq z) (nat_abs z) s.wl2 (λ k. moved_within s.una s.sent z _ k) (λ k. h.wl2_within);
         sent_within = h.sent_within;
         held_within = omega (arith, kept, una, h.held_within, h.sent_within);
         read_is = h.read_is;
@@ -91,7 +83,7 @@ segment_queued : (r : Receiving) (z : ℤ) (text : List ℕ) (fin : Bool) → le
 unfolding with_segment with_fin with_text
 segment_queued r z text fin h =
     let few : Receiving → Type 0 = λ q. (q.read ≡ r.read) × (length q.unread ≤ 65535) in
-    both few (r.fin || int_lt (pos (taken r)) z) r (with_fin (with_text r z text) (z +ℤ pos (length text)) fin) (refl, h)
+    holds_either_way few (r.fin || int_lt (pos (taken r)) z) r (with_fin (with_text r z text) (z +ℤ pos (length text)) fin) (refl, h)
     (refl, text_queued r.read r.limit r.unread (drop (below (taken r) z) text) h)
 
 -- a segment comes
@@ -105,58 +97,58 @@ module _ (isn written read : ℕ) (p : Segment) where
       let after : Receiving = with_segment e.receiving (first e p) p.payload (has_fin p) in
       let q = segment_queued e.receiving (first e p) p.payload (has_fin p) h.queued in
       let good : HasLimits isn written read e.sending after = received_within isn written read e.sending e.receiving after q.0 q.1 h in
-      both Good _ _ _ good good
+      holds_either_way Good _ _ _ good good
 
   fin_acked_limited : (e : Tcb) → Good e → Good (with_fin_acked e)
   unfolding with_fin_acked
-  fin_acked_limited e h = both Good _ _ _ h h
+  fin_acked_limited e h = holds_either_way Good _ _ _ h h
 
   first_ack_limited : (e : Tcb) → Good e → Good (with_first_ack e p)
   unfolding with_first_ack refusing
   first_ack_limited e h =
-      both Good _ _ _ (text_limited _ (opened_within isn written read e.sending e.receiving p.head.seq p.head.window h)) h
+      holds_either_way Good _ _ _ (text_limited _ (opened_within isn written read e.sending e.receiving p.head.seq p.head.window h)) h
 
   ack_limited : (e : Tcb) → Good e → Good (with_ack e p)
   unfolding with_ack
   ack_limited e h =
-      both Good _ _ _ h
+      holds_either_way Good _ _ _ h
       (text_limited _ (fin_acked_limited _ (acknowledged_within isn written read e.sending e.receiving p.head.seq (ack_at e p) p.head.window h)))
 
   check_ack_limited : (e : Tcb) → Good e → Good (check_ack e p)
   unfolding check_ack
   check_ack_limited e h =
-      both Good (has_ack p) _ e (both Good e.sending.syn_acked (with_ack e p) (with_first_ack e p) (ack_limited e h) (first_ack_limited e h)) h
+      holds_either_way Good (has_ack p) _ e (holds_either_way Good e.sending.syn_acked (with_ack e p) (with_first_ack e p) (ack_limited e h) (first_ack_limited e h)) h
 
   check_syn_limited : (e : Tcb) → Good e → Good (check_syn e p)
   unfolding check_syn
   check_syn_limited e h =
-      both Good (has_syn p) (owing_if true e) (check_ack (owing_if (nat_lt 0 (length_of p)) e) p) h (check_ack_limited (owing_if (nat_lt 0 (length_of p)) e) h)
+      holds_either_way Good (has_syn p) (owing_if true e) (check_ack (owing_if (nat_lt 0 (length_of p)) e) p) h (check_ack_limited (owing_if (nat_lt 0 (length_of p)) e) h)
 
   check_rst_limited : (e : Tcb) → Good e → Good (check_rst e p)
   unfolding check_rst
   check_rst_limited e h =
-      both Good (has_rst p) _ (check_syn e p) (both Good (int_eq (first e p) (pos (next e.receiving))) (killed e) (owing_if true e) h h) (check_syn_limited e h)
+      holds_either_way Good (has_rst p) _ (check_syn e p) (holds_either_way Good (int_eq (first e p) (pos (next e.receiving))) (killed e) (owing_if true e) h h) (check_syn_limited e h)
 
   others_limited : (e : Tcb) → Good e → Good (in_others e p)
   unfolding in_others check_place waiting_again
-  others_limited e h = both Good _ _ _ (check_rst_limited _ h) h
+  others_limited e h = holds_either_way Good _ _ _ (check_rst_limited _ h) h
 
   closed_limited : (e : Tcb) → Good e → Good (in_closed e p)
   unfolding in_closed refusing refusing_without_ack
-  closed_limited e h = both Good (has_rst p) e _ h (both Good (has_ack p) (refusing e p) (refusing_without_ack e p) h h)
+  closed_limited e h = holds_either_way Good (has_rst p) e _ h (holds_either_way Good (has_ack p) (refusing e p) (refusing_without_ack e p) h h)
 
   listen_limited : (e : Tcb) → Good e → Good (in_listen e p)
   unfolding in_listen refusing begun
-  listen_limited e h = both Good (has_rst p) e _ h (both Good (has_ack p) (refusing e p) _ h (both Good (has_syn p) (begun e p) e h h))
+  listen_limited e h = holds_either_way Good (has_rst p) e _ h (holds_either_way Good (has_ack p) (refusing e p) _ h (holds_either_way Good (has_syn p) (begun e p) e h h))
 
   syn_sent_limited : (e : Tcb) → Good e → Good (in_syn_sent e p)
   unfolding in_syn_sent refusing answered
   syn_sent_limited e h =
-      both Good (has_ack p) _ e
-      (both Good (int_eq (ack_at e p) (pos 0)) _ _
-      (both Good (has_rst p) (killed e) _ h
-      (both Good (has_syn p) (answered e p) e (opened_within isn written read e.sending e.receiving p.head.seq p.head.window h) h))
-      (both Good (has_rst p) e (refusing e p) h h))
+      holds_either_way Good (has_ack p) _ e
+      (holds_either_way Good (int_eq (ack_at e p) (pos 0)) _ _
+      (holds_either_way Good (has_rst p) (killed e) _ h
+      (holds_either_way Good (has_syn p) (answered e p) e (opened_within isn written read e.sending e.receiving p.head.seq p.head.window h) h))
+      (holds_either_way Good (has_rst p) e (refusing e p) h h))
       h
 
   by_name : (name : StateName) (e : Tcb) → Good e → Good (received_in name e p)
@@ -180,7 +172,7 @@ module _ (isn written read : ℕ) (p : Segment) where
 tick_limited : (isn written read : ℕ) (e : Tcb) → IsWithin isn written read e → IsWithin isn written read (after_tick e)
 unfolding after_tick timer_ticked waited
 tick_limited isn written read e h =
-    let limits : Sending → Type 0 = λ s. HasLimits isn written read s e.receiving in both limits (expires e.sending) _ _ h h
+    let limits : Sending → Type 0 = λ s. HasLimits isn written read s e.receiving in holds_either_way limits (expires e.sending) _ _ h h
 
 -- the user's calls
 read_limited : (isn written read : ℕ) (e : Tcb) (n : ℕ) → IsWithin isn written read e → IsWithin isn written (read + n) (after_read e n)
@@ -235,19 +227,11 @@ module _ (isn written read : ℕ) where
         queued = h.queued;
       }
 
-and_left : (x u : Bool) → (x && u) ≡ true → x ≡ true
-and_left true u h = refl
-and_left false u h = h
-
-and_right : (x u : Bool) → (x && u) ≡ true → u ≡ true
-and_right true u h = h
-and_right false u h = absurd (false≢true h)
-
 fin_is_probed : (a b c d t u : Bool) → (a && b && c && not d && t && u) ≡ true → d ≡ false
-fin_is_probed a b c d t u h = (text_facts a b c d t (and_left (a && b && c && not d && t) u h)).1
+fin_is_probed a b c d t u h = (text_facts a b c d t (left_true (a && b && c && not d && t) u h)).1
 
 fin_is_new : (a b c d t u : Bool) → (a && (b && c && not d && t && u)) ≡ true → d ≡ false
-fin_is_new a b c d t u h = (text_facts true b c d t (and_left (b && c && not d && t) u (and_right a (b && c && not d && t && u) h))).1
+fin_is_new a b c d t u h = (text_facts true b c d t (left_true (b && c && not d && t) u (right_true a (b && c && not d && t && u) h))).1
 
 sendable_within : (is_opened fin_sent : Bool) (una len edge sent most : ℕ) → una + len ≤ most → sent ≤ most
     → sent + (if is_opened && not fin_sent then min (una + len) edge - sent else 0) ≤ most
@@ -261,11 +245,11 @@ module _ (isn written read : ℕ) where
   probe_limited e h =
       let s : Sending = e.sending in
       let limits : Sending → Type 0 = λ x. HasLimits isn written read x e.receiving in
-      by_test limits (probes_text e) _ _
+      holds_if limits (probes_text e) _ _
       (λ k. let f = text_facts e.probe (has_begun e.name) s.syn_acked s.fin_sent (nat_lt (s.sent - s.una) (length s.held)) k in
       let room : s.sent + 1 ≤ s.una + length s.held = grind (arith, f.2, h.order) in
       sent_more isn written read s e.receiving 1 (omega (arith, room, h.held_within)) h)
-      (λ k. by_test limits (probes_fin e) _ _
+      (λ k. holds_if limits (probes_fin e) _ _
       (λ j. fin_more isn written read s e.receiving
       (fin_is_probed e.probe (has_begun e.name) s.syn_acked s.fin_sent (not (nat_lt (s.sent - s.una) (length s.held))) s.closed j) h)
       (λ j. h))
@@ -275,7 +259,7 @@ module _ (isn written read : ℕ) where
   text_sent_limited e h =
       let s : Sending = e.sending in
       let sent_by : ℕ → Type 0 = λ k. HasLimits isn written read (with_sent s k) e.receiving in
-      both sent_by (has_begun e.name) (sendable s) 0
+      holds_either_way sent_by (has_begun e.name) (sendable s) 0
       (sent_more isn written read s e.receiving (sendable s)
       (sendable_within s.syn_acked s.fin_sent s.una (length s.held) s.edge s.sent _ h.held_within h.sent_within) h)
       (sent_more isn written read s e.receiving 0 (omega (arith, h.sent_within)) h)
@@ -285,14 +269,14 @@ module _ (isn written read : ℕ) where
   fin_out_limited e h =
       let s : Sending = e.sending in
       let limits : Sending → Type 0 = λ x. HasLimits isn written read x e.receiving in
-      by_test limits (new_fin e) _ _
+      holds_if limits (new_fin e) _ _
       (λ k. fin_more isn written read s e.receiving
       (fin_is_new (has_begun e.name) s.syn_acked s.closed s.fin_sent (s.sent == s.una + length s.held) (nat_lt s.sent s.edge) k) h)
       (λ k. h)
 
   timed_limited : (s : Sending) (r : Receiving) (runs : Bool) → HasLimits isn written read s r → HasLimits isn written read (timed runs s) r
   timed_limited s r runs h =
-      let limits : Sending → Type 0 = λ x. HasLimits isn written read x r in both limits runs _ _ (both limits (s.rest == 0) _ _ h h) h
+      let limits : Sending → Type 0 = λ x. HasLimits isn written read x r in holds_either_way limits runs _ _ (holds_either_way limits (s.rest == 0) _ _ h h) h
 
   flush_limited : (e : Tcb) → IsWithin isn written read e → IsWithin isn written read (flushed e)
   unfolding flushed with_turn_ended announced after_full
@@ -330,7 +314,7 @@ met_limited isn l p h =
     record { tcb = own_read isn l.written _ (received l.tcb p) (received_limited isn l.written l.tcb.receiving.read p l.tcb h.tcb); written = h.written; script = h.script }
 
 hearing_limited : (isn : ℕ) (l : LiveState) (r : Result Segment BadPacket) → IsLimited isn l → IsLimited isn (hearing l r)
-hearing_limited isn l (Ok p) h = both (IsLimited isn) (is_of l.local l.server p) (met l p) l (met_limited isn l p h) h
+hearing_limited isn l (Ok p) h = holds_either_way (IsLimited isn) (is_of l.local l.server p) (met l p) l (met_limited isn l p h) h
 hearing_limited isn l (Err bad) h = h
 
 ticked_limited : (isn : ℕ) (l : LiveState) → IsLimited isn l → IsLimited isn (ticked l)
@@ -355,7 +339,7 @@ turned_limited isn l h =
     let read : ℕ = l.tcb.receiving.read + n in
     let good : IsWithin isn m.written read m.tcb =
     write_limited isn l.written read (after_read l.tcb n) (next_part (given_up l)) (read_limited isn l.written l.tcb.receiving.read l.tcb n h.tcb) in
-    let closed : IsWithin isn m.written read (before_flush l).tcb = both (IsWithin isn m.written read) (closes m) (closing m.tcb) m.tcb good good in
+    let closed : IsWithin isn m.written read (before_flush l).tcb = holds_either_way (IsWithin isn m.written read) (closes m) (closing m.tcb) m.tcb good good in
     record {
       tcb = own_read isn m.written read (flushed (before_flush l).tcb) (flush_limited isn m.written read (before_flush l).tcb closed);
       written = part_fits (write_room (after_read l.tcb n)) l.written l.script h.written;
@@ -368,14 +352,10 @@ limited_at isn start [] h = h
 limited_at isn start (turn ∷ earlier) h =
     emptied_limited isn _ (receive_limited isn (turned (due_at start earlier)) turn.received (turned_limited isn (due_at start earlier) (limited_at isn start earlier h)))
 
-one_most : (b : Bool) → one_if b ≤ 1
-one_most true = omega arith
-one_most false = omega arith
-
 pub limited_short : (isn : ℕ) (l : LiveState) → IsLimited isn l → IsShort l.tcb.sending
 limited_short isn l h = record {
-  sent = omega (arith, h.tcb.sent_within, one_most l.tcb.sending.fin_sent, h.written, h.script);
-  wl2 = omega (arith, h.tcb.wl2_within, h.tcb.sent_within, one_most l.tcb.sending.fin_sent, h.written, h.script);
+  sent = omega (arith, h.tcb.sent_within, one_at_most l.tcb.sending.fin_sent, h.written, h.script);
+  wl2 = omega (arith, h.tcb.wl2_within, h.tcb.sent_within, one_at_most l.tcb.sending.fin_sent, h.written, h.script);
 }
 
 pub limited_unread : (isn : ℕ) (l : LiveState) → IsLimited isn l → length (unread l) ≤ 65535
@@ -389,7 +369,7 @@ turned_read isn l h =
     let read : ℕ = l.tcb.receiving.read + n in
     let good : IsWithin isn m.written read m.tcb =
     write_limited isn l.written read (after_read l.tcb n) (next_part (given_up l)) (read_limited isn l.written l.tcb.receiving.read l.tcb n h.tcb) in
-    let closed : IsWithin isn m.written read (before_flush l).tcb = both (IsWithin isn m.written read) (closes m) (closing m.tcb) m.tcb good good in
+    let closed : IsWithin isn m.written read (before_flush l).tcb = holds_either_way (IsWithin isn m.written read) (closes m) (closing m.tcb) m.tcb good good in
     (flush_limited isn m.written read (before_flush l).tcb closed).read_is
 
 met_read : (isn : ℕ) (l : LiveState) (p : Segment) → IsLimited isn l → (met l p).tcb.receiving.read ≡ l.tcb.receiving.read
@@ -400,7 +380,7 @@ abbrev HandsNothing : LiveState → LiveState → Type 0
 HandsNothing l m = (m.tcb.receiving.read ≡ l.tcb.receiving.read) × (m.seen ≡ l.seen)
 
 hearing_reads : (isn : ℕ) (l : LiveState) (r : Result Segment BadPacket) → IsLimited isn l → HandsNothing l (hearing l r)
-hearing_reads isn l (Ok p) h = both (HandsNothing l) (is_of l.local l.server p) (met l p) l (met_read isn l p h, refl) (refl, refl)
+hearing_reads isn l (Ok p) h = holds_either_way (HandsNothing l) (is_of l.local l.server p) (met l p) l (met_read isn l p h, refl) (refl, refl)
 hearing_reads isn l (Err bad) h = (refl, refl)
 
 pub receive_reads : (isn : ℕ) (l : LiveState) (r : Received) → IsLimited isn l → HandsNothing l (after_receive l r)

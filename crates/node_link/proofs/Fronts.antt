@@ -1,8 +1,6 @@
 -- Texts that are written one behind another, as far as the writes go.
-use Rattle.std.proofs.Common.{◌≡◌, ℕ, zero, suc, ◌+◌, Option, None, Some, List, [], ◌∷◌, ◌++◌, length, take, refl, sym, ap, subst, Result, Ok, Err, OnErr, OnOk, MatchOption, IfErr, IsErrAnd}
-use Rattle.std.proofs.Math.Seq.{take-append-add}
+use Rattle.std.proofs.Common.{◌≡◌, ℕ, zero, suc, ◌+◌, Option, None, Some, List, [], ◌∷◌, ◌++◌, take, refl, sym, ap, subst, Result, Ok, Err, OnErr, MatchOption}
 use Rattle.std.specs.Io.KnownBytes.{Appends}
-use Rattle.std.proofs.KnownBytes.{Appends-trans}
 use Rattle.ft_io.specs.Sink.{AppendsFront}
 
 front_is : (n : ℕ) (a b : List ℕ) → (m : ℕ) × (take m (a ++ b) ≡ take n a)
@@ -13,11 +11,6 @@ front_is (suc n) (x ∷ a) b = let (m, e) = front_is n a b in (suc m, ap (λ l. 
 -- a front of the first text
 pub front_before : (old new : Option (List ℕ)) (a b : List ℕ) → AppendsFront old new a → AppendsFront old new (a ++ b)
 front_before old new a b h = let (m, e) = front_is h.0 a b in (m, subst (Appends old new) (sym e) h.1)
-
--- the first text whole, and a front of the second
-pub front_behind : (old mid new : Option (List ℕ)) (a b : List ℕ) → Appends old mid a → AppendsFront mid new b → AppendsFront old new (a ++ b)
-front_behind old mid new a b h t =
-    (length a + t.0, subst (Appends old new) (sym (take-append-add a b t.0)) (Appends-trans old mid new a (take t.0 b) h t.1))
 
 pub at_failed : {T E P : Type 0} (r : Result T E) → P → OnErr r P
 at_failed (Ok x) p = tt

@@ -17,7 +17,7 @@ use Rattle.node_link.specs.declared.pair.PairFault.TheVariants as faults
 use Rattle.node_link.specs.Pair.{status_line, steps_of, StepsTell, IsPair, StepsStop}
 use Rattle.node_link.specs.PairParts.{StartDone, IsCounted, FitsStep, count_after, FitSteps, WaitDone, WaitStops, StepDone, StepStops}
 use Rattle.node_link.proofs.Calls.{tells_on, tells_none}
-use Rattle.node_link.proofs.Fronts.{front_behind}
+use Rattle.node_link.proofs.ClientRunning.{front_more}
 
 pub two_more : {X : Type 0} (f : X → List ℕ) (xs : List X) (a b : X) → map f ((xs ++ a ∷ []) ++ b ∷ []) ≡ map f xs ++ (f a ∷ f b ∷ [])
 two_more f [] a b = refl
@@ -119,7 +119,7 @@ module _ (steps : List PairStep) (i before : ℕ) (step : PairStep) (children : 
   )
   step_stops new out_new faults.Write h = (
     i + 1,
-    later_pair new (AppendsFront out_mid out_new) (AppendsFront out_old out_new) (λ l m w k. front_behind out_old out_mid out_new l m w k) h,
+    later_pair new (AppendsFront out_mid out_new) (AppendsFront out_old out_new) (λ l m w k. front_more out_old out_mid out_new l m w k) h,
   )
 
 -- one step

@@ -4,6 +4,7 @@ use Rattle.std.specs.List.{list_any}
 use Rattle.std.specs.Str.{bytes_eq}
 use Rattle.std.proofs.lemmas.Slice.Eq.{bytes_eq-Decides}
 use Rattle.std.proofs.lemmas.List.{map-append}
+use Rattle.std.proofs.lemmas.Bool.{and_parts, or_parts}
 use Rattle.clap.specs.Lexer.{long_of, short_of}
 use Rattle.clap.specs.Facts.{parser_of_value}
 use Rattle.clap.specs.Values.{reading_of}
@@ -17,6 +18,7 @@ use Rattle.clap.specs.declared.error.kind.ErrorKind.TheVariants as kind
 use Rattle.node_link.specs.declared.options.OptionName.{OptionName}
 use Rattle.node_link.specs.Options.{Text, Use, name_of, is_stray, is_value, with_use, by_option, uses_after, is_used, is_among, are_new}
 use Rattle.node_link.proofs.Commanding.{built_rule, rules_of, level, option_named, by_long, by_id, by_index}
+use Rattle.ft_model.proofs.Lists.{some_is}
 
 -- a step faults
 pub record Fails (kinds : Kinds) : Type 0 where
@@ -29,16 +31,6 @@ left_fails a b f = record { first = f.first; more = f.more; are = ap (λ k. or_e
 
 pub right_fails : (a b : Kinds) → a ≡ [] → Fails b → Fails (or_else a b)
 right_fails a b none f = record { first = f.first; more = f.more; are = ap (λ k. or_else k b) none ∙ f.are }
-
-pub both_false : (a b : Bool) → (a || b) ≡ false → (a ≡ false) × (b ≡ false)
-both_false false false e = (refl, refl)
-both_false false true e = cc
-both_false true b e = cc
-
-pub both_true : (a b : Bool) → (a && b) ≡ true → (a ≡ true) × (b ≡ true)
-both_true true true e = (refl, refl)
-both_true true false e = cc
-both_true false b e = cc
 
 -- the row that a use leaves
 abbrev pub use_row : Use → Row
@@ -55,7 +47,7 @@ put_new : (name : Text) (change : Row → List Row) (missing : List Row) (uses :
     → at_row name change missing (rows_of uses) ≡ rows_of uses ++ missing
 put_new name change missing [] e = refl
 put_new name change missing (u ∷ uses) e =
-    let parts = both_false (bytes_eq u.name name) (is_used name uses) e in
+    let parts = or_parts (bytes_eq u.name name) (is_used name uses) e in
     rw parts.0 (ap (λ rows. use_row u ∷ rows) (put_new name change missing uses parts.1))
 
 abbrev use_of : OptionName → Text → Use
@@ -76,9 +68,6 @@ used_twice o v rows e = record { first = kind.ArgumentConflict; more = []; are =
 used_bare : (o : OptionName) (rows : List Row) → Fails (use_fault false (built_rule o) [] rows)
 used_bare o rows = record { first = kind.InvalidValue; more = []; are = refl }
 
-some_same : {A : Type 0} (a b : A) → Some a ≡ Some b → a ≡ b
-some_same a b e = cc
-
 -- an option that is named has that name
 named : (options : List OptionName) (name : Text) (o : OptionName) → option_named options name ≡ Some o → name_of o ≡ name
 named [] name o e = cc
@@ -86,7 +75,7 @@ named (x ∷ options) name o e = on_test (bytes_eq (name_of x) name) refl (named
   where
     on_test : (t : Bool) → bytes_eq (name_of x) name ≡ t → (option_named options name ≡ Some o → name_of o ≡ name) → name_of o ≡ name
     on_test true same later =
-        let is : x ≡ o = some_same x o (sym (ap (λ b. cond b (Some x) (option_named options name)) same) ∙ e) in
+        let is : x ≡ o = some_is x o (sym (ap (λ b. cond b (Some x) (option_named options name)) same) ∙ e) in
         sym (ap name_of is) ∙ (bytes_eq-Decides (name_of x) name).0 same
     on_test false other later = later (sym (ap (λ b. cond b (Some x) (option_named options name)) other) ∙ e)
 
@@ -150,7 +139,7 @@ module _ (options : List OptionName) where
 
   -- with a fault in what is held, no words pass
   no_short : (word : Text) → is_stray word ≡ false → (bytes_eq word (45 ∷ 45 ∷ []) ≡ false) × (short_of word ≡ None)
-  no_short word e = let parts = both_false (bytes_eq word (45 ∷ 45 ∷ [])) (is_some (short_of word)) e in (parts.0, is_none (short_of word) parts.1)
+  no_short word e = let parts = or_parts (bytes_eq word (45 ∷ 45 ∷ [])) (is_some (short_of word)) e in (parts.0, is_none (short_of word) parts.1)
     where
       is_none : (o : Option Text) → is_some o ≡ false → o ≡ None
       is_none None e = refl
@@ -168,7 +157,7 @@ module _ (options : List OptionName) where
   lost : (h : Held) (words : List Text) → list_any is_stray words ≡ false → Fails (settle_fault rules false h) → Fails (faults (at_word h idle) words)
   unfolding walk_fault
   lost h [] clean f = f
-  lost h (word ∷ words) clean f = turn_fails (at_word h idle) word words (no_turn h word (both_false _ _ clean).0 f (long_of word) refl)
+  lost h (word ∷ words) clean f = turn_fails (at_word h idle) word words (no_turn h word (or_parts _ _ clean).0 f (long_of word) refl)
 
   -- `--NAME=VALUE`, of an option that wasn't used before, and of one that was
   joined_turn : (h : Held) (before : List Use) (word v : Text) (o : OptionName) → Holds h before → bytes_eq word (45 ∷ 45 ∷ []) ≡ false
@@ -213,7 +202,7 @@ module _ (options : List OptionName) where
   bare_fails h o known = record { first = kind.InvalidValue; more = []; are = rw (known_id o known) refl }
 
   pub value_parts : (v : Text) → is_value v ≡ true → (is_stray v ≡ false) × (long_of v ≡ None)
-  value_parts v e = let parts = both_true (not (is_stray v)) (not (is_some (long_of v))) e in (isnt (is_stray v) parts.0, is_none (long_of v) parts.1)
+  value_parts v e = let parts = and_parts (not (is_stray v)) (not (is_some (long_of v))) e in (isnt (is_stray v) parts.0, is_none (long_of v) parts.1)
     where
       isnt : (b : Bool) → not b ≡ true → b ≡ false
       isnt false e = refl
@@ -275,7 +264,7 @@ module _ (options : List OptionName) where
 
   split_found : (u : Use) (later : Option (List Use)) (uses : List Use) → with_use u.name u.value later ≡ Some uses → Split u later uses
   split_found u None uses e = absurd (none_some uses e)
-  split_found u (Some us) uses e = record { rest = us; found = refl; whole = some_same _ _ e }
+  split_found u (Some us) uses e = record { rest = us; found = refl; whole = some_is _ _ e }
 
   -- a word that names an option passes, and all is decided behind it
   passes_on : (w after : Walk) (word : Text) (words : List Text) (before : List Use) (found : Option (List Use)) → turn w word ≡ [] → walked rules [] w word ≡ after
@@ -295,7 +284,7 @@ module _ (options : List OptionName) where
       takes (u ∷ uses) end (ap (option_map (λ us. u ∷ us)) spelled) (rw (among, unused) new) none walks (subst (Holds end) (append_assoc before (u ∷ []) uses) holds)
   one_done w words before u later among unused (refuses f never) = refuses f (λ uses e new.
       let split = split_found u later uses e in
-      never split.rest split.found (both_true _ _ (ap (are_new options before) split.whole ∙ new)).1)
+      never split.rest split.found (and_parts _ _ (ap (are_new options before) split.whole ∙ new)).1)
 
   -- a first use that isn't allowed
   first_refused : (w : Walk) (words : List Text) (before : List Use) (u : Use) (later : Option (List Use)) → (is_among options u.name && not (is_used u.name before)) ≡ false
@@ -303,7 +292,7 @@ module _ (options : List OptionName) where
   unfolding are_new
   first_refused w words before u later never f = refuses f (λ uses e new.
       let split = split_found u later uses e in
-      true_false _ (both_true _ _ (ap (are_new options before) split.whole ∙ new)).0 never)
+      true_false _ (and_parts _ _ (ap (are_new options before) split.whole ∙ new)).0 never)
 
   -- the first use is of the option that waits for its value
   bare_refused : (w : Walk) (words : List Text) (before : List Use) (name : Text) → (is_among options name && not (is_used name before)) ≡ false
@@ -337,14 +326,14 @@ module _ (options : List OptionName) where
     where
       by_value : (t : Bool) → is_value v ≡ t → Fails (faults (at_word (bare h o) (option (name_of o))) (v ∷ words))
       by_value true e = fails_as _ _ (turn_passes (at_word (bare h o) (option (name_of o))) (at_word (with_value h o v) idle) v words (value_turn (bare h o) v o e) (value_walk h v o e known))
-          (lost (with_value h o v) words (both_false _ _ clean).1 (value_again h before v o held known old))
-      by_value false e = turn_fails (at_word (bare h o) (option (name_of o))) v words (no_value (bare h o) v o (both_false _ _ clean).0 e (bare_fails h o known))
+          (lost (with_value h o v) words (or_parts _ _ clean).1 (value_again h before v o held known old))
+      by_value false e = turn_fails (at_word (bare h o) (option (name_of o))) v words (no_value (bare h o) v o (or_parts _ _ clean).0 e (bare_fails h o known))
 
   pub goes : (words : List Text) (w : Walk) (before : List Use) (name : Option Text) → At w before name → list_any is_stray words ≡ false → Goes w words before (uses_after name words)
   unfolding uses_after walk_fault are_new
   goes [] _ _ _ (between h before held) clean = takes [] h refl refl refl refl (subst (Holds h) (sym (append-nil before)) held)
   goes [] _ _ _ (waits h before o known held) clean = refuses (bare_fails h o known) (λ uses e new. none_some uses e)
-  goes (v ∷ words) _ _ _ (waits h before o known held) clean = by_value (is_value v) refl (is_used (name_of o) before) refl (λ w before2 at. goes words w before2 None at (both_false _ _ clean).1)
+  goes (v ∷ words) _ _ _ (waits h before o known held) clean = by_value (is_value v) refl (is_used (name_of o) before) refl (λ w before2 at. goes words w before2 None at (or_parts _ _ clean).1)
     where
       w : Walk
       w = at_word (bare h o) (option (name_of o))
@@ -356,7 +345,7 @@ module _ (options : List OptionName) where
           → ((after : Walk) (before2 : List Use) → At after before2 None → Goes after words before2 (uses_after None words))
           → Goes w (v ∷ words) before (if is_value v then found else None)
       by_value false e b used more = goes_as w (v ∷ words) before None _ (ap (λ x. if x then found else None) e)
-          (refuses (turn_fails w v words (no_value (bare h o) v o (both_false _ _ clean).0 e (bare_fails h o known))) (λ uses e2 new. none_some uses e2))
+          (refuses (turn_fails w v words (no_value (bare h o) v o (or_parts _ _ clean).0 e (bare_fails h o known))) (λ uses e2 new. none_some uses e2))
       by_value true e false unused more = goes_as w (v ∷ words) before found _ (ap (λ x. if x then found else None) e)
           (one_done w (v ∷ words) before (use_of o v) (uses_after None words) (among o known) unused
           (passes_on w (at_word (with_value h o v) idle) v words (before ++ use_of o v ∷ []) (uses_after None words) (value_turn (bare h o) v o e) (value_walk h v o e known)
@@ -364,13 +353,13 @@ module _ (options : List OptionName) where
       by_value true e true old more = goes_as w (v ∷ words) before found _ (ap (λ x. if x then found else None) e)
           (first_refused w (v ∷ words) before (use_of o v) (uses_after None words) (rw old (rw (among o known) refl)) (waiting_again h before o (v ∷ words) held known old clean))
   goes (word ∷ words) _ _ _ (between h before held) clean = by_word (long_of word) refl
-      (λ w before2 at. goes words w before2 None at (both_false _ _ clean).1) (λ w before2 o at. goes words w before2 (Some (name_of o)) at (both_false _ _ clean).1)
+      (λ w before2 at. goes words w before2 None at (or_parts _ _ clean).1) (λ w before2 o at. goes words w before2 (Some (name_of o)) at (or_parts _ _ clean).1)
     where
       w : Walk
       w = at_word h idle
 
       no_end : bytes_eq word (45 ∷ 45 ∷ []) ≡ false
-      no_end = (no_short word (both_false _ _ clean).0).0
+      no_end = (no_short word (or_parts _ _ clean).0).0
 
       found : Option (Text × Option Text) → Option (List Use)
       found l = by_option l (λ name. uses_after (Some name) words) (uses_after None words)
@@ -423,5 +412,5 @@ module _ (options : List OptionName) where
           → ((after : Walk) (before2 : List Use) (q : OptionName) → At after before2 (Some (name_of q)) → Goes after words before2 (uses_after (Some (name_of q)) words))
           → Goes w (word ∷ words) before (found (long_of word))
       by_word None l more wait = goes_as w (word ∷ words) before (found None) _ (ap found l)
-          (refuses (turn_fails w word words (plain h word no_end l (no_short word (both_false _ _ clean).0).1)) (λ uses e new. none_some uses e))
+          (refuses (turn_fails w word words (plain h word no_end l (no_short word (or_parts _ _ clean).0).1)) (λ uses e new. none_some uses e))
       by_word (Some p) l more wait = goes_as w (word ∷ words) before (found (Some p)) _ (ap found l) (by_name_of p.0 p.1 l (option_named options p.0) refl more wait)

@@ -3,13 +3,13 @@ use Rattle.std.proofs.Common.{◌≡◌, ℕ, ◌+◌, ◌-◌, ◌≤◌, ◌==
 use Rattle.std.proofs.lemmas.List.{take-append-le}
 use Rattle.server_trait.specs.Service.{Machine, reference}
 use Rattle.ft_model.specs.Point.{Point, made, released, whole_run, answered_run}
-use Rattle.ft_model.proofs.Services.{prefix_length}
+use Rattle.ft_model.proofs.Services.{prefix_length, drop_within}
 use Rattle.north_wrap.specs.RunState.{given_count, gives}
 use Rattle.north_wrap.specs.NorthState.{NorthState, unreleased, given_north, given_socket, shut_north, shut_socket, closes}
 use Rattle.north_wrap.specs.Sockets.{Writer}
 use Rattle.north_wrap.specs.Standing.{NorthStands, Keeps, given_more, given_text, written}
 use Rattle.north_wrap.proofs.Logged.{answered_front}
-use Rattle.north_wrap.proofs.OneRead.{drop_drop, drop_front}
+use Rattle.north_wrap.proofs.OneRead.{drop_drop}
 
 pub last_keeps : {S : Type 0} (service : Machine S) (p : Point) (given : ℕ) (n : NorthState S) → NorthStands service p given n → Keeps n.last (answered_run service p)
 last_keeps service p given n st = let e : p.reads_answered + 0 ≡ p.reads_answered = omega arith in
@@ -25,7 +25,7 @@ count_is service p given room n st =
 -- the front of a front
 front_same : (xs ys : List ℕ) (given k : ℕ) → given + k ≤ length xs → take k (drop given (xs ++ ys)) ≡ take k (drop given xs)
 front_same xs ys given k h =
-    ap (take k) (drop_front given xs ys (omega (arith, h))) ∙ take-append-le k (drop given xs) ys (let size = length-drop given xs in omega (arith, h, size))
+    ap (take k) (drop_within given xs ys (omega (arith, h))) ∙ take-append-le k (drop given xs) ys (let size = length-drop given xs in omega (arith, h, size))
 
 pub text_is : {S : Type 0} (service : Machine S) (p : Point) (given room : ℕ) (n : NorthState S) → NorthStands service p given n → given ≤ released service p
     → gives room (unreleased n) n.run ≡ take (given_more service p room given) (drop given (answered_run service p).output)

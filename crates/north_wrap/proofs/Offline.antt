@@ -4,23 +4,21 @@ use Rattle.std.proofs.lemmas.List.{take_all}
 use Rattle.std.proofs.Math.Seq.{drop-length}
 use Rattle.server_trait.specs.Service.{Machine, Served, reference}
 use Rattle.ft_model.specs.Point.{Point, whole_run, released}
-use Rattle.ft_model.proofs.Lists.{of_choice, some_is, none_is_some}
+use Rattle.ft_model.proofs.Lists.{some_is, none_is_some}
 use Rattle.north_wrap.specs.NorthState.{NorthState, Reads, next_length, is_free_to_read, length_of_next, read_on, socket_on, lengths_of}
 use Rattle.north_wrap.specs.Sockets.{Reader}
 use Rattle.north_wrap.specs.Standing.{NorthStands, HasReplayed, Keeps, read_off, off_socket, AreThere, given_more, IsNumbered}
+use Rattle.ft_io.proofs.Booleans.{left_false}
+use Rattle.ft_io.proofs.Choices.{holds_if}
 
 is_there : {S : Type 0} (una readable : ℕ) (at_end : Bool) (n : NorthState S) (k : ℕ) → next_length una readable at_end n ≡ Some k → nat_lt 0 (length n.rest) ≡ false → k ≤ readable
 unfolding next_length
 is_there una readable at_end n k e none =
-    of_choice (λ o. o ≡ Some k → k ≤ readable) (is_free_to_read una n) (length_of_next (length n.rest) readable at_end n.ended) None
-    (λ t. of_choice (λ o. o ≡ Some k → k ≤ readable) (nat_lt 0 (length n.rest)) (Some (min 2048 (length n.rest))) _ (λ some. absurd (grind (arith, some, none)))
-    (λ x. of_choice (λ o. o ≡ Some k → k ≤ readable) (nat_lt 0 readable) (Some (min 2048 readable)) _ (λ y f. let same : min 2048 readable ≡ k = some_is _ _ f in omega (arith, same))
-    (λ y. of_choice (λ o. o ≡ Some k → k ≤ readable) (at_end && not n.ended) (Some 0) None (λ z f. let same : 0 ≡ k = some_is _ _ f in omega (arith, same)) (λ z f. none_is_some k f))))
+    holds_if (λ o. o ≡ Some k → k ≤ readable) (is_free_to_read una n) (length_of_next (length n.rest) readable at_end n.ended) None
+    (λ t. holds_if (λ o. o ≡ Some k → k ≤ readable) (nat_lt 0 (length n.rest)) (Some (min 2048 (length n.rest))) _ (λ some. absurd (grind (arith, some, none)))
+    (λ x. holds_if (λ o. o ≡ Some k → k ≤ readable) (nat_lt 0 readable) (Some (min 2048 readable)) _ (λ y f. let same : min 2048 readable ≡ k = some_is _ _ f in omega (arith, same))
+    (λ y. holds_if (λ o. o ≡ Some k → k ≤ readable) (at_end && not n.ended) (Some 0) None (λ z f. let same : 0 ≡ k = some_is _ _ f in omega (arith, same)) (λ z f. none_is_some k f))))
     (λ t f. none_is_some k f) e
-
-either_false : (a b : Bool) → (a || b) ≡ false → a ≡ false
-either_false false b e = refl
-either_false true b e = e
 
 rest_after : {S : Type 0} (after : S → List ℕ → Served S) (unread : List ℕ) (k : ℕ) (n : NorthState S) → length (read_on after unread k n).rest ≡ length n.rest - k
 unfolding read_on
@@ -40,7 +38,7 @@ socket_is after r una n s (k ∷ ks) m t reads =
     let more = socket_is after r una (read_on after (r.unread s) k n) (socket_on r k n s) ks m t reads.1 in
     let left : length (read_on after (r.unread s) k n).rest ≡ length n.rest - k = rest_after after (r.unread s) k n in
     by_place r s t k (off_socket (length n.rest - k) ks) (nat_lt 0 (length n.rest) || k == 0)
-    (λ e. is_there una (length (r.unread s)) (r.has_end s && (length (r.unread s) == 0)) n k reads.0 (either_false (nat_lt 0 (length n.rest)) (k == 0) e))
+    (λ e. is_there una (length (r.unread s)) (r.has_end s && (length (r.unread s) == 0)) n k reads.0 (left_false (nat_lt 0 (length n.rest)) (k == 0) e))
     (subst (λ l. (t ≡ read_off r.after_read (socket_on r k n s) (off_socket l ks)) × AreThere r (socket_on r k n s) (off_socket l ks)) left more)
 
 pub begins_here : {S : Type 0} (service : Machine S) (p : Point) (given : ℕ) (n : NorthState S) → HasReplayed service p given n → NorthStands service p given n

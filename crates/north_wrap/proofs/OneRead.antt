@@ -6,13 +6,13 @@ use Rattle.std.proofs.Math.Seq.{drop-nil}
 use Rattle.server_trait.specs.Service.{Machine, Run, Served, fed, with_served, reference}
 use Rattle.ft_model.specs.Point.{Point, whole_run}
 use Rattle.ft_model.specs.Reads.{with_read}
-use Rattle.ft_model.proofs.Lists.{of_choice}
-use Rattle.ft_model.proofs.Services.{rest_of, more_reads, sum_more, sum_append}
+use Rattle.ft_model.proofs.Services.{rest_of, more_reads, sum_more, sum_append, drop_within}
 use Rattle.north_wrap.specs.declared.read_record.ReadRecord.{ReadRecord}
 use Rattle.north_wrap.specs.RunState.{RunState, run_on, served_on}
 use Rattle.north_wrap.specs.NorthState.{NorthState, chunk_of, read_on, record_of, lengths_of}
 use Rattle.north_wrap.proofs.Logged.{answered_stays, made_stays}
 use Rattle.north_wrap.specs.Standing.{NorthStands, QueueStands, RunsTo, Keeps, IsNext, IsNumbered, run_after}
+use Rattle.ft_io.proofs.Choices.{holds_if}
 
 pub drop_drop : (n m : ℕ) (xs : List ℕ) → drop n (drop m xs) ≡ drop (m + n) xs
 drop_drop n zero xs = let e : n ≡ 0 + n = omega arith in ap (λ k. drop k xs) e
@@ -29,11 +29,6 @@ pub one_more : {S : Type 0} (service : Machine S) (bytes lengths : List ℕ) (n 
     → reference service bytes (lengths ++ n ∷ []) ≡ fed service (reference service bytes lengths) (take n (drop (sum lengths) bytes))
 one_more service bytes lengths n = more_reads service bytes lengths (n ∷ []) ∙ ap (λ l. fed service (reference service bytes lengths) (take n l)) (left_is bytes lengths)
 
-pub drop_front : (n : ℕ) (xs ys : List ℕ) → n ≤ length xs → drop n (xs ++ ys) ≡ drop n xs ++ ys
-drop_front zero xs ys h = refl
-drop_front (suc n) [] ys h = absurd (omega (arith, h))
-drop_front (suc n) (x ∷ xs) ys h = drop_front n xs ys (omega (arith, h))
-
 served_to : {S : Type 0} (run : Run S) (given : ℕ) (r : RunState S) (a b : Served S) → a ≡ b → RunsTo run given r → RunsTo (with_served run a) given (served_on r b)
 served_to run given r a b same t =
     let more = length-append run.output a.output in
@@ -41,7 +36,7 @@ served_to run given r a b same t =
       service = ap (λ x. x.next) (sym same);
       closed = ap (λ x. x.closed) (sym same);
       made = (let back : b ≡ a = sym same in λ j. t.made j + length (back j).output) ∙ sym more;
-      pending = (let back : b ≡ a = sym same in λ j. t.pending j ++ (back j).output) ∙ sym (drop_front given run.output a.output t.within);
+      pending = (let back : b ≡ a = sym same in λ j. t.pending j ++ (back j).output) ∙ sym (drop_within given run.output a.output t.within);
       within = omega (arith, t.within, more);
     }
 
@@ -73,7 +68,7 @@ pub chunk_is : {S : Type 0} (service : Machine S) (p : Point) (given : ℕ) (n :
 chunk_is service p given n unread has_end k st so next =
     let rest : length n.rest ≡ p.fetched - sum p.lengths =
     ap length st.rest ∙ length-drop (sum p.lengths) (take p.fetched p.taken) ∙ ap (λ k. k - sum p.lengths) (length-take p.fetched p.taken ∙ omega (arith, st.fetched)) in
-    of_choice (λ l. l ≡ take k (drop (sum p.lengths) p.taken)) (nat_lt 0 (length n.rest)) (take k n.rest) (take k unread)
+    holds_if (λ l. l ≡ take k (drop (sum p.lengths) p.taken)) (nat_lt 0 (length n.rest)) (take k n.rest) (take k unread)
     (λ t. let some : sum p.lengths < p.fetched = grind (arith, t, rest) in ap (take k) st.rest ∙ rest_chunk k p.fetched (sum p.lengths) p.taken (next.rest some))
     (λ t. let none : p.fetched ≤ sum p.lengths = grind (arith, t, rest) in
     ap (take k) so.waits ∙ (let e : max p.fetched (sum p.lengths) ≡ sum p.lengths = omega (arith, none) in ap (λ m. take k (drop m p.taken)) e))
@@ -82,13 +77,13 @@ take_seam : {A : Type 0} (xs : List A) (y : A) (k : ℕ) → k ≡ length xs + 1
 take_seam xs y k e = take_all k (xs ++ y ∷ []) (let more = length-append xs (y ∷ []) in omega (arith, e, more))
 
 drop_lengths : (k : ℕ) (xs : List ℕ) (y : ℕ) → k ≤ length xs → drop k (xs ++ y ∷ []) ≡ drop k xs ++ y ∷ []
-drop_lengths k xs y h = drop_front k xs (y ∷ []) h
+drop_lengths k xs y h = drop_within k xs (y ∷ []) h
 
 lengths_append : (xs : List ReadRecord) (y : ReadRecord) → lengths_of (xs ++ y ∷ []) ≡ lengths_of xs ++ y.length ∷ []
 lengths_append [] y = refl
 lengths_append (x ∷ xs) y = ap (λ l. x.length ∷ l) (lengths_append xs y)
 
-any_append : (xs : List ℕ) (y : ℕ) → list_any (λ k. k == 0) (xs ++ y ∷ []) ≡ (list_any (λ k. k == 0) xs || y == 0)
+pub any_append : (xs : List ℕ) (y : ℕ) → list_any (λ k. k == 0) (xs ++ y ∷ []) ≡ (list_any (λ k. k == 0) xs || y == 0)
 any_append [] y = grind arith
 any_append (x ∷ xs) y = grind (arith, any_append xs y)
 

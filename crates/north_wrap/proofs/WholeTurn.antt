@@ -2,7 +2,6 @@
 use Rattle.std.proofs.Common.{◌≡◌, ℕ, ◌+◌, ◌≤◌, ◌==◌, ◌&&◌, ◌||◌, Bool, true, false, not, nat_lt, refl, sym, ap, ◌∙◌, subst, List, [], ◌∷◌, length, arith, if◌then◌else◌}
 use Rattle.server_trait.specs.Service.{Machine, Served}
 use Rattle.ft_model.specs.Point.{Point, made, released, answered_run}
-use Rattle.ft_model.proofs.Lists.{of_choice}
 use Rattle.north_wrap.specs.declared.read_record.ReadRecord.{ReadRecord}
 use Rattle.north_wrap.specs.Sockets.{Reader, Writer, SocketLaws}
 use Rattle.north_wrap.specs.NorthState.{NorthState, Reads, Turns, closes, given_north, given_socket, shut_north, shut_socket, lengths_of, read_on, socket_on}
@@ -11,13 +10,14 @@ use Rattle.north_wrap.proofs.Giving.{shut_gives, closes_is, given_stands, writte
 use Rattle.north_wrap.proofs.Offline.{socket_is, all_or_room}
 use Rattle.north_wrap.proofs.Shutting.{shut_is, all_given_stays, reads_keep_shut}
 use Rattle.north_wrap.proofs.TurnReads.{reads_lead}
+use Rattle.ft_io.proofs.Choices.{holds_if}
 
 -- writing and closing leave the queue ..
 queue_stands : {S K : Type 0} (r : Reader K) (w : Writer K) (p : Point) (n : NorthState S) (s : K) → SocketLaws r w → QueueStands p (r.unread s) (r.has_end s)
     → QueueStands p (r.unread (shut_socket w (given_north w n s) (given_socket w n s))) (r.has_end (shut_socket w (given_north w n s) (given_socket w n s)))
 queue_stands r w p n s laws so =
     let wrote : QueueStands p (r.unread (given_socket w n s)) (r.has_end (given_socket w n s)) = record { waits = laws.write_unread s _ ∙ so.waits; fin = laws.write_end s _ ∙ so.fin } in
-    of_choice (λ t. QueueStands p (r.unread t) (r.has_end t)) (closes (given_north w n s)) (w.after_close (given_socket w n s)) (given_socket w n s)
+    holds_if (λ t. QueueStands p (r.unread t) (r.has_end t)) (closes (given_north w n s)) (w.after_close (given_socket w n s)) (given_socket w n s)
     (λ t. record { waits = laws.close_unread (given_socket w n s) ∙ wrote.waits; fin = laws.close_end (given_socket w n s) ∙ wrote.fin }) (λ t. wrote)
 
 -- .. and it is closed where the wrapper closed it ..
@@ -34,7 +34,7 @@ unfolding socket_on
 reads_keep_closed after r w una n s [] m t laws reads = ap w.is_closed reads.2
 reads_keep_closed after r w una n s (k ∷ ks) m t laws reads =
     reads_keep_closed after r w una (read_on after (r.unread s) k n) (socket_on r k n s) ks m t laws reads.1
-    ∙ of_choice (λ x. w.is_closed x ≡ w.is_closed s) (nat_lt 0 (length n.rest) || k == 0) s (r.after_read s k) (λ b. refl) (λ b. laws.read_open s k)
+    ∙ holds_if (λ x. w.is_closed x ≡ w.is_closed s) (nat_lt 0 (length n.rest) || k == 0) s (r.after_read s k) (λ b. refl) (λ b. laws.read_open s k)
 
 grouped : (a b c : Bool) → (a && b && c) ≡ (a && (b && c))
 grouped true b c = refl

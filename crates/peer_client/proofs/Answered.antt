@@ -23,9 +23,10 @@ use Rattle.endpoint_laws.proofs.Connecting.{received_by}
 use Rattle.peer_client.specs.declared.live.ClientEnd.TheVariants as ends
 use Rattle.peer_client.specs.Live.{LiveState, is_of, end_of, first_end, met, ticked}
 use Rattle.peer_client.specs.Standing.{IsSame, AnswersBy, Waits, IsWaiting, Stands, IsReset, IsDue}
-use Rattle.peer_client.proofs.Leaves.{left_true, right_true, eq_of}
+use Rattle.peer_client.proofs.Leaves.{eq_of}
 use Rattle.peer_client.proofs.Comes.{both_if}
 use Rattle.peer_client.proofs.News.{ticked_sends, ticked_same}
+use Rattle.ft_io.proofs.Booleans.{left_true, right_true}
 
 -- the number that acknowledges the SYN
 same_tests : (a b : Bool) → (a ≡ true → b ≡ true) → (b ≡ true → a ≡ true) → a ≡ b

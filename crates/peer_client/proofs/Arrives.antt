@@ -1,7 +1,6 @@
 -- The checks on a segment, one by one, in an established connection: the client machine makes the same of it as TCP.
 use Rattle.std.proofs.Common.{◌≡◌, ℕ, ◌≤◌, ◌+◌, ◌-◌, ◌^◌, Bool, true, false, not, [], length, refl, sym, ap, subst, arith, ◌∙◌}
 use Rattle.std.specs.Prelude.{ℤ, pos, ◌+ℤ◌, ◌-ℤ◌, ◌≤ℤ◌, ◌&&◌, ◌||◌, nat_lt, int_lt, if◌then◌else◌}
-use Rattle.std.proofs.lemmas.Int.{ints}
 use Rattle.std.proofs.lemmas.Bool.{false≢true}
 use Rattle.seq_arith.specs.Arrival.{int_eq, is_acceptable}
 use Rattle.seq_arith.specs.Offset.{length_of, first_of, ack_of, text_of, fin_of, one_if}
@@ -15,12 +14,13 @@ use Rattle.tcp_endpoint.specs.Sending.{Sending, acknowledged, fin_acked}
 use Rattle.tcp_endpoint.specs.Tcb.{Tcb}
 use Rattle.tcp_endpoint.specs.Arrival.{first, ack_at, owing_if, killed, entering, with_text_and_fin, with_fin_acked, with_first_ack, with_ack, check_ack, check_syn, check_rst, waiting_again, check_place, in_others}
 use Rattle.ft_model.specs.Client as machine
-use Rattle.ft_model.specs.Client.{Client, is_ended, is_open, next_of, room_of}
+use Rattle.ft_model.specs.Client.{Client, is_open, next_of, room_of}
 use Rattle.ft_model.specs.declared.phase.Phase.TheVariants.{Reset}
-use Rattle.endpoint_laws.proofs.EndingLaw.{holds_if}
 use Rattle.peer_client.specs.Standing.{Hears, Sends}
-use Rattle.peer_client.proofs.Leaves.{left_true, right_true}
-use Rattle.peer_client.proofs.Comes.{both_if, and_true, Heard, segment_heard, ack_sends, ahead_is}
+use Rattle.peer_client.proofs.Comes.{both_if, Heard, segment_heard, ack_sends, ahead_is}
+use Rattle.ft_io.proofs.Booleans.{left_true, right_true, and_true}
+use Rattle.ft_io.proofs.Choices.{holds_if}
+use Rattle.endpoint_laws.proofs.EndingLaw.{acceptable_at}
 
 -- an endpoint and the machine after some of the checks, with those before them
 pub record Keeps (e : Tcb) (c : Client) (written : ℕ) (t : Tcb) (d : Client) : Type 0 where
@@ -238,9 +238,6 @@ pub record Resets (e : Tcb) (c : Client) (t : Tcb) (d : Client) : Type 0 where
   pub receiving : t.receiving ≡ e.receiving
   pub accepted : d.accepted ≡ c.accepted
 
-next_acceptable : (n w : ℕ) (z : ℤ) → int_eq z (pos n) ≡ true → is_acceptable n w z 0 ≡ true
-next_acceptable n w z h = grind (arith, ints, h)
-
 rst_length : (p : Segment) → has_rst p ≡ true → length_of p ≡ 0
 rst_length p h = ap (λ b. if b then 0 else (if has_syn p then 1 else length p.payload + one_if (has_fin p))) h
 
@@ -252,7 +249,7 @@ others_reset e c written p resets b =
     let rst : has_rst p ≡ true = left_true (has_rst p) (int_eq (first e p) (pos (next e.receiving))) resets in
     let at : int_eq (first e p) (pos (next e.receiving)) ≡ true = right_true (has_rst p) (int_eq (first e p) (pos (next e.receiving))) resets in
     let in_window : is_acceptable (next e.receiving) (window e.receiving) (first e p) (length_of p) ≡ true =
-    ap (is_acceptable (next e.receiving) (window e.receiving) (first e p)) (rst_length p rst) ∙ next_acceptable (next e.receiving) (window e.receiving) (first e p) at in
+    ap (is_acceptable (next e.receiving) (window e.receiving) (first e p)) (rst_length p rst) ∙ acceptable_at (next e.receiving) (window e.receiving) (first e p) at in
     let e0 : Tcb = waiting_again e p in
     both_if P (is_acceptable (next e.receiving) (window e.receiving) (first e p) (length_of p)) (is_acceptable (next_of c) (room_of c) (first_of c.sisn p) (length_of p))
     (check_rst e0 p) (owing_if (not (has_rst p)) e0) _ c (accept_alike e c written p b)

@@ -7,14 +7,15 @@ use Rattle.std.proofs.lemmas.List.{drop-append-le}
 use Rattle.seq_arith.specs.Arrival.{int_eq, is_new_ack, below}
 use Rattle.tcp_buffers.specs.Near.{is_ahead}
 use Rattle.tcp_endpoint.specs.Receiving as half
-use Rattle.tcp_endpoint.specs.Receiving.{Receiving, next, taken, window, receive_edge, with_segment}
+use Rattle.tcp_endpoint.specs.Receiving.{Receiving, taken, window, receive_edge, with_segment}
 use Rattle.tcp_endpoint.specs.Sending.{Sending, acknowledged, moves_edge}
 use Rattle.ft_model.specs.Client as machine
-use Rattle.ft_model.specs.Client.{Client, is_ended, is_open, next_of, room_of}
+use Rattle.ft_model.specs.Client.{Client, is_ended, is_open}
 use Rattle.ft_model.specs.declared.phase.Phase.TheVariants.{Ended}
-use Rattle.endpoint_laws.proofs.EndingLaw.{holds_if}
 use Rattle.peer_client.specs.Standing.{Hears, Sends}
-use Rattle.peer_client.proofs.Leaves.{left_true, right_true}
+use Rattle.ft_io.proofs.Booleans.{left_true, right_true, left_false, and_true}
+use Rattle.endpoint_laws.proofs.Bounding.{new_within}
+use Rattle.ft_io.proofs.Choices.{holds_if, if_false}
 
 -- two choices by the same test
 pub both_if : {X Y : Type 0} (P : X → Y → Type 0) (b b' : Bool) (x y : X) (x' y' : Y) → b ≡ b' → (b ≡ true → P x x') → (b ≡ false → P y y')
@@ -23,10 +24,6 @@ both_if P true true x y x' y' same on off = on refl
 both_if P true false x y x' y' same on off = absurd (false≢true (sym same))
 both_if P false true x y x' y' same on off = absurd (false≢true same)
 both_if P false false x y x' y' same on off = off refl
-
-pub and_true : (b : Bool) → (b && true) ≡ b
-and_true true = refl
-and_true false = refl
 
 -- what text and FIN make of the receiving half and of the machine
 pub record Heard (r : Receiving) (d : Client) (r' : Receiving) (d' : Client) : Type 0 where
@@ -54,14 +51,6 @@ late_fin false fin n k z room h =
     off : (fin room : Bool) → (fin && true && false && room) ≡ false
     off true room = refl
     off false room = refl
-
-if_off : {X : Type 0} (b : Bool) (x y : X) → b ≡ false → (if b then x else y) ≡ y
-if_off true x y h = absurd (false≢true (sym h))
-if_off false x y h = refl
-
-or_off : (a b : Bool) → (a || b) ≡ false → a ≡ false
-or_off true b h = absurd (false≢true (sym h))
-or_off false b h = refl
 
 -- text at the place, and the FIN behind it
 text_heard : (r : Receiving) (d : Client) (z : ℤ) (text : List ℕ) (fin : Bool) → Hears r d → is_open d.phase ≡ true → d.edge ≡ receive_edge r → r.fin ≡ false
@@ -125,18 +114,15 @@ segment_heard r d z text fin h phase edge =
     (λ k.
     let late : (is_ended d.phase || int_lt (pos (length d.accepted)) z) ≡ true = (λ i. h.fin i || int_lt (pos (h.count i)) z) ∙ k in
     let stays : machine.with_fin d (z +ℤ pos (length text)) fin ≡ d =
-    if_off (fin && not (is_ended d.phase) && int_eq (z +ℤ pos (length text)) (pos (length d.accepted)) && nat_lt (length d.accepted) d.edge)
+    if_false (fin && not (is_ended d.phase) && int_eq (z +ℤ pos (length text)) (pos (length d.accepted)) && nat_lt (length d.accepted) d.edge)
     (record d { phase = Ended }) d
     (late_fin (is_ended d.phase) fin (length d.accepted) (length text) z (nat_lt (length d.accepted) d.edge) late) in
     subst (λ (d' : Client). Heard r d r d') (sym stays) (unheard r d h phase))
-    (λ k. text_heard r d z text fin h phase edge (or_off r.fin (int_lt (pos (taken r)) z) k))
+    (λ k. text_heard r d z text fin h phase edge (left_false r.fin (int_lt (pos (taken r)) z) k))
 
 -- an acknowledgement of what was sent
 both_le : (una sent : ℕ) (z : ℤ) → int_le (pos una) z ≡ true → int_le z (pos sent) ≡ true → nat_abs z ≤ sent
 both_le una sent z a b = grind (arith, ints, a, b)
-
-una_within : (una sent : ℕ) (ack : ℤ) → una ≤ sent → (if is_new_ack una sent ack then nat_abs ack else una) ≤ sent
-una_within una sent ack order = grind (arith, ints)
 
 acked_alike : (una sent : ℕ) (ack : ℤ) → int_lt (pos sent) ack ≡ false → (if int_lt (pos una) ack then nat_abs ack else una) ≡ (if is_new_ack una sent ack then nat_abs ack else una)
 acked_alike una sent ack h = grind (arith, ints, h)
@@ -154,7 +140,7 @@ ack_sends s seq ack room written d sent h =
       sent = h.sent;
       acknowledged = (λ i. if int_lt (pos (h.acknowledged i)) ack then nat_abs ack else h.acknowledged i) ∙ acked_alike s.una s.sent ack sent;
       held = held_if new refl;
-      order = una_within s.una s.sent ack h.order;
+      order = new_within s.una s.sent ack h.order;
       wl2 = holds_if (λ (n : ℕ). n ≤ s.sent) (moves_edge s seq ack) (nat_abs ack) s.wl2
           (λ k. both_le s.una s.sent ack (left_true (int_le (pos s.una) ack) (int_le ack (pos s.sent)) (left_true both _ k))
           (right_true (int_le (pos s.una) ack) (int_le ack (pos s.sent)) (left_true both _ k))) (λ k. h.wl2);

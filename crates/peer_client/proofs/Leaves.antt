@@ -11,31 +11,17 @@ use Rattle.tcp_endpoint.specs.Tcb.{Tcb}
 use Rattle.tcp_endpoint.specs.Leaving.{segment_at, text_at, fin_at, texts, answer_segments, answer_out, again_out, again_segment, opening_segment, probes, probes_text, probes_fin, probe_out, with_probe, new_length, text_out, with_text_sent, new_fin, fin_out, with_fin_out, full_out, after_full, is_owed, bare_segment, or_bare, leaving}
 use Rattle.segment_codec.specs.declared.Head.{Head}
 use Rattle.ft_model.specs.Client.{Client, IsMove}
-use Rattle.endpoint_laws.proofs.EndingLaw.{holds_if}
 use Rattle.peer_client.specs.Standing.{AreMoves, Told}
 use Rattle.peer_client.proofs.Spoken.{grown, Speaks, Goes, edge_after, text_move, fin_move, bare_move, texts_go, goes_none, goes_one, goes_on, edge_low}
+use Rattle.ft_io.proofs.Booleans.{left_true, right_true, not_true, or_other}
+use Rattle.ft_io.proofs.Choices.{holds_if}
+use Rattle.endpoint_laws.proofs.TimerAt.{some_left}
 
 -- where two choices are made by one test
 pub pair_if : {X Y : Type 0} (P : X → Y → Type 0) (b : Bool) (x y : X) (x' y' : Y) → (b ≡ true → P x x') → (b ≡ false → P y y')
     → P (if b then x else y) (if b then x' else y')
 pair_if P true x y x' y' on off = on refl
 pair_if P false x y x' y' on off = off refl
-
-pub left_true : (a b : Bool) → (a && b) ≡ true → a ≡ true
-left_true true b h = refl
-left_true false b h = absurd (false≢true h)
-
-pub right_true : (a b : Bool) → (a && b) ≡ true → b ≡ true
-right_true true b h = h
-right_true false b h = absurd (false≢true h)
-
-pub not_true : (b : Bool) → not b ≡ true → b ≡ false
-not_true true h = absurd (false≢true h)
-not_true false h = refl
-
-right_of_or : (a b : Bool) → a ≡ false → (a || b) ≡ true → b ≡ true
-right_of_or true b none h = absurd (false≢true (sym none))
-right_of_or false b none h = h
 
 pub lt_of : (n m : ℕ) → nat_lt n m ≡ true → n < m
 lt_of n m h = grind (arith, h)
@@ -45,9 +31,6 @@ not_lt_of n m h = grind (arith, h)
 
 pub eq_of : (n m : ℕ) → (n == m) ≡ true → n ≡ m
 eq_of n m h = grind (arith, h)
-
-not_eq_of : (n : ℕ) → (n == 0) ≡ false → 1 ≤ n
-not_eq_of n h = grind (arith, h)
 
 -- the endpoint with so much sent, and a FIN or not
 abbrev pub at : Tcb → ℕ → Bool → Tcb
@@ -98,7 +81,7 @@ again_goes u c written edge x h w low =
     holds_if P (u.again && not (is_closed u.name) && is_unacknowledged q) _ []
     (λ due.
     let unacked : q.una < q.sent =
-    lt_of q.una q.sent (right_of_or (not q.syn_acked) (nat_lt q.una q.sent) (ap not h.syn_acked) (right_true (u.again && not (is_closed u.name)) (is_unacknowledged q) due)) in
+    lt_of q.una q.sent (or_other (not q.syn_acked) (nat_lt q.una q.sent) (ap not h.syn_acked) (right_true (u.again && not (is_closed u.name)) (is_unacknowledged q) due)) in
     holds_if O (not q.syn_acked) (opening_segment u) _
     (λ k. absurd (false≢true (sym (ap not h.syn_acked) ∙ k)))
     (λ k. holds_if O (length q.held == 0) (fin_at u 0) (text_at u 0 (resent_length q))
@@ -110,7 +93,7 @@ again_goes u c written edge x h w low =
     (fin_move u c written edge h.speaks 0 q.sent x q.sent (omega (arith, whole.1, unacked, gone, held)) (h.shut whole.0) (omega (arith, whole.1)) whole.1 low))
     (λ some.
     let n : ℕ = resent_length q in
-    let one : 1 ≤ length q.held = not_eq_of (length q.held) some in
+    let one : 1 ≤ length q.held = some_left (length q.held) some in
     let few : n ≤ q.sent - q.una = omega arith in
     let fits : n ≤ length q.held = omega arith in
     goes_one c edge q.sent x q.sent (text_at u 0 n)

@@ -1,7 +1,7 @@
 -- The state of an endpoint tells how its connection has ended, and a close and a flush keep it so.
 use Rattle.std.proofs.Common.{◌≡◌, ℕ, ◌≤◌, ◌+◌, Bool, true, false, Some, None, length, refl, sym, ap, arith, ◌∙◌}
 use Rattle.std.specs.Prelude.{◌==◌, ◌&&◌, ◌||◌, if◌then◌else◌}
-use Rattle.std.proofs.lemmas.Bool.{false≢true}
+use Rattle.std.proofs.lemmas.Bool.{false≢true, and_from}
 use Rattle.tcp_endpoint.specs.declared.states.StateName.{StateName}
 use Rattle.tcp_endpoint.specs.declared.states.StateName.TheVariants.{Closed, Listen, SynSent, SynReceived, Established, FinWait1, FinWait2, CloseWait, Closing, LastAck, TimeWait}
 use Rattle.tcp_endpoint.specs.States.{has_begun, is_closed, is_time_wait}
@@ -15,14 +15,7 @@ use Rattle.ft_model.specs.declared.phase.Phase.TheVariants as phases
 use Rattle.peer_client.specs.declared.live.ClientEnd.TheVariants as ends
 use Rattle.peer_client.specs.Live.{LiveState, end_of}
 use Rattle.peer_client.specs.Standing.{Stands, Sends, is_reset, outcome_of}
-
-left_true : (x y : Bool) → (x && y) ≡ true → x ≡ true
-left_true true y k = refl
-left_true false y k = absurd (false≢true k)
-
-right_true : (x y : Bool) → (x && y) ≡ true → y ≡ true
-right_true true y k = k
-right_true false y k = absurd (false≢true k)
+use Rattle.ft_io.proofs.Booleans.{left_true, right_true}
 
 placed_from : (name : StateName) (o c f a : Bool) → IsNamed name o c f a → o ≡ true → (has_begun name ≡ false → (name ≡ Closed) × (c ≡ true) × ((f && a) ≡ true))
     → IsPlaced name o c f a
@@ -38,11 +31,8 @@ placed_from Closing o c f a h is over = h
 placed_from LastAck o c f a h is over = h
 placed_from TimeWait o c f a h is over = h
 
-both_true : (x y : Bool) → x ≡ true → y ≡ true → (x && y) ≡ true
-both_true x y p q = λ i. p i && q i
-
 over_from : (name : StateName) (o c f a : Bool) → IsPlaced name o c f a → has_begun name ≡ false → (name ≡ Closed) × (c ≡ true) × ((f && a) ≡ true)
-over_from Closed o c f a h none = (refl, h.1, both_true f a h.2 h.3)
+over_from Closed o c f a h none = (refl, h.1, and_from f a h.2 h.3)
 over_from Listen o c f a h none = absurd h
 over_from SynSent o c f a h none = absurd h
 over_from SynReceived o c f a h none = absurd (false≢true (sym none))
@@ -70,7 +60,7 @@ over_at e h none = over_from e.name e.sending.syn_acked e.sending.closed e.recei
 
 -- TIME-WAIT and CLOSED are the states in which both FINs are through
 ended_by : (name : StateName) (o c f a : Bool) → IsPlaced name o c f a → (a ≡ true → c ≡ true) → (is_time_wait name || is_closed name) ≡ (f && a)
-ended_by Closed o c f a h closes = sym (both_true f a h.2 h.3)
+ended_by Closed o c f a h closes = sym (and_from f a h.2 h.3)
 ended_by Listen o c f a h closes = absurd h
 ended_by SynSent o c f a h closes = absurd h
 ended_by SynReceived o c f a h closes = ap (λ b. b && a) (sym h.1)
@@ -93,7 +83,7 @@ ended_by LastAck o c f a h closes = sym (no_right f a h.3)
     no_right : (f a : Bool) → a ≡ false → (f && a) ≡ false
     no_right true a none = none
     no_right false a none = refl
-ended_by TimeWait o c f a h closes = sym (both_true f a h.2 h.3)
+ended_by TimeWait o c f a h closes = sym (and_from f a h.2 h.3)
 
 -- the FIN is acknowledged where one unit more than the script is
 acked_is : (f : Bool) (una sent written len : ℕ) → (f ≡ false → sent ≤ written) → (f ≡ true → sent ≡ written + 1) → una ≤ sent → (f ≡ true → written ≡ len) → written ≤ len
@@ -103,10 +93,6 @@ acked_is false una sent written len text ended order whole within = below (text 
   where
     below : sent ≤ written → false ≡ (una == len + 1)
     below h = grind (arith, h, order, within)
-
-acks_of : (f x : Bool) → (f && x) ≡ true → f ≡ true
-acks_of true x h = refl
-acks_of false x h = absurd (false≢true h)
 
 pub acked_at : (s : Sending) (written : ℕ) (c : Client) → Sends s written c → fin_acked s ≡ (c.acknowledged == length c.script + 1)
 acked_at s written c h =
@@ -126,7 +112,7 @@ pub ends_alike : (e : Tcb) (written : ℕ) (c : Client) → FollowsAt e → e.re
 ends_alike e written c h unreset phase fin sends =
     let through : (is_time_wait e.name || is_closed e.name) ≡ (e.receiving.fin && fin_acked e.sending) =
     ended_by e.name e.sending.syn_acked e.sending.closed e.receiving.fin (fin_acked e.sending) h.placed
-    (λ k. h.ends (acks_of e.sending.fin_sent (e.sending.una == e.sending.sent) k)) in
+    (λ k. h.ends (left_true e.sending.fin_sent (e.sending.una == e.sending.sent) k)) in
     (λ i. if unreset i then Some ends.Reset else (if is_time_wait e.name || is_closed e.name then Some ends.Closed else None))
     ∙ ap (λ b. if b then Some ends.Closed else None) (through ∙ (λ i. sym fin i && acked_at e.sending written c sends i))
     ∙ (λ i. if sym phase i then Some ends.Reset else (if is_ended c.phase && c.acknowledged == length c.script + 1 then Some ends.Closed else None))

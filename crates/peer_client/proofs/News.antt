@@ -13,16 +13,17 @@ use Rattle.tcp_endpoint.specs.Tcb.{Tcb}
 use Rattle.tcp_endpoint.specs.Arrival.{first, in_others, received}
 use Rattle.tcp_endpoint.specs.Turning.{after_tick, timer_ticked, waited}
 use Rattle.ft_model.specs.Client as machine
-use Rattle.ft_model.specs.Client.{Client, is_opening, is_ended, is_open}
+use Rattle.ft_model.specs.Client.{Client, is_opening, is_open}
 use Rattle.ft_model.specs.declared.phase.Phase.{Phase}
 use Rattle.ft_model.specs.declared.phase.Phase.TheVariants as phases
 use Rattle.endpoint_laws.proofs.TakenLaw.{begun_is}
-use Rattle.endpoint_laws.proofs.EndingLaw.{FollowsAt, holds_if, named_at, received_follows, tick_follows}
+use Rattle.endpoint_laws.proofs.EndingLaw.{FollowsAt, named_at, received_follows, tick_follows}
 use Rattle.peer_client.specs.declared.live.ClientEnd.TheVariants as ends
 use Rattle.peer_client.specs.Live.{LiveState, end_of, first_end, met, ticked}
 use Rattle.peer_client.specs.Standing.{IsSame, Hears, Sends, Told, Stands, IsStanding, HasHeard, IsReset, is_reset}
 use Rattle.peer_client.proofs.Named.{follows_of, over_at, ends_alike}
 use Rattle.peer_client.proofs.Arrives.{Before, Keeps, Resets, others_kept, others_reset}
+use Rattle.ft_io.proofs.Choices.{holds_if}
 
 not_opening : (phase : Phase) → is_open phase ≡ true → is_opening phase ≡ false
 not_opening phases.New h = refl

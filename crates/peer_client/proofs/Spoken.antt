@@ -9,8 +9,8 @@ use Rattle.tcp_endpoint.specs.Tcb.{Tcb}
 use Rattle.tcp_endpoint.specs.Leaving.{head_at, segment_at, text_at, fin_at, texts}
 use Rattle.ft_model.specs.Client.{Client, IsMove, accepted_units, is_open}
 use Rattle.ft_model.specs.Client.Move.{Text, Fin, Acknowledge}
-use Rattle.endpoint_laws.proofs.EndingLaw.{holds_if}
 use Rattle.peer_client.specs.Standing.{AreMoves}
+use Rattle.ft_io.proofs.Choices.{holds_if}
 
 -- a machine that has sent and announced so much
 abbrev pub grown : Client → (sent edge : ℕ) → Client

@@ -1,6 +1,6 @@
 -- The end of a turn of an established connection: what was handed out is given up, the script goes on, and what leaves are moves.
 use Rattle.std.proofs.Common.{◌≡◌, ◌⊎◌, inl, inr, ℕ, ◌≤◌, ◌+◌, ◌-◌, Bool, true, false, None, List, [], ◌∷◌, ◌++◌, append-nil, length, length-drop, length-take, take, drop, drop-drop, min, refl, sym, ap, subst, arith, ◌∙◌}
-use Rattle.std.specs.Prelude.{◌==◌, ◌&&◌, ◌||◌, nat_le, if◌then◌else◌}
+use Rattle.std.specs.Prelude.{◌==◌, ◌||◌, nat_le, if◌then◌else◌}
 use Rattle.std.proofs.lemmas.Bool.{false≢true}
 use Rattle.std.proofs.lemmas.List.{take-append-drop, drop-append-le, take-take, drop-take, take_min}
 use Rattle.seq_arith.specs.Offset.{one_if}
@@ -13,13 +13,15 @@ use Rattle.tcp_endpoint.specs.Turning.{closing, write_room}
 use Rattle.ft_model.specs.Client.{Client, is_open}
 use Rattle.endpoint_laws.specs.Turn.{Call, used}
 use Rattle.endpoint_laws.specs.Turn.Call.{Reads, Writes, Closes}
-use Rattle.endpoint_laws.proofs.EndingLaw.{FollowsAt, holds_if, used_follows, flush_follows, named_at}
+use Rattle.endpoint_laws.proofs.EndingLaw.{FollowsAt, used_follows, flush_follows, named_at}
 use Rattle.endpoint_laws.proofs.AnswersAlone.{closed_sends}
 use Rattle.peer_client.specs.Live.{LiveState, given_up, next_part, supplied, closes, shut, before_flush, sent_by, turned}
 use Rattle.peer_client.specs.Standing.{AreMoves, IsSame, Hears, Sends, Told, Stands, IsStanding}
 use Rattle.peer_client.proofs.Spoken.{grown, Speaks}
 use Rattle.peer_client.proofs.Leaves.{at, IsWithin, Flushes, Left, leaves}
 use Rattle.peer_client.proofs.Named.{follows_of, over_at}
+use Rattle.ft_io.proofs.Booleans.{right_true}
+use Rattle.ft_io.proofs.Choices.{holds_if}
 
 -- bytes that are read
 pub read_hears : (r : Receiving) (c : Client) (n : ℕ) → n ≤ length r.unread → Hears r c → Hears (read_out r n) c
@@ -114,10 +116,6 @@ close_sends s written c whole h = record {
   least = h.least;
   most = h.most;
 }
-
-right_true : (a b : Bool) → (a && b) ≡ true → b ≡ true
-right_true true b h = h
-right_true false b h = absurd (false≢true h)
 
 le_of : (n m : ℕ) → nat_le n m ≡ true → n ≤ m
 le_of n m h = grind (arith, h)

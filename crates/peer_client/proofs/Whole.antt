@@ -14,7 +14,6 @@ use Rattle.tcp_endpoint.specs.Turning.{closing}
 use Rattle.tcp_endpoint.specs.Leaving.{answer_segments, with_probe, with_text_sent, with_fin_out, after_full, announced, with_turn_ended, flushed}
 use Rattle.ft_model.specs.Client as machine
 use Rattle.ft_model.specs.Client.{Client, is_ended}
-use Rattle.endpoint_laws.proofs.EndingLaw.{holds_if}
 use Rattle.endpoint_laws.proofs.AnswersAlone.{closed_sends}
 use Rattle.ft_model.specs.declared.phase.Phase.TheVariants as phases
 use Rattle.peer_client.specs.declared.live.ClientEnd.{ClientEnd}
@@ -27,16 +26,13 @@ use Rattle.peer_client.proofs.TurnEnds.{ready, turn_ends, closed_leaves, follows
 use Rattle.peer_client.proofs.News.{segment_comes, tick_passes, not_reset}
 use Rattle.peer_client.proofs.Opens.{waits_end}
 use Rattle.peer_client.proofs.Answered.{answer_comes, tick_waits}
+use Rattle.ft_io.proofs.Choices.{holds_if}
+use Rattle.peer_client.proofs.Leaves.{pair_if}
 
 -- between two turns nothing is due
 told_due : (l : LiveState) (c : Client) → IsBetween l c → IsDue l c
 told_due l c (inl h) = inl h.waits
 told_due l c (inr h) = inr (inl h.stands)
-
-if_of : {X Y : Type 0} (P : X → Y → Type 0) (b : Bool) (x y : X) (x' y' : Y) → (b ≡ true → P x x') → (b ≡ false → P y y')
-    → P (if b then x else y) (if b then x' else y')
-if_of P true x y x' y' on off = on refl
-if_of P false x y x' y' on off = off refl
 
 -- bytes come
 of_connection : (l : LiveState) (c : Client) (p : Segment) → IsBetween l c → l.outcome ≡ None → AcksNear c (Ok p) → p.head.ack < 2 ^ 32 → is_of l.local l.server p ≡ true
@@ -48,7 +44,7 @@ pub heard_due : (l : LiveState) (c : Client) (r : Result Segment BadPacket) → 
     → IsDue (hearing l r) (receiving l c r)
 heard_due l c (Err bad) h none near fits = told_due l c h
 heard_due l c (Ok p) h none near fits =
-    if_of (λ (m : LiveState) (d : Client). IsDue m d) (is_of l.local l.server p) (met l p) l (machine.received c p) c
+    pair_if (λ (m : LiveState) (d : Client). IsDue m d) (is_of l.local l.server p) (met l p) l (machine.received c p) c
     (λ from. of_connection l c p h none near fits from) (λ other. told_due l c h)
 
 -- numbers tell the order of offsets
@@ -145,7 +141,7 @@ flush_moves l c (inr (inl h)) = stands_ends l c h (has_begun (before_flush l).tc
 flush_moves l c (inr (inr h)) = reset_ends l c h
 
 -- what is handed out
-heard_of : (l : LiveState) (c : Client) → IsDue l c → HasHeard l.tcb.receiving c
+pub heard_of : (l : LiveState) (c : Client) → IsDue l c → HasHeard l.tcb.receiving c
 heard_of l c (inl h) = record { count = h.agrees.hears.count; rest = h.agrees.hears.rest }
 heard_of l c (inr (inl h)) = record { count = h.agrees.hears.count; rest = h.agrees.hears.rest }
 heard_of l c (inr (inr h)) = h.heard

@@ -1,5 +1,6 @@
 -- An answer leads a restart as the law Restart says, and what is asked is the law's question.
 use Rattle.std.proofs.Common.{◌≡◌, ℕ, ◌+◌, ◌==◌, ◌&&◌, ◌||◌, not, ◌∙◌, Bool, true, false, true≢false, is_none, nat_lt, nat_le, Option, Some, None, MatchOption, List, [], ◌∷◌, ◌++◌, length, find, option_map, refl, ap, sym, subst, arith, eqb-true, if◌then◌else◌}
+use Rattle.std.proofs.lemmas.Bool.{and_parts}
 use Rattle.ft_io.specs.declared.Key.{Key}
 use Rattle.ft_io.specs.Key.{key_eq}
 use Rattle.seq_arith.specs.Message.{EntryHead, Body, Message}
@@ -7,7 +8,7 @@ use Rattle.seq_arith.specs.Message.Body.{ListMsg, EntryMsg, BytesMsg, PartMsg, C
 use Rattle.server_trait.specs.Service.{Machine, Served, machine}
 use Rattle.ft_model.specs.Restart.{Fetched, wanted, next_entry, question, is_fetched, fetched_by, fetched_after, all_follow}
 use Rattle.ft_model.specs.Restart.Wanted.{An_entry, Its_bytes, Its_lengths}
-use Rattle.ft_model.proofs.Lists.{both, none_is_some}
+use Rattle.ft_model.proofs.Lists.{none_is_some}
 use Rattle.reincarnate.specs.declared.cuts.Cuts.{Cuts}
 use Rattle.reincarnate.specs.declared.lack.Lack.{Lack}
 use Rattle.reincarnate.specs.declared.lack.Lack.TheVariants as lack
@@ -169,7 +170,7 @@ part_leads service s e f earlier key offset bytes st rest whole is =
     let next : EntryState _ = with_bytes service.after bytes e in
     subst (Leads service (if asks then Some (record f { bytes = f.bytes ++ bytes } ∷ earlier) else None)) (sym (mapped_choice (with_newest s) fits next))
     (by_choice service asks fits (record f { bytes = f.bytes ++ bytes } ∷ earlier) (with_newest s next) same
-    (λ taken. let within = (both (key_eq key f.head.key && offset == length f.bytes) (nat_le (length f.bytes + length bytes) f.head.length) taken).1 in
+    (λ taken. let within = (and_parts (key_eq key f.head.key && offset == length f.bytes) (nat_le (length f.bytes + length bytes) f.head.length) taken).1 in
     record { entries = (bytes_stand service f e bytes st (grind (arith, within)), rest); newest = λ q. none_is_some _ (sym q); whole = whole }))
 
 nested : {A B C : Type 0} (f : B → C) (g : A → B) (a b : Bool) (x : A) → option_map f (option_map g (if a then (if b then Some x else None) else None)) ≡ (if a && b then Some (f (g x)) else None)
@@ -194,8 +195,8 @@ lens_lead service s e f earlier key first lens st rest whole is =
     ap (λ o. option_map (with_newest s) (option_map (λ c. with_lengths service.after c lens e) o)) cuts ∙ nested (with_newest s) (λ c. with_lengths service.after c lens e) asks follow all in
     subst (Leads service (if asks && follow then Some (record f { lengths = f.lengths ++ lens } ∷ earlier) else None)) (sym code)
     (by_choice service (asks && follow) (asks && follow) (record f { lengths = f.lengths ++ lens } ∷ earlier) (with_newest s next) refl
-    (λ taken. let parts = both asks follow taken in
-    let within = (both (key_eq key f.head.key && first == length f.lengths) (nat_le (length f.lengths + length lens) f.head.reads) parts.0).1 in
+    (λ taken. let parts = and_parts asks follow taken in
+    let within = (and_parts (key_eq key f.head.key && first == length f.lengths) (nat_le (length f.lengths + length lens) f.head.reads) parts.0).1 in
     let enough = follow_within f.head.length f.head.fin f.lengths lens parts.1 st.enough in
     record { entries = (lengths_stand service f e lens all st (grind (arith, within)) enough refl, rest); newest = λ q. none_is_some _ (sym q); whole = whole }))
 

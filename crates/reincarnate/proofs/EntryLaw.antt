@@ -1,12 +1,12 @@
 -- An entry as far as it is fetched, by the law Restart.
 use Rattle.std.proofs.Common.{◌≡◌, ℕ, ◌+◌, ◌≤◌, ◌==◌, ◌&&◌, ◌||◌, not, ◌∙◌, Bool, true, false, true≢false, nat_lt, nat_le, Option, Some, None, List, [], ◌∷◌, ◌++◌, length, sum, refl, ap, sym, subst, arith, append_assoc, append-nil, length-append, if◌then◌else◌}
 use Rattle.std.specs.List.{list_any}
+use Rattle.std.proofs.lemmas.Bool.{and_parts}
 use Rattle.server_trait.specs.Service.{Machine}
 use Rattle.seq_arith.specs.Message.{EntryHead}
 use Rattle.ft_model.specs.Log.{may_follow}
 use Rattle.ft_model.specs.Restart.{Fetched, Wanted, wanted, next_entry, is_whole, all_follow}
 use Rattle.ft_model.specs.Restart.Wanted.{Its_bytes, Its_lengths}
-use Rattle.ft_model.proofs.Lists.{both}
 use Rattle.ft_model.proofs.Services.{sum_append}
 use Rattle.reincarnate.specs.declared.cuts.Cuts.{Cuts}
 use Rattle.reincarnate.specs.declared.lack.Lack.{Lack}
@@ -17,6 +17,7 @@ use Rattle.reincarnate.specs.Progress.{EntryState, begun_entry, lacks, with_byte
 use Rattle.reincarnate.specs.Standing.{StandsFor}
 use Rattle.reincarnate.proofs.ReplayOn.{replays}
 use Rattle.reincarnate.proofs.ReplayLaw.{replays_stand, begins, more_held, more_lengths}
+use Rattle.north_wrap.proofs.OneRead.{any_append}
 
 -- what of an entry is missing, in the law's words
 abbrev pub lack_by : (done lacks_read lacks_length lacks_byte : Bool) → Lack
@@ -106,12 +107,8 @@ lengths_stand service f e lens cuts st within enough are =
       replay = replays_stand service f.bytes (f.lengths ++ lens) (e.waiting ++ lens) f.head.acked e.replay (more_lengths service f.bytes f.lengths e.waiting lens f.head.acked e.replay st.replay);
     }
 
-any_more : (xs : List ℕ) (y : ℕ) → list_any (λ k. k == 0) (xs ++ y ∷ []) ≡ (list_any (λ k. k == 0) xs || y == 0)
-any_more [] y = grind arith
-any_more (x ∷ xs) y = grind (arith, any_more xs y)
-
 one_cut : (lengths : List ℕ) (n : ℕ) → cut_on (cuts_of lengths) n ≡ cuts_of (lengths ++ n ∷ [])
-one_cut lengths n = λ j. record { count = (sym (length-append lengths (n ∷ []))) j; sum = (sym (sum_append lengths n)) j; ended = (sym (any_more lengths n)) j }
+one_cut lengths n = λ j. record { count = (sym (length-append lengths (n ∷ []))) j; sum = (sym (sum_append lengths n)) j; ended = (sym (any_append lengths n)) j }
 
 by_follow : (b c : Bool) (x y : Option Cuts) → x ≡ (if c then y else None) → (if b then x else None) ≡ (if b && c then y else None)
 by_follow true c x y e = e
@@ -128,13 +125,13 @@ cuts_are len fin lengths (n ∷ lens) =
 
 within_by : (c fin : Bool) (n total len : ℕ) → ((not c && nat_le (total + n) len) && (nat_lt 0 n || (fin && total == len))) ≡ true → total + n ≤ len
 within_by c fin n total len e =
-    let low = (both (not c) (nat_le (total + n) len) (both (not c && nat_le (total + n) len) (nat_lt 0 n || (fin && total == len)) e).0).1 in grind (arith, low)
+    let low = (and_parts (not c) (nat_le (total + n) len) (and_parts (not c && nat_le (total + n) len) (nat_lt 0 n || (fin && total == len)) e).0).1 in grind (arith, low)
 
 -- and so the bytes suffice for them
 pub follow_within : (len : ℕ) (fin : Bool) (lengths lens : List ℕ) → all_follow len fin lengths lens ≡ true → sum lengths ≤ len → sum (lengths ++ lens) ≤ len
 follow_within len fin lengths [] e within = subst (λ l. sum l ≤ len) (sym (append-nil lengths)) within
 follow_within len fin lengths (n ∷ lens) e within =
-    let parts = both (may_follow len fin lengths n) (all_follow len fin (lengths ++ n ∷ []) lens) e in
+    let parts = and_parts (may_follow len fin lengths n) (all_follow len fin (lengths ++ n ∷ []) lens) e in
     let low : sum lengths + n ≤ len = within_by (list_any (λ k. k == 0) lengths) fin n (sum lengths) len parts.0 in
     let one = sum_append lengths n in
     subst (λ l. sum l ≤ len) (append_assoc lengths (n ∷ []) lens) (follow_within len fin (lengths ++ n ∷ []) lens parts.1 (omega (arith, one, low)))

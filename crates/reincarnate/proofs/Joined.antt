@@ -1,9 +1,8 @@
 -- The parts that are spliced stand at the point of the entry.
-use Rattle.std.proofs.Common.{◌≡◌, ℕ, Bool, true, false, ◌≤◌, ◌<◌, ◌+◌, ◌-◌, ◌^◌, ◌%◌, ◌∙◌, min, sum, le_refl, length, drop, refl, ap, sym, subst, arith, if◌then◌else◌}
+use Rattle.std.proofs.Common.{◌≡◌, ℕ, Bool, true, false, ◌≤◌, ◌<◌, ◌+◌, ◌-◌, ◌^◌, ◌%◌, ◌∙◌, min, sum, le_refl, length, drop, refl, ap, sym, subst, arith}
 use Rattle.std.specs.Prelude.{◌&&◌, nat_lt}
 use Rattle.std.proofs.lemmas.List.{drop_min, take_all}
 use Rattle.ft_io.specs.declared.Addr.{Addr}
-use Rattle.ft_io.specs.declared.Key.{Key}
 use Rattle.seq_arith.specs.Number.{distance, number_at}
 use Rattle.seq_arith.specs.Offset.{one_if}
 use Rattle.server_trait.specs.Service.{Machine}
@@ -11,8 +10,7 @@ use Rattle.ft_model.specs.Log.{Entry}
 use Rattle.ft_model.specs.Restart.{point_of, resumed_at, run_of, IsSound}
 use Rattle.south_wrap.specs.Standing.{south_at}
 use Rattle.north_wrap.specs.Standing.{HasReplayed}
-use Rattle.tcp_endpoint.specs.Tcb.{Tcb, listening}
-use Rattle.connection_laws.specs.Splicing.{GoesOnFrom, delta_from, connected, spliced}
+use Rattle.connection_laws.specs.Splicing.{GoesOnFrom, delta_from, spliced}
 use Rattle.connection_laws.specs.Standing.{PartsStand}
 use Rattle.connection_laws.proofs.Spliced.{splices_parts}
 use Rattle.connection_laws.specs.Telling.{PartsTell}
@@ -20,11 +18,11 @@ use Rattle.connection_laws.proofs.Telling.{parts_tell}
 use Rattle.wrapped_conn.specs.Beginning.{joined_conn}
 use Rattle.wrapped_conn.specs.Numbers.{has_fin}
 use Rattle.wrapped_conn.specs.Standing.{StandsBefore}
-use Rattle.wrapped_conn.proofs.Locals.{received_local, flushed_local}
 use Rattle.wrapped_conn.proofs.NumbersAt.{has_fin_is, logged_at}
 use Rattle.reincarnate.specs.Progress.{ReplayedState, IsSegmentSize}
 use Rattle.reincarnate.specs.Standing.{IsReplayed}
 use Rattle.reincarnate.specs.Joining.{SplicedState, goes_on_at, has_end, south_from, north_from, spliced_from, Fits, IsSpliced}
+use Rattle.wrapped_conn.proofs.Joining.{spliced_local}
 
 goes_on : {S : Type 0} (service : Machine S) (e : Entry) (r : ReplayedState S) (i : ℕ) → Fits r i → IsReplayed service e r → IsSound service e → GoesOnFrom service e i
 goes_on service e r i f re sound =
@@ -93,21 +91,6 @@ south_is service e r i re sound =
       una = u j;
       sent = u j;
     }
-
--- TCP has the server's address
-at_address : (b : Bool) (x y : Tcb) (local : Addr) → x.local ≡ local → y.local ≡ local → (if b then x else y).local ≡ local
-at_address true x y local p q = p
-at_address false x y local p q = q
-
-listening_local : (local : Addr) (i limit : ℕ) → (listening local i limit).local ≡ local
-unfolding listening
-listening_local local i limit = refl
-
-spliced_local : (key : Key) (local : Addr) (cisn fetched mss i : ℕ) (fin : Bool) → (spliced key local cisn fetched mss i fin).local ≡ local
-unfolding connected
-spliced_local key local cisn fetched mss i fin =
-    let connects = flushed_local _ ∙ received_local _ _ ∙ (flushed_local _ ∙ received_local (listening local i (2 ^ 24 - fetched)) _ ∙ listening_local local i (2 ^ 24 - fetched)) in
-    at_address fin _ _ local (flushed_local _ ∙ received_local _ _ ∙ connects) connects
 
 pub splice_stands : {S : Type 0} (service : Machine S) (local : Addr) (boot : ℕ) (e : Entry) (r : ReplayedState S) (i : ℕ) → Fits r i → IsReplayed service e r → IsSound service e
     → IsSpliced service e i (spliced_from boot local i r)

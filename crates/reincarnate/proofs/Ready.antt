@@ -1,8 +1,9 @@
 -- Entries of which nothing is missing.
 use Rattle.std.proofs.Common.{◌≡◌, ◌∙◌, ℕ, ◌==◌, ◌&&◌, nat_lt, is_none, length, true≢false, Bool, true, Option, Some, None, List, [], ◌∷◌, ◌++◌, reverse, refl, ap, sym, subst}
 use Rattle.std.proofs.lemmas.List.{reverse-append}
+use Rattle.std.proofs.lemmas.Bool.{and_parts}
 use Rattle.seq_arith.specs.Message.{Body}
-use Rattle.ft_model.proofs.Lists.{none_is_some, both}
+use Rattle.ft_model.proofs.Lists.{none_is_some}
 use Rattle.reincarnate.specs.declared.lack.Lack.{Lack}
 use Rattle.reincarnate.specs.declared.lack.Lack.TheVariants as lack
 use Rattle.reincarnate.specs.Progress.{EntryState, lacks, asked_for, AreReady}
@@ -38,8 +39,8 @@ last_is_ready all front e ready is = (front_ready front e (subst AreReady is rea
 pub first_in_order : {S : Type 0} (all front newest : List (EntryState S)) (e : EntryState S) → all ≡ front ++ e ∷ [] → reverse all ++ newest ≡ e ∷ (reverse front ++ newest)
 first_in_order all front newest e is = ap (λ l. reverse l ++ newest) is ∙ ap (λ l. l ++ newest) (reverse-append front (e ∷ []))
 
-first_of_four : (a b c d : Bool) → (a && b && c && d) ≡ true → a ≡ true
-first_of_four a b c d e = (both a b (both (a && b) c (both (a && b && c) d e).0).0).0
+pub first_of_four : (a b c d : Bool) → (a && b && c && d) ≡ true → a ≡ true
+first_of_four a b c d e = (and_parts a b (and_parts (a && b) c (and_parts (a && b && c) d e).0).0).0
 
 none_so : (o : Option Body) → is_none o ≡ true → o ≡ None
 none_so None e = refl

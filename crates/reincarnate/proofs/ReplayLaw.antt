@@ -3,12 +3,12 @@ use Rattle.std.proofs.Common.{◌≡◌, ℕ, zero, suc, ◌+◌, ◌-◌, ◌^�
 use Rattle.std.proofs.lemmas.List.{drop-append-le}
 use Rattle.std.proofs.Math.Seq.{drop-nil}
 use Rattle.server_trait.specs.Service.{Machine, Run, Served, fed, with_served, reference}
-use Rattle.ft_model.proofs.Lists.{of_choice}
 use Rattle.ft_model.proofs.Services.{more_bytes, reads_go_on, prefix_length, sum_append}
 use Rattle.north_wrap.proofs.OneRead.{drop_drop, one_more}
 use Rattle.reincarnate.specs.Replaying.{ReplayState, RunsTo, passes_the_stream, served_on, taken_on, fed_on}
 use Rattle.reincarnate.specs.Progress.{replayed_from}
 use Rattle.reincarnate.specs.Standing.{HasReplayed}
+use Rattle.ft_io.proofs.Choices.{holds_if}
 
 drop_join : (k : ℕ) (xs ys : List ℕ) → drop k xs ++ drop (k - length xs) ys ≡ drop k (xs ++ ys)
 drop_join zero xs ys = let none : 0 - length xs ≡ 0 = omega arith in ap (λ n. xs ++ drop n ys) none
@@ -21,7 +21,7 @@ served_runs run acked r a b same t known small =
     let more = length-append run.output a.output in
     let size : length b.output ≡ length a.output = ap (λ x. length x.output) (sym same) in
     let back : b ≡ a = sym same in
-    of_choice (RunsTo (with_served run a) acked) (passes_the_stream r b) (record r { service = b.next; closed = true }) (record r {
+    holds_if (RunsTo (with_served run a) acked) (passes_the_stream r b) (record r { service = b.next; closed = true }) (record r {
       service = b.next;
       closed = b.closed;
       made = r.made + length b.output;
@@ -49,9 +49,9 @@ taken_runs service run acked r chunk t known small =
 
 taken_acked : {S : Type 0} (after : S → List ℕ → Served S) (r : ReplayState S) (chunk : List ℕ) → (taken_on after r chunk).acked ≡ r.acked
 taken_acked after r chunk =
-    of_choice (λ x. x.acked ≡ r.acked) r.closed r (served_on r (after r.service chunk)) (λ t. refl)
+    holds_if (λ x. x.acked ≡ r.acked) r.closed r (served_on r (after r.service chunk)) (λ t. refl)
     (λ t. let b : Served _ = after r.service chunk in
-    of_choice (λ x. x.acked ≡ r.acked) (passes_the_stream r b) (record r { service = b.next; closed = true }) (record r {
+    holds_if (λ x. x.acked ≡ r.acked) (passes_the_stream r b) (record r { service = b.next; closed = true }) (record r {
       service = b.next;
       closed = b.closed;
       made = r.made + length b.output;
@@ -90,7 +90,7 @@ pub replays_stand : {S : Type 0} (service : Machine S) (bytes lengths ws : List 
     → HasReplayed service bytes lengths (replayed_from service.after ws r).lengths acked (replayed_from service.after ws r).replay
 replays_stand service bytes lengths [] acked r h = h
 replays_stand service bytes lengths (n ∷ ws) acked r h =
-    of_choice (λ w. HasReplayed service bytes lengths w.lengths acked w.replay) (nat_le n (length r.held)) (replayed_from service.after ws (fed_on service.after n r)) (record { lengths = n ∷ ws; replay = r })
+    holds_if (λ w. HasReplayed service bytes lengths w.lengths acked w.replay) (nat_le n (length r.held)) (replayed_from service.after ws (fed_on service.after n r)) (record { lengths = n ∷ ws; replay = r })
     (λ t. replays_stand service bytes lengths ws acked (fed_on service.after n r) (fed_stands service bytes lengths n ws acked r h (grind (arith, t)))) (λ t. h)
 
 pub begins : {S : Type 0} (service : Machine S) (acked : ℕ)

@@ -2,10 +2,10 @@
 use Rattle.std.proofs.Common.{◌≡◌, ℕ, ◌+◌, ◌^◌, ◌≤◌, ◌&&◌, Bool, true, nat_le, List, [], ◌∷◌, length, drop, arith, subst}
 use Rattle.seq_arith.specs.declared.kinds.Kind.TheVariants as kinds
 use Rattle.std.specs.List.{list_all, AllByRecursion}
+use Rattle.std.proofs.lemmas.Bool.{and_parts}
 use Rattle.ft_io.specs.declared.Key.{Key}
 use Rattle.seq_arith.specs.MessageGrammar.{kind_of, numbers_of, behind_of, lens_of, message_length, all_in_range, fields_of, is_sound, has_length, lens_in}
 use Rattle.reincarnate.specs.Progress.{IsSegmentSize}
-use Rattle.ft_model.proofs.Lists.{both}
 use Rattle.logger_wire.specs.declared.Msg.{Msg}
 use Rattle.logger_wire.specs.declared.Body.{Body}
 use Rattle.logger_wire.specs.declared.Body.TheVariants as body
@@ -21,13 +21,13 @@ size_of m b sendable is = subst (λ x. has_length (kind_of (body_of x)) (message
 
 seventh : (a b c d e f g rest : Bool) → (a && (b && (c && (d && (e && (f && (g && rest))))))) ≡ true → g ≡ true
 seventh a b c d e f g rest all =
-    let tail = (both a (b && (c && (d && (e && (f && (g && rest)))))) all).1 in
-    let tail = (both b (c && (d && (e && (f && (g && rest))))) tail).1 in
-    let tail = (both c (d && (e && (f && (g && rest)))) tail).1 in
-    let tail = (both d (e && (f && (g && rest))) tail).1 in
-    let tail = (both e (f && (g && rest)) tail).1 in
-    let tail = (both f (g && rest) tail).1 in
-    (both g rest tail).0
+    let tail = (and_parts a (b && (c && (d && (e && (f && (g && rest)))))) all).1 in
+    let tail = (and_parts b (c && (d && (e && (f && (g && rest))))) tail).1 in
+    let tail = (and_parts c (d && (e && (f && (g && rest)))) tail).1 in
+    let tail = (and_parts d (e && (f && (g && rest))) tail).1 in
+    let tail = (and_parts e (f && (g && rest)) tail).1 in
+    let tail = (and_parts f (g && rest) tail).1 in
+    (and_parts g rest tail).0
 
 pub head_in_range : (m : Msg) (index : ℕ) (key : Key) (cisn sisn mss len fin done reads acked : ℕ) → IsSendable m
     → m.body ≡ body.EntryMsg index key cisn sisn mss len fin done reads acked → len ≤ 2 ^ 24
@@ -37,19 +37,19 @@ head_in_range m index key cisn sisn mss len fin done reads acked sendable is =
     let fields : Bool = all_in_range m.boot 0 (fields_of kinds.Entry) (numbers_of (body_of b)) in
     let lens : Bool = list_all (λ k. nat_le k 2048) (lens_of (body_of b)) in
     let sound = sound_of m b sendable is in
-    let all : fields ≡ true = (both (nat_le 1 m.boot) fields (both (nat_le 1 m.boot && fields) lens sound).0).1 in
+    let all : fields ≡ true = (and_parts (nat_le 1 m.boot) fields (and_parts (nat_le 1 m.boot && fields) lens sound).0).1 in
     let most = seventh (nat_le index 63) true true true true (nat_le 64 mss && nat_le mss 1460) (nat_le len (2 ^ 24))
     (all_in_range m.boot 0 (drop 7 (fields_of kinds.Entry)) (drop 7 (numbers_of (body_of b)))) all in
     grind (arith, most)
 
 sixth : (a b c d e f rest : Bool) → (a && (b && (c && (d && (e && (f && rest)))))) ≡ true → f ≡ true
 sixth a b c d e f rest all =
-    let tail = (both a (b && (c && (d && (e && (f && rest))))) all).1 in
-    let tail = (both b (c && (d && (e && (f && rest)))) tail).1 in
-    let tail = (both c (d && (e && (f && rest))) tail).1 in
-    let tail = (both d (e && (f && rest)) tail).1 in
-    let tail = (both e (f && rest) tail).1 in
-    (both f rest tail).0
+    let tail = (and_parts a (b && (c && (d && (e && (f && rest))))) all).1 in
+    let tail = (and_parts b (c && (d && (e && (f && rest)))) tail).1 in
+    let tail = (and_parts c (d && (e && (f && rest))) tail).1 in
+    let tail = (and_parts d (e && (f && rest)) tail).1 in
+    let tail = (and_parts e (f && rest) tail).1 in
+    (and_parts f rest tail).0
 
 pub mss_in_range : (m : Msg) (index : ℕ) (key : Key) (cisn sisn mss len fin done reads acked : ℕ) → IsSendable m
     → m.body ≡ body.EntryMsg index key cisn sisn mss len fin done reads acked → IsSegmentSize mss
@@ -59,10 +59,10 @@ mss_in_range m index key cisn sisn mss len fin done reads acked sendable is =
     let fields : Bool = all_in_range m.boot 0 (fields_of kinds.Entry) (numbers_of (body_of b)) in
     let lens : Bool = list_all (λ k. nat_le k 2048) (lens_of (body_of b)) in
     let sound = sound_of m b sendable is in
-    let all : fields ≡ true = (both (nat_le 1 m.boot) fields (both (nat_le 1 m.boot && fields) lens sound).0).1 in
+    let all : fields ≡ true = (and_parts (nat_le 1 m.boot) fields (and_parts (nat_le 1 m.boot && fields) lens sound).0).1 in
     let size = sixth (nat_le index 63) true true true true (nat_le 64 mss && nat_le mss 1460)
     (all_in_range m.boot 0 (drop 6 (fields_of kinds.Entry)) (drop 6 (numbers_of (body_of b)))) all in
-    let ends = both (nat_le 64 mss) (nat_le mss 1460) size in
+    let ends = and_parts (nat_le 64 mss) (nat_le mss 1460) size in
     (grind (arith, ends), grind (arith, ends))
 
 pub part_in_range : (m : Msg) (key : Key) (offset : ℕ) (bytes : _) → IsSendable m → m.body ≡ body.PartMsg key offset bytes → length bytes.now ≤ 1024
@@ -70,12 +70,12 @@ unfolding has_length
 part_in_range m key offset bytes sendable is =
     let n : ℕ = 26 + length bytes.now in
     let size = size_of m (body.PartMsg key offset bytes) sendable is in
-    let most = (both (nat_le 27 n) (nat_le n 1050) (both (nat_le 27 n && nat_le n 1050) true size).0).1 in
+    let most = (and_parts (nat_le 27 n) (nat_le n 1050) (and_parts (nat_le 27 n && nat_le n 1050) true size).0).1 in
     grind (arith, most)
 
 all_short : (lens : List ℕ) → list_all (λ len. nat_le len 2048) lens ≡ true → AllByRecursion (λ n. n ≤ 2048) lens
 all_short [] all = tt
-all_short (n ∷ lens) all = let parts = both (nat_le n 2048) (list_all (λ len. nat_le len 2048) lens) all in (grind (arith, parts.0), all_short lens parts.1)
+all_short (n ∷ lens) all = let parts = and_parts (nat_le n 2048) (list_all (λ len. nat_le len 2048) lens) all in (grind (arith, parts.0), all_short lens parts.1)
 
 pub lens_in_range : (m : Msg) (key : Key) (first : ℕ) (lens : _) → IsSendable m → m.body ≡ body.LensMsg key first lens → AllByRecursion (λ n. n ≤ 2048) (lens_in lens.now)
 unfolding is_sound
@@ -83,4 +83,4 @@ lens_in_range m key first lens sendable is =
     let b : Body = body.LensMsg key first lens in
     let fields : Bool = all_in_range m.boot (length (behind_of (body_of b))) (fields_of kinds.Lens) (numbers_of (body_of b)) in
     let sound = sound_of m b sendable is in
-    all_short (lens_in lens.now) (both (nat_le 1 m.boot && fields) (list_all (λ k. nat_le k 2048) (lens_in lens.now)) sound).1
+    all_short (lens_in lens.now) (and_parts (nat_le 1 m.boot && fields) (list_all (λ k. nat_le k 2048) (lens_in lens.now)) sound).1

@@ -14,6 +14,7 @@ use Rattle.reincarnate.proofs.Lengths.{length_lens}
 use Rattle.reincarnate.specs.Replaying.{ReplayState}
 use Rattle.reincarnate.specs.Progress.{EntryState, Waiting, lacks, asks_bytes, asks_lengths, part_fits, lengths_fit, cuts_with, replayed_from, with_bytes, with_lengths, begun_entry, IsShort, IsSegmentSize, IsSized}
 use Rattle.reincarnate.proofs.ReplayOn.{Replays, replays}
+use Rattle.reincarnate.proofs.Ready.{first_of_four}
 
 pub begun_sized : {S : Type 0} (fresh : S) (head : EntryHead) → head.length ≤ 2 ^ 24 → IsSegmentSize head.mss → IsSized (begun_entry fresh head)
 begun_sized fresh head h segments = record {
@@ -109,12 +110,6 @@ pub cuts_refused : {S : Type 0} (e : EntryState S) (key : Key) (first count : �
 cuts_refused e key first count bytes fits size =
     let at : count ≡ length (lens_in bytes) = size ∙ sym (length_lens bytes) in
     ap (λ b. if b then cuts_through e.head.length e.head.fin e.cuts (lens_in bytes) else None) (ap (λ n. lengths_fit key first n e) (sym at) ∙ fits)
-
-first_of_four : (a b c d : Bool) → (a && b && c && d) ≡ true → a ≡ true
-first_of_four true b c d e = refl
-first_of_four false true true d e = absurd (true≢false (sym e))
-first_of_four false true false d e = absurd (true≢false (sym e))
-first_of_four false false c d e = absurd (true≢false (sym e))
 
 pub lengths_asked : {S : Type 0} (e : EntryState S) (key : Key) (first count : ℕ) → lengths_fit key first count e ≡ true → asks_lengths (lacks e) ≡ true
 lengths_asked e key first count fits =

@@ -1,5 +1,5 @@
 -- A connection that is spliced is sound, whatever its entry says.
-use Rattle.std.proofs.Common.{◌≡◌, ℕ, Bool, true, false, ◌≤◌, ◌<◌, ◌+◌, ◌-◌, ◌^◌, ◌%◌, ◌∙◌, min, max, sum, [], List, length, drop, take, replicate, le_refl, refl, ap, sym, subst, arith, if◌then◌else◌}
+use Rattle.std.proofs.Common.{◌≡◌, ℕ, Bool, true, false, ◌≤◌, ◌<◌, ◌+◌, ◌-◌, ◌^◌, ◌%◌, ◌∙◌, max, sum, [], List, length, replicate, le_refl, refl, ap, sym, subst, arith, if◌then◌else◌}
 use Rattle.std.specs.Prelude.{◌&&◌, nat_lt}
 use Rattle.std.proofs.lemmas.Bool.{false≢true}
 use Rattle.std.proofs.lemmas.List.{length-replicate, take_all}
@@ -7,9 +7,8 @@ use Rattle.ft_io.specs.declared.Addr.{Addr}
 use Rattle.ft_io.specs.declared.Key.{Key}
 use Rattle.seq_arith.specs.Number.{distance, number_at}
 use Rattle.seq_arith.specs.Offset.{one_if}
-use Rattle.server_trait.specs.Service.{Machine, reference}
+use Rattle.server_trait.specs.Service.{reference}
 use Rattle.ft_model.specs.Log.{Entry}
-use Rattle.ft_model.specs.Point.{Point}
 use Rattle.ft_model.specs.Restart.{point_of, resumed_at}
 use Rattle.north_wrap.specs.NorthState.{NorthState, resumed_north}
 use Rattle.north_wrap.specs.Standing.{HasReplayed}
@@ -30,6 +29,8 @@ use Rattle.reincarnate.specs.Progress.{ReplayedState, IsSegmentSize}
 use Rattle.reincarnate.specs.Joining.{SplicedState, conn_of, goes_on_at, has_end, spliced_from, Fits}
 use Rattle.reincarnate.proofs.Forging.{idle}
 use Rattle.reincarnate.proofs.Joined.{less_fin}
+use Rattle.ft_io.proofs.Booleans.{false_by}
+use Rattle.wrapped_conn.proofs.Joining.{few_units}
 
 has_peer_is : (name : StateName) → has_begun name ≡ true → has_peer name ≡ true
 has_peer_is Closed b = absurd (false≢true b)
@@ -87,10 +88,6 @@ record IsFresh (i fetched : ℕ) (has_end : Bool) (t : Tcb) : Type 0 where
   held : length t.sending.held ≡ 0
   fin : has_fin t.name ≡ has_end
 
-unsent_fin : (b c : Bool) → (b ≡ true → c ≡ true) → c ≡ false → b ≡ false
-unsent_fin true c f e = absurd (false≢true (sym e ∙ f refl))
-unsent_fin false c f e = refl
-
 end_is : (s : Sending) → s.fin_sent ≡ false → bytes_end s ≡ s.una + length s.held
 end_is s e = ap (λ b. if b then s.sent - 1 else s.una + length s.held) e
 
@@ -107,7 +104,7 @@ fresh_at key local cisn fetched mss i fin e is g replayed =
     let read : t.receiving.read ≡ 0 = omega (arith, at.receives.read, reads) in
     let unread : length t.receiving.unread ≡ 0 = omega (arith, at.receives.long, read) in
     let una : t.sending.una ≡ 0 = omega (arith, at.sends.una) in
-    let last = end_is t.sending (unsent_fin t.sending.fin_sent t.sending.closed (λ f. (between.fin_last f).0) s.open_still) in
+    let last = end_is t.sending (false_by t.sending.fin_sent t.sending.closed (λ f. (between.fin_last f).0) s.open_still) in
     let tell : PartsTell idle (delta_from idle e i) (point_of idle e) (idle_north e.bytes) t =
     parts_tell idle u i (delta_from idle e i) u (point_of idle e) (idle_north e.bytes) t (splices_parts idle local e i (idle_north e.bytes) g replayed) in
     record {
@@ -156,10 +153,6 @@ swallowed_is i sisn u iss is fits s few = ap (λ k. distance ((k + distance ((si
 
     back : (sisn u : ℕ) → sisn < 2 ^ 32 → u ≤ 2 ^ 24 → ((sisn + u) % 2 ^ 32 + 2 ^ 32 - sisn) % 2 ^ 32 ≡ u
     back sisn u h k = omega (arith, h, k)
-
-few_units : (n : ℕ) (f : Bool) → n ≤ 2 ^ 24 → n + one_if f ≤ 2 ^ 24 + 1
-few_units n true h = omega (arith, h)
-few_units n false h = omega (arith, h)
 
 -- a FIN that isn't left out has room
 below : (fin room : Bool) (n : ℕ) → nat_lt n (2 ^ 24) ≡ room → (fin && room) ≡ true → n < 2 ^ 24

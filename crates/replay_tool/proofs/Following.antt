@@ -17,6 +17,7 @@ use Rattle.logger_store.specs.Stored.{head_value, lengths_of}
 use Rattle.logger_store.specs.declared.entry_head.EntryHead.{EntryHead}
 use Rattle.net_schedule.specs.Sent.{packets_of, reported_way, WasSentAs}
 use Rattle.schedule_text.specs.Bytes.{packet_in, said_as}
+use Rattle.net_schedule.proofs.Peers.{within as is_within}
 
 -- lines of a list's elements, numbered on from n
 abbrev pub AreLines : {X : Type 0} → (ℕ → List X → List ℕ) → (ℕ → X → List ℕ) → Type 0
@@ -36,11 +37,6 @@ none_past : {X : Type 0} (xs : List X) (i : ℕ) → slice_get xs i ≡ None →
 none_past [] i e = omega arith
 none_past (x ∷ xs) zero e = none_is_some x (sym e)
 none_past (x ∷ xs) (suc i) e = omega (arith, none_past xs i e)
-
-is_within : {X : Type 0} (xs : List X) (i : ℕ) (x : X) → slice_get xs i ≡ Some x → i < length xs
-is_within [] i x e = none_is_some x e
-is_within (y ∷ xs) zero x e = omega arith
-is_within (y ∷ xs) (suc i) x e = omega (arith, is_within xs i x e)
 
 -- .. or there is none
 pub one_line_or_none : {X : Type 0} (lines : ℕ → List X → List ℕ) (line : ℕ → X → List ℕ) → AreLines lines line → ((n : ℕ) → lines n [] ≡ []) → (xs : List X) (n i : ℕ) (now next whole : List ℕ)

@@ -23,6 +23,7 @@ use Rattle.replay_tool.specs.Played.{IsSafe, IsPlayedTo, lines_so_far, reached, 
 use Rattle.replay_tool.specs.Standing.{IsStanding}
 use Rattle.replay_tool.specs.Playing.{Reaches, StopsPlaying}
 use Rattle.replay_tool.proofs.Fronts.{more_held}
+use Rattle.seed_run.proofs.Stepping.{last_event as last_same}
 
 -- what holds of every legal trace
 abbrev pub AreSafe : Type 0
@@ -32,11 +33,6 @@ AreSafe = (schedule : Schedule) (events : List Event) (trace : List Moment) → 
 pub as_many_events : (trace : List Moment) → length (events_of trace) ≡ length trace
 as_many_events [] = refl
 as_many_events (moment ∷ earlier) = omega (arith, length-append (events_of earlier) (moment.event ∷ []), as_many_events earlier)
-
--- behind the same events the same event comes last
-last_same : (xs : List Event) (a b : Event) → xs ++ a ∷ [] ≡ xs ++ b ∷ [] → a ≡ b
-last_same [] a b e = cc
-last_same (x ∷ xs) a b e = last_same xs a b cc
 
 pub last_event : (schedule : Schedule) (events : List Event) (event : Event) (moment : Moment) (trace : List Moment) → IsLegalFor any_machine schedule events trace
     → IsLegalFor any_machine schedule (events ++ event ∷ []) (moment ∷ trace) → moment.event ≡ event

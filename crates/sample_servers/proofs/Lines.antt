@@ -1,9 +1,9 @@
 -- How a line is held and ends, over bytes in parts.
 use Rattle.std.proofs.lemmas.List.Elements.{All-append, All-from_get_or}
-use Rattle.std.proofs.Common.{◌≡◌, ℕ, suc, ◌+◌, ◌-◌, ◌<◌, ◌≤◌, ◌==◌, Bool, true, false, List, [], ◌∷◌, ◌++◌, length, take, drop, get_or, refl, sym, ◌∙◌, ap, subst, arith, append_assoc, append-nil, length-append, length-take}
+use Rattle.std.proofs.Common.{◌≡◌, ℕ, suc, ◌+◌, ◌-◌, ◌<◌, ◌≤◌, ◌==◌, true, false, List, [], ◌∷◌, ◌++◌, length, take, drop, get_or, refl, sym, ◌∙◌, ap, subst, arith, append_assoc, append-nil, length-append, length-take}
 use Rattle.std.specs.Prelude.{bytes_eq, nat_eq, nat_lt, decimal}
 use Rattle.std.specs.Cmp.Lexicographic.{pointwise, same_text, other_text}
-use Rattle.std.proofs.lemmas.Bool.{lt-ltb}
+use Rattle.std.proofs.lemmas.Bool.{lt-ltb, false_from_ne_true}
 use Rattle.std.proofs.lemmas.Bool.Decides.{nat_tests}
 use Rattle.std.proofs.lemmas.List.{length-take-le, get_or-take, take_all, take_at, take-append-drop, drop_more, take_more}
 use Rattle.sample_servers.specs.Stream.{waiting, and_then, each_byte}
@@ -16,11 +16,6 @@ numbered_whole number front back fits =
     let short : length (front ++ back) ≤ 1024 = rw length-append fits in
     rw (take_all 1024 (front ++ back) short) (simp append_assoc)
 
--- a test that isn't true
-pub not_true : (b : Bool) → (b ≡ true → ⊥) → b ≡ false
-not_true true h = absurd (h refl)
-not_true false h = refl
-
 pub bytes_eq_front : (xs ys zs : List ℕ) → bytes_eq (xs ++ ys) (xs ++ zs) ≡ bytes_eq ys zs
 bytes_eq_front [] ys zs = refl
 bytes_eq_front (x ∷ xs) ys zs = let rest = bytes_eq_front xs ys zs in grind (arith, nat_tests)
@@ -28,7 +23,7 @@ bytes_eq_front (x ∷ xs) ys zs = let rest = bytes_eq_front xs ys zs in grind (a
 -- where the front of a text is another, so is the text
 pub bytes_eq_other_front : (text front back : List ℕ) → pointwise nat_eq (take (length front) text) front ≡ false → bytes_eq (front ++ back) text ≡ false
 bytes_eq_other_front text front back other =
-    not_true (bytes_eq (front ++ back) text)
+    false_from_ne_true (bytes_eq (front ++ back) text)
     (λ same. other_text _ _ (sym other) (ap (take (length front)) (sym (same_text _ _ (sym same))) ∙ take_at front back (length front) refl))
 
 -- a byte that is no line feed is held while there is room
@@ -94,7 +89,7 @@ each_byte_open s bytes room other = ap (each_byte line_byte s) (sym (append-nil 
 pub other_before : (n : ℕ) (bytes : List ℕ) (len : ℕ) → len ≤ n → ((k : ℕ) → 0 ≤ k → k < len → (get_or (take n bytes) k 0 == 10) ≡ true → ⊥) → (k : ℕ) → k < len → (get_or bytes k 0 == 10) ≡ false
 other_before n bytes len within none k below =
     let short : k < n = omega arith in
-    subst (λ (byte : ℕ). (byte == 10) ≡ false) (get_or-take n bytes k 0 short) (not_true (get_or (take n bytes) k 0 == 10) (none k (omega arith) below))
+    subst (λ (byte : ℕ). (byte == 10) ≡ false) (get_or-take n bytes k 0 short) (false_from_ne_true (get_or (take n bytes) k 0 == 10) (none k (omega arith) below))
 
 pub ends_at_feed : (s : LineState) (bytes : List ℕ) (n len : ℕ) → length s.held + n ≤ 1024 → n ≤ length bytes → len < n → ((k : ℕ) → 0 ≤ k → k < len → (get_or (take n bytes) k 0 == 10) ≡ true → ⊥) → (get_or (take n bytes) len 0 == 10) ≡ true → EndsAt s bytes len (len + 1)
 ends_at_feed s bytes n len room within below none feed = record {

@@ -1,5 +1,5 @@
 -- Bytes turned into hexadecimal part by part, and back.
-use Rattle.std.proofs.Common.{◌≡◌, ℕ, ◌+◌, ◌*◌, ◌%◌, ◌≤◌, true, List, [], ◌∷◌, ◌++◌, length, take, drop, refl, sym, ap, ap₂, ◌∙◌, arith, append_assoc, append-nil}
+use Rattle.std.proofs.Common.{◌≡◌, ℕ, ◌+◌, ◌*◌, ◌%◌, true, List, [], ◌∷◌, ◌++◌, length, take, drop, refl, sym, ap, ap₂, ◌∙◌, arith, append_assoc, append-nil}
 use Rattle.std.proofs.lemmas.List.{take-append-drop}
 use Rattle.hex.specs.Hex.{encode_lower, encode_with, hex_digit_value, pair_value, decode_pairs, decode_of}
 use Rattle.hex.specs.declared.error.FromHexError.{FromHexError}
@@ -9,7 +9,7 @@ use Rattle.std.specs.Char.{digit_value, is_ascii_hexdigit}
 use Rattle.std.specs.List.{list_all}
 use Rattle.std.proofs.lemmas.Grind.{common_steps}
 use Rattle.ft_model.specs.Spelling.{hex_bytes}
-use Rattle.ft_model.proofs.AcceptedLemmas.{both_left, both_right}
+use Rattle.ft_io.proofs.Booleans.{left_true, right_true}
 
 pub encode_append : (t xs ys : List ℕ) → encode_with t (xs ++ ys) ≡ encode_with t xs ++ encode_with t ys
 unfolding encode_with
@@ -50,8 +50,8 @@ unfolding decode_pairs hex_bytes
 pairs_read i [] h even = refl
 pairs_read i (high ∷ []) h even = absurd (omega arith)
 pairs_read i (high ∷ low ∷ rest) h even =
-    let more = both_right (is_ascii_hexdigit high) _ h in
-    pair_first i high low _ rest _ (pair_read high low i (both_left _ _ h) (both_left _ _ more)) (pairs_read (i + 2) rest (both_right (is_ascii_hexdigit low) _ more) (omega (arith, even)))
+    let more = right_true (is_ascii_hexdigit high) _ h in
+    pair_first i high low _ rest _ (pair_read high low i (left_true _ _ h) (left_true _ _ more)) (pairs_read (i + 2) rest (right_true (is_ascii_hexdigit low) _ more) (omega (arith, even)))
 
 -- pairs of digits are read as the bytes that they write
 pub digits_read : (digits bytes : List ℕ) → list_all is_ascii_hexdigit digits ≡ true → length digits % 2 ≡ 0 → decode_of digits ≡ Ok bytes → bytes ≡ hex_bytes digits

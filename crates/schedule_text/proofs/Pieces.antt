@@ -10,6 +10,7 @@ use Rattle.std.proofs.lemmas.Option.{cond_some}
 use Rattle.std.proofs.lemmas.List.Quantifiers.{position-Some}
 use Rattle.std.proofs.lemmas.List.Sums.{prefix_len-le-length}
 use Rattle.ft_model.specs.Words.{is, is_empty, lines_of, words_of, without_empty_last}
+use Rattle.ft_io.proofs.Booleans.{not_true}
 
 -- what is left of the pieces behind the first one, of a list that begins at the first mark
 abbrev pub pieces_behind : (ℕ → Bool) → List ℕ → List (List ℕ)
@@ -88,17 +89,13 @@ unfolding words_of
 words_of_none xs e =
     words_of_indented xs ∙ rw (drop_of_length-le xs (not_found xs (position_or_len (λ byte. not (is 32 byte)) xs) e)) refl
 
-not_false : (b : Bool) → not b ≡ true → b ≡ false
-not_false true e = absurd (cc)
-not_false false e = refl
-
 -- the first word of a line, from its first byte that is no space
 pub words_of_some : (xs : List ℕ) (n : ℕ) → position (λ byte. not (is 32 byte)) xs ≡ Some n → words_of xs ≡ take (position_or_len (is 32) (drop n xs)) (drop n xs) ∷ words_of (drop (position_or_len (is 32) (drop n xs)) (drop n xs))
 words_of_some xs n e =
     let found = position-Some (λ byte. not (is 32 byte)) xs n 0 e in
     let at = drop-cons xs n 0 found.0 in
     let here = cond_some (nat_lt (position_or_len (λ byte. not (is 32 byte)) xs) (length xs)) (position_or_len (λ byte. not (is 32 byte)) xs) n e in
-    words_of_indented xs ∙ (rw here.1 (words_of_word (drop n xs) (rw at (omega arith)) (rw at (not_false _ found.1))))
+    words_of_indented xs ∙ (rw here.1 (words_of_word (drop n xs) (rw at (omega arith)) (rw at (not_true _ found.1))))
 
 pub position_or_length : (p : ℕ → Bool) (xs : List ℕ) → unwrap_or (position p xs) (length xs) ≡ position_or_len p xs
 position_or_length p xs =

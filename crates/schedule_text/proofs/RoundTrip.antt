@@ -1,5 +1,5 @@
 -- The line by which a schedule asks for an event is read as that event: its words are cut apart again, and each number is read back.
-use Rattle.std.proofs.Common.{◌≡◌, ℕ, zero, suc, ◌<◌, ◌≤◌, ◌+◌, ◌-◌, ◌^◌, Bool, true, false, List, [], ◌∷◌, ◌++◌, codes, decimal, length, refl, ap, ◌∙◌, arith, append_assoc, append-nil}
+use Rattle.std.proofs.Common.{◌≡◌, ℕ, ◌<◌, ◌≤◌, ◌+◌, ◌-◌, ◌^◌, true, false, List, [], ◌∷◌, ◌++◌, codes, decimal, length, refl, ap, ◌∙◌, arith, append_assoc, append-nil}
 use Rattle.std.specs.Prelude.{nat_le, nat_lt, ◌&&◌, Some, Ok, All}
 use Rattle.std.specs.Char.{is_ascii_digit}
 use Rattle.std.specs.Cmp.Derive.{both_true}
@@ -24,9 +24,9 @@ use Rattle.ft_model.specs.declared.line.Line.TheVariants as line
 use Rattle.ft_model.specs.declared.line.Verb.{Verb}
 use Rattle.ft_model.specs.declared.line.Verb.TheVariants as verb
 use Rattle.ft_model.specs.declared.schedule.Schedule.{Schedule}
-use Rattle.ft_model.proofs.AcceptedLemmas.{both_left, both_right}
 use Rattle.ft_model.proofs.ReportWords.{IsDigit, all_weaken, digits_decimal}
 use Rattle.schedule_text.specs.Asked.{IsAskable, asked_line}
+use Rattle.ft_io.proofs.Booleans.{left_true, right_true}
 
 -- a printable character that is no space
 abbrev IsPlain : ℕ → Type 0
@@ -81,11 +81,11 @@ printable_joined (w ∷ v ∷ words) h =
 plain : (word : List ℕ) → list_all (λ c. nat_le 33 c && nat_le c 126) word ≡ true → AllByRecursion IsPlain word
 plain [] e = tt
 plain (c ∷ word) e =
-    let here = both_left (nat_le 33 c && nat_le c 126) _ e in
-    ((leb-true 33 c (both_left _ _ here), leb-true c 126 (both_right _ _ here)), plain word (both_right _ _ e))
+    let here = left_true (nat_le 33 c && nat_le c 126) _ e in
+    ((leb-true 33 c (left_true _ _ here), leb-true c 126 (right_true _ _ here)), plain word (right_true _ _ e))
 
 lit : (word : List ℕ) → (nat_lt 0 (length word) && list_all (λ c. nat_le 33 c && nat_le c 126) word) ≡ true → IsPlainWord word
-lit word e = (ltb-true 0 (length word) (both_left _ _ e), plain word (both_right _ _ e))
+lit word e = (ltb-true 0 (length word) (left_true _ _ e), plain word (right_true _ _ e))
 
 -- a number as a word
 numbered : (n : ℕ) → n < 2 ^ 64 → IsPlainWord (decimal n)

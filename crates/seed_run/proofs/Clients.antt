@@ -1,7 +1,8 @@
 -- In every run each client keeps its key and its script, and the server acknowledges no more than the client sent.
-use Rattle.std.proofs.Common.{◌≡◌, ℕ, zero, suc, ◌+◌, ◌-◌, ◌*◌, ◌≤◌, ℤ, pos, ◌+ℤ◌, int_lt, nat_abs, Bool, true, false, ◌&&◌, ◌||◌, ◌==◌, not, nat_lt, nat_le, refl, sym, ap, ◌∙◌, subst, Some, List, [], ◌∷◌, ◌++◌, map, length, take, drop, arith, length-append, leb-true, if◌then◌else◌}
+use Rattle.std.proofs.Common.{◌≡◌, ℕ, zero, suc, ◌+◌, ◌-◌, ◌*◌, ◌≤◌, ℤ, pos, ◌+ℤ◌, int_lt, nat_abs, Bool, true, false, ◌&&◌, ◌||◌, ◌==◌, not, nat_lt, nat_le, refl, sym, ap, ◌∙◌, subst, List, [], ◌∷◌, ◌++◌, map, length, take, drop, arith, leb-true, if◌then◌else◌}
 use Rattle.std.specs.List.{AllByRecursion}
 use Rattle.std.proofs.lemmas.Int.{ints}
+use Rattle.std.proofs.lemmas.Bool.{and_parts}
 use Rattle.ft_io.specs.declared.Key.{Key}
 use Rattle.ft_io.specs.Key.{key_eq}
 use Rattle.seq_arith.specs.Number.{number_at}
@@ -14,13 +15,15 @@ use Rattle.ft_model.specs.Client.Move.{Syn, Text, Fin, Acknowledge, Rst, Refuse}
 use Rattle.ft_model.specs.declared.phase.Phase.TheVariants as phases
 use Rattle.ft_model.specs.Network.{Packet, destination_of}
 use Rattle.ft_model.specs.Schedule.{client_of, clients_of}
-use Rattle.ft_model.specs.World.{World, Moment, client_at, with_client, world_after, Joint}
-use Rattle.ft_model.proofs.Lists.{both, of_choice, all_map, all_append, all_slice_get, none_is_some, same_key}
+use Rattle.ft_model.specs.World.{World, Moment, with_client, world_after, Joint}
+use Rattle.ft_model.proofs.Lists.{all_map, all_append, same_key}
 use Rattle.ft_model.proofs.FaithfulKept.{received_same, clients_fit}
 use Rattle.ft_model.proofs.Happened.{Happened, holds_after}
 use Rattle.ft_model.proofs.Letters.{length_letters}
 use Rattle.ft_model.proofs.Happened.Happened.{log_heard, client_heard, client_moved, server_turned, server_booted, server_down}
 use Rattle.seed_run.specs.Generated.{server_address, client_line, client_lines, after_draws}
+use Rattle.ft_io.proofs.Choices.{holds_if}
+use Rattle.ft_model.proofs.FaithfulOver.{client_there}
 
 -- .. and it sends no more than its script and its FIN
 abbrev pub IsWithin : Client → Type 0
@@ -28,12 +31,12 @@ IsWithin c = (c.acknowledged ≤ c.sent) × (c.sent ≤ length c.script + 1)
 
 text_within : (c : Client) (first : ℤ) (text : List ℕ) → IsWithin c → IsWithin (with_text c first text)
 text_within c first text h =
-    of_choice IsWithin (is_ended c.phase || int_lt (pos (length c.accepted)) first) c
+    holds_if IsWithin (is_ended c.phase || int_lt (pos (length c.accepted)) first) c
     (record c { accepted = c.accepted ++ take (c.edge - length c.accepted) (drop (below (length c.accepted) first) text) }) (λ t. h) (λ t. h)
 
 fin_within : (c : Client) (behind : ℤ) (fin : Bool) → IsWithin c → IsWithin (with_fin c behind fin)
 fin_within c behind fin h =
-    of_choice IsWithin (fin && not (is_ended c.phase) && int_eq behind (pos (length c.accepted)) && nat_lt (length c.accepted) c.edge)
+    holds_if IsWithin (fin && not (is_ended c.phase) && int_eq behind (pos (length c.accepted)) && nat_lt (length c.accepted) c.edge)
     (record c { phase = phases.Ended }) c (λ t. h) (λ t. h)
 
 acked_within : (acked sent : ℕ) (ack : ℤ) → int_lt (pos sent) ack ≡ false → acked ≤ sent → (if int_lt (pos acked) ack then nat_abs ack else acked) ≤ sent
@@ -43,7 +46,7 @@ used_within : (c : Client) (segment : Segment) → IsWithin c → IsWithin (used
 used_within c segment h =
     let acked : Client = with_ack c (ack_of c.isn segment) in
     let texted : Client = with_text acked (first_of c.sisn segment) (text_of segment) in
-    of_choice IsWithin (int_lt (pos c.sent) (ack_of c.isn segment)) c
+    holds_if IsWithin (int_lt (pos c.sent) (ack_of c.isn segment)) c
     (with_fin texted (first_of c.sisn segment +ℤ pos (length (text_of segment))) (fin_of segment)) (λ t. h)
     (λ t. fin_within texted (first_of c.sisn segment +ℤ pos (length (text_of segment))) (fin_of segment)
     (text_within acked (first_of c.sisn segment) (text_of segment) (acked_within c.acknowledged c.sent (ack_of c.isn segment) t h.0, h.1)))
@@ -53,29 +56,29 @@ arrived_within c segment h =
     let gone : Client = record c { phase = phases.Reset } in
     let rst : Client = if int_eq (first_of c.sisn segment) (pos (next_of c)) then gone else c in
     let other : Client = if has_syn segment || not (has_ack segment) then c else used c segment in
-    of_choice IsWithin (is_acceptable (next_of c) (room_of c) (first_of c.sisn segment) (length_of segment)) (if has_rst segment then rst else other) c
-    (λ t. of_choice IsWithin (has_rst segment) rst other
-    (λ r. of_choice IsWithin (int_eq (first_of c.sisn segment) (pos (next_of c))) gone c (λ x. h) (λ x. h))
-    (λ r. of_choice IsWithin (has_syn segment || not (has_ack segment)) c (used c segment) (λ x. h) (λ x. used_within c segment h)))
+    holds_if IsWithin (is_acceptable (next_of c) (room_of c) (first_of c.sisn segment) (length_of segment)) (if has_rst segment then rst else other) c
+    (λ t. holds_if IsWithin (has_rst segment) rst other
+    (λ r. holds_if IsWithin (int_eq (first_of c.sisn segment) (pos (next_of c))) gone c (λ x. h) (λ x. h))
+    (λ r. holds_if IsWithin (has_syn segment || not (has_ack segment)) c (used c segment) (λ x. h) (λ x. used_within c segment h)))
     (λ t. h)
 
 opened_within : (c : Client) (segment : Segment) → IsWithin c → IsWithin (opened_by c segment)
 opened_within c segment h =
     let gone : Client = record c { phase = phases.Reset } in
     let stands : Client = record c { phase = phases.Established; sisn = segment.head.seq } in
-    of_choice IsWithin (has_ack segment && segment.head.ack == number_at c.isn 0) (if has_rst segment then gone else (if has_syn segment then stands else c)) c
-    (λ t. of_choice IsWithin (has_rst segment) gone (if has_syn segment then stands else c) (λ r. h)
-    (λ r. of_choice IsWithin (has_syn segment) stands c (λ x. h) (λ x. h)))
+    holds_if IsWithin (has_ack segment && segment.head.ack == number_at c.isn 0) (if has_rst segment then gone else (if has_syn segment then stands else c)) c
+    (λ t. holds_if IsWithin (has_rst segment) gone (if has_syn segment then stands else c) (λ r. h)
+    (λ r. holds_if IsWithin (has_syn segment) stands c (λ x. h) (λ x. h)))
     (λ t. h)
 
 received_within : (c : Client) (segment : Segment) → IsWithin c → IsWithin (received c segment)
 received_within c segment h =
-    of_choice IsWithin (is_opening c.phase) (opened_by c segment) _ (λ t. opened_within c segment h)
-    (λ t. of_choice IsWithin (is_open c.phase) (arrived c segment) c (λ x. arrived_within c segment h) (λ x. h))
+    holds_if IsWithin (is_opening c.phase) (opened_by c segment) _ (λ t. opened_within c segment h)
+    (λ t. holds_if IsWithin (is_open c.phase) (arrived c segment) c (λ x. arrived_within c segment h) (λ x. h))
 
 text_bound : (c : Client) (from len : ℕ) → suits_range c (Text from len) ≡ true → from + len ≤ length c.script
 text_bound c from len e =
-    leb-true _ _ (both (nat_le c.acknowledged from && nat_le from c.sent && nat_le 1 len && nat_le len 1460) (nat_le (from + len) (length c.script)) e).1
+    leb-true _ _ (and_parts (nat_le c.acknowledged from && nat_le from c.sent && nat_le 1 len && nat_le len 1460) (nat_le (from + len) (length c.script)) e).1
 
 move_within : (c : Client) (move : Move) (window : ℕ) → suits_range c move ≡ true → IsWithin c → IsWithin (moved c move window)
 move_within c (Text from len) window e h = let b = text_bound c from len e in (omega (arith, h.0), omega (arith, h.1, b))
@@ -99,7 +102,7 @@ heard_keeps c segment k =
     record { total = ap length s.script ∙ (k.total ∙ ap total_of (sym s.key)); within = received_within c segment k.within }
 
 may_range : (c : Client) (move : Move) → may_move c move ≡ true → suits_range c move ≡ true
-may_range c move e = (both (suits_kind c.kind move && suits_phase c move) (suits_range c move) e).1
+may_range c move e = (and_parts (suits_kind c.kind move && suits_phase c move) (suits_range c move) e).1
 
 move_keeps : (c later : Client) (segment : Segment) → IsMove c segment later → Keeps c → Keeps later
 move_keeps c later segment m k =
@@ -111,7 +114,7 @@ pub record AllKeep (start w : World) : Type 0 where
   pub keys : map (λ c. c.key) w.clients ≡ map (λ c. c.key) start.clients
 
 head_key : (key : Key) (change : Client → Client) (c : Client) → (key_eq c.key key ≡ true → (change c).key ≡ c.key) → (if key_eq c.key key then change c else c).key ≡ c.key
-head_key key change c keeps = of_choice (λ x. x.key ≡ c.key) (key_eq c.key key) (change c) c keeps (λ t. refl)
+head_key key change c keeps = holds_if (λ x. x.key ≡ c.key) (key_eq c.key key) (change c) c keeps (λ t. refl)
 
 keys_stay : (key : Key) (change : Client → Client) (cs : List Client) → ((c : Client) → key_eq c.key key ≡ true → (change c).key ≡ c.key)
     → map (λ c. c.key) (with_client key change cs) ≡ map (λ c. c.key) cs
@@ -131,10 +134,6 @@ all_change start before after key change e keeps name k = record {
   keys = ap (λ cs. map (λ c. c.key) cs) e ∙ (keys_stay key change before.clients (λ c t. name c (same_key c.key key t)) ∙ k.keys);
 }
 
-pub at_place : (P : Client → Type 0) (cs : List Client) (n : ℕ) (c : Client) → AllByRecursion P cs → client_at cs n ≡ Some c → P c
-at_place P cs zero c a e = none_is_some c e
-at_place P cs (suc n) c a e = all_slice_get P cs n c a e
-
 all_step : {State : Type 0} (service : Machine State) (start before : World) (sent : List Packet) (after : World) → AllKeep start before → Happened service before sent after → AllKeep start after
 all_step service start before sent after k (log_heard message under t e) = all_stay start before after (ap (λ w. w.clients) e) k
 all_step service start before sent after k (client_heard segment under t e) =
@@ -142,7 +141,7 @@ all_step service start before sent after k (client_heard segment under t e) =
     (λ c name h. heard_keeps c segment h) (λ c name. (received_same c segment).key) k
 all_step service start before sent after k (client_moved number m) =
     let name : m.later.key ≡ m.client.key = ap (λ c. c.key) m.move.after_is in
-    let mover : Keeps m.client = at_place Keeps before.clients number m.client k.keeps m.is_there in
+    let mover : Keeps m.client = client_there Keeps before.clients number m.client k.keeps m.is_there in
     all_change start before after m.client.key (λ _. m.later) (ap (λ w. w.clients) m.after_is)
     (λ c is h. move_keeps m.client m.later m.segment m.move mover) (λ c is. name ∙ sym is) k
 all_step service start before sent after k (server_turned input node later brought is turn e) = all_stay start before after (ap (λ w. w.clients) e) k

@@ -1,9 +1,8 @@
 -- What a run's world gives to the code behind any number of events.
-use Rattle.std.proofs.Common.{◌≡◌, ◌∙◌, refl, sym, ap, subst, ℕ, zero, suc, ◌+◌, ◌*◌, ◌≤◌, Bool, true, false, Some, List, [], ◌∷◌, ◌++◌, map, length, slice_get, arith}
+use Rattle.std.proofs.Common.{◌≡◌, ◌∙◌, refl, sym, ap, subst, ℕ, zero, suc, ◌+◌, ◌*◌, ◌≤◌, Bool, Some, List, [], ◌∷◌, ◌++◌, map, length, slice_get, arith}
 use Rattle.std.proofs.lemmas.List.{length-map}
 use Rattle.ft_io.specs.declared.Key.{Key}
 use Rattle.sample_servers.specs.declared.any_service.AnyService.{AnyService}
-use Rattle.seq_arith.specs.Offset.{one_if}
 use Rattle.ft_model.specs.Client.{Client}
 use Rattle.ft_model.specs.Schedule.{client_of, clients_of}
 use Rattle.ft_model.specs.World.{World, Moment, client_at}
@@ -16,9 +15,11 @@ use Rattle.seed_run.specs.Summary.{count_events, is_boot, is_crash}
 use Rattle.seed_run.specs.Runs.{start_of_run, StandsBehind}
 use Rattle.seed_run.specs.declared.asked.Asked.{Asked}
 use Rattle.seed_run.specs.declared.progress.Progress.{Progress}
-use Rattle.seed_run.proofs.Clients.{Keeps, AllKeep, at_place}
+use Rattle.seed_run.proofs.Clients.{Keeps, AllKeep}
 use Rattle.seed_run.proofs.Starting.{count_lines}
 use Rattle.seed_run.proofs.Stepping.{world_of, clients_keep}
+use Rattle.seq_arith.proofs.Units.{one_at_most}
+use Rattle.ft_model.proofs.FaithfulOver.{client_there}
 
 abbrev keys_in : List Client → List Key
 keys_in cs = map (λ c. c.key) cs
@@ -75,7 +76,7 @@ totals asked n w p s number c e =
     let v : World = world_of asked s.trace in
     let keeps : AllKeep (start_of_run asked) (world_of asked s.trace) = clients_keep asked n w p s in
     let there : client_at v.clients number ≡ Some c = ap (λ cs. client_at cs number) (sym s.stands.stands.clients) ∙ e in
-    total_at v.clients number c (subst (AreInRow 1) (sym keeps.keys) (lines_in_row asked.seed asked.clients)) there (at_place Keeps v.clients number c keeps.keeps there)
+    total_at v.clients number c (subst (AreInRow 1) (sym keeps.keys) (lines_in_row asked.seed asked.clients)) there (client_there Keeps v.clients number c keeps.keeps there)
 
 pub client_count : (asked : Asked) (n : ℕ) (w : Kept AnyService) (p : Progress) → StandsBehind asked n w p → asked.clients ≡ length w.clients
 client_count asked n w p s =
@@ -84,13 +85,9 @@ client_count asked n w p s =
     sym (ap length s.stands.stands.clients ∙ (sym (length-map v.clients (λ (c : Client). c.key)) ∙ (ap length keeps.keys
     ∙ (length-map (start_of_run asked).clients (λ (c : Client). c.key) ∙ count_clients asked.seed asked.clients))))
 
-one_or_none : (b : Bool) → one_if b ≤ 1
-one_or_none true = omega arith
-one_or_none false = omega arith
-
 count_within : (is : Event → Bool) (trace : List Moment) → count_events is trace ≤ length trace
 count_within is [] = omega arith
-count_within is (moment ∷ earlier) = let h = count_within is earlier in let one = one_or_none (is moment.event) in omega (arith, h, one)
+count_within is (moment ∷ earlier) = let h = count_within is earlier in let one = one_at_most (is moment.event) in omega (arith, h, one)
 
 pub few_boots : (asked : Asked) (n : ℕ) (w : Kept AnyService) (p : Progress) → StandsBehind asked n w p → (p.boots ≤ n) × (p.crashes ≤ n)
 few_boots asked n w p s =

@@ -1,15 +1,13 @@
 -- One drawn event more: where the world and the counts stand behind it.
-use Rattle.std.proofs.Common.{◌≡◌, ◌∙◌, refl, sym, ap, subst, ℕ, ◌+◌, ◌<◌, ◌≤◌, Option, Some, None, is_some, option_map, slice_get, List, [], ◌∷◌, ◌++◌, length, length-append, add-one, arith}
+use Rattle.std.proofs.Common.{◌≡◌, ◌∙◌, refl, sym, ap, subst, ℕ, ◌+◌, ◌<◌, ◌≤◌, None, is_some, slice_get, List, [], ◌∷◌, ◌++◌, length, length-append, add-one, arith}
 use Rattle.std.proofs.lemmas.List.{append_cancel_left}
 use Rattle.seq_arith.specs.Offset.{one_if}
 use Rattle.sample_servers.specs.AnyService.{any_machine}
 use Rattle.sample_servers.specs.declared.any_service.AnyService.{AnyService}
-use Rattle.server_trait.specs.Service.{Machine}
-use Rattle.ft_model.specs.Node.{Node}
 use Rattle.ft_model.specs.Legal.{IsLegalFor, Legal, refusal}
 use Rattle.ft_model.specs.World.{World, Moment, world_after, events_of, Happens}
 use Rattle.ft_model.specs.declared.event.Event.{Event}
-use Rattle.net_schedule.specs.Standing.{Kept, Server, NodeStands}
+use Rattle.net_schedule.specs.Standing.{Kept}
 use Rattle.net_schedule.specs.Stepping.{StandsAfter, Extends, Steps, EndsStep}
 use Rattle.net_schedule.specs.declared.step_out.StepOut.{StepOut}
 use Rattle.net_schedule.specs.declared.end.StepEnd.TheVariants.{BadEvent, PacketLimit}
@@ -24,24 +22,14 @@ use Rattle.seed_run.specs.declared.progress.Progress.{Progress}
 use Rattle.seed_run.proofs.Allowed.{allowed}
 use Rattle.seed_run.proofs.Boots.{HasNextBoot, boot_after}
 use Rattle.seed_run.proofs.Clients.{AllKeep, all_keep, start_keeps}
+use Rattle.net_schedule.proofs.Goings.{both_up}
 
 -- the world behind the events
 abbrev pub world_of : (asked : Asked) → List Moment → World
 world_of asked trace = world_after (start_of_run asked) trace
 
-pub some_map : {A B : Type 0} (f : A → B) (o : Option A) → is_some (option_map f o) ≡ is_some o
-some_map f None = refl
-some_map f (Some x) = refl
-
--- whether the server is up
-node_alike : {State : Type 0} (service : Machine State) (kind : ℕ) (now : Option (Server State)) (node : Option Node) → NodeStands service kind now node → is_some now ≡ is_some node
-node_alike service kind None None s = refl
-node_alike service kind (Some now) (Some node) s = refl
-node_alike service kind None (Some node) s = absurd s
-node_alike service kind (Some now) None s = absurd s
-
 pub kept_alike : (asked : Asked) (n : ℕ) (w : Kept AnyService) (p : Progress) (s : StandsBehind asked n w p) → is_some w.node ≡ is_some (world_of asked s.trace).node
-kept_alike asked n w p s = node_alike (any_machine w.kind) w.kind w.node (world_of asked s.trace).node s.stands.stands.node
+kept_alike asked n w p s = both_up (any_machine w.kind) w.kind w.node (world_of asked s.trace).node s.stands.stands.node
 
 -- what is drawn from what the code sees is what is drawn in the definitions' world
 pub drawn_alike : (asked : Asked) (n : ℕ) (w : Kept AnyService) (p : Progress) (s : StandsBehind asked n w p)
@@ -69,7 +57,7 @@ drawn_is_allowed asked n w p s event state e =
     (allowed (world_of asked s.trace) (state_behind (after_draws asked.seed asked.clients) (start_of_run asked) s.trace) (clients_keep asked n w p s).keeps)
 
 -- the last event of a trace
-last_event : (events : List Event) (one other : Event) → events ++ one ∷ [] ≡ events ++ other ∷ [] → one ≡ other
+pub last_event : (events : List Event) (one other : Event) → events ++ one ∷ [] ≡ events ++ other ∷ [] → one ≡ other
 last_event events one other e = some_is one other (ap (λ xs. slice_get xs 0) (append_cancel_left events (one ∷ []) (other ∷ []) e))
 
 legal_for : (asked : Asked) (trace : List Moment) (events : List Event) → IsLegalFor any_machine (schedule_of asked.seed asked.clients []) events trace

@@ -1,14 +1,9 @@
 -- What the tests that an accepted packet passed say of it.
-use Rattle.std.proofs.Common.{◌≡◌, ℕ, ◌≤◌, Bool, true, false, List, length, arith}
-use Rattle.std.specs.Prelude.{Ok, IsOk, ◌||◌, nat_lt}
-use Rattle.std.proofs.lemmas.Bool.{ltb-false}
+use Rattle.std.proofs.Common.{◌≡◌, ℕ, ◌≤◌, false, List, length}
+use Rattle.std.specs.Prelude.{Ok, IsOk, nat_lt}
+use Rattle.std.proofs.lemmas.Bool.{ltb-false, or_parts}
 use Rattle.seq_arith.specs.PacketGrammar.{payload_at, options_in, has_bad_option, ip_tests, tcp_tests, segment_in, reading}
 use Rattle.seq_arith.proofs.Passing.{passes, passed}
-
-neither : (a b : Bool) → (a || b) ≡ false → (a ≡ false) × (b ≡ false)
-neither false false h = (h, h)
-neither false true h = absurd (cc)
-neither true b h = absurd (cc)
 
 pub header_is_long : (bytes : List ℕ) → IsOk (reading bytes) → 40 ≤ length bytes
 unfolding ip_tests
@@ -18,7 +13,7 @@ pub start_is_there : (bytes : List ℕ) → IsOk (reading bytes) → (40 ≤ pay
 unfolding ip_tests tcp_tests
 start_is_there bytes ok =
     let fail = passed bytes ok
-    in let both = neither (nat_lt (payload_at bytes) 40) (nat_lt (length bytes) (payload_at bytes)) fail.1.1.1.1.1.1.1.0
+    in let both = or_parts (nat_lt (payload_at bytes) 40) (nat_lt (length bytes) (payload_at bytes)) fail.1.1.1.1.1.1.1.0
     in (ltb-false (payload_at bytes) 40 both.0, ltb-false (length bytes) (payload_at bytes) both.1)
 
 pub packet_is_short : (bytes : List ℕ) → IsOk (reading bytes) → length bytes ≤ 1500

@@ -1,14 +1,14 @@
 -- A packet by its cells: with its first forty bytes written out, every field and every test computes, so a change of some fields leaves the
 -- tests as they were, and the checksum summed anew makes up for the rest.
 use Rattle.std.proofs.Common.{◌≡◌, ℕ, zero, suc, ◌<◌, ◌≤◌, ◌+◌, ◌-◌, ◌*◌, Bool, true, false, List, [], ◌∷◌, ◌++◌, length, take, drop, get_or, ap, refl, sym, arith, ◌∙◌}
-use Rattle.std.specs.Prelude.{Ok, ◌||◌, IsOk, nat_lt}
+use Rattle.std.specs.Prelude.{Ok, ◌||◌, nat_lt}
 use Rattle.std.proofs.lemmas.List.{drop-drop}
 use Rattle.std.proofs.lemmas.Bool.{ltb-false}
 use Rattle.seq_arith.specs.Bytes.{two, word_at, long_at}
 use Rattle.seq_arith.specs.Checksum.{word_sum, checksum}
 use Rattle.seq_arith.specs.Packet.{Segment, with_seq, with_ack, with_window}
 use Rattle.seq_arith.specs.PacketGrammar.{payload_at, options_in, tcp_text, ip_tests, tcp_tests, head_in, segment_in, reading}
-use Rattle.seq_arith.proofs.Passing.{AllFail, passes, passed, no_difference}
+use Rattle.seq_arith.proofs.Passing.{AllFail, passes, no_difference}
 
 -- the first n bytes written out
 abbrev pub front : ℕ → List ℕ → List ℕ
@@ -117,7 +117,3 @@ pub sum_of : (bytes : List ℕ) (s t u v a b c d w x y z : ℕ)
     ≡ others bytes + (256 * s + t) + (256 * u + v) + (256 * a + b) + (256 * c + d) + (256 * w + x) + (256 * y + z)
 unfolding tcp_text two
 sum_of bytes s t u v a b c d w x y z = omega arith
-
-pub long_enough : (bytes : List ℕ) → IsOk (reading bytes) → 40 ≤ length bytes
-unfolding ip_tests
-long_enough bytes ok = let fail = passed bytes ok in ltb-false (length bytes) 40 fail.0

@@ -1,9 +1,10 @@
-pub mod Gaps
-pub mod Shifts
-pub mod Sums
-pub mod Passing
-pub mod Spelling
-pub mod MessageSpelling
 pub mod Damaged
+pub mod Gaps
+pub mod MessageSpelling
+pub mod Passing
 pub mod Refused
+pub mod Shifts
+pub mod Spelling
+pub mod Sums
 pub mod Texts
+pub mod Units

@@ -1,13 +1,13 @@
 -- A spelling says its message: each test of the message grammar fails at it, and each number is read where it was put.
 use Rattle.std.proofs.Common.{◌≡◌, ℕ, zero, suc, ◌<◌, ◌≤◌, ◌+◌, ◌*◌, ◌/◌, ◌%◌, ◌^◌, Bool, true, false, not, List, [], ◌∷◌, ◌++◌, length, length-append, take, drop, ap, refl, sym, arith, ◌∙◌, append_assoc}
-use Rattle.std.specs.Prelude.{◌&&◌, Some, Ok, slice_index, nat_eq, nat_le, nat_lt}
+use Rattle.std.specs.Prelude.{Some, Ok, slice_index, nat_eq, nat_le, nat_lt}
 use Rattle.std.specs.Int.{byte_at, bytes_high_first}
 use Rattle.std.specs.List.{list_all}
 use Rattle.std.proofs.Math.Arith.{mod-mul}
 use Rattle.std.proofs.Math.Nat.{div-one, mod-eq_of_lt, one-le-pow, pow-succ'}
 use Rattle.std.proofs.Math.Seq.{drop-append_seam}
 use Rattle.std.proofs.lemmas.List.{drop-drop}
-use Rattle.std.proofs.lemmas.Bool.{le-ltb, leb-true}
+use Rattle.std.proofs.lemmas.Bool.{le-ltb, leb-true, and_parts}
 use Rattle.seq_arith.specs.declared.kinds.Kind.{Kind}
 use Rattle.seq_arith.specs.declared.kinds.Kind.TheVariants as kinds
 use Rattle.seq_arith.specs.declared.kinds.Field.{Field}
@@ -65,15 +65,11 @@ numbers_back (field ∷ rest) (n ∷ numbers) behind fit =
     ap (numbers_in rest) gone ∙ numbers_back rest numbers behind fit.1
     in cc (first, others)
 
-pub both_hold : (a b : Bool) → (a && b) ≡ true → (a ≡ true) × (b ≡ true)
-both_hold true b h = (refl, h)
-both_hold false b h = absurd (cc)
-
 pub lens_back : (lens : List ℕ) → list_all (λ len. nat_le len 2048) lens ≡ true → lens_in (lens_bytes lens) ≡ lens
 unfolding two
 lens_back [] small = refl
 lens_back (len ∷ lens) small =
-    let both : (nat_le len 2048 ≡ true) × (list_all (λ n. nat_le n 2048) lens ≡ true) = both_hold (nat_le len 2048) (list_all (λ n. nat_le n 2048) lens) small
+    let both : (nat_le len 2048 ≡ true) × (list_all (λ n. nat_le n 2048) lens ≡ true) = and_parts (nat_le len 2048) (list_all (λ n. nat_le n 2048) lens) small
     in let first : 256 * (len / 256 % 256) + len % 256 ≡ len = word_back len (omega (arith, leb-true len 2048 both.0))
     in cc (first, lens_back lens both.1)
 
@@ -194,8 +190,8 @@ kind message check = kind_back (kind_of message.body)
 pub bounded : (kind : Kind) (n : ℕ) → has_length kind n ≡ true → (behind_at kind + fewest_behind kind ≤ n) × (n ≤ behind_at kind + most_behind kind)
 unfolding has_length
 bounded kind n is =
-    let enough : nat_le (behind_at kind + fewest_behind kind) n ≡ true = (both_hold _ _ (both_hold _ _ is).0).0
-    in let few : nat_le n (behind_at kind + most_behind kind) ≡ true = (both_hold _ _ (both_hold _ _ is).0).1
+    let enough : nat_le (behind_at kind + fewest_behind kind) n ≡ true = (and_parts _ _ (and_parts _ _ is).0).0
+    in let few : nat_le n (behind_at kind + most_behind kind) ≡ true = (and_parts _ _ (and_parts _ _ is).0).1
     in (leb-true _ _ enough, leb-true _ _ few)
 
 whole : (message : Message) (check : ℕ) → message_length message.body < 2 ^ 16 → word_at (spelled message check) 4 ≡ message_length message.body
@@ -211,7 +207,7 @@ joined boot body = cc
 says : (message : Message) (check : ℕ) → IsSpellable message → message_in (kind_of message.body) (spelled message check) ≡ message
 unfolding message_in is_sound
 says message check spellable =
-    let lens : list_all (λ len. nat_le len 2048) (lens_of message.body) ≡ true = (both_hold _ _ spellable.sound).1
+    let lens : list_all (λ len. nat_le len 2048) (lens_of message.body) ≡ true = (and_parts _ _ spellable.sound).1
     in let body : body_in (kind_of message.body) (numbers_in (fields_of (kind_of message.body)) (drop 16 (spelled message check))) (drop (behind_at (kind_of message.body)) (spelled message check)) ≡ message.body =
     ap (λ numbers. body_in (kind_of message.body) numbers (drop (behind_at (kind_of message.body)) (spelled message check))) (fields_back message check spellable.numbers)
     ∙ ap (body_in (kind_of message.body) (numbers_of message.body)) (behind_fields message check spellable.numbers) ∙ body_back message.body lens

@@ -16,6 +16,7 @@ use Rattle.seq_arith.specs.PacketGrammar.{ip_tests, tcp_tests, tcp_text, reading
 use Rattle.seq_arith.specs.MessageGrammar.{kind_numbered, has_length, is_sound_in, message_in, reading_of, reading_if, reading as message_reading}
 use Rattle.seq_arith.proofs.Passing.{AllFail, passed, same_from}
 use Rattle.seq_arith.proofs.Damaged.{flip_is_seen, flip_in_front, flip_behind}
+use Rattle.ft_io.proofs.Booleans.{left_false}
 
 -- what isn't accepted is refused
 refused : {V E : Type 0} (r : Result V E) → (IsOk r → ⊥) → IsErr r
@@ -92,10 +93,6 @@ goes_on : {E V : Type 0} (b : Bool) (e : E) (later : Result V E) → IsOk (if b 
 goes_on true e later ok = absurd (cc)
 goes_on false e later ok = (refl, ok)
 
-first_fails : (a b : Bool) → (a || b) ≡ false → a ≡ false
-first_fails true b h = absurd (cc)
-first_fails false b h = refl
-
 whole_of : (kind : Kind) (bytes : List ℕ) → IsOk (reading_of kind bytes) → (word_at bytes 4 ≡ length bytes) × (checksum bytes ≡ 0)
 unfolding reading_of
 whole_of kind bytes ok =
@@ -104,7 +101,7 @@ whole_of kind bytes ok =
     in let last : Result Message BadMsg = if not (is_sound_in kind bytes) then Err bad.Field else Ok (message_in kind bytes)
     in let sized : (length_test ≡ false) × IsOk (if sum_test then Err bad.Sum else last) = goes_on length_test bad.Length (if sum_test then Err bad.Sum else last) ok
     in (
-      same_from _ _ (first_fails (not (nat_eq (word_at bytes 4) (length bytes))) (not (has_length kind (length bytes))) sized.0),
+      same_from _ _ (left_false (not (nat_eq (word_at bytes 4) (length bytes))) (not (has_length kind (length bytes))) sized.0),
       same_from _ _ (goes_on sum_test bad.Sum last sized.1).0,
     )
 

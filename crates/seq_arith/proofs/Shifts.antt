@@ -42,10 +42,10 @@ le_shift n k z = grind (arith, ints)
 lt_shift : (n k : ℕ) (z : ℤ) → int_lt (z +ℤ pos k) (pos (n + k)) ≡ int_lt z (pos n)
 lt_shift n k z = grind (arith, ints)
 
-above_shift : (n k : ℕ) (z : ℤ) → int_lt (pos (n + k)) (z +ℤ pos k) ≡ int_lt (pos n) z
+pub above_shift : (n k : ℕ) (z : ℤ) → int_lt (pos (n + k)) (z +ℤ pos k) ≡ int_lt (pos n) z
 above_shift n k z = grind (arith, ints)
 
-under_shift : (n k : ℕ) (z : ℤ) → int_le (z +ℤ pos k) (pos (n + k)) ≡ int_le z (pos n)
+pub under_shift : (n k : ℕ) (z : ℤ) → int_le (z +ℤ pos k) (pos (n + k)) ≡ int_le z (pos n)
 under_shift n k z = grind (arith, ints)
 
 between_shift : (k : ℕ) (x y : ℤ) → int_lt (x +ℤ pos k) (y +ℤ pos k) ≡ int_lt x y
@@ -59,7 +59,7 @@ lies_in_shift next window k offset =
     let end : next + k + window ≡ next + window + k = omega arith
     in rw (le_shift next k offset, end, lt_shift (next + window) k offset) refl
 
-point_shift : (next k : ℕ) (first : ℤ) → int_eq (first +ℤ pos k) (pos (next + k)) ≡ int_eq first (pos next)
+pub point_shift : (next k : ℕ) (first : ℤ) → int_eq (first +ℤ pos k) (pos (next + k)) ≡ int_eq first (pos next)
 point_shift next k first = grind (arith, ints)
 
 pub is_acceptable_shift : (next window k : ℕ) (first : ℤ) (len : ℕ)
@@ -73,7 +73,7 @@ below_high : (next : ℕ) (first : ℤ) → pos next ≤ℤ first → below next
 below_high next (pos n) h = omega (arith, ints)
 below_high next (negsuc n) h = absurd (omega (arith, ints))
 
-below_low : (next : ℕ) (first : ℤ) → first ≤ℤ pos next → (first +ℤ pos (below next first)) ≡ pos next
+pub below_low : (next : ℕ) (first : ℤ) → first ≤ℤ pos next → (first +ℤ pos (below next first)) ≡ pos next
 below_low next (pos n) h = omega (arith, ints)
 below_low next (negsuc n) h = omega (arith, ints)
 

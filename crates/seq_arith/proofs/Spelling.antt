@@ -1,7 +1,7 @@
 -- A spelling says its segment: each test of the grammar fails at it, and each field is read where it was put.
-use Rattle.std.proofs.Common.{◌≡◌, ℕ, ◌<◌, ◌+◌, ◌*◌, ◌/◌, ◌%◌, ◌^◌, Bool, false, not, List, ◌++◌, length, length-append, take, drop, ap, refl, sym, arith, ◌∙◌}
-use Rattle.std.specs.Prelude.{◌||◌, Option, None, Some, Ok, IfSome, slice_index, nat_eq}
-use Rattle.std.proofs.lemmas.Bool.{le-ltb}
+use Rattle.std.proofs.Common.{◌≡◌, ℕ, ◌<◌, ◌+◌, ◌*◌, ◌/◌, ◌%◌, ◌^◌, false, not, List, ◌++◌, length, length-append, take, drop, ap, refl, sym, arith, ◌∙◌}
+use Rattle.std.specs.Prelude.{Option, None, Some, Ok, IfSome, slice_index, nat_eq}
+use Rattle.std.proofs.lemmas.Bool.{le-ltb, or_from}
 use Rattle.seq_arith.specs.Bytes.{two, four, word_at, long_at}
 use Rattle.seq_arith.specs.Checksum.{checksum}
 use Rattle.seq_arith.specs.Packet.{Segment}
@@ -103,9 +103,6 @@ tcp_sum : (segment : Segment) → checksum (tcp_text (spelling segment)) ≡ 0
 unfolding spelling
 tcp_sum segment = tcp_sums segment (checksum (take 20 (spelled segment 0 0))) (checksum (tcp_text (spelled segment 0 0))) refl
 
-neither : (a b : Bool) → a ≡ false → b ≡ false → (a || b) ≡ false
-neither a b p q = rw (p, q) refl
-
 no_test_holds : (segment : Segment) → IsSpellable segment → AllFail (ip_tests (spelling segment) ++ tcp_tests (spelling segment))
 unfolding ip_tests tcp_tests
 no_test_holds segment fits = (
@@ -123,7 +120,7 @@ no_test_holds segment fits = (
             (
               no_difference _ _ (ip_sum segment),
               (
-                neither _ _ (le-ltb (payload_at (spelling segment)) 40 (omega (arith, payload_place segment)))
+                or_from _ _ (le-ltb (payload_at (spelling segment)) 40 (omega (arith, payload_place segment)))
                     (le-ltb (length (spelling segment)) (payload_at (spelling segment)) (omega (arith, size segment, payload_place segment))),
                 (
                   ap (has_bad_option 0) (options segment) ∙ mss_option_good segment.head.mss,

@@ -15,7 +15,7 @@ use Rattle.ft_model.specs.News.News.{Comes, Logged, Ticks, Begins as Becomes_liv
 use Rattle.ft_model.specs.Offset.{IsNear}
 use Rattle.ft_model.specs.Opening.{point_opened}
 use Rattle.ft_model.specs.Point.{Point}
-use Rattle.ft_model.proofs.Lists.{of_choice, some_is, none_is_some}
+use Rattle.ft_model.proofs.Lists.{some_is, none_is_some}
 use Rattle.north_wrap.specs.Standing.{NorthStands}
 use Rattle.connection_laws.specs.Beginning.{MayOpen}
 use Rattle.wrapped_conn.specs.ConnState.{ConnState}
@@ -35,6 +35,7 @@ use Rattle.server_node.specs.Conn.{Begins, Stands, IsSound, IsOurs, Acts}
 use Rattle.server_node.specs.Hearing.{logged_in}
 use Rattle.server_node.proofs.Came.{fits, text_fits}
 use Rattle.server_node.proofs.Turned.{IsTyped, acts}
+use Rattle.ft_io.proofs.Choices.{holds_if}
 
 -- a connection keeps its address and its boot number in each turn
 record IsSame {S : Type 0} (c now : ConnState S) : Type 0 where
@@ -48,8 +49,8 @@ either false m f g = g m
 arrived_same : {S : Type 0} (segment : Segment) (c : ConnState S) → IsSame c (arrived segment c)
 unfolding arrived
 arrived_same segment c = record {
-  local = of_choice (λ x. x.local ≡ c.local) (repeats_syn c.south segment) c _ (λ t. refl) (λ t. refl);
-  boot = of_choice (λ x. x.boot ≡ c.boot) (repeats_syn c.south segment) c _ (λ t. refl) (λ t. refl);
+  local = holds_if (λ x. x.local ≡ c.local) (repeats_syn c.south segment) c _ (λ t. refl) (λ t. refl);
+  boot = holds_if (λ x. x.boot ≡ c.boot) (repeats_syn c.south segment) c _ (λ t. refl) (λ t. refl);
 }
 
 receives_same : {S : Type 0} (service : Machine S) (segment : Segment) (c now : ConnState S) (out messages : List (List ℕ)) → Receives service.after segment c now out messages → IsSame c now
@@ -66,8 +67,8 @@ ticks_same : {S : Type 0} (c now : ConnState S) (out messages : List (List ℕ))
 ticks_same c now out messages r =
     either c.reset r (λ k. record { local = ap (λ x. x.local) k.state; boot = ap (λ x. x.boot) k.state })
     (λ k. record {
-      local = ap (λ x. x.local) k.state ∙ of_choice (λ x. x.local ≡ c.local) ((counted (ticked c)).end_ticks == 4) (with_done (counted (ticked c))) (counted (ticked c)) (λ t. refl) (λ t. refl);
-      boot = ap (λ x. x.boot) k.state ∙ of_choice (λ x. x.boot ≡ c.boot) ((counted (ticked c)).end_ticks == 4) (with_done (counted (ticked c))) (counted (ticked c)) (λ t. refl) (λ t. refl);
+      local = ap (λ x. x.local) k.state ∙ holds_if (λ x. x.local ≡ c.local) ((counted (ticked c)).end_ticks == 4) (with_done (counted (ticked c))) (counted (ticked c)) (λ t. refl) (λ t. refl);
+      boot = ap (λ x. x.boot) k.state ∙ holds_if (λ x. x.boot ≡ c.boot) ((counted (ticked c)).end_ticks == 4) (with_done (counted (ticked c))) (counted (ticked c)) (λ t. refl) (λ t. refl);
     })
 
 starts_same : {S : Type 0} (service : Machine S) (c now : ConnState S) (out messages : List (List ℕ)) → Starts service.after c now out messages → IsSame c now

@@ -23,28 +23,14 @@ use Rattle.server_node.specs.declared.slot.Opening.{Opening}
 use Rattle.server_node.specs.Opening.{ArePut, Admits, all_opens, slot_opens, is_pending_slot, pending_slots}
 use Rattle.server_node.specs.Slots.{numbers_of, SlotStands, AllStand}
 use Rattle.server_node.proofs.Asked.{all_other, asked_at_syn}
-use Rattle.server_node.proofs.OneKey.{same_key, key_is, place_key, none_found}
+use Rattle.server_node.proofs.OneKey.{place_key, none_found}
 use Rattle.server_node.proofs.Opens.{opens_are, put_none}
-
--- two keys are equal in both orders
-pub key_turns : (a b : Key) → key_eq a b ≡ false → key_eq b a ≡ false
-key_turns a b e = go (key_eq b a) refl
-  where
-    go : (x : Bool) → key_eq b a ≡ x → key_eq b a ≡ false
-    go false t = t
-    go true t = absurd (true≢false (sym (key_is a) ∙ (ap (key_eq a) (sym (same_key b a t)) ∙ e)))
-
-key_either : (a b : Key) → key_eq a b ≡ key_eq b a
-key_either a b = go (key_eq a b) refl
-  where
-    go : (x : Bool) → key_eq a b ≡ x → key_eq a b ≡ key_eq b a
-    go true t = t ∙ sym (ap (key_eq b) (same_key a b t) ∙ key_is b)
-    go false t = t ∙ sym (key_turns a b t)
+use Rattle.ft_model.proofs.PlayableLemmas.{same_either_way}
 
 -- a place has a key exactly where the slot that stands there has it
 pub place_has : {S : Type 0} (service : Machine S) (node : Node) (key : Key) (e : Key × Slot S) (place : Place) → SlotStands service node e.0 e.1 place
     → key_eq (key_of place) key ≡ key_eq key e.0
-place_has service node key e place st = ap (λ k. key_eq k key) (place_key service node e.0 e.1 place st) ∙ key_either e.0 key
+place_has service node key e place st = ap (λ k. key_eq k key) (place_key service node e.0 e.1 place st) ∙ same_either_way e.0 key
 
 module _ {S : Type 0} (service : Machine S) (node : Node) where
   -- a key without a slot has no place

@@ -1,13 +1,12 @@
 -- What a restart keeps, whatever answers it.
 use Rattle.std.proofs.Common.{◌≡◌, ◌∙◌, ℕ, ◌+◌, Bool, true, false, ◌==◌, ◌&&◌, not, nat_le, refl, sym, ap, subst, List, [], ◌∷◌, ◌++◌, map, length, Option, Some, None, Result, Ok, IfSome, MatchOption, if◌then◌else◌, find, option_map}
-use Rattle.std.specs.List.{AllByRecursion}
 use Rattle.std.specs.Option.{option_to_list}
+use Rattle.std.proofs.lemmas.Bool.{and_parts, or_parts}
 use Rattle.ft_io.specs.declared.Key.{Key}
 use Rattle.ft_io.specs.Key.{key_eq}
 use Rattle.seq_arith.specs.Message.{Message, Body, EntryHead}
 use Rattle.seq_arith.specs.Message.Body.{EntryMsg, PartMsg, LensMsg}
 use Rattle.server_trait.specs.Service.{Served, machine}
-use Rattle.ft_model.proofs.Lists.{both, not_true, neither}
 use Rattle.ft_model.specs.Restart.{Fetched, Wanted, wanted, is_fetched, fetched_by, fetched_after, all_follow, live_entry}
 use Rattle.ft_model.specs.Restart.Wanted.{An_entry, Its_bytes, Its_lengths}
 use Rattle.ft_model.specs.Node.{Node}
@@ -16,7 +15,8 @@ use Rattle.reincarnate.specs.Asking.{FetchingState, heard, answered, head_fits, 
 use Rattle.reincarnate.specs.Progress.{EntryState}
 use Rattle.server_node.specs.declared.identity.Identity.{Identity}
 use Rattle.server_node.specs.Restarting.{AreDistinct, FetchingStands, IsOwn}
-use Rattle.server_node.proofs.OneKey.{same_key}
+use Rattle.ft_io.proofs.Booleans.{not_true}
+use Rattle.ft_model.proofs.Lists.{same_key}
 
 chosen : {A : Type 0} (P : A → Type 0) (b : Bool) (x : A) → (b ≡ true → P x) → IfSome (if b then Some x else None) P
 chosen P true x p = p refl
@@ -26,7 +26,7 @@ chosen P false x p = tt
 by_distinct : (w : Wanted) (body : Body) (fetched : List Fetched) → AreDistinct fetched → IfSome (fetched_by w body fetched) AreDistinct
 by_distinct (An_entry index) (EntryMsg i head) fetched d =
     chosen AreDistinct (i == index && not (is_fetched head.key fetched)) (record { head = head; bytes = []; lengths = [] } ∷ fetched)
-    (λ e. (not_true (is_fetched head.key fetched) (both (i == index) (not (is_fetched head.key fetched)) e).1, d))
+    (λ e. (not_true (is_fetched head.key fetched) (and_parts (i == index) (not (is_fetched head.key fetched)) e).1, d))
 by_distinct (Its_bytes key offset) (PartMsg k o bytes) (f ∷ earlier) d =
     chosen AreDistinct (key_eq k key && o == offset && nat_le (length f.bytes + length bytes) f.head.length) (record f { bytes = f.bytes ++ bytes } ∷ earlier) (λ e. d)
 by_distinct (Its_lengths key first) (LensMsg k o lens) (f ∷ earlier) d =
@@ -85,7 +85,7 @@ unless_done (Some f) = if f.head.done then None else Some f
 none_live : (key : Key) (fetched : List Fetched) → is_fetched key fetched ≡ false → live_entry key fetched ≡ None
 none_live key [] e = refl
 none_live key (f ∷ earlier) e =
-    let parts = neither (key_eq f.head.key key) (is_fetched key earlier) e in
+    let parts = or_parts (key_eq f.head.key key) (is_fetched key earlier) e in
     ap (λ b. if b && not f.head.done then Some f else live_entry key earlier) parts.0 ∙ none_live key earlier parts.1
 
 -- no two entries have one key, so a key's first entry decides

@@ -18,7 +18,7 @@ use Rattle.server_node.specs.declared.slot.Opening.{Opening}
 use Rattle.server_node.specs.Hearing.{opening_in}
 use Rattle.server_node.specs.Opening.{slot_opens, all_opens}
 use Rattle.server_node.specs.Slots.{numbers_of}
-use Rattle.server_node.proofs.OneKey.{same_key, key_is}
+use Rattle.ft_model.proofs.Lists.{same_key, key_is}
 
 module _ (node : Node) (segment : Segment) where
   -- the Open of an opening, if this segment is its SYN

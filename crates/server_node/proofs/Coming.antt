@@ -1,5 +1,6 @@
 -- A segment at the slot of its client.
 use Rattle.std.proofs.Common.{◌≡◌, ◌∙◌, true, false, refl, sym, ap, List, [], ◌∷◌, map, append-nil}
+use Rattle.std.proofs.lemmas.Bool.{and_right}
 use Rattle.ft_io.specs.declared.Key.{Key}
 use Rattle.ft_io.specs.Key.{key_eq}
 use Rattle.seq_arith.specs.Packet.{Segment}
@@ -22,11 +23,12 @@ use Rattle.server_node.specs.declared.slot.Opening.{Opening}
 use Rattle.server_node.specs.Conn.{Stands, ConnGoes}
 use Rattle.server_node.specs.Refusing.{AreSent}
 use Rattle.server_node.specs.Slots.{SlotStands, SlotGoes}
-use Rattle.server_node.proofs.OneKey.{key_is, and_false, place_meets}
+use Rattle.server_node.proofs.OneKey.{place_meets}
+use Rattle.ft_model.proofs.Lists.{key_is}
 
 -- a segment concerns its client alone
 pub only_its_client : (node : Node) (segment : Segment) (k : Key) → key_eq (source_of segment) k ≡ false → concerns node (Packet_comes segment) k ≡ false
-only_its_client node segment k other = and_false (is_for node.server segment) _ other
+only_its_client node segment k other = and_right (is_for node.server segment) _ other
 
 module _ {S : Type 0} (service : Machine S) (node : Node) (segment : Segment) (mine : is_for node.server segment ≡ true) where
   itself : (k : Key) → k ≡ source_of segment → key_eq (source_of segment) k ≡ true

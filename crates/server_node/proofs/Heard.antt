@@ -1,7 +1,6 @@
 -- A message at the slot of the key that it names.
 use Rattle.std.proofs.Common.{◌≡◌, ◌∙◌, true, false, ◌&&◌, ◌==◌, eq-eqb, ap₂, refl, sym, ap, subst, true≢false, List, [], ◌∷◌, append-nil, Some, None, ◌⊎◌, inl, inr, ⊎_elim}
-use Rattle.std.specs.List.{AllByRecursion}
-use Rattle.std.specs.Bool.{MatchBool}
+use Rattle.std.proofs.lemmas.Bool.{and_right}
 use Rattle.ft_io.specs.declared.Key.{Key}
 use Rattle.ft_io.specs.Key.{key_eq}
 use Rattle.seq_arith.specs.Message.{Kept, Body, Message}
@@ -21,18 +20,17 @@ use Rattle.server_node.specs.declared.slot.Opening.{Opening}
 use Rattle.server_node.specs.Conn.{Stands, ConnGoes}
 use Rattle.server_node.specs.Hearing.{logged_in}
 use Rattle.server_node.specs.Slots.{SlotStands, SlotGoes}
-use Rattle.server_node.proofs.OneKey.{key_is, and_false, place_meets, place_key}
-
-some_is : {X : Type 0} {x y : X} → Some x ≡ Some y → x ≡ y
-some_is {X} {x} e = ap (λ o. Rattle.std.specs.Option.unwrap_or o x) e
+use Rattle.server_node.proofs.OneKey.{place_meets, place_key}
+use Rattle.ft_io.proofs.Choices.{same_some}
+use Rattle.ft_model.proofs.Lists.{key_is}
 
 none_is_not : {X A : Type 0} {x : X} → None ≡ Some x → A
 none_is_not e = absurd (true≢false (sym (ap Rattle.std.specs.Option.is_some e)))
 
 -- a Stable or a Reads
 two_ways : (said : Body) (kept : Kept) → logged_in said ≡ Some kept → (said ≡ body.StableMsg kept) ⊎ (said ≡ body.ReadsMsg kept)
-two_ways (body.StableMsg k) kept e = inl (ap body.StableMsg (some_is e))
-two_ways (body.ReadsMsg k) kept e = inr (ap body.ReadsMsg (some_is e))
+two_ways (body.StableMsg k) kept e = inl (ap body.StableMsg (same_some e))
+two_ways (body.ReadsMsg k) kept e = inr (ap body.ReadsMsg (same_some e))
 two_ways body.HelloMsg kept e = none_is_not e
 two_ways (body.SummaryMsg n) kept e = none_is_not e
 two_ways (body.ListMsg n) kept e = none_is_not e
@@ -53,7 +51,7 @@ two_ways (body.FullMsg k) kept e = none_is_not e
 -- a message concerns the key that it names
 pub only_its_key : (node : Node) (message : Message) (key : Key) → ((k : Key) → names message.body k ≡ key_eq key k) → (k : Key) → key_eq key k ≡ false
     → concerns node (Message_comes message) k ≡ false
-only_its_key node message key named k other = and_false (message.boot == node.boot) (names message.body k) (named k ∙ other)
+only_its_key node message key named k other = and_right (message.boot == node.boot) (names message.body k) (named k ∙ other)
 
 pub its_key : (node : Node) (message : Message) (key : Key) → message.boot ≡ node.boot → ((k : Key) → names message.body k ≡ key_eq key k) → (k : Key) → k ≡ key
     → concerns node (Message_comes message) k ≡ true

@@ -1,6 +1,6 @@
 -- Which messages a server heeds, and what those say.
 use Rattle.std.proofs.Common.{◌≡◌, ℕ, ◌≤◌, true, false, ◌&&◌, nat_le, refl, ap₂, subst, length}
-use Rattle.std.proofs.lemmas.Bool.{leb-true}
+use Rattle.std.proofs.lemmas.Bool.{leb-true, and_parts}
 use Rattle.ft_io.specs.declared.Key.{Key}
 use Rattle.seq_arith.specs.Message.{Body as said, Message}
 use Rattle.seq_arith.specs.MessageGrammar.{is_sound, kind_of, numbers_of, behind_of, lens_of}
@@ -9,7 +9,6 @@ use Rattle.ft_model.specs.Serving.{names}
 use Rattle.logger_wire.specs.declared.Body.{Body}
 use Rattle.logger_wire.specs.declared.Body.TheVariants as body
 use Rattle.logger_wire.specs.Value.{body_of, IsSendable}
-use Rattle.server_node.proofs.OneKey.{both}
 
 -- a message by its parts
 pub message_is : (message : Message) (boot : ℕ) (says : said) → message.boot ≡ boot → message.body ≡ says → message ≡ record { boot = boot; body = says }
@@ -21,9 +20,9 @@ unfolding is_sound
 opened_range msg key cisn sisn mss sendable is =
     let sound : ((nat_le 1 msg.boot && ((nat_le 64 mss && nat_le mss 1460) && true)) && true) ≡ true =
     subst (λ b. is_sound (kind_of (body_of b)) msg.boot (length (behind_of (body_of b))) (numbers_of (body_of b)) (lens_of (body_of b)) ≡ true) is sendable.spellable.sound in
-    let first : (nat_le 1 msg.boot && ((nat_le 64 mss && nat_le mss 1460) && true)) ≡ true = (both (nat_le 1 msg.boot && ((nat_le 64 mss && nat_le mss 1460) && true)) true sound).0 in
-    let second : ((nat_le 64 mss && nat_le mss 1460) && true) ≡ true = (both (nat_le 1 msg.boot) ((nat_le 64 mss && nat_le mss 1460) && true) first).1 in
-    let range = both (nat_le 64 mss) (nat_le mss 1460) (both (nat_le 64 mss && nat_le mss 1460) true second).0 in
+    let first : (nat_le 1 msg.boot && ((nat_le 64 mss && nat_le mss 1460) && true)) ≡ true = (and_parts (nat_le 1 msg.boot && ((nat_le 64 mss && nat_le mss 1460) && true)) true sound).0 in
+    let second : ((nat_le 64 mss && nat_le mss 1460) && true) ≡ true = (and_parts (nat_le 1 msg.boot) ((nat_le 64 mss && nat_le mss 1460) && true) first).1 in
+    let range = and_parts (nat_le 64 mss) (nat_le mss 1460) (and_parts (nat_le 64 mss && nat_le mss 1460) true second).0 in
     (leb-true 64 mss range.0, leb-true mss 1460 range.1)
 
 -- other messages name no key

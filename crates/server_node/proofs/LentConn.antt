@@ -13,7 +13,6 @@ use Rattle.connection_laws.specs.Closing.{StandsClosed}
 use Rattle.connection_laws.specs.Standing.{StandsOpen, PartsStand}
 use Rattle.connection_laws.specs.Telling.{acked_at}
 use Rattle.connection_laws.proofs.Telling.{parts_tell}
-use Rattle.connection_laws.proofs.Together.{begun_open}
 use Rattle.north_wrap.specs.NorthState.{NorthState}
 use Rattle.tcp_endpoint.specs.Tcb.{Tcb}
 use Rattle.wrapped_conn.specs.ConnState.{ConnState}
@@ -27,6 +26,7 @@ use Rattle.server_node.specs.Conn.{Stands, IsSound}
 use Rattle.server_node.specs.Lending.{conn_in}
 use Rattle.server_node.specs.Slots.{IsSoundSlot}
 use Rattle.server_node.specs.LentConn.{BeginsBehind, TcpTells, TellsItsPoint}
+use Rattle.endpoint_laws.proofs.SegmentsLaw.{begun_open}
 
 begins_open : (u i delta : ℕ) (p : Point) (e : Tcb) → StandsOpen u i delta p e → BeginsBehind p delta e
 begins_open u i delta p e st =

@@ -1,5 +1,5 @@
 -- An input that concerns one key alone: its slot has a turn, and all others stay.
-use Rattle.std.proofs.Common.{◌≡◌, ◌∙◌, ℕ, Bool, true, false, ◌&&◌, refl, sym, ap, subst, List, [], ◌∷◌, append-nil, Some, None, cond, true≢false, ap₂, eqb-true, eq-eqb, ◌==◌}
+use Rattle.std.proofs.Common.{◌≡◌, ◌∙◌, Bool, true, false, refl, sym, ap, subst, List, [], ◌∷◌, append-nil, Some, None, cond, true≢false}
 use Rattle.std.specs.List.{AllByRecursion, IsDistinct}
 use Rattle.std.specs.Bool.{MatchBool}
 use Rattle.std.specs.Map.{lookup, set_value, remove_entry, keys_of}
@@ -14,28 +14,8 @@ use Rattle.ft_model.specs.Wire.{Wire}
 use Rattle.server_node.specs.declared.slot.Slot.{Slot}
 use Rattle.server_node.specs.declared.slot.Slot.TheVariants as slot
 use Rattle.server_node.specs.Slots.{SlotStands, AllStand, SlotGoes, SlotLeaves, AllSlotsGo}
-
-pub both : (a b : Bool) → (a && b) ≡ true → (a ≡ true) × (b ≡ true)
-both true true e = (refl, refl)
-both true false e = absurd (true≢false (sym e))
-both false b e = absurd (true≢false (sym e))
-
-pub same_key : (a b : Key) → key_eq a b ≡ true → a ≡ b
-same_key a b e =
-    let parts = both (a.ip == b.ip) (a.port == b.port) e in
-    let ip : a.ip ≡ b.ip = eqb-true _ _ parts.0 in
-    let port : a.port ≡ b.port = eqb-true _ _ parts.1 in
-    ap₂ (λ (x y : ℕ). let k : Key = record { ip = x; port = y } in k) ip port
-
-pub key_is : (a : Key) → key_eq a a ≡ true
-key_is a = ap₂ ◌&&◌ (eq-eqb a.ip a.ip refl) (eq-eqb a.port a.port refl)
-
-pub and_false : (a b : Bool) → b ≡ false → (a && b) ≡ false
-and_false true b e = e
-and_false false b e = refl
-
-found_here : {X : Type 0} {x y : X} → Some x ≡ Some y → x ≡ y
-found_here {X} {x} e = ap (λ o. Rattle.std.specs.Option.unwrap_or o x) e
+use Rattle.ft_io.proofs.Choices.{same_some}
+use Rattle.ft_model.proofs.Lists.{same_key}
 
 pub place_key : {S : Type 0} (service : Machine S) (node : Node) (key : Key) (s : Slot S) (place : Place) → SlotStands service node key s place → key_of place ≡ key
 place_key service node key (slot.Pending o) (Opens n) st = ap (λ x. x.key) st
@@ -103,7 +83,7 @@ module _ {S : Type 0} (service : Machine S) (node : Node) (input : Input) (key :
           → AllSlotsGo service node input (q ∷ qs) (set_value (key_eq key) (e ∷ es) now) old new
       go true t rest =
           let same = same_key key e.0 t in
-          let here : e.1 ≡ was = found_here (sym (ap (λ b. cond b (Some e.1) (lookup (key_eq key) es)) t) ∙ found) in
+          let here : e.1 ≡ was = same_some (sym (ap (λ b. cond b (Some e.1) (lookup (key_eq key) es)) t) ∙ found) in
           let s = h q near.0 (subst (λ k. SlotStands service node k was q) (sym same) (subst (λ w. SlotStands service node e.0 w q) here st.0)) in
           subst (λ b. AllSlotsGo service node input (q ∷ qs) (cond b ((e.0, now) ∷ es) (e ∷ set_value (key_eq key) es now)) old new) (sym t)
           (record {
@@ -150,7 +130,7 @@ module _ {S : Type 0} (service : Machine S) (node : Node) (input : Input) (key :
           → AllSlotsGo service node input (q ∷ qs) (remove_entry (key_eq key) (e ∷ es)) old new
       go true t rest =
           let same = same_key key e.0 t in
-          let here : e.1 ≡ was = found_here (sym (ap (λ b. cond b (Some e.1) (lookup (key_eq key) es)) t) ∙ found) in
+          let here : e.1 ≡ was = same_some (sym (ap (λ b. cond b (Some e.1) (lookup (key_eq key) es)) t) ∙ found) in
           let s = h q (subst (λ k. SlotStands service node k was q) (sym same) (subst (λ w. SlotStands service node e.0 w q) here st.0)) in
           subst (λ b. AllSlotsGo service node input (q ∷ qs) (cond b es (e ∷ remove_entry (key_eq key) es)) old new) (sym t)
           (record {

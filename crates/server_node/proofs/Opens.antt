@@ -1,5 +1,5 @@
 -- The Opens with which a turn ends, over slots and over places.
-use Rattle.std.proofs.Common.{◌≡◌, ◌∙◌, ℕ, ◌+◌, ◌≤◌, Bool, true, false, refl, sym, ap, ap₂, arith, List, [], ◌∷◌, ◌++◌, map, filter, length, take, slice_get, Some, append_assoc, append-nil}
+use Rattle.std.proofs.Common.{◌≡◌, ◌∙◌, ℕ, ◌+◌, Bool, refl, sym, ap, ap₂, List, [], ◌∷◌, ◌++◌, map, filter, length, take, slice_get, Some, append_assoc, append-nil}
 use mir.Val.{bool_byte}
 use Rattle.std.proofs.lemmas.List.{map-append, length-append}
 use Rattle.std.proofs.lemmas.List.Elements.{filter-append}
@@ -78,7 +78,3 @@ pub one_pending : {S : Type 0} (key : Key) (s : Slot S) → pending_slots ((key,
 one_pending key (slot.Pending o) = refl
 one_pending key (slot.Live c) = refl
 one_pending key slot.Done = refl
-
-pub one_at_most : (b : Bool) → bool_byte b ≤ 1
-one_at_most true = omega arith
-one_at_most false = omega arith

@@ -1,6 +1,6 @@
 -- The questions of a restart as the node sends them.
 use Rattle.std.proofs.Common.{◌≡◌, ◌∙◌, ℕ, Bool, true, false, true≢false, nat_lt, refl, sym, ap, subst, List, [], ◌∷◌, length, append-nil, Option, Some, None, IfSome, is_some, option_map, if◌then◌else◌}
-use Rattle.ft_model.proofs.Lists.{of_choice, none_is_some, some_is}
+use Rattle.ft_model.proofs.Lists.{none_is_some, some_is}
 use Rattle.seq_arith.specs.Message.{Message, Body}
 use Rattle.seq_arith.specs.Message.Body.{ListMsg}
 use Rattle.seq_arith.specs.MessageGrammar.{behind_of}
@@ -12,6 +12,7 @@ use Rattle.ft_model.specs.Wire.{Wire}
 use Rattle.reincarnate.specs.Progress.{EntryState, lacks, asked_for}
 use Rattle.reincarnate.specs.Asking.{FetchingState, asked, asked_of, asked_entry, or_else, entries_of}
 use Rattle.server_node.specs.Sending.{ArePut}
+use Rattle.ft_io.proofs.Choices.{holds_if}
 
 abbrev said_in : ℕ → Body → Message
 said_in boot body = record { boot = boot; body = body }
@@ -22,10 +23,10 @@ IsBare body = behind_of body ≡ []
 
 for_bare : {S : Type 0} (e : EntryState S) → IfSome (asked_for (lacks e) e) IsBare
 for_bare e =
-    of_choice (λ l. IfSome (asked_for l e) IsBare) e.head.done _ _ (λ t. tt)
-    (λ t. of_choice (λ l. IfSome (asked_for l e) IsBare) (nat_lt e.bytes e.cuts.sum) _ _ (λ t. refl)
-    (λ t. of_choice (λ l. IfSome (asked_for l e) IsBare) (nat_lt e.cuts.count e.head.reads) _ _ (λ t. refl)
-    (λ t. of_choice (λ l. IfSome (asked_for l e) IsBare) (nat_lt e.bytes e.head.length) _ _ (λ t. refl) (λ t. tt))))
+    holds_if (λ l. IfSome (asked_for l e) IsBare) e.head.done _ _ (λ t. tt)
+    (λ t. holds_if (λ l. IfSome (asked_for l e) IsBare) (nat_lt e.bytes e.cuts.sum) _ _ (λ t. refl)
+    (λ t. holds_if (λ l. IfSome (asked_for l e) IsBare) (nat_lt e.cuts.count e.head.reads) _ _ (λ t. refl)
+    (λ t. holds_if (λ l. IfSome (asked_for l e) IsBare) (nat_lt e.bytes e.head.length) _ _ (λ t. refl) (λ t. tt))))
 
 of_bare : {S : Type 0} (o : Option (EntryState S)) → IfSome (asked_of o) IsBare
 of_bare (Some e) = for_bare e

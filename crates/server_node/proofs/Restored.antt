@@ -6,9 +6,9 @@ use Rattle.indexmap.specs.IndexMap.{insert_entry}
 use Rattle.ft_io.specs.declared.Key.{Key}
 use Rattle.ft_io.specs.Key.{key_eq}
 use Rattle.server_trait.specs.Service.{Machine}
-use Rattle.std.proofs.lemmas.Bool.{false≢true}
+use Rattle.std.proofs.lemmas.Bool.{false≢true, or_parts}
 use Rattle.ft_model.specs.Log.{Entry}
-use Rattle.ft_model.proofs.Lists.{neither, none_is_some}
+use Rattle.ft_model.proofs.Lists.{none_is_some, key_is}
 use Rattle.ft_model.specs.Node.{Node}
 use Rattle.ft_model.specs.Node.Place.{Lives, Ended}
 use Rattle.ft_model.specs.Node.Input.{Tick_comes}
@@ -26,11 +26,11 @@ use Rattle.server_node.specs.Restarting.{AreDistinct}
 use Rattle.server_node.specs.Reviving.{SlotRevives, AreRestored}
 use Rattle.server_node.specs.Numbered.{IsNumbered, AreNumbered}
 use Rattle.server_node.specs.Lending.{conn_in}
-use Rattle.server_node.specs.Slots.{SlotStands, IsSoundSlot, AllSound}
-use Rattle.server_node.proofs.Admitted.{key_turns, one_stands_more, next_number}
+use Rattle.server_node.specs.Slots.{IsSoundSlot, AllSound}
+use Rattle.server_node.proofs.Admitted.{one_stands_more, next_number}
 use Rattle.server_node.proofs.AllSlots.{go_on}
-use Rattle.server_node.proofs.OneKey.{key_is}
 use Rattle.server_node.proofs.Opens.{put_on}
+use Rattle.ft_model.proofs.Keys.{key_eq_turns}
 
 -- a slot more stays sound, wherever it comes to stand
 pub sound_insert : {S : Type 0} (key : Key) (es : List (Key × Slot S)) (now : Slot S) → AllSound es → IsSoundSlot now → AllSound (insert_entry key_eq es key now)
@@ -119,8 +119,8 @@ module _ {S : Type 0} (service : Machine S) (node : Node) where
           all_numbered_on service node.isn fetched f.head.key before.slots.entries now r.numbers,
         );
         others = λ key e.
-            let parts = neither (key_eq f.head.key key) (is_fetched key fetched) e in
-            ap (lookup (key_eq key)) is ∙ behind_others key f.head.key before.slots.entries now (key_turns f.head.key key parts.0) (r.others key parts.1);
+            let parts = or_parts (key_eq f.head.key key) (is_fetched key fetched) e in
+            ap (lookup (key_eq key)) is ∙ behind_others key f.head.key before.slots.entries now (key_eq_turns f.head.key key parts.0) (r.others key parts.1);
         wires = all.wires;
         spelled = all.spelled;
       }

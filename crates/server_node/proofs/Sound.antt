@@ -1,5 +1,5 @@
 -- The connections of all slots stay sound.
-use Rattle.std.proofs.Common.{◌≡◌, ◌∙◌, ℕ, zero, suc, Bool, true, false, refl, sym, ap, subst, List, [], ◌∷◌, ◌++◌, map, slice_get, Some, None, cond}
+use Rattle.std.proofs.Common.{◌≡◌, ◌∙◌, ℕ, zero, suc, Bool, true, false, refl, sym, ap, subst, List, [], ◌∷◌, map, slice_get, Some, cond}
 use Rattle.std.specs.Map.{lookup, set_value, remove_entry}
 use Rattle.indexmap.specs.IndexMap.{set_value_at}
 use Rattle.ft_io.specs.declared.Key.{Key}
@@ -7,14 +7,12 @@ use Rattle.server_node.specs.declared.slot.Slot.{Slot}
 use Rattle.server_node.specs.declared.slot.Slot.TheVariants as slot
 use Rattle.server_node.specs.Hearing.{ended}
 use Rattle.server_node.specs.Slots.{IsSoundSlot, AllSound}
-
-found_here : {X : Type 0} {x y : X} → Some x ≡ Some y → x ≡ y
-found_here {X} {x} e = ap (λ o. Rattle.std.specs.Option.unwrap_or o x) e
+use Rattle.ft_io.proofs.Choices.{same_some}
 
 module _ {S : Type 0} where
   pub sound_at : (es : List (Key × Slot S)) (i : ℕ) (now : Slot S) → AllSound es → slice_get (map (λ e. e.1) es) i ≡ Some now → IsSoundSlot now
   sound_at [] i now sound at = absurd (Rattle.std.proofs.Common.true≢false (sym (ap Rattle.std.specs.Option.is_some at)))
-  sound_at (e ∷ es) zero now sound at = subst IsSoundSlot (found_here at) sound.0
+  sound_at (e ∷ es) zero now sound at = subst IsSoundSlot (same_some at) sound.0
   sound_at (e ∷ es) (suc i) now sound at = sound_at es i now sound.1 at
 
   pub sound_put : (es : List (Key × Slot S)) (i : ℕ) (now : Slot S) → AllSound es → IsSoundSlot now → AllSound (set_value_at es i now)
@@ -28,7 +26,7 @@ module _ {S : Type 0} where
   sound_found test (e ∷ es) now sound found = go (test e.0) refl (λ f. sound_found test es now sound.1 f)
     where
       go : (b : Bool) → test e.0 ≡ b → (lookup test es ≡ Some now → IsSoundSlot now) → IsSoundSlot now
-      go true t rest = subst IsSoundSlot (found_here (sym (ap (λ b. cond b (Some e.1) (lookup test es)) t) ∙ found)) sound.0
+      go true t rest = subst IsSoundSlot (same_some (sym (ap (λ b. cond b (Some e.1) (lookup test es)) t) ∙ found)) sound.0
       go false t rest = rest (sym (ap (λ b. cond b (Some e.1) (lookup test es)) t) ∙ found)
 
   -- .. and what takes its place

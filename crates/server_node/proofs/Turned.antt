@@ -6,7 +6,6 @@ use Rattle.std.specs.List.{AllByRecursion}
 use Rattle.ft_io.specs.declared.Addr.{Addr}
 use Rattle.ft_io.specs.declared.Key.{Key}
 use Rattle.seq_arith.specs.declared.BadPacket.{BadPacket}
-use Rattle.seq_arith.specs.Offset.{one_if}
 use Rattle.seq_arith.specs.Packet.{Segment}
 use Rattle.seq_arith.specs.PacketGrammar as packet
 use Rattle.seq_arith.specs.PacketGrammar.{payload_at, segment_in}
@@ -15,7 +14,6 @@ use Rattle.seq_arith.specs.MessageGrammar as message
 use Rattle.seq_arith.proofs.Spelling.{spelling_is_read}
 use Rattle.segment_codec.proofs.Accepting.{is_read}
 use Rattle.server_trait.specs.Service.{Machine, AreBytes}
-use Rattle.ft_model.specs.Answered.{reads_answered_after}
 use Rattle.ft_model.specs.Connection.{LiveTurn, ResetTurn}
 use Rattle.ft_model.specs.Ending.{reset_after}
 use Rattle.ft_model.specs.Network.{Packet}
@@ -35,7 +33,7 @@ use Rattle.north_wrap.specs.Standing.{NorthStands}
 use Rattle.wrapped_conn.specs.ConnState.{ConnState}
 use Rattle.wrapped_conn.specs.Sound as sound
 use Rattle.wrapped_conn.specs.Standing as conn
-use Rattle.wrapped_conn.specs.Standing.{StandsLive, StandsReset, IsSpelled, Leads}
+use Rattle.wrapped_conn.specs.Standing.{StandsLive, StandsReset, Leads}
 use Rattle.wrapped_conn.specs.Telling.{AreTellable}
 use Rattle.wrapped_conn.proofs.Lending.{tells}
 use Rattle.wrapped_conn.proofs.Sendable.{FitsKey}
@@ -43,6 +41,8 @@ use Rattle.wrapped_conn.proofs.Small.{taken_small}
 use Rattle.server_node.specs.Conn.{Stands, Acts, ConnGoes}
 use Rattle.server_node.specs.Sending.{message_to_logger, wires_of}
 use Rattle.server_node.proofs.Written.{IsInRange, IsWritten, IsBoot, IsShort, AreLow, live_written, reset_written}
+use Rattle.seq_arith.proofs.Units.{one_at_most}
+use Rattle.ft_model.proofs.LiveTurns.{counts_within}
 
 -- from three clauses at Ok
 pub all_ok : {T E : Type 0} {P Q R X : Type 0} (r : Result T E) → OnOk r P → OnOk r Q → OnOk r R → (P → Q → R → X) → OnOk r X
@@ -109,10 +109,6 @@ all_wires key (segment ∷ more) to_logger w =
     ∙ ap (λ ws. wire_of (To_client segment) ∷ ws) (all_wires key more to_logger w.1)
 
 -- where the connection stands, its point is within its ranges
-one_low : (b : Bool) → one_if b ≤ 1
-one_low true = omega arith
-one_low false = omega arith
-
 in_range : {S : Type 0} (service : Machine S) (c : ConnState S) (q : Point) → FitsKey q.key → q.mss ≤ 1460 → sound.IsSound c → conn.Stands service c q → IsInRange q
 in_range service c q key size s st =
     let t = tells service q c s st in
@@ -122,7 +118,7 @@ in_range service c q key size s st =
       size = size;
       taken = omega (arith, ap (λ x. x.taken) st.keeps.south, s.taken, taken_small c s);
       una = omega (arith, t.tcp.una);
-      count = omega (arith, t.reads, parts.count, one_low c.north.ended, parts.read, parts.limit, parts.tcp.bounds.taken);
+      count = omega (arith, t.reads, parts.count, one_at_most c.north.ended, parts.read, parts.limit, parts.tcp.bounds.taken);
     }
 
 lengths_low : (reads : List ReadRecord) → AreTellable reads → AreLow (lengths_of reads)
@@ -138,13 +134,6 @@ unanswered_low service c q true st s = unanswered_by service c q st.given st.nor
 unanswered_low service c q false st s = unanswered_by service c q st.given st.parts.stand.north s
 
 -- the reads of a turn are behind those that were known to be logged before
-answered_few : (news : News) (p : Point) → p.reads_answered ≤ length p.lengths → reads_answered_after news p ≤ length p.lengths
-unfolding reads_answered_after
-answered_few (Logged kept) p h = omega (arith, h)
-answered_few (Comes segment) p h = h
-answered_few Ticks p h = h
-answered_few Begins p h = h
-
 behind_low : (m n : ℕ) (lengths : List ℕ) → m ≤ n → AreLow (drop m lengths) → AreLow (drop n lengths)
 behind_low m n lengths low all =
     let at : m + (n - m) ≡ n = omega (arith, low) in
@@ -175,7 +164,7 @@ all_written : {S : Type 0} (service : Machine S) (server : Addr) (boot : ℕ) (n
 unfolding Goes
 all_written service server boot news p q sent true a up short r few low t = reset_written boot news p q sent up r.key t
 all_written service server boot news p q sent false a up short r few low t =
-    let below : q.reads_answered ≤ length p.lengths = subst (λ n. n ≤ length p.lengths) (sym t.reads_answered) (answered_few news p few) in
+    let below : q.reads_answered ≤ length p.lengths = subst (λ n. n ≤ length p.lengths) (sym t.reads_answered) (counts_within news p few) in
     live_written service server boot news p q sent a up short r (told_low news p q below low) t
 
 -- a turn of the connection is one of the node's

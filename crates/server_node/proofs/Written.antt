@@ -1,10 +1,10 @@
 -- What a turn of a connection sends is for its client or for the logger, and each number in it fits its field.
-use Rattle.std.proofs.Common.{◌≡◌, ℕ, ◌+◌, ◌-◌, ◌<◌, ◌≤◌, ◌^◌, ℤ, pos, negsuc, ◌+ℤ◌, Bool, true, false, ◌&&◌, ◌||◌, nat_lt, nat_le, max, refl, sym, subst, ⊎_elim, Option, Some, None, IfSome, List, [], ◌∷◌, ◌++◌, map, length, take, drop, arith, length-drop, length-take, ltb-true, leb-true}
+use Rattle.std.proofs.Common.{◌≡◌, ℕ, ◌+◌, ◌-◌, ◌<◌, ◌≤◌, ◌^◌, true, ◌&&◌, ◌||◌, nat_lt, nat_le, refl, sym, subst, ⊎_elim, Option, Some, None, IfSome, List, [], ◌∷◌, ◌++◌, map, length, take, drop, arith, length-drop, length-take}
 use Rattle.std.specs.List.{AllByRecursion}
 use Rattle.std.proofs.lemmas.Bool.{and_from, le-leb}
 use Rattle.ft_io.specs.declared.Addr.{Addr}
 use Rattle.ft_io.specs.declared.Key.{Key}
-use Rattle.seq_arith.specs.Arrival.{int_eq, below}
+use Rattle.seq_arith.specs.Arrival.{below}
 use Rattle.seq_arith.specs.Packet.{Segment, has_syn, has_rst}
 use Rattle.seq_arith.specs.PacketGrammar as packet
 use Rattle.seq_arith.specs.Message.{Part, Body}
@@ -13,23 +13,24 @@ use Rattle.seq_arith.specs.MessageGrammar as message
 use Rattle.seq_arith.specs.MessageGrammar.{flag, is_sound, has_length}
 use Rattle.server_trait.specs.Service.{Machine}
 use Rattle.ft_model.specs.Connection.{LiveTurn, ResetTurn, told_by}
-use Rattle.ft_model.specs.Copy.{from_start, copy_start, copied_text, copies_fin, una_part, copied_part, copies}
+use Rattle.ft_model.specs.Copy.{copy_start, copied_text, copies_fin, una_part, copied_part, copies}
 use Rattle.ft_model.specs.Ending.{dones, tells_done}
 use Rattle.ft_model.specs.Network.{Packet, destination_of}
 use Rattle.ft_model.specs.Network.Packet.{To_client, To_logger}
 use Rattle.ft_model.specs.News.{News}
 use Rattle.ft_model.specs.News.News.{Comes, Logged, Ticks, Begins}
-use Rattle.ft_model.specs.Offset.{first_of, text_of, fin_of}
+use Rattle.ft_model.specs.Offset.{first_of, text_of}
 use Rattle.ft_model.specs.Point.{Point, answered_run}
 use Rattle.ft_model.specs.Readable.{FitsAddr}
 use Rattle.ft_model.specs.Reads.{read_messages, first_told, reads_told}
 use Rattle.ft_model.specs.Segments.{head_to, segments_of}
-use Rattle.ft_model.specs.Taken.{end_of}
-use Rattle.ft_model.proofs.Lists.{of_choice, both, or_cases, all_weaker, all_map, all_append}
-use Rattle.ft_model.proofs.Scripts.{int_same}
+use Rattle.ft_model.proofs.Lists.{all_weaker, all_map, all_append}
 use Rattle.ft_model.proofs.Spoken.{Spoken, segments_spoken}
 use Rattle.ft_model.proofs.Spoken.Spoken.{spoken_syn, spoken_text, spoken_fin, spoken_bare}
 use Rattle.wrapped_conn.proofs.Sendable.{FitsKey, done_sendable, read_sendable}
+use Rattle.ft_io.proofs.Choices.{holds_if}
+use Rattle.ft_model.proofs.Wires.{flag_low}
+use Rattle.ft_model.proofs.FormedTurns.{copied_within}
 
 -- the numbers of a point are within their ranges
 pub record IsInRange (q : Point) : Type 0 where
@@ -82,10 +83,6 @@ pub record IsBoot (boot : ℕ) : Type 0 where
   pub least : 1 ≤ boot
   pub most : boot < 2 ^ 64
 
-flag_low : (b : Bool) → flag b ≤ 1
-flag_low true = omega arith
-flag_low false = omega arith
-
 data_told : (boot : ℕ) (part : Part) → IsBoot boot → FitsKey part.key → part.offset + length part.bytes ≤ 2 ^ 24 → part.acked ≤ 2 ^ 24 + 1 → length part.bytes ≤ 1460
     → IsTold boot (DataMsg part)
 unfolding is_sound has_length
@@ -103,24 +100,7 @@ IsShort (Comes segment) = length segment.payload ≤ 1460
 IsShort _ = Unit {0}
 
 text_short : (segment : Segment) → length segment.payload ≤ 1460 → length (text_of segment) ≤ 1460
-text_short segment h = of_choice (λ t. length t ≤ 1460) (has_syn segment || has_rst segment) [] segment.payload (λ t. omega arith) (λ t. h)
-
-begins_within : (answered : ℕ) (first : ℤ) (text taken : ℕ) → int_eq (first +ℤ pos text) (pos taken) ≡ true → answered ≤ taken → max answered (from_start first) ≤ taken
-begins_within answered (pos n) text taken e h = let same = int_same (n + text) taken e in omega (arith, same, h)
-begins_within answered (negsuc n) text taken e h = omega (arith, h)
-
-copied_within : (q : Point) (segment : Segment) → (nat_lt 0 (length (copied_text q segment)) || copies_fin q segment) ≡ true
-    → copy_start q segment + length (copied_text q segment) ≤ length q.taken
-copied_within q segment e =
-    let size = length-take (length q.taken - copy_start q segment) (drop (below q.answered (first_of q.cisn segment)) (text_of segment)) in
-    ⊎_elim
-    (λ t. let some : 0 < length (copied_text q segment) = ltb-true _ _ t in omega (arith, size, some))
-    (λ t. let one = both (fin_of segment && q.fin && int_eq (end_of q segment) (pos (length q.taken))) (nat_le q.answered (length q.taken)) t in
-    let two = both (fin_of segment && q.fin) (int_eq (end_of q segment) (pos (length q.taken))) one.0 in
-    let low : q.answered ≤ length q.taken = leb-true _ _ one.1 in
-    let at = begins_within q.answered (first_of q.cisn segment) (length (text_of segment)) (length q.taken) two.1 low in
-    omega (arith, size, at))
-    (or_cases _ _ e)
+text_short segment h = holds_if (λ t. length t ≤ 1460) (has_syn segment || has_rst segment) [] segment.payload (λ t. omega arith) (λ t. h)
 
 copies_told : (boot : ℕ) (news : News) (p q : Point) → IsBoot boot → IsShort news → IsInRange q → AllByRecursion (IsTold boot) (copies news p q)
 unfolding copies
@@ -128,9 +108,9 @@ copies_told boot (Comes segment) p q b short r =
     let cut = length-take (length q.taken - copy_start q segment) (drop (below q.answered (first_of q.cisn segment)) (text_of segment)) in
     let behind = length-drop (below q.answered (first_of q.cisn segment)) (text_of segment) in
     let few = text_short segment short in
-    of_choice (AllByRecursion (IsTold boot)) (nat_lt 0 (length (copied_text q segment)) || copies_fin q segment) (DataMsg (copied_part q segment) ∷ []) _
+    holds_if (AllByRecursion (IsTold boot)) (nat_lt 0 (length (copied_text q segment)) || copies_fin q segment) (DataMsg (copied_part q segment) ∷ []) _
     (λ t. let within = copied_within q segment t in (data_told boot (copied_part q segment) b r.key (omega (arith, within, r.taken)) r.una (omega (arith, cut, behind, few)), tt))
-    (λ t. of_choice (AllByRecursion (IsTold boot)) (nat_lt p.una q.una) (DataMsg (una_part q) ∷ []) []
+    (λ t. holds_if (AllByRecursion (IsTold boot)) (nat_lt p.una q.una) (DataMsg (una_part q) ∷ []) []
     (λ x. (data_told boot (una_part q) b r.key (omega (arith, r.taken)) r.una (omega arith), tt)) (λ x. tt))
 copies_told boot (Logged kept) p q b short r = tt
 copies_told boot Ticks p q b short r = tt
@@ -155,7 +135,7 @@ reads_are_told boot news p q b r low =
 dones_told : (boot : ℕ) (news : News) (p q : Point) → IsBoot boot → FitsKey q.key → AllByRecursion (IsTold boot) (dones news p q)
 unfolding dones
 dones_told boot news p q b k =
-    of_choice (AllByRecursion (IsTold boot)) (tells_done news p q) (DoneMsg q.key ∷ []) [] (λ t. ((done_sendable boot q.key b.least b.most k).spellable, tt)) (λ t. tt)
+    holds_if (AllByRecursion (IsTold boot)) (tells_done news p q) (DoneMsg q.key ∷ []) [] (λ t. ((done_sendable boot q.key b.least b.most k).spellable, tt)) (λ t. tt)
 
 -- a turn's packets
 pub live_written : {State : Type 0} (service : Machine State) (server : Addr) (boot : ℕ) (news : News) (p q : Point) (sent : List Packet) → FitsAddr server → IsBoot boot

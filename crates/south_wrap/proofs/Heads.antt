@@ -1,5 +1,5 @@
 -- A setter changes a packet's head, and so the packet.
-use Rattle.std.proofs.Common.{◌≡◌, ℕ, ◌≤◌, List, ◌++◌, length, take, drop, arith, subst, refl, sym, ap, ◌∙◌, length-take}
+use Rattle.std.proofs.Common.{◌≡◌, ℕ, List, ◌++◌, length, take, drop, arith, subst, refl, sym, ap, ◌∙◌, length-take}
 use Rattle.std.proofs.lemmas.List.{take-append-drop}
 use Rattle.std.specs.Prelude.{IsOk, IfOk, Result, Ok, Err}
 use Rattle.seq_arith.specs.declared.BadPacket.{BadPacket}
@@ -7,9 +7,6 @@ use Rattle.seq_arith.specs.Packet.{Segment}
 use Rattle.seq_arith.specs.PacketGrammar.{reading, spelling}
 use Rattle.segment_codec.specs.Change.{changed}
 use Rattle.segment_codec.proofs.Accepting.{header_is_long}
-
-pub head_is_there : (packet : List ℕ) → IsOk (reading packet) → 40 ≤ length packet
-head_is_there packet ok = header_is_long packet ok
 
 pub head_length : (packet : List ℕ) → IsOk (reading packet) → length (take 40 packet) ≡ 40
 head_length packet ok = let size = length-take 40 packet in let long = header_is_long packet ok in omega (arith, size, long)

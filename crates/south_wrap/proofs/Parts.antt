@@ -5,9 +5,9 @@ use Rattle.seq_arith.specs.Arrival.{below, int_eq}
 use Rattle.seq_arith.specs.Offset.{first_of, text_of, fin_of}
 use Rattle.seq_arith.specs.Packet.{Segment, has_syn, has_rst}
 use Rattle.ft_model.specs.Copy.{from_start}
-use Rattle.ft_model.proofs.Lists.{of_choice}
 use Rattle.south_wrap.specs.SouthState.{SouthState}
 use Rattle.south_wrap.specs.Patching.{copied, IsPart}
+use Rattle.ft_io.proofs.Choices.{holds_if}
 
 -- how many bytes are left of a text, and which, where no more is left out than it has
 drop_min : (k : ℕ) (text : List ℕ) → drop (min k (length text)) text ≡ drop k text
@@ -75,7 +75,7 @@ part_is s segment bytes text first offset skipped count fin f same place within 
     }
   where
     text_within : (segment : Segment) → length (text_of segment) ≤ length segment.payload
-    text_within segment = of_choice (λ t. length t ≤ length segment.payload) (has_syn segment || has_rst segment) [] segment.payload (λ b. omega arith) (λ b. omega arith)
+    text_within segment = holds_if (λ t. length t ≤ length segment.payload) (has_syn segment || has_rst segment) [] segment.payload (λ b. omega arith) (λ b. omega arith)
 
     text_there : take count (drop (length bytes - length segment.payload + skipped) bytes) ≡ take count (drop skipped text)
     text_there = by_flags (has_syn segment || has_rst segment) refl

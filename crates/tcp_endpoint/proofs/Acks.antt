@@ -14,6 +14,7 @@ use Rattle.tcp_buffers.specs.SendNumbers.{acks_new, acks_beyond, kind_of, una_by
 use Rattle.tcp_buffers.specs.Near.{is_ahead}
 use Rattle.tcp_buffers.proofs.NumbersTell.{ahead_is, WasSent, sent_by, from_is, up_to_is, new_is}
 use Rattle.tcp_endpoint.specs.Sending.{Sending, own, told_by, moves_edge, acknowledged, units_of, was_sent, NumbersFit, IsShort}
+use Rattle.ft_io.proofs.Booleans.{second_of_three, first_of_three}
 
 pub first_is : (iss ack : ℕ) → ack < 2 ^ 32 → nat_eq ack ((iss + 1) % 2 ^ 32) ≡ int_eq (offset_of iss ack) (pos 0)
 first_is iss ack small = grind (arith, ints, offset_leads iss ack small)
@@ -116,15 +117,6 @@ wl2_field iss x y a m false is on = ap (λ v. own iss (if v then y else x)) is
 new_bounds : (u s : ℕ) (z : ℤ) → is_new_ack u s z ≡ true → (int_le (pos 0) z ≡ true) × (u < nat_abs z) × (nat_abs z ≤ s)
 new_bounds u s z h = (grind (arith, ints), grind (arith, ints), grind (arith, ints))
 
-moved_bounds : (a b c : Bool) → (a && b && c) ≡ true → a ≡ true
-moved_bounds true b c h = refl
-moved_bounds false b c h = h
-
-second_bound : (a b c : Bool) → (a && b && c) ≡ true → b ≡ true
-second_bound true true c h = refl
-second_bound true false c h = h
-second_bound false b c h = absurd (false≢true h)
-
 new_distance : (iss una ack : ℕ) → una < 2 ^ 32 → ack < 2 ^ 32 → own iss una ≤ own iss ack → distance ack una ≡ own iss ack - own iss una
 new_distance iss una ack fits_una fits_ack up = omega arith
 
@@ -143,8 +135,8 @@ edge_reached iss ack window a fits is near small = omega arith
 -- what moves the edge was sent
 moved_short : (s : Sending) (seq : ℕ) (z : ℤ) → s.sent ≤ 2 ^ 30 → moves_edge s seq z ≡ true → nat_abs z ≤ 2 ^ 30
 moved_short s seq z short h =
-    let up : int_le (pos 0) z ≡ true = above_zero s.una z (moved_bounds (int_le (pos s.una) z) (int_le z (pos s.sent)) _ h)
-    in let sent : int_le z (pos s.sent) ≡ true = second_bound (int_le (pos s.una) z) (int_le z (pos s.sent)) _ h
+    let up : int_le (pos 0) z ≡ true = above_zero s.una z (first_of_three (int_le (pos s.una) z) (int_le z (pos s.sent)) _ h)
+    in let sent : int_le z (pos s.sent) ≡ true = second_of_three (int_le (pos s.una) z) (int_le z (pos s.sent)) _ h
     in grind (arith, ints)
 
 -- the kind of an acknowledgement that isn't beyond SND.NXT
@@ -194,7 +186,7 @@ acknowledged_is iss n n' seq ack window syn_acked held closed fin_sent mss fits 
     let up : b ≡ true → u ≤ own iss ack = λ h. omega (arith, on h, (new_bounds u s z h).1) in
     let within : b ≡ true → own iss ack ≤ s = λ h. omega (arith, on h, (new_bounds u s z h).2) in
     let moved : moves_edge before seq z ≡ true → own iss ack ≡ a =
-    λ h. own_is iss ack fits.ack (above_zero u z (moved_bounds (int_le (pos u) z) (int_le z (pos s)) _ h)) in
+    λ h. own_is iss ack fits.ack (above_zero u z (first_of_three (int_le (pos u) z) (int_le z (pos s)) _ h)) in
     let una_is : n'.una.0 ≡ una_by (kind_by b d) n.una.0 ack = used.una ∙ ap (λ k. una_by k n.una.0 ack) kind in
     let nxt_is : n'.nxt.0 ≡ n.nxt.0 = ap (λ q. q.0) used.nxt in
     same_sender _ _ refl refl

@@ -1,11 +1,12 @@
 -- The peer's numbers, modulo 2^32, against the receiver's offsets: a test on numbers is the test on the offsets that they name.
 use Rattle.std.proofs.Common.{◌≡◌, ℕ, ◌<◌, ◌≤◌, ◌+◌, ◌%◌, ◌^◌, true, false, arith}
-use Rattle.std.specs.Prelude.{ℤ, pos, negsuc, ◌+ℤ◌, ◌≤ℤ◌, nat_eq, int_lt}
+use Rattle.std.specs.Prelude.{ℤ, pos, ◌+ℤ◌, ◌≤ℤ◌, nat_eq, int_lt}
 use Rattle.std.proofs.lemmas.Int.{ints}
 use Rattle.seq_arith.specs.Number.{distance, number_at, offset_of, precedes, is_in_window}
 use Rattle.seq_arith.specs.Arrival.{int_eq, lies_in, is_acceptable, below}
 use Rattle.seq_arith.proofs.Gaps.{offset_leads}
 use Rattle.tcp_buffers.specs.Near.{IsNearFirst}
+use Rattle.seq_arith.proofs.Shifts.{below_low}
 
 pub lies_in_window : (irs number next len : ℕ) → number < 2 ^ 32 → next ≤ 2 ^ 30 + 1 → len ≤ 2 ^ 17
     → is_in_window number (number_at irs next) len ≡ lies_in next len (offset_of irs number)
@@ -28,16 +29,11 @@ pub is_later : (irs number next : ℕ) → number < 2 ^ 32 → next ≤ 2 ^ 30 +
     → precedes (number_at irs next) number ≡ int_lt (pos next) (offset_of irs number)
 is_later irs number next small near first = grind (arith, ints, offset_leads irs number small)
 
--- how far the bytes taken reach into a text that leaves no gap
-below_up : (next : ℕ) (first : ℤ) → first ≤ℤ pos next → (first +ℤ pos (below next first)) ≡ pos next
-below_up next (pos n) h = omega (arith, ints)
-below_up next (negsuc n) h = omega (arith, ints)
-
 pub skipped : (irs number next : ℕ) → number < 2 ^ 32 → next ≤ 2 ^ 30 + 1 → IsNearFirst (offset_of irs number)
     → int_lt (pos next) (offset_of irs number) ≡ false → distance (number_at irs next) number ≡ below next (offset_of irs number)
 skipped irs number next small near first no_gap =
     let low : offset_of irs number ≤ℤ pos next = grind (arith, ints)
-    in omega (arith, ints, offset_leads irs number small, below_up next (offset_of irs number) low)
+    in omega (arith, ints, offset_leads irs number small, below_low next (offset_of irs number) low)
 
 pub ends_at : (irs number n : ℕ) → number < 2 ^ 32 → n ≤ 2 ^ 17 → IsNearFirst (offset_of irs number)
     → offset_of irs ((number + n) % 2 ^ 32) ≡ (offset_of irs number +ℤ pos n)

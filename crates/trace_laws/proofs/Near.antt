@@ -1,9 +1,9 @@
 -- Near: what a client sends stands near the start of both streams, as the server of that moment and every later one counts them.
-use Rattle.std.proofs.Common.{◌≡◌, ℕ, ◌+◌, ◌-◌, ◌≤◌, ◌^◌, ◌%◌, ◌==◌, ◌&&◌, ◌||◌, pos, negsuc, ℤ, ◌+ℤ◌, int_lt, nat_lt, nat_le, Bool, true, false, not, le_refl, le_trans, refl, sym, ap, ◌∙◌, subst, true≢false, leb-true, Option, Some, None, List, ◌++◌, length, take, drop, arith, if◌then◌else◌}
+use Rattle.std.proofs.Common.{◌≡◌, ℕ, ◌+◌, ◌-◌, ◌≤◌, ◌^◌, ◌%◌, ◌==◌, ◌&&◌, ◌||◌, pos, negsuc, ℤ, ◌+ℤ◌, int_lt, nat_lt, nat_le, Bool, true, false, not, le_refl, refl, sym, ap, ◌∙◌, subst, true≢false, leb-true, Some, List, ◌++◌, length, take, drop, arith, if◌then◌else◌}
 use Rattle.std.specs.List.{AllByRecursion}
 use Rattle.std.proofs.lemmas.Int.{ints}
+use Rattle.std.proofs.lemmas.Bool.{and_parts}
 use Rattle.ft_io.specs.declared.Key.{Key}
-use Rattle.ft_io.specs.Key.{key_eq}
 use Rattle.seq_arith.specs.Number.{distance, number_at, offset_of}
 use Rattle.seq_arith.specs.Arrival.{int_eq, is_acceptable, below}
 use Rattle.seq_arith.specs.Packet.{Segment, has_rst, has_syn, has_ack}
@@ -14,7 +14,7 @@ use Rattle.ft_model.specs.Client.{Client, Move, received, opened_by, arrived, us
 use Rattle.ft_model.specs.Client.Move.{Syn, Text, Fin, Acknowledge, Rst, Refuse}
 use Rattle.ft_model.specs.declared.phase.Phase.TheVariants as phases
 use Rattle.ft_model.specs.Log.{Log, Entry, entry_of, log_after}
-use Rattle.ft_model.specs.Growth.{IsPrefix, LogGrows, lengths_in, logged_lengths}
+use Rattle.ft_model.specs.Growth.{LogGrows}
 use Rattle.ft_model.specs.Network.{Packet, source_of, destination_of}
 use Rattle.ft_model.specs.Network.Packet.{To_server}
 use Rattle.ft_model.specs.Node.{Node, Place, Stage}
@@ -22,17 +22,17 @@ use Rattle.ft_model.specs.Node.Place.{Opens, Lives, Ended}
 use Rattle.ft_model.specs.Node.Stage.{Asking, Fetching, Serving, Fenced}
 use Rattle.ft_model.specs.Lawful.{IsNearTo, AreNear}
 use Rattle.ft_model.specs.World.{World, Moment, WasSent, Joint, Moves, IsStart, IsNewClient, world_after}
-use Rattle.ft_model.proofs.Lists.{of_choice, both, all_weaker, all_append, all_find, found_passes, same_key, some_is}
+use Rattle.ft_model.proofs.Lists.{all_weaker, all_append, same_key, some_is}
 use Rattle.ft_model.proofs.Grows.{log_grows, found_later}
 use Rattle.ft_model.proofs.LogAnswers.{all_answers}
 use Rattle.ft_model.proofs.Happened.{Happened, all_sent, holds_after}
 use Rattle.ft_model.proofs.Happened.Happened.{log_heard, client_heard, client_moved, server_turned, server_booted, server_down}
 use Rattle.ft_model.proofs.StageTurns.{stage_went}
 use Rattle.ft_model.proofs.Fenced.{IsOurs, turn_ours}
-use Rattle.ft_model.proofs.Services.{reads_go_on, prefix_length}
+use Rattle.ft_model.proofs.Services.{prefix_length}
 use Rattle.ft_model.proofs.Running.{HasSmallOutputs}
 use Rattle.ft_model.proofs.Authored.{logged_run}
-use Rattle.ft_model.proofs.AuthorOver.{EntryOf, HasAuthor}
+use Rattle.ft_model.proofs.AuthorOver.{HasAuthor}
 use Rattle.ft_model.proofs.Seen.{IsSeen}
 use Rattle.ft_model.proofs.Faithful.{PlaceFits, StageFits}
 use Rattle.ft_model.proofs.FaithfulKept.{ClientFits, received_same, clients_fit}
@@ -40,6 +40,8 @@ use Rattle.ft_model.proofs.FaithfulOver.{script_of, isn_of, client_there}
 use Rattle.ft_model.proofs.Acknowledged.{start_is}
 use Rattle.ft_model.proofs.JointMasked as masked
 use Rattle.trace_laws.specs.Premises.{is_refusal}
+use Rattle.ft_io.proofs.Choices.{holds_if}
+use Rattle.ft_model.proofs.BackedOver.{logged_short, open_move}
 
 -- numbers
 
@@ -62,12 +64,12 @@ SentWithin c = c.sent ≤ length c.script + 1
 
 text_sent : (c : Client) (first : ℤ) (text : List ℕ) → (with_text c first text).sent ≡ c.sent
 text_sent c first text =
-    of_choice (λ x. x.sent ≡ c.sent) (is_ended c.phase || int_lt (pos (length c.accepted)) first) c
+    holds_if (λ x. x.sent ≡ c.sent) (is_ended c.phase || int_lt (pos (length c.accepted)) first) c
     (record c { accepted = c.accepted ++ take (c.edge - length c.accepted) (drop (below (length c.accepted) first) text) }) (λ t. refl) (λ t. refl)
 
 fin_sent : (c : Client) (behind : ℤ) (fin : Bool) → (with_fin c behind fin).sent ≡ c.sent
 fin_sent c behind fin =
-    of_choice (λ x. x.sent ≡ c.sent) (fin && not (is_ended c.phase) && int_eq behind (pos (length c.accepted)) && nat_lt (length c.accepted) c.edge)
+    holds_if (λ x. x.sent ≡ c.sent) (fin && not (is_ended c.phase) && int_eq behind (pos (length c.accepted)) && nat_lt (length c.accepted) c.edge)
     (record c { phase = phases.Ended }) c (λ t. refl) (λ t. refl)
 
 used_sent : (c : Client) (segment : Segment) → (used c segment).sent ≡ c.sent
@@ -75,7 +77,7 @@ used_sent c segment =
     let acked : Client = with_ack c (ack_of c.isn segment) in
     let texted : Client = with_text acked (first_of c.sisn segment) (text_of segment) in
     let behind : ℤ = first_of c.sisn segment +ℤ pos (length (text_of segment)) in
-    of_choice (λ x. x.sent ≡ c.sent) (int_lt (pos c.sent) (ack_of c.isn segment)) c (with_fin texted behind (fin_of segment)) (λ t. refl)
+    holds_if (λ x. x.sent ≡ c.sent) (int_lt (pos c.sent) (ack_of c.isn segment)) c (with_fin texted behind (fin_of segment)) (λ t. refl)
     (λ t. fin_sent texted behind (fin_of segment) ∙ text_sent acked (first_of c.sisn segment) (text_of segment))
 
 arrived_sent : (c : Client) (segment : Segment) → (arrived c segment).sent ≡ c.sent
@@ -83,25 +85,25 @@ arrived_sent c segment =
     let gone : Client = record c { phase = phases.Reset } in
     let rst : Client = if int_eq (first_of c.sisn segment) (pos (next_of c)) then gone else c in
     let other : Client = if has_syn segment || not (has_ack segment) then c else used c segment in
-    of_choice (λ x. x.sent ≡ c.sent) (is_acceptable (next_of c) (room_of c) (first_of c.sisn segment) (length_of segment)) (if has_rst segment then rst else other) c
-    (λ t. of_choice (λ x. x.sent ≡ c.sent) (has_rst segment) rst other
-    (λ r. of_choice (λ x. x.sent ≡ c.sent) (int_eq (first_of c.sisn segment) (pos (next_of c))) gone c (λ x. refl) (λ x. refl))
-    (λ r. of_choice (λ x. x.sent ≡ c.sent) (has_syn segment || not (has_ack segment)) c (used c segment) (λ x. refl) (λ x. used_sent c segment)))
+    holds_if (λ x. x.sent ≡ c.sent) (is_acceptable (next_of c) (room_of c) (first_of c.sisn segment) (length_of segment)) (if has_rst segment then rst else other) c
+    (λ t. holds_if (λ x. x.sent ≡ c.sent) (has_rst segment) rst other
+    (λ r. holds_if (λ x. x.sent ≡ c.sent) (int_eq (first_of c.sisn segment) (pos (next_of c))) gone c (λ x. refl) (λ x. refl))
+    (λ r. holds_if (λ x. x.sent ≡ c.sent) (has_syn segment || not (has_ack segment)) c (used c segment) (λ x. refl) (λ x. used_sent c segment)))
     (λ t. refl)
 
 opened_sent : (c : Client) (segment : Segment) → (opened_by c segment).sent ≡ c.sent
 opened_sent c segment =
     let gone : Client = record c { phase = phases.Reset } in
     let stands : Client = record c { phase = phases.Established; sisn = segment.head.seq } in
-    of_choice (λ x. x.sent ≡ c.sent) (has_ack segment && segment.head.ack == number_at c.isn 0) (if has_rst segment then gone else (if has_syn segment then stands else c)) c
-    (λ t. of_choice (λ x. x.sent ≡ c.sent) (has_rst segment) gone (if has_syn segment then stands else c) (λ r. refl)
-    (λ r. of_choice (λ x. x.sent ≡ c.sent) (has_syn segment) stands c (λ x. refl) (λ x. refl)))
+    holds_if (λ x. x.sent ≡ c.sent) (has_ack segment && segment.head.ack == number_at c.isn 0) (if has_rst segment then gone else (if has_syn segment then stands else c)) c
+    (λ t. holds_if (λ x. x.sent ≡ c.sent) (has_rst segment) gone (if has_syn segment then stands else c) (λ r. refl)
+    (λ r. holds_if (λ x. x.sent ≡ c.sent) (has_syn segment) stands c (λ x. refl) (λ x. refl)))
     (λ t. refl)
 
 received_sent : (c : Client) (segment : Segment) → (received c segment).sent ≡ c.sent
 received_sent c segment =
-    of_choice (λ x. x.sent ≡ c.sent) (is_opening c.phase) (opened_by c segment) (if is_open c.phase then arrived c segment else c) (λ t. opened_sent c segment)
-    (λ t. of_choice (λ x. x.sent ≡ c.sent) (is_open c.phase) (arrived c segment) c (λ x. arrived_sent c segment) (λ x. refl))
+    holds_if (λ x. x.sent ≡ c.sent) (is_opening c.phase) (opened_by c segment) (if is_open c.phase then arrived c segment else c) (λ t. opened_sent c segment)
+    (λ t. holds_if (λ x. x.sent ≡ c.sent) (is_open c.phase) (arrived c segment) c (λ x. arrived_sent c segment) (λ x. refl))
 
 received_within : (c : Client) (segment : Segment) → SentWithin c → SentWithin (received c segment)
 received_within c segment s =
@@ -112,8 +114,8 @@ received_within c segment s =
 -- text ends within the script
 text_ends : (c : Client) (from len : ℕ) → may_move c (Text from len) ≡ true → from + len ≤ length c.script
 text_ends c from len may =
-    let range = (both (suits_phase c (Text from len)) (suits_range c (Text from len)) may).1 in
-    leb-true _ _ (both (nat_le c.acknowledged from && nat_le from c.sent && nat_le 1 len && nat_le len 1460) (nat_le (from + len) (length c.script)) range).1
+    let range = (and_parts (suits_phase c (Text from len)) (suits_range c (Text from len)) may).1 in
+    leb-true _ _ (and_parts (nat_le c.acknowledged from && nat_le from c.sent && nat_le 1 len && nat_le len 1460) (nat_le (from + len) (length c.script)) range).1
 
 moved_within : (c : Client) (move : Move) (window : ℕ) → may_move c move ≡ true → SentWithin c → SentWithin (moved c move window)
 moved_within c (Syn mss) window may s = s
@@ -154,17 +156,6 @@ ours_near : (isn : Key → ℕ) (log : Log) (own : ℕ) (packet : Packet) → Is
 ours_near isn log own (To_server segment) o = absurd o
 ours_near isn log own _ o = tt
 
-front_of : (author : Key → List ℕ) (log : Log) (key : Key) (o : Option Entry) → AllByRecursion (EntryOf author) log.entries → entry_of key log ≡ o → IsPrefix (lengths_in o) (author key)
-front_of author log key (Some e) a found =
-    let same : e.key ≡ key = same_key e.key key (found_passes (λ x. key_eq x.key key) log.entries e found) in
-    subst (λ k. IsPrefix e.lengths (author k)) same (all_find (EntryOf author) (λ x. key_eq x.key key) log.entries e a found).0
-front_of author log key None a found = (author key, refl)
-
--- a run over logged reads is short
-logged_short : {State : Type 0} (service : Machine State) (script : Key → List ℕ) (w : World) → HasAuthor service script w → (key : Key) → length (logged_run service script w.log key).output ≤ 2 ^ 24
-logged_short service script w a key =
-    le_trans (prefix_length _ _ (reads_go_on service (script key) (logged_lengths key w.log) (a.author key) (front_of a.author w.log key (entry_of key w.log) a.entries refl)).output) (a.short key)
-
 accepted_short : {State : Type 0} (service : Machine State) (script : Key → List ℕ) (w : World) (c : Client) → HasAuthor service script w → IsSeen service script w.log c → accepted_units c ≤ 2 ^ 24 + 1
 accepted_short service script w c a s =
     let front = prefix_length c.accepted (logged_run service script w.log c.key).output s.front in
@@ -203,15 +194,6 @@ no_refusal c (Text from len) window r = refl
 no_refusal c Fin window r = refl
 no_refusal c Acknowledge window r = refl
 no_refusal c Rst window r = refl
-
-open_move : (c : Client) (move : Move) → may_move c move ≡ true → (window : ℕ) → has_ack (segment_of c move window) ≡ true
-    → (is_open c.phase ≡ true) × ((segment_of c move window).head.ack ≡ number_at c.sisn (accepted_units c))
-open_move c (Syn mss) may window a = absurd (true≢false (sym a))
-open_move c (Text from len) may window a = ((both (is_open c.phase) (nat_le c.acknowledged (length c.script)) (both (suits_phase c (Text from len)) (suits_range c (Text from len)) may).0).0, refl)
-open_move c Fin may window a = ((both (is_open c.phase) (nat_le c.acknowledged (length c.script)) (both (suits_phase c Fin) (suits_range c Fin) may).0).0, refl)
-open_move c Acknowledge may window a = ((both (is_open c.phase) true may).0, refl)
-open_move c Rst may window a = absurd (true≢false (sym a))
-open_move c (Refuse number) may window a = absurd (true≢false (sym a))
 
 pub begins_near : (script : Key → List ℕ) (isn : Key → ℕ) (c : Client) (move : Move) (window : ℕ) → ClientFits script isn c → SentWithin c → may_move c move ≡ true → is_refusal move ≡ false
     → FirstNear isn (segment_of c move window)

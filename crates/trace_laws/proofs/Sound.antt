@@ -1,5 +1,5 @@
 -- Every entry of the log is sound, and so is what a server that fetches has whole.
-use Rattle.std.proofs.Common.{sum, ◌≡◌, ℕ, ◌<◌, ◌≤◌, ◌^◌, ◌==◌, ◌&&◌, not, Bool, true, false, true≢false, le_trans, refl, sym, ap, ◌∙◌, subst, eqb-true, inr, Option, Some, None, IfSome, List, [], ◌∷◌, length, arith, if◌then◌else◌}
+use Rattle.std.proofs.Common.{sum, ◌≡◌, ℕ, ◌<◌, ◌≤◌, ◌^◌, ◌==◌, ◌&&◌, not, Bool, true, false, true≢false, le_trans, refl, sym, ap, ◌∙◌, subst, eqb-true, inr, Some, List, [], ◌∷◌, length, arith}
 use Rattle.std.specs.List.{AllByRecursion}
 use Rattle.ft_io.specs.declared.Key.{Key}
 use Rattle.seq_arith.specs.Message.{Message}
@@ -12,7 +12,7 @@ use Rattle.ft_model.specs.Node.Stage.{Fetching}
 use Rattle.ft_model.specs.Node.Input.{Message_comes}
 use Rattle.ft_model.specs.Lawful.{fetched_then, AreSound, IsSoundInput}
 use Rattle.ft_model.specs.World.{World, Moment, MayCome, Joint, IsStart, world_after}
-use Rattle.ft_model.proofs.Lists.{prefix_trans, all_slice_get, none_is_some}
+use Rattle.ft_model.proofs.Lists.{prefix_trans, all_slice_get}
 use Rattle.ft_model.proofs.Keys.{all_from_get}
 use Rattle.ft_model.proofs.Happened.{holds_after}
 use Rattle.ft_model.proofs.StageTurns.{Progress}
@@ -27,6 +27,8 @@ use Rattle.ft_model.proofs.Acknowledged.{start_is, short_scripts}
 use Rattle.ft_model.proofs.JointMasked as masked
 use Rattle.trace_laws.specs.Premises.{IsSoundFront, HasSoundFronts}
 use Rattle.trace_laws.proofs.FinsBelow.{EntryBelow, FinsBelow, start_below, below_goes_on}
+use Rattle.ft_io.proofs.Choices.{some_if}
+use Rattle.ft_model.proofs.Unfenced.{if_some}
 
 -- all that is kept true, and where FINs stand
 abbrev pub Kept : {State : Type 0} → Machine State → World → World → Type 0
@@ -87,19 +89,11 @@ wholes_sound service entries (f ∷ earlier) s a =
       wholes_sound service entries earlier s a.4,
     )
 
-chosen_option : {A : Type 0} (b : Bool) (o : Option A) (x : A) → (if b then o else None) ≡ Some x → (b ≡ true) × (o ≡ Some x)
-chosen_option true o x e = (refl, e)
-chosen_option false o x e = none_is_some x e
-
-if_some : {A : Type 0} (P : A → Type 0) (o : Option A) → ((x : A) → o ≡ Some x → P x) → IfSome o P
-if_some P (Some x) f = f x refl
-if_some P None f = tt
-
 -- what a server has after an answer that may come is fetched of the log
 answer_agrees : {State : Type 0} (service : Machine State) (start w : World) (node : Node) (message : Message) (count : ℕ) (fetched more : List Fetched) → Kept service start w → w.node ≡ Some node
     → node.stage ≡ Fetching count fetched → MayCome w (Message_comes message) → fetched_then node message count fetched ≡ Some more → AreFetched w.log.entries more
 answer_agrees service start w node message count fetched more k up is sent got =
-    let parts = chosen_option (message.boot == node.boot) (fetched_after (wanted count fetched) message.body fetched) more got in
+    let parts = some_if (message.boot == node.boot) (fetched_after (wanted count fetched) message.body fetched) more got in
     let p : Progress node (Message_comes message) count more =
     record { message = message; comes = refl; boot = eqb-true _ _ parts.0; how = inr (fetched, is, parts.1) } in
     (progress_agrees w node (Message_comes message) count more k.0.asked up sent p).1

@@ -17,7 +17,8 @@ use Rattle.tcp_endpoint.proofs.Places.{near_of_acceptable}
 use Rattle.endpoint_laws.proofs.SendingLaw.{next_near, window_short, length_short}
 use Rattle.endpoint_laws.proofs.TakenLaw.{window_is}
 use Rattle.wrapped_conn.specs.Sound.{has_peer, IsSoundTcp}
-use Rattle.wrapped_conn.proofs.Kept.{GoesOnFrom, TakesOn, stays, goes_if, goes_when, fin_has_peer, acked_has_peer, syn_acked_has_peer, takes_segment, beside, later_bounds, held_stays, kept_fields, first_bounds}
+use Rattle.wrapped_conn.proofs.Kept.{GoesOnFrom, TakesOn, stays, goes_if, goes_when, fin_has_peer, acked_has_peer, syn_acked_has_peer, takes_segment, later_bounds, held_stays, kept_fields, first_bounds}
+use Rattle.endpoint_laws.proofs.Bounding.{other_bounds}
 
 -- the fields of a segment fit their bytes
 pub record Fits (p : Segment) : Type 0 where
@@ -46,7 +47,7 @@ text_goes e t p g =
     let taking : Tcb = record t { receiving = r; owed = t.owed || int_lt (pos (next t.receiving)) (first t p) } in
     let goes : GoesOnFrom e taking = record {
       sound = record {
-        bounds = beside t.receiving t.sending g.sound.bounds r (omega (arith, k.limit, g.sound.bounds.limit)) (k.within g.sound.bounds.taken) k.irs;
+        bounds = other_bounds t.receiving t.sending g.sound.bounds r (omega (arith, k.limit, g.sound.bounds.limit)) (k.within g.sound.bounds.taken) k.irs;
         buffered = k.buffered g.sound.buffered;
         begun = g.sound.begun;
         fin_last = g.sound.fin_last;

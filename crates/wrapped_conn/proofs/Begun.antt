@@ -29,7 +29,7 @@ syn_fields : (key : Key) (local : Addr) (cisn sisn mss : ℕ) → let e = receiv
 unfolding received in_listen begun listening
 syn_fields key local cisn sisn mss = (refl, refl, refl, refl, refl, refl)
 
-nothing_fetched : (cisn f : ℕ) → distance (number_at cisn 0) ((cisn + 1) % 2 ^ 32) - f ≡ 0
+pub nothing_fetched : (cisn f : ℕ) → distance (number_at cisn 0) ((cisn + 1) % 2 ^ 32) - f ≡ 0
 nothing_fetched cisn f = omega arith
 
 nothing_swallowed : (sisn : ℕ) → sisn < 2 ^ 32 → distance ((sisn + 0) % 2 ^ 32) sisn ≡ 0

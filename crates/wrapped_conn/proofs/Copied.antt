@@ -7,13 +7,13 @@ use Rattle.seq_arith.specs.Offset.{text_of}
 use Rattle.seq_arith.specs.PacketGrammar.{reading, segment_in, payload_at}
 use Rattle.segment_codec.specs.Change.{changed}
 use Rattle.segment_codec.proofs.Accepting.{is_read, start_is_there, packet_is_short}
-use Rattle.ft_model.proofs.Lists.{of_choice}
 use Rattle.south_wrap.specs.declared.answers.CopyPart.{CopyPart}
 use Rattle.south_wrap.specs.SouthState.{SouthState}
 use Rattle.south_wrap.specs.Patching.{copied, IsPart, passed_in, inward, repeats_syn}
 use Rattle.wrapped_conn.specs.ConnState.{ConnState}
 use Rattle.wrapped_conn.specs.Arriving.{reached, noted, arrived}
 use Rattle.wrapped_conn.specs.Telling.{copies, spelled}
+use Rattle.ft_io.proofs.Choices.{holds_if}
 
 payload_short : (bytes : List ℕ) → IsOk (reading bytes) → length (segment_in bytes).payload ≤ 1460
 unfolding segment_in
@@ -22,7 +22,7 @@ payload_short bytes ok =
     omega (arith, length-drop (payload_at bytes) bytes, packet_is_short bytes ok, start.0)
 
 text_short : (segment : Segment) → length (text_of segment) ≤ length segment.payload
-text_short segment = of_choice (λ text. length text ≤ length segment.payload) (has_syn segment || has_rst segment) [] segment.payload (λ h. omega arith) (λ h. omega arith)
+text_short segment = holds_if (λ text. length text ≤ length segment.payload) (has_syn segment || has_rst segment) [] segment.payload (λ h. omega arith) (λ h. omega arith)
 
 copied_short : (s : SouthState) (segment : Segment) → length (copied s segment).text ≤ length segment.payload
 copied_short s segment = omega (arith, length-take {A = ℕ}, length-drop {A = ℕ}, text_short segment)
@@ -36,11 +36,11 @@ part_short bytes s part ok is =
 -- a segment that the south wrapper has passed has the same part
 same_copies : {S : Type 0} (una : ℕ) (s : SouthState) (segment : Segment) (c : ConnState S) → copies una (passed_in s segment) c ≡ copies una segment c
 unfolding copies
-same_copies una s segment c = of_choice (λ x. copies una x c ≡ copies una segment c) (repeats_syn s segment) segment (inward s segment) (λ h. refl) (λ h. refl)
+same_copies una s segment c = holds_if (λ x. copies una x c ≡ copies una segment c) (repeats_syn s segment) segment (inward s segment) (λ h. refl) (λ h. refl)
 
-same_boot : {S : Type 0} (segment : Segment) (c : ConnState S) → (arrived segment c).boot ≡ c.boot
+pub same_boot : {S : Type 0} (segment : Segment) (c : ConnState S) → (arrived segment c).boot ≡ c.boot
 unfolding arrived
-same_boot segment c = of_choice (λ (x : ConnState _). x.boot ≡ c.boot) (repeats_syn c.south segment) c _ (λ h. refl) (λ h. refl)
+same_boot segment c = holds_if (λ (x : ConnState _). x.boot ≡ c.boot) (repeats_syn c.south segment) c _ (λ h. refl) (λ h. refl)
 
 pub arrived_is : {S : Type 0} (segment : Segment) (old mid new : ConnState S) → mid ≡ reached segment old → new ≡ noted mid → new ≡ arrived segment old
 unfolding arrived

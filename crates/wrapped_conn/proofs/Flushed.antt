@@ -1,9 +1,8 @@
 -- The end of TCP's turn, and a tick, keep a connection sound.
 use Rattle.std.proofs.Common.{◌≡◌, ℕ, ◌<◌, ◌≤◌, ◌+◌, ◌%◌, ◌^◌, Bool, true, false, length, refl, sym, ap, subst, arith, ◌∙◌}
 use Rattle.std.proofs.lemmas.Bool.{false≢true}
-use Rattle.std.specs.Prelude.{◌&&◌, ◌==◌, if◌then◌else◌}
+use Rattle.std.specs.Prelude.{◌==◌, if◌then◌else◌}
 use Rattle.seq_arith.specs.Number.{distance, number_at}
-use Rattle.seq_arith.specs.Offset.{one_if}
 use Rattle.tcp_endpoint.specs.States.{is_listen, has_begun}
 use Rattle.tcp_endpoint.specs.declared.states.StateName.{StateName}
 use Rattle.tcp_endpoint.specs.declared.states.StateName.TheVariants.{Closed}
@@ -19,6 +18,8 @@ use Rattle.wrapped_conn.specs.Leaving.{with_endpoint_flushed, turn_ended}
 use Rattle.wrapped_conn.specs.Sound.{has_peer, IsSound, IsSoundTcp, swallowed}
 use Rattle.wrapped_conn.proofs.Kept.{GoesOnFrom, not_listen}
 use Rattle.wrapped_conn.proofs.SoundAgain.{sound_with}
+use Rattle.ft_io.proofs.Booleans.{left_true, right_true}
+use Rattle.seq_arith.proofs.Units.{one_at_most}
 
 -- what a flush leaves of the sending half
 record Leaves (s t : Sending) : Type 0 where
@@ -53,19 +54,11 @@ on_and s t u p q = record {
 }
 
 -- a FIN goes out only of a user who has closed
-and_right : (y x : Bool) → (y && x) ≡ true → x ≡ true
-and_right true x h = h
-and_right false x h = absurd (false≢true h)
-
-and_left : (y x : Bool) → (y && x) ≡ true → y ≡ true
-and_left true x h = refl
-and_left false x h = h
-
 probe_leaves : (e : Tcb) → Leaves e.sending (with_probe e).sending
 unfolding with_probe
 probe_leaves e =
     leaves_when (probes_text e) e.sending _ _ (λ h. more_sent e.sending 1)
-    (λ h. leaves_when (probes_fin e) e.sending _ _ (λ k. fin_more e.sending (and_right _ e.sending.closed k)) (λ k. as_before e.sending))
+    (λ h. leaves_when (probes_fin e) e.sending _ _ (λ k. fin_more e.sending (right_true _ e.sending.closed k)) (λ k. as_before e.sending))
 
 text_leaves : (e : Tcb) → Leaves e.sending (with_text_sent e).sending
 unfolding with_text_sent
@@ -76,7 +69,7 @@ unfolding with_fin_out
 fin_leaves e =
     let s : Sending = e.sending in
     leaves_when (new_fin e) s _ _
-    (λ h. fin_more s (and_right s.syn_acked s.closed (and_left _ _ (and_left _ _ (and_left _ _ (and_right (has_begun e.name) _ h))))))
+    (λ h. fin_more s (right_true s.syn_acked s.closed (left_true _ _ (left_true _ _ (left_true _ _ (right_true (has_begun e.name) _ h))))))
     (λ h. as_before s)
 
 timed_leaves : (runs : Bool) (s : Sending) → Leaves s (timed runs s)
@@ -160,15 +153,11 @@ units_behind : (iss delta sisn sent : ℕ) → sisn < 2 ^ 32 → distance ((iss 
     → distance ((number_at iss sent + delta) % 2 ^ 32) ((sisn + 1) % 2 ^ 32) ≡ distance ((iss + delta) % 2 ^ 32) sisn + sent
 units_behind iss delta sisn sent fits few = omega (arith, fits, few)
 
-pub few_units : (fin_sent : Bool) → one_if fin_sent ≤ 1
-few_units true = omega arith
-few_units false = omega arith
-
 pub sent_is : {S : Type 0} (c : ConnState S) → IsSound c → sent_units c ≡ swallowed c + c.endpoint.sending.sent
 sent_is c s =
     let e : Tcb = c.endpoint in
     let listens : is_listen e.name ≡ false = not_listen e.name s.parts.tcp.begun in
-    let few : swallowed c + e.sending.sent < 2 ^ 32 = omega (arith, s.begins, s.parts.tcp.bounds.sent, few_units e.sending.fin_sent) in
+    let few : swallowed c + e.sending.sent < 2 ^ 32 = omega (arith, s.begins, s.parts.tcp.bounds.sent, one_at_most e.sending.fin_sent) in
     ap (λ b. distance (((if b then e.sending.iss else number_at e.sending.iss e.sending.sent) + c.south.delta) % 2 ^ 32) ((c.south.sisn + 1) % 2 ^ 32)) listens
     ∙ units_behind e.sending.iss c.south.delta c.south.sisn e.sending.sent s.sisn few
 
@@ -179,7 +168,7 @@ pub sent_rises : {S : Type 0} (c : ConnState S) → IsSound c → c.south.sent �
 sent_rises c s = let f = flushed_sound c s in omega (arith, sent_is (with_endpoint_flushed c) f, f.sent)
 
 pub sent_few : {S : Type 0} (c : ConnState S) → IsSound c → sent_units (with_endpoint_flushed c) ≤ 2 ^ 25 + 1
-sent_few c s = let f = flushed_sound c s in omega (arith, sent_is (with_endpoint_flushed c) f, f.begins, f.parts.tcp.bounds.sent, few_units (flushed c.endpoint).sending.fin_sent)
+sent_few c s = let f = flushed_sound c s in omega (arith, sent_is (with_endpoint_flushed c) f, f.begins, f.parts.tcp.bounds.sent, one_at_most (flushed c.endpoint).sending.fin_sent)
 
 pub sound_again : {S : Type 0} (c : ConnState S) → IsSound c → IsSound (turn_ended c)
 sound_again c s =

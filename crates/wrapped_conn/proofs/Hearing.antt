@@ -37,8 +37,9 @@ use Rattle.wrapped_conn.specs.Sound.{IsSound}
 use Rattle.wrapped_conn.specs.Standing.{Keeps, TcpTells, StandsLive, StandsReset, Stands, StandsBefore, Leads}
 use Rattle.wrapped_conn.proofs.Ended.{HasNews, carries_on}
 use Rattle.wrapped_conn.proofs.NumbersAt.{NumbersAt, numbers_at, una_is}
-use Rattle.wrapped_conn.proofs.Receiving.{by_cases, off_differs, parts_live, parts_reset}
+use Rattle.wrapped_conn.proofs.Receiving.{off_differs, parts_live, parts_reset}
 use Rattle.wrapped_conn.proofs.Resetting.{reset_point, resets_on}
+use Rattle.ft_io.proofs.Choices.{by_cases}
 
 owed_more : (r closed taken e : Bool) → (closed ≡ true → taken ≡ false) → (r || (closed && (false || e))) ≡ ((false || r) || (closed && (((false || r) || taken) || e)))
 owed_more true closed taken e h = refl

@@ -37,9 +37,10 @@ use Rattle.wrapped_conn.specs.Numbers.{has_fin, una_units}
 use Rattle.wrapped_conn.specs.Turning.{Starts, new_reads, tcp_used}
 use Rattle.wrapped_conn.specs.Sound.{IsSound}
 use Rattle.wrapped_conn.specs.Standing.{Keeps, StandsBefore, Leads}
-use Rattle.wrapped_conn.proofs.Locals.{received_local, flushed_local}
+use Rattle.wrapped_conn.proofs.Locals.{received_local, flushed_local, either}
 use Rattle.wrapped_conn.proofs.NumbersAt.{has_fin_is, logged_at}
 use Rattle.wrapped_conn.proofs.Hearing.{begins_with}
+use Rattle.wrapped_conn.proofs.Begun.{nothing_fetched}
 
 -- a fresh service stands at the opened point
 fresh_replayed : {S : Type 0} (service : Machine S) (numbers : Numbers) → HasReplayed service (point_opened numbers) 0 (fresh_north service.fresh)
@@ -99,9 +100,6 @@ new_una boot local numbers service fits =
     (λ j. min (from_start (offset_of numbers.sisn ((unacked numbers.key local numbers.cisn numbers.sisn numbers.mss j + 0) % 2 ^ 32))) (2 ^ 24 + 1))
     ∙ (λ j. min (none_before numbers.sisn fits j) (2 ^ 24 + 1))
 
-nothing_fetched : (cisn f : ℕ) → distance (number_at cisn 0) ((cisn + 1) % 2 ^ 32) - f ≡ 0
-nothing_fetched cisn f = omega arith
-
 new_keeps : {S : Type 0} (boot : ℕ) (local : Addr) (numbers : Numbers) (service : S) → Keeps (point_opened numbers) (new_conn boot local numbers service)
 new_keeps boot local numbers service = record {
   key = refl;
@@ -113,7 +111,7 @@ new_keeps boot local numbers service = record {
   unanswered = refl;
 }
 
-listening_local : (local : Addr) (iss limit : ℕ) → (listening local iss limit).local ≡ local
+pub listening_local : (local : Addr) (iss limit : ℕ) → (listening local iss limit).local ≡ local
 unfolding listening
 listening_local local iss limit = refl
 
@@ -136,11 +134,7 @@ new_starts service boot local numbers new out messages may sound k =
     (received_local (listening local numbers.sisn (2 ^ 24)) (syn numbers.key local numbers.cisn numbers.mss) ∙ listening_local local numbers.sisn (2 ^ 24)) refl sound.parts.made turn k
 
 -- at the entry
-either : (b : Bool) (x y : Tcb) (a : Addr) → x.local ≡ a → y.local ≡ a → (if b then x else y).local ≡ a
-either true x y a p q = p
-either false x y a p q = q
-
-spliced_local : (key : Key) (local : Addr) (cisn fetched mss i : ℕ) (fin : Bool) → (spliced key local cisn fetched mss i fin).local ≡ local
+pub spliced_local : (key : Key) (local : Addr) (cisn fetched mss i : ℕ) (fin : Bool) → (spliced key local cisn fetched mss i fin).local ≡ local
 unfolding connected
 spliced_local key local cisn fetched mss i fin =
     let begun_is = flushed_local _ ∙ received_local _ _ ∙ (flushed_local _ ∙ received_local (listening local i (2 ^ 24 - fetched)) _ ∙ listening_local local i (2 ^ 24 - fetched)) in
@@ -153,7 +147,7 @@ less_fin cisn length fin name_fin logged same = (λ j. logged j - same j) ∙ ba
     back : (a b : ℕ) → a + b - b ≡ a
     back a b = omega arith
 
-few_units : (length : ℕ) (fin : Bool) → length ≤ 2 ^ 24 → length + one_if fin ≤ 2 ^ 24 + 1
+pub few_units : (length : ℕ) (fin : Bool) → length ≤ 2 ^ 24 → length + one_if fin ≤ 2 ^ 24 + 1
 few_units length true h = omega (arith, h)
 few_units length false h = omega (arith, h)
 

@@ -1,7 +1,6 @@
 -- What news and the end of a turn leave of TCP, whatever comes.
-use Rattle.std.proofs.Common.{◌≡◌, ℕ, ◌<◌, ◌≤◌, ◌+◌, ◌-◌, ◌^◌, Bool, true, false, List, ◌++◌, length, length-append, take, drop, max, min, refl, sym, subst, arith, ◌∙◌}
-use Rattle.std.specs.Prelude.{ℤ, pos, ◌&&◌, ◌||◌, nat_abs, int_le, int_lt, if◌then◌else◌}
-use Rattle.std.proofs.lemmas.Int.{ints}
+use Rattle.std.proofs.Common.{◌≡◌, ℕ, ◌<◌, ◌≤◌, ◌+◌, ◌-◌, ◌^◌, Bool, true, false, List, ◌++◌, length, length-append, take, drop, max, min, refl, sym, arith, ◌∙◌}
+use Rattle.std.specs.Prelude.{ℤ, pos, ◌||◌, nat_abs, int_lt, if◌then◌else◌}
 use Rattle.std.proofs.lemmas.List.{length-take}
 use Rattle.std.proofs.lemmas.Bool.{false≢true}
 use Rattle.seq_arith.specs.Number.{offset_of}
@@ -16,6 +15,7 @@ use Rattle.tcp_endpoint.specs.Tcb.{Tcb}
 use Rattle.endpoint_laws.specs.Laws.{Bounds}
 use Rattle.endpoint_laws.proofs.SendingLaw.{held_field}
 use Rattle.wrapped_conn.specs.Sound.{has_peer, IsSoundTcp}
+use Rattle.endpoint_laws.proofs.Bounding.{new_within, moved_within, near_of_choice, choice_within, not_less}
 
 -- a TCP that has gone on from another one, and no call of its user
 pub record GoesOnFrom (e t : Tcb) : Type 0 where
@@ -124,42 +124,6 @@ takes_segment r first text fin =
     takes_if (r.fin || int_lt (pos (taken r)) first) r _ _
     (record { irs = refl; read = refl; limit = refl; more = omega arith; within = λ h. h; buffered = λ h. h })
     (takes_text r first text _ fin)
-
--- the bounds of the sending half stay beside another receiving half of the same stream
-pub beside : (r : Receiving) (s : Sending) → Bounds r s → (t : Receiving) → t.limit ≤ 2 ^ 24 → taken t ≤ t.limit → t.irs ≡ r.irs → Bounds t s
-beside r s b t limit within irs = record {
-  limit = limit;
-  taken = within;
-  order = b.order;
-  syn_unacked = b.syn_unacked;
-  shut = b.shut;
-  flight = b.flight;
-  written = b.written;
-  sent = b.sent;
-  wl1 = λ h. let P : ℕ → Type 0 = λ n. IsNearFirst (offset_of n s.wl1) in subst P (sym irs) (b.wl1 h);
-  wl1_fits = b.wl1_fits;
-  wl2 = b.wl2;
-  edge = b.edge;
-  reach = b.reach;
-}
-
-new_within : (una sent : ℕ) (z : ℤ) → una ≤ sent → (if is_new_ack una sent z then nat_abs z else una) ≤ sent
-new_within una sent z h = grind (arith, ints)
-
-moved_within : (una sent : ℕ) (z : ℤ) (c : Bool) → (int_le (pos una) z && int_le z (pos sent) && c) ≡ true
-    → (nat_abs z ≤ (if is_new_ack una sent z then nat_abs z else una)) × (nat_abs z ≤ sent)
-moved_within una sent z c h = (grind (arith, ints), grind (arith, ints))
-
-near_of_choice : (irs x y : ℕ) (b : Bool) → IsNearFirst (offset_of irs x) → IsNearFirst (offset_of irs y) → IsNearFirst (offset_of irs (if b then x else y))
-near_of_choice irs x y true p q = p
-near_of_choice irs x y false p q = q
-
-choice_within : (x y n : ℕ) (b : Bool) → (b ≡ true → x ≤ n) → y ≤ n → (if b then x else y) ≤ n
-choice_within x y n true p q = p refl
-choice_within x y n false p q = q
-
-not_less : (una sent : ℕ) (z : ℤ) → una ≤ (if is_new_ack una sent z then nat_abs z else una)
-not_less una sent z = grind (arith, ints)
 
 -- a later acknowledgement
 pub later_bounds : (r : Receiving) (s : Sending) (seq window : ℕ) (z : ℤ) → Bounds r s → IsNearFirst (offset_of r.irs seq) → seq < 2 ^ 32 → window ≤ 65535 → s.syn_acked ≡ true

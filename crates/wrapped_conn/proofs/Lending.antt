@@ -10,7 +10,8 @@ use Rattle.wrapped_conn.specs.ConnState.{ConnState}
 use Rattle.wrapped_conn.specs.Sound.{IsSound}
 use Rattle.wrapped_conn.specs.Standing.{Keeps, TcpTells, Tells, StandsLive, StandsReset, Stands}
 use Rattle.wrapped_conn.proofs.NumbersAt.{tcp_tells, logged_is}
-use Rattle.wrapped_conn.proofs.Receiving.{by_cases, parts_live, parts_reset}
+use Rattle.wrapped_conn.proofs.Receiving.{parts_live, parts_reset}
+use Rattle.ft_io.proofs.Choices.{by_cases}
 
 tells_by : {S : Type 0} (service : Machine S) (given : ℕ) (p : Point) (c : ConnState S) → IsSound c → Keeps p c → NorthStands service p given c.north → TcpTells p c → Tells p c
 tells_by service given p c sound keeps north told = record {

@@ -12,9 +12,9 @@ use Rattle.tcp_endpoint.specs.Sending.{fin_acked}
 use Rattle.tcp_endpoint.specs.Leaving.{flushed, with_turn_ended, announced, after_full, with_fin_out, with_text_sent, with_probe}
 use Rattle.tcp_endpoint.specs.Tcb.{Tcb}
 use Rattle.endpoint_laws.specs.Turn.{Call, called, used}
-use Rattle.endpoint_laws.specs.Turn.Call.{Reads, Writes, Closes}
+use Rattle.endpoint_laws.proofs.NoConnection.{call_locals}
 
-either : (b : Bool) (x y : Tcb) (a : Addr) → x.local ≡ a → y.local ≡ a → (if b then x else y).local ≡ a
+pub either : (b : Bool) (x y : Tcb) (a : Addr) → x.local ≡ a → y.local ≡ a → (if b then x else y).local ≡ a
 either true x y a p q = p
 either false x y a p q = q
 
@@ -82,14 +82,9 @@ pub received_local : (e : Tcb) (p : Segment) → (received e p).local ≡ e.loca
 unfolding received
 received_local e p = named_local e.name e p
 
-called_local : (call : Call) (e : Tcb) → (called call e).local ≡ e.local
-called_local (Reads n) e = refl
-called_local (Writes bytes) e = refl
-called_local Closes e = refl
-
 pub used_local : (calls : List Call) (e : Tcb) → (used calls e).local ≡ e.local
 used_local [] e = refl
-used_local (call ∷ calls) e = used_local calls (called call e) ∙ called_local call e
+used_local (call ∷ calls) e = used_local calls (called call e) ∙ call_locals call e
 
 pub flushed_local : (e : Tcb) → (flushed e).local ≡ e.local
 unfolding flushed with_turn_ended announced after_full with_fin_out with_text_sent with_probe

@@ -16,6 +16,7 @@ use Rattle.connection_laws.specs.Telling.{PartsTell, NewsTell, units_before, rai
 use Rattle.wrapped_conn.specs.ConnState.{ConnState}
 use Rattle.wrapped_conn.specs.Standing.{TcpTells}
 use Rattle.wrapped_conn.specs.Numbers.{has_fin, is_over, bytes_taken, units_taken, announced, una_units, logged_units, outer_sent}
+use Rattle.wrapped_conn.proofs.Ended.{few_units, units_of}
 
 pub has_fin_is : (name : StateName) → has_fin name ≡ (has_taken_fin name || is_closed name)
 has_fin_is Closed = refl
@@ -69,9 +70,6 @@ least una most h = omega (arith, h)
 few : (una sent made : ℕ) → una ≤ sent → sent ≤ made + 1 → made ≤ 2 ^ 24 → una ≤ 2 ^ 24 + 1
 few una sent made a b c = omega (arith, a, b, c)
 
-fewer : (una made : ℕ) → una ≤ made + 1 → made ≤ 2 ^ 24 → una ≤ 2 ^ 24 + 1
-fewer una made b c = omega (arith, b, c)
-
 units_told : {S : Type 0} (c : ConnState S) (sisn una : ℕ) → c.south.sisn ≡ sisn → units_before sisn (raised_by c.south.delta (acked_number c.endpoint)) ≡ una → una ≤ 2 ^ 24 + 1 → una_units c ≡ una
 units_told c sisn una same told most = (λ j. min (units_before (same j) (raised_by c.south.delta (acked_number c.endpoint))) (2 ^ 24 + 1)) ∙ (λ j. min (told j) (2 ^ 24 + 1)) ∙ least una (2 ^ 24 + 1) most
 
@@ -80,7 +78,7 @@ una_is service p c tell same made = units_told c p.sisn p.una same tell.acked_un
 
 pub news_una_is : {S : Type 0} (news : News) (p : Point) (c : ConnState S) → NewsTell c.south.delta news p c.north c.endpoint → c.south.sisn ≡ p.sisn → c.north.run.made ≤ 2 ^ 24
     → una_units c ≡ acknowledged_after news p
-news_una_is news p c tell same made = units_told c p.sisn (acknowledged_after news p) same tell.acked_units (fewer (acknowledged_after news p) c.north.run.made tell.few made)
+news_una_is news p c tell same made = units_told c p.sisn (acknowledged_after news p) same tell.acked_units (few_units (acknowledged_after news p) c.north.run.made tell.few made)
 
 pub logged_at : (cisn answered : ℕ) → answered ≤ 2 ^ 24 + 1 → distance (number_at cisn answered) ((cisn + 1) % 2 ^ 32) ≡ answered
 logged_at cisn answered most = omega (arith, most)
@@ -88,16 +86,10 @@ logged_at cisn answered most = omega (arith, most)
 pub logged_is : {S : Type 0} (c : ConnState S) → c.south.answered ≤ 2 ^ 24 + 1 → logged_units c ≡ c.south.answered
 logged_is c most = logged_at c.south.cisn c.south.answered most
 
-few_sent : (sent made : ℕ) → sent ≤ made + 1 → made ≤ 2 ^ 24 → sent ≤ 2 ^ 24 + 1
-few_sent sent made a b = omega (arith, a, b)
-
-sent_at : (sisn other sent number : ℕ) → number ≡ number_at sisn sent → other ≡ sisn → sent ≤ 2 ^ 24 + 1 → distance number ((other + 1) % 2 ^ 32) ≡ sent
-sent_at sisn other sent number a b c = omega (arith, a, b, c)
-
 pub tcp_tells : {S : Type 0} (service : Machine S) (p : Point) (c : ConnState S) → PartsTell service c.south.delta p c.north c.endpoint → c.fetched ≡ p.fetched → c.north.read ≡ sum p.lengths
     → c.south.sisn ≡ p.sisn → c.north.run.made ≤ 2 ^ 24 → TcpTells p c
 tcp_tells service p c tell fetched read sisn made = record {
   taken = (numbers_at service c.south.delta p c tell fetched read).units;
   una = una_is service p c tell sisn made;
-  sent = sent_at p.sisn c.south.sisn p.sent (outer_sent c) tell.sent_outside sisn (few_sent p.sent c.north.run.made tell.few made);
+  sent = units_of p.sisn c.south.sisn p.sent (outer_sent c) tell.sent_outside sisn (few_units p.sent c.north.run.made tell.few made);
 }

@@ -1,6 +1,5 @@
 -- A turn from where its news have arrived, put together from its steps.
 use Rattle.std.proofs.Common.{◌≡◌, ℕ, Bool, true, false, refl, sym, ap, subst, ◌∙◌, List, [], ◌∷◌, ◌++◌, length, drop, append-nil, if◌then◌else◌}
-use Rattle.std.specs.Prelude.{map}
 use Rattle.std.proofs.Math.Seq.{drop-append_seam}
 use Rattle.seq_arith.specs.Packet.{Segment}
 use Rattle.seq_arith.specs.PacketGrammar.{spelling}
@@ -17,10 +16,7 @@ use Rattle.connection_laws.specs.Feeding.{tcp_reader, tcp_writer}
 use Rattle.wrapped_conn.specs.Leaving.{turn_ended, passed, syn_ack, bare, is_owed, leaves}
 use Rattle.wrapped_conn.specs.Telling.{spelled}
 use Rattle.wrapped_conn.specs.Turning.{tcp_used, served, new_reads, GoesOn}
-
-map_append : {A B : Type 0} (f : A → B) (xs ys : List A) → map f (xs ++ ys) ≡ map f xs ++ map f ys
-map_append f [] ys = refl
-map_append f (x ∷ xs) ys = ap (λ l. f x ∷ l) (map_append f xs ys)
+use Rattle.ft_model.proofs.Resumed.{map_append}
 
 bare_packets : (owed : Bool) (segment : Segment) (segments : List Segment) → or_bare owed (spelling segment) (packets segments) ≡ packets (or_bare owed segment segments)
 unfolding packets

@@ -15,6 +15,7 @@ use Rattle.wrapped_conn.specs.Arriving.{reached}
 use Rattle.wrapped_conn.specs.Sound.{IsSound}
 use Rattle.wrapped_conn.proofs.Arrives.{Fits, segment_goes}
 use Rattle.wrapped_conn.proofs.SoundAgain.{sound_with}
+use Rattle.ft_io.proofs.Choices.{if_false}
 
 abbrev is_repeat : Inward → Bool
 is_repeat Repeat = true
@@ -34,19 +35,15 @@ or_else d (Err bad) = d
 ok_is : (x y : Segment) → read_as x ≡ read_as y → x ≡ y
 ok_is x y e = ap (or_else x) e
 
-if_off : {A : Type 0} (b : Bool) (x y : A) → b ≡ false → (if b then x else y) ≡ y
-if_off true x y e = absurd (true≢false e)
-if_off false x y e = refl
-
 pub reached_by : {S : Type 0} (c : ConnState S) (r : Result Segment BadPacket) (south : SouthState) (seen : Segment) (t : Tcb) → south ≡ c.south
     → IfOk r (λ segment. Pass ≡ answer_in c.south segment) → read_as seen ≡ changed (passed_in c.south) r → t ≡ received c.endpoint seen
     → IfOk r (λ segment. record c { south = south; endpoint = t } ≡ reached segment c)
 reached_by c (Err bad) south seen t kept pass read is = tt
 reached_by c (Ok segment) south seen t kept pass read is =
     let off : repeats_syn c.south segment ≡ false = passes (repeats_syn c.south segment) (sym pass) in
-    let same : seen ≡ inward c.south segment = ok_is seen _ read ∙ if_off (repeats_syn c.south segment) segment (inward c.south segment) off in
+    let same : seen ≡ inward c.south segment = ok_is seen _ read ∙ if_false (repeats_syn c.south segment) segment (inward c.south segment) off in
     let e : t ≡ received c.endpoint (inward c.south segment) = is ∙ ap (received c.endpoint) same in
-    (λ j. record c { south = kept j; endpoint = e j }) ∙ sym (if_off (repeats_syn c.south segment) c (record c { endpoint = received c.endpoint (inward c.south segment) }) off)
+    (λ j. record c { south = kept j; endpoint = e j }) ∙ sym (if_false (repeats_syn c.south segment) c (record c { endpoint = received c.endpoint (inward c.south segment) }) off)
 
 pub sound_received : {S : Type 0} (c : ConnState S) (south : SouthState) (segment : Segment) (t : Tcb) → IsSound c → Fits segment → south ≡ c.south → t ≡ received c.endpoint segment
     → IsSound (record c { south = south; endpoint = t })

@@ -47,10 +47,7 @@ use Rattle.wrapped_conn.proofs.NumbersAt.{NumbersAt, numbers_at, has_fin_is, una
 use Rattle.wrapped_conn.proofs.Owing.{owed_same, owes_is}
 use Rattle.wrapped_conn.proofs.Copies.{copies_is}
 use Rattle.wrapped_conn.proofs.Resetting.{reset_point, resets_on, dones_are, still_unanswered}
-
-pub by_cases : {X : Type 0} (b : Bool) → (b ≡ true → X) → (b ≡ false → X) → X
-by_cases true p q = p refl
-by_cases false p q = q refl
+use Rattle.ft_io.proofs.Choices.{by_cases}
 
 -- TCP once the segment has come
 abbrev tcp_reached : {S : Type 0} → Segment → Point → ConnState S → Tcb

@@ -2,27 +2,17 @@
 use Rattle.std.proofs.Common.{◌≡◌, ℕ, ◌<◌, ◌≤◌, ◌+◌, ◌^◌, ◌==◌, Bool, true, false, ◌&&◌, nat_le, refl, List, length, arith}
 use mir.Val.{bool_byte}
 use Rattle.std.specs.Borrow.{Bor}
-use Rattle.std.proofs.lemmas.Bool.{and_from, le-leb, false≢true}
+use Rattle.std.proofs.lemmas.Bool.{and_from, false≢true, and_parts}
 use Rattle.ft_io.specs.declared.Key.{Key}
 use Rattle.seq_arith.specs.MessageGrammar.{flag, is_sound, has_length}
 use Rattle.logger_wire.specs.declared.Body.{Body}
 use Rattle.logger_wire.specs.declared.Body.TheVariants as body
 use Rattle.logger_wire.specs.Value.{IsSendable}
+use Rattle.ft_model.proofs.Wires.{flag_low, is_low, has_size}
 
 pub record FitsKey (key : Key) : Type 0 where
   pub ip : key.ip < 2 ^ 32
   pub port : key.port < 2 ^ 16
-
-is_low : (m n : ℕ) → m ≤ n → nat_le m n ≡ true
-is_low m n h = le-leb m n h
-
-flag_low : (b : Bool) → flag b ≤ 1
-flag_low true = omega arith
-flag_low false = omega arith
-
-has_size : (front fewest most n : ℕ) → fewest ≤ n → n ≤ most → (nat_le (front + fewest) (front + n) && nat_le (front + n) (front + most)) ≡ true
-has_size front fewest most n low high =
-    and_from (nat_le (front + fewest) (front + n)) (nat_le (front + n) (front + most)) (le-leb _ _ (omega (arith, low))) (le-leb _ _ (omega (arith, high)))
 
 pub byte_low : (b : Bool) → bool_byte b ≤ 1
 byte_low true = omega arith
@@ -72,10 +62,6 @@ data_sendable boot key offset acked fin bytes live fits k within few low short =
 }
 
 -- a count of bytes that is told is within a stream
-both : (a b : Bool) → (a && b) ≡ true → (a ≡ true) × (b ≡ true)
-both true b h = (refl, h)
-both false b h = absurd (false≢true h)
-
 low : (m n : ℕ) → nat_le m n ≡ true → m ≤ n
 low m n h = grind (arith, h)
 
@@ -86,6 +72,6 @@ HasLowLength _ = Unit {0}
 
 pub length_low : (boot : ℕ) (said : Body) → IsSendable (record { boot = boot; body = said }) → HasLowLength said
 unfolding is_sound
-length_low boot (body.StableMsg key length fin reads) s = low length (2 ^ 24) (both _ _ (both _ _ (both _ _ s.spellable.sound).0).1).0
-length_low boot (body.ReadsMsg key length fin reads) s = low length (2 ^ 24) (both _ _ (both _ _ (both _ _ s.spellable.sound).0).1).0
+length_low boot (body.StableMsg key length fin reads) s = low length (2 ^ 24) (and_parts _ _ (and_parts _ _ (and_parts _ _ s.spellable.sound).0).1).0
+length_low boot (body.ReadsMsg key length fin reads) s = low length (2 ^ 24) (and_parts _ _ (and_parts _ _ (and_parts _ _ s.spellable.sound).0).1).0
 length_low boot _ s = tt

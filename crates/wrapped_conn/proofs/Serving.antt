@@ -1,10 +1,10 @@
 -- A turn of the north wrapper keeps it and TCP sound: what it writes has room in the stream, and what it reads is there.
 use Rattle.std.proofs.Common.{◌≡◌, ℕ, zero, suc, ◌<◌, ◌≤◌, ◌+◌, ◌-◌, ◌^◌, ◌==◌, ◌&&◌, ◌||◌, Bool, true, false, true≢false, not, min, max, nat_lt, refl, sym, ◌∙◌, subst, Some, None, List, [], ◌∷◌, ◌++◌, length, take, drop, arith, length-append, length-drop, length-take, if◌then◌else◌}
-use Rattle.std.proofs.lemmas.Bool.{false≢true}
+use Rattle.std.proofs.lemmas.Bool.{false≢true, or_parts}
 use Rattle.std.specs.List.{AllByRecursion}
 use Rattle.seq_arith.specs.Offset.{one_if}
 use Rattle.server_trait.specs.Service.{Served}
-use Rattle.ft_model.proofs.Lists.{of_choice, some_is, none_is_some}
+use Rattle.ft_model.proofs.Lists.{some_is, none_is_some, or_second}
 use Rattle.north_wrap.specs.declared.read_record.ReadRecord.{ReadRecord}
 use Rattle.north_wrap.specs.RunState.{RunState, run_on, served_on, given_count, gives}
 use Rattle.north_wrap.specs.NorthState.{NorthState, Reads, Turns, Allows, next_length, next_at, is_free_to_read, length_of_next, read_on, socket_on, chunk_of, noted, record_of, unreleased, given_north, given_socket, shut_north, shut_socket, closes, lengths_of}
@@ -18,6 +18,8 @@ use Rattle.endpoint_laws.proofs.Bounding.{bounded_by_read, bounded_by_more}
 use Rattle.connection_laws.specs.Feeding.{tcp_reader, tcp_writer}
 use Rattle.wrapped_conn.specs.Telling.{IsTellable, AreTellable}
 use Rattle.wrapped_conn.specs.Sound.{has_peer, AreSound}
+use Rattle.seq_arith.proofs.Units.{one_at_most}
+use Rattle.ft_io.proofs.Choices.{holds_if}
 
 -- wrapper and TCP have gone on from others, and no segment came
 pub record ServedOn {S : Type 0} (fetched : ℕ) (n : NorthState S) (e : Tcb) (m : NorthState S) (t : Tcb) : Type 0 where
@@ -40,8 +42,8 @@ ends_once false false h = refl
 allows : {S : Type 0} (una readable : ℕ) (at_end : Bool) (n : NorthState S) (k : ℕ) → next_length una readable at_end n ≡ Some k → Allows readable k n
 unfolding next_length
 allows una readable at_end n k e =
-    of_choice (λ o. o ≡ Some k → Allows readable k n) (is_free_to_read una n) (length_of_next (length n.rest) readable at_end n.ended) None
-    (λ t. of_choice (λ o. o ≡ Some k → Allows readable k n) (nat_lt 0 (length n.rest)) (Some (min 2048 (length n.rest))) _
+    holds_if (λ o. o ≡ Some k → Allows readable k n) (is_free_to_read una n) (length_of_next (length n.rest) readable at_end n.ended) None
+    (λ t. holds_if (λ o. o ≡ Some k → Allows readable k n) (nat_lt 0 (length n.rest)) (Some (min 2048 (length n.rest))) _
     (λ some f. let same : min 2048 (length n.rest) ≡ k = some_is _ _ f in record {
       most = omega (arith, same);
       room = grind (arith, t);
@@ -50,7 +52,7 @@ allows una readable at_end n k e =
       socket = λ h. absurd (grind (arith, some, h));
       once = λ z. absurd (grind (arith, some, same, z));
     })
-    (λ x. of_choice (λ o. o ≡ Some k → Allows readable k n) (nat_lt 0 readable) (Some (min 2048 readable)) _
+    (λ x. holds_if (λ o. o ≡ Some k → Allows readable k n) (nat_lt 0 readable) (Some (min 2048 readable)) _
     (λ some f. let same : min 2048 readable ≡ k = some_is _ _ f in record {
       most = omega (arith, same);
       room = grind (arith, t);
@@ -59,7 +61,7 @@ allows una readable at_end n k e =
       socket = λ h. omega (arith, same);
       once = λ z. absurd (grind (arith, some, same, z));
     })
-    (λ y. of_choice (λ o. o ≡ Some k → Allows readable k n) (at_end && not n.ended) (Some 0) None
+    (λ y. holds_if (λ o. o ≡ Some k → Allows readable k n) (at_end && not n.ended) (Some 0) None
     (λ z f. let same : 0 ≡ k = some_is _ _ f in record {
       most = omega (arith, same);
       room = grind (arith, t);
@@ -78,7 +80,7 @@ record RunsOn {S : Type 0} (r q : RunState S) : Type 0 where
 
 runs_on : {S : Type 0} (after : S → List ℕ → Served S) (r : RunState S) (chunk : List ℕ) → ((s : S) (c : List ℕ) → length c ≤ 2048 → length (after s c).output ≤ 2 ^ 20)
     → length chunk ≤ 2048 → RunsOn r (run_on after r chunk)
-runs_on after r chunk short few = of_choice (RunsOn r) r.closed r (served_on r (after r.service chunk))
+runs_on after r chunk short few = holds_if (RunsOn r) r.closed r (served_on r (after r.service chunk))
     (λ c. record { most = omega arith; waits = refl })
     (λ o. record {
       most = omega (arith, short r.service chunk few);
@@ -86,7 +88,7 @@ runs_on after r chunk short few = of_choice (RunsOn r) r.closed r (served_on r (
     })
 
 chunk_short : {S : Type 0} (unread : List ℕ) (k : ℕ) (n : NorthState S) → k ≤ 2048 → length (chunk_of unread k n) ≤ 2048
-chunk_short unread k n few = of_choice (λ c. length c ≤ 2048) (nat_lt 0 (length n.rest)) (take k n.rest) (take k unread)
+chunk_short unread k n few = holds_if (λ c. length c ≤ 2048) (nat_lt 0 (length n.rest)) (take k n.rest) (take k unread)
     (λ a. omega (arith, few, length-take k n.rest))
     (λ b. omega (arith, few, length-take k unread))
 
@@ -99,19 +101,6 @@ counts_on count read zero true h once = absurd (true≢false (once refl))
 counts_on count read zero false h once = omega (arith, h)
 counts_on count read (suc k) true h once = omega (arith, h)
 counts_on count read (suc k) false h once = omega (arith, h)
-
-few_ended : (ended : Bool) → one_if ended ≤ 1
-few_ended true = omega arith
-few_ended false = omega arith
-
-either_false : (a b : Bool) → (a || b) ≡ false → (a ≡ false) × (b ≡ false)
-either_false false false e = (refl, refl)
-either_false false true e = absurd (true≢false e)
-either_false true b e = absurd (true≢false e)
-
-either_true : (a b : Bool) → (a || b) ≡ true → a ≡ false → b ≡ true
-either_true true b e off = absurd (true≢false off)
-either_true false b e off = e
 
 -- a read off the rest, or of length 0
 rest_step : {S : Type 0} (fetched k : ℕ) (n : NorthState S) (e : Tcb) (run : RunState S) → AreSound fetched n e → RunsOn n.run run → Allows (length e.receiving.unread) k n
@@ -129,7 +118,7 @@ rest_step fetched k n e run s r a none =
         written = λ o. omega (arith, r.waits, s.written o);
         count = counts_on n.count n.read k n.ended s.count a.once;
         tellable = all_more IsTellable n.reads (record_of k n run) s.tellable (record {
-          index = omega (arith, s.count, few_ended n.ended, s.rest, s.limit, s.tcp.bounds.taken);
+          index = omega (arith, s.count, one_at_most n.ended, s.rest, s.limit, s.tcp.bounds.taken);
           length = a.most;
         });
       };
@@ -165,7 +154,7 @@ tcp_step fetched k n e run s r a none =
         written = λ o. omega (arith, r.waits, s.written o);
         count = counts_on n.count n.read k n.ended s.count a.once;
         tellable = all_more IsTellable n.reads (record_of k n run) s.tellable (record {
-          index = omega (arith, s.count, few_ended n.ended, s.rest, s.limit, s.tcp.bounds.taken);
+          index = omega (arith, s.count, one_at_most n.ended, s.rest, s.limit, s.tcp.bounds.taken);
           length = a.most;
         });
       };
@@ -182,9 +171,9 @@ read_step after una fetched k n e short s next =
     let a : Allows (length e.receiving.unread) k n = allows una (length e.receiving.unread) (e.receiving.fin && (length e.receiving.unread == 0)) n k next in
     let run : RunState _ = run_on after n.run (chunk_of e.receiving.unread k n) in
     let r : RunsOn n.run run = runs_on after n.run _ short (chunk_short e.receiving.unread k n a.most) in
-    of_choice (λ t. ServedOn fetched n e (noted k n run) t) (nat_lt 0 (length n.rest) || k == 0) e (after_read e k)
-    (λ h. rest_step fetched k n e run s r a (λ none. by_zero k (either_true (nat_lt 0 (length n.rest)) (k == 0) h (none_there (length n.rest) none))))
-    (λ h. tcp_step fetched k n e run s r a (let f = (either_false (nat_lt 0 (length n.rest)) (k == 0) h).0 in grind (arith, f)))
+    holds_if (λ t. ServedOn fetched n e (noted k n run) t) (nat_lt 0 (length n.rest) || k == 0) e (after_read e k)
+    (λ h. rest_step fetched k n e run s r a (λ none. by_zero k (or_second (nat_lt 0 (length n.rest)) (k == 0) h (none_there (length n.rest) none))))
+    (λ h. tcp_step fetched k n e run s r a (let f = (or_parts (nat_lt 0 (length n.rest)) (k == 0) h).0 in grind (arith, f)))
   where
     by_zero : (k : ℕ) → (k == 0) ≡ true → k ≡ 0
     by_zero k h = grind (arith, h)
@@ -259,7 +248,7 @@ close_bounds e b = record {
 }
 
 shut_on : {S : Type 0} (fetched : ℕ) (n : NorthState S) (e : Tcb) → AreSound fetched n e → ServedOn fetched n e (shut_north n) (shut_socket tcp_writer n e)
-shut_on fetched n e s = of_choice (λ t. ServedOn fetched n e (shut_north n) t) (closes n) (closing e) e
+shut_on fetched n e s = holds_if (λ t. ServedOn fetched n e (shut_north n) t) (closes n) (closing e) e
     (λ h. record {
       sound = record {
         tcp = record { bounds = close_bounds e s.tcp.bounds; buffered = s.tcp.buffered; begun = close_has_peer e.name s.tcp.begun; fin_last = λ f. refl };

@@ -1,5 +1,5 @@
 -- A turn with a segment, put together from its steps.
-use Rattle.std.proofs.Common.{◌≡◌, ℕ, Bool, refl, sym, ap, subst, ◌∙◌, List}
+use Rattle.std.proofs.Common.{◌≡◌, ℕ, Bool, sym, ap, subst, ◌∙◌, List}
 use Rattle.std.specs.Prelude.{IsOk, IfOk, Ok}
 use Rattle.std.proofs.lemmas.Result.{IfOk-at_ok}
 use Rattle.seq_arith.specs.Packet.{Segment}
@@ -7,7 +7,6 @@ use Rattle.seq_arith.specs.PacketGrammar.{reading, segment_in}
 use Rattle.seq_arith.specs.Message.{Body}
 use Rattle.segment_codec.proofs.Accepting.{is_read}
 use Rattle.server_trait.specs.Service.{Served}
-use Rattle.ft_model.proofs.Lists.{of_choice}
 use Rattle.south_wrap.specs.Patching.{repeats_syn}
 use Rattle.wrapped_conn.specs.declared.stage.Before.{Before}
 use Rattle.wrapped_conn.specs.ConnState.{ConnState}
@@ -15,15 +14,11 @@ use Rattle.wrapped_conn.specs.Numbers.{una_units}
 use Rattle.wrapped_conn.specs.Arriving.{arrived, before_segment}
 use Rattle.wrapped_conn.specs.Telling.{copies, spelled}
 use Rattle.wrapped_conn.specs.Turning.{GoesOn}
-use Rattle.wrapped_conn.proofs.Copied.{of_read}
+use Rattle.wrapped_conn.proofs.Copied.{of_read, same_boot}
 
 -- what is copied of it
 abbrev pub copied_now : {S : Type 0} → ConnState S → Before → List ℕ → List Body
 copied_now old before bytes = copies before.una (segment_in bytes) (arrived (segment_in bytes) old)
-
-same_boot : {S : Type 0} (segment : Segment) (c : ConnState S) → (arrived segment c).boot ≡ c.boot
-unfolding arrived
-same_boot segment c = of_choice (λ (x : ConnState _). x.boot ≡ c.boot) (repeats_syn c.south segment) c _ (λ h. refl) (λ h. refl)
 
 pub told_now : {S : Type 0} (old mid : ConnState S) (before : Before) (bytes : List ℕ) (told : List (List ℕ)) → IsOk (reading bytes) → IfOk (reading bytes) (λ segment. mid ≡ arrived segment old)
     → IfOk (reading bytes) (λ segment. told ≡ spelled old.boot (copies before.una segment (arrived segment old))) → told ≡ spelled mid.boot (copied_now old before bytes)

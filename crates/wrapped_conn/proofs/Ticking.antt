@@ -37,8 +37,9 @@ use Rattle.wrapped_conn.specs.Standing.{Keeps, TcpTells, StandsLive, StandsReset
 use Rattle.wrapped_conn.proofs.Locals.{flushed_local}
 use Rattle.wrapped_conn.proofs.Ended.{units_of, few_units, spelled_by}
 use Rattle.wrapped_conn.proofs.NumbersAt.{NumbersAt, numbers_at, logged_is}
-use Rattle.wrapped_conn.proofs.Receiving.{by_cases, parts_live, parts_reset}
+use Rattle.wrapped_conn.proofs.Receiving.{parts_live, parts_reset}
 use Rattle.wrapped_conn.proofs.Resetting.{reset_point, resets_on, dones_are, still_unanswered}
+use Rattle.ft_io.proofs.Choices.{by_cases}
 
 -- the south wrapper after the tick
 south_ends : {S : Type 0} (service : Machine S) (p q : Point) (c : ConnState S) → Keeps p c → LiveTurn service c.local c.boot Ticks p q (sent_by service c.local c.boot Ticks p q)

@@ -9,10 +9,7 @@ use Rattle.north_wrap.specs.declared.read_record.ReadRecord.{ReadRecord}
 use Rattle.north_wrap.specs.Standing.{messages_of}
 use Rattle.tcp_endpoint.specs.Packets.{byte_count}
 use Rattle.wrapped_conn.specs.Telling.{spelled, AreTellable}
-
-pub counted : (xs : List (List ℕ)) (x : List ℕ) → byte_count (xs ++ x ∷ []) ≡ byte_count xs + length x
-counted [] x = omega arith
-counted (y ∷ ys) x = let more = counted ys x in omega (arith, more)
+use Rattle.tcp_endpoint.proofs.Spelled.{byte_count_push}
 
 abbrev pub pair : ℕ → ℕ → ℕ × ℕ
 pair x y = (x, y)
@@ -36,5 +33,5 @@ one_told out rest x all e = append_assoc out (x ∷ []) rest ∙ e
 -- a message has at most 2,048 bytes
 pub short_pushed : (b : Bool) (old new : List (List ℕ)) (x : List ℕ) → OnTrue b (new ≡ old ++ x ∷ []) → OnFalse b (new ≡ old) → length x ≤ 2048 → byte_count old ≤ 2048 * length old
     → byte_count new ≤ 2048 * length new
-short_pushed true old new x on off few short = let e = on in omega (arith, ap byte_count e, ap length e, counted old x, length-append old (x ∷ []), few, short)
+short_pushed true old new x on off few short = let e = on in omega (arith, ap byte_count e, ap length e, byte_count_push old x, length-append old (x ∷ []), few, short)
 short_pushed false old new x on off few short = let e = off in omega (arith, ap byte_count e, ap length e, short)

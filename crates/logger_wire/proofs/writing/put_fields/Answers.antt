@@ -1,7 +1,7 @@
 use Rattle.std.proofs.Common.{◌≡◌, true, List, ℕ, ◌∷◌, ◌++◌, [], subst, sym, ap, ◌∙◌, drop}
 use Rattle.std.specs.Prelude.{nat_eq, nat_le, ◌&&◌}
+use Rattle.std.proofs.lemmas.Bool.{and_parts}
 use Rattle.seq_arith.specs.declared.kinds.Field.{Field}
-use Rattle.seq_arith.proofs.MessageSpelling.{both_hold}
 use Rattle.seq_arith.specs.MessageGrammar.{flag, numbers_bytes, fields_of, numbers_of, kind_of, AllFit}
 use Rattle.logger_wire.specs.Value.{body_of}
 use Rattle.logger_wire.proofs.Sendable.{flag_again}
@@ -12,9 +12,9 @@ entry_numbers : (index ip port cisn sisn mss length fin done reads acked : ℕ) 
     → (index ∷ ip ∷ port ∷ cisn ∷ sisn ∷ mss ∷ length ∷ flag (nat_eq fin 1) ∷ flag (nat_eq done 1) ∷ reads ∷ acked ∷ [])
     ≡ (index ∷ ip ∷ port ∷ cisn ∷ sisn ∷ mss ∷ length ∷ fin ∷ done ∷ reads ∷ acked ∷ [])
 entry_numbers index ip port cisn sisn mss length fin done reads acked flags =
-    let both = both_hold (nat_le fin 1) (nat_le done 1 && true) flags
+    let both = and_parts (nat_le fin 1) (nat_le done 1 && true) flags
     in let fin_is : flag (nat_eq fin 1) ≡ fin = flag_again fin both.0
-    in let done_is : flag (nat_eq done 1) ≡ done = flag_again done (both_hold (nat_le done 1) true both.1).0
+    in let done_is : flag (nat_eq done 1) ≡ done = flag_again done (and_parts (nat_le done 1) true both.1).0
     in cc (fin_is, done_is)
 
 pub put_numbers-requires-in-EntryMsg-clause-fit : goal.put_numbers-requires-in-EntryMsg-clause-fit

@@ -1,5 +1,6 @@
 use Rattle.std.proofs.Common.{◌≡◌, ◌∙◌, inl, inr, ap, sym, subst, List, map, string_bytes, true, false}
 use Rattle.std.specs.List.{list_any}
+use Rattle.std.proofs.lemmas.Bool.{and_parts}
 use Rattle.clap.specs.Simple.{app_of, matches_of}
 use Rattle.clap.specs.Walk.{first_of}
 use Rattle.clap.specs.Matches.{found_of}
@@ -11,7 +12,6 @@ use Rattle.clap.specs.Faults.{is_simple_and_free, fault_of}
 use Rattle.clap.proofs.WalkLemmas.{list_any-map, first_value-rows}
 use Rattle.node_link.specs.Options.{Text, is_stray, name_of}
 use Rattle.node_link.proofs.Commanding.{is_plain}
-use Rattle.node_link.proofs.Walking.{both_true}
 use Rattle.node_link.proofs.Deciding.{stray_refused, decides, when_taken, when_refused, row_value}
 use Rattle.node_link.proofs.options.read_options.Goals as goal
 
@@ -31,7 +31,7 @@ returns-in-Ok c =
     let app = c.in_ok-command.ensures in
     let plain : is_simple_and_free (app_of c.in_ok-command.field-0) ≡ true = ap is_simple_and_free app ∙ is_plain options in
     let found = when_taken options words (decides options words clean) (ap (λ a. fault_of a words) (sym app) ∙ c.in-Ok.ensures.kinds plain) in
-    let rows = (c.in-Ok.ensures.matches (both_true _ _ plain).0).0 in (
+    let rows = (c.in-Ok.ensures.matches (and_parts _ _ plain).0).0 in (
       found.uses,
       found.spelled,
       λ o. first_value-rows (found_of c.in-Ok.matches) (name_of o)

@@ -6,8 +6,9 @@ use Rattle.std.proofs.KnownBytes.{Appends-trans}
 use Rattle.std.proofs.lemmas.Result.{on_ok_weaker, on_err_weaker}
 use Rattle.ft_io.specs.Sink.{AppendsFront}
 use Rattle.node_link.specs.Pair.{status_text}
-use Rattle.node_link.proofs.Fronts.{front_before, front_behind, at_failed}
+use Rattle.node_link.proofs.Fronts.{front_before, at_failed}
 use Rattle.node_link.proofs.pair.tell_status.Goals as goal
+use Rattle.node_link.proofs.ClientRunning.{front_more}
 
 pub returns-in_err-write_all-clause-front : goal.returns-in_err-write_all-clause-front
 returns-in_err-write_all-clause-front g c =
@@ -19,7 +20,7 @@ pub returns-in_err-write_number-clause-front : goal.returns-in_err-write_number-
 returns-in_err-write_number-clause-front g c =
     let text = subst (Appends (g.O.Sink.taken c.args.out.now) (g.O.Sink.taken c.write_all.new.out)) c.status_text.ensures c.in_ok-write_all.ensures.whole in
     at_failed c.from_residual-in_err-write_number.result
-    (front_behind (g.O.Sink.taken c.args.out.now) (g.O.Sink.taken c.write_all.new.out) (g.O.Sink.taken c.write_number.new.out) (status_text c.args.name) (signed_decimal c.args.status ++ codes "\n")
+    (front_more (g.O.Sink.taken c.args.out.now) (g.O.Sink.taken c.write_all.new.out) (g.O.Sink.taken c.write_number.new.out) (status_text c.args.name) (signed_decimal c.args.status ++ codes "\n")
     text
     (front_before (g.O.Sink.taken c.write_all.new.out) (g.O.Sink.taken c.write_number.new.out) (signed_decimal c.args.status) (codes "\n")
     (subst (AppendsFront (g.O.Sink.taken c.write_all.new.out) (g.O.Sink.taken c.write_number.new.out)) (ap signed_decimal (to_z-of_z {w = w32} c.ranges.status)) c.in_err-write_number.ensures.front)))
@@ -39,9 +40,9 @@ pub returns-clause-front : goal.returns-clause-front
 returns-clause-front g c =
     let text = subst (Appends (g.O.Sink.taken c.args.out.now) (g.O.Sink.taken c.write_all.new.out)) c.status_text.ensures c.in_ok-write_all.ensures.whole in
     on_err_weaker c.write_all-2.result
-    (λ last. front_behind (g.O.Sink.taken c.args.out.now) (g.O.Sink.taken c.write_all.new.out) (g.O.Sink.taken c.write_all-2.new.out) (status_text c.args.name)
+    (λ last. front_more (g.O.Sink.taken c.args.out.now) (g.O.Sink.taken c.write_all.new.out) (g.O.Sink.taken c.write_all-2.new.out) (status_text c.args.name)
     (signed_decimal c.args.status ++ codes "\n") text
-    (front_behind (g.O.Sink.taken c.write_all.new.out) (g.O.Sink.taken c.write_number.new.out) (g.O.Sink.taken c.write_all-2.new.out) (signed_decimal c.args.status) (codes "\n")
+    (front_more (g.O.Sink.taken c.write_all.new.out) (g.O.Sink.taken c.write_number.new.out) (g.O.Sink.taken c.write_all-2.new.out) (signed_decimal c.args.status) (codes "\n")
     (subst (Appends (g.O.Sink.taken c.write_all.new.out) (g.O.Sink.taken c.write_number.new.out)) (ap signed_decimal (to_z-of_z {w = w32} c.ranges.status)) c.in_ok-write_number.ensures.whole)
     last))
     c.write_all-2.ensures.front

@@ -1,5 +1,6 @@
-use Rattle.std.proofs.Common.{Result, Ok, Err, OnOk, ◌==◌, refl, ap}
+use Rattle.std.proofs.Common.{◌==◌, refl, ap}
 use Rattle.std.proofs.lemmas.Result.{on_ok_weaker}
+use Rattle.std.proofs.lemmas.Bool.{and_right}
 use Rattle.server_trait.specs.Service.{machine}
 use Rattle.logger_wire.specs.Value.{body_of, message_of}
 use Rattle.ft_model.specs.Node.Input.{Message_comes}
@@ -7,7 +8,7 @@ use Rattle.ft_model.specs.Serving.{names}
 use Rattle.server_node.specs.Hearing.{logged_in}
 use Rattle.server_node.specs.Identity.{node_of}
 use Rattle.server_node.proofs.Heeded.{message_is, opened_range, others_unheard}
-use Rattle.server_node.proofs.OneKey.{and_false, none_concerned}
+use Rattle.server_node.proofs.OneKey.{none_concerned}
 use Rattle.server_node.proofs.hearing.hear.Goals as goal
 
 pub returns-in-StableMsg-clause-turn : goal.returns-in-StableMsg-clause-turn
@@ -43,5 +44,5 @@ returns-in_default-clause-turn g c = λ stage places boot st.
     let message = message_of c.args.m.now in
     let other = c.in_default in
     none_concerned (machine (g.S.Service.started c.args.who.kind) g.S.Service.after) node (Message_comes message) c.args.slots.now.entries places c.args.sent.now.items
-    (λ k. and_false (message.boot == node.boot) (names message.body k)
+    (λ k. and_right (message.boot == node.boot) (names message.body k)
     (others_unheard c.args.m.now.body other.not-OpenedMsg other.not-StableMsg other.not-ReadsMsg other.not-EndedMsg other.not-FullMsg k)) st

@@ -1,5 +1,6 @@
 use Rattle.std.proofs.Common.{rules, ◌≡◌, ◌∙◌, ◌+◌, ◌%◌, ◌^◌, ap, subst, sym, None}
 use Rattle.std.specs.Map.{lookup}
+use Rattle.std.proofs.lemmas.Bool.{and_parts}
 use Rattle.ft_io.specs.Key.{key_eq}
 use Rattle.server_trait.specs.Service.{machine}
 use Rattle.seq_arith.specs.Packet.{segment_size}
@@ -7,7 +8,6 @@ use Rattle.server_node.specs.declared.slot.Opening.{Opening}
 use Rattle.server_node.specs.Identity.{node_of}
 use Rattle.server_node.specs.Opening.{Admits}
 use Rattle.server_node.proofs.Admitted.{none_admitted, one_admitted, same_numbers, next_number}
-use Rattle.server_node.proofs.OneKey.{both}
 use Rattle.server_node.proofs.opening.admit.Goals as goal
 
 pub returns-then-not-may_open-clause-turn : goal.returns-then-not-may_open-clause-turn
@@ -23,7 +23,7 @@ returns-clause-turn g c = λ stage opened places segment headed from mine number
     let es = c.args.slots.now.entries in
     let told = rw c.in_ok-ask.was at c.ask.ensures in
     let o : Opening = record { cisn = c.args.head.now.seq; sisn = c.args.next.now; mss = c.segment_size.result } in
-    let opening = both _ _ (sym (c.may_open.ensures segment headed) ∙ search rules) in
+    let opening = and_parts _ _ (sym (c.may_open.ensures segment headed) ∙ search rules) in
     let added = rw c.in_ok-add_slot.was at c.add_slot.ensures.added in
     subst (λ xs. Admits service node segment opened places c.add.result.0 xs c.args.sent.now.items c.ask.new.sent.items) (sym (added c.requires.strange))
     (one_admitted service node segment opened places c.args.key o c.add.result.0 es c.args.sent.now.items c.ask.new.sent.items from c.requires.strange mine opening.0 opening.1 st

@@ -1,6 +1,7 @@
-use Rattle.std.proofs.Common.{Result, Ok, Err, OnOk, ◌≡◌, ◌∙◌, [], ap, subst, sym, rules, None, Some, true, false, eqb-true}
+use Rattle.std.proofs.Common.{◌≡◌, ◌∙◌, [], ap, subst, sym, rules, None, Some, true, false, eqb-true}
 use Rattle.std.specs.Map.{lookup}
 use Rattle.std.proofs.lemmas.Result.{on_ok_weaker}
+use Rattle.std.proofs.lemmas.Bool.{and_parts}
 use Rattle.ft_io.specs.Key.{key_eq}
 use Rattle.ft_model.specs.Node.Input.{Packet_comes}
 use Rattle.server_node.specs.declared.slot.Slot.TheVariants as slot
@@ -8,7 +9,6 @@ use Rattle.server_node.specs.Hearing.{opening_in}
 use Rattle.server_node.specs.Identity.{node_of}
 use Rattle.server_node.specs.Opening.{ArePut, all_opens}
 use Rattle.server_node.proofs.Asked.{opens_of, opens_one, asked_at_syn, unasked}
-use Rattle.server_node.proofs.OneKey.{both}
 use Rattle.server_node.proofs.Opened.{pending_found}
 use Rattle.server_node.proofs.Opens.{put_none}
 use Rattle.server_node.proofs.Sound.{sound_found}
@@ -53,7 +53,7 @@ returns g c = on_ok_weaker c.ask.result
     let es = c.args.slots.now.entries in
     let found : opening_in (lookup (key_eq c.args.key) es) ≡ Some c.in-Some.opening = sym c.opening_at.ensures.found ∙ c.in-Some.is in
     let its : c.repeats.result ≡ true = search rules in
-    let syn = both _ _ (sym (c.repeats.ensures segment headed) ∙ its) in
+    let syn = and_parts _ _ (sym (c.repeats.ensures segment headed) ∙ its) in
     subst (λ ps. ArePut ps c.args.sent.now.items c.ask.new.sent.items)
     (sym (opens_one node segment es c.opening_at.ensures.unique ∙ (ap (λ k. opens_of node segment k (opening_in (lookup (key_eq k) es))) from
     ∙ (ap (opens_of node segment c.args.key) found ∙ asked_at_syn node segment c.args.key c.in-Some.opening mine syn.0 from (eqb-true _ _ syn.1)))))

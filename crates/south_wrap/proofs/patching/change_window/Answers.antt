@@ -1,10 +1,11 @@
 use Rattle.std.proofs.Common.{sym}
 use Rattle.seq_arith.specs.Packet.{with_window}
-use Rattle.south_wrap.proofs.Heads.{head_is_there, head_length, read_behind, still_a_packet, spelled_behind}
+use Rattle.south_wrap.proofs.Heads.{head_length, read_behind, still_a_packet, spelled_behind}
 use Rattle.south_wrap.proofs.patching.change_window.Goals as goal
+use Rattle.segment_codec.proofs.Accepting.{header_is_long}
 
 pub slice_bounds-set_window-end : goal.slice_bounds-set_window-end
-slice_bounds-set_window-end c = head_is_there c.args.packet.now c.requires
+slice_bounds-set_window-end c = header_is_long c.args.packet.now c.requires
 
 pub slice_bounds-set_window-end-2 : goal.slice_bounds-set_window-end-2
 slice_bounds-set_window-end-2 c = sym (head_length c.args.packet.now c.requires)

@@ -10,8 +10,9 @@ use Rattle.seed_run.specs.Runs.{StandsBehind}
 use Rattle.seed_run.specs.Summary.{is_boot, is_crash}
 use Rattle.seed_run.specs.declared.progress.Progress.{Progress}
 use Rattle.seed_run.proofs.Facts.{client_count, totals, few_boots}
-use Rattle.seed_run.proofs.Stepping.{some_map, goes_on, goes_past, never_bad}
+use Rattle.seed_run.proofs.Stepping.{goes_on, goes_past, never_bad}
 use Rattle.seed_run.proofs.progress.Progress.play_event.Goals as goal
+use Rattle.net_schedule.proofs.Outcomes.{same_there}
 
 pub next_event-event-requires-clause-clients : goal.next_event-event-requires-clause-clients
 next_event-event-requires-clause-clients c =
@@ -36,7 +37,7 @@ pub unreachable-requires : goal.unreachable-requires
 unreachable-requires c =
     never_bad c.args.asked c.args.n (kept c.args.world.now) (kept c.step.new.self) c.args.self.now c.requires.stands c.next_event-event.result c.next_event-event.new.self.dice
     (c.next_event-event.ensures.drawn
-    ∙ ap (λ up. next_event c.args.self.now.dice.draws.state c.args.self.now.packets c.args.world.now.clients.items (record { is_up = up; boots = c.args.self.now.boots })) (sym (some_map server_of c.args.world.now.node)))
+    ∙ ap (λ up. next_event c.args.self.now.dice.draws.state c.args.self.now.packets c.args.world.now.clients.items (record { is_up = up; boots = c.args.self.now.boots })) (sym (same_there server_of c.args.world.now.node)))
     c.in-Err-BadEvent.field-0-0
     (subst (λ end. EndsStep any_machine (schedule_of c.args.asked.seed c.args.asked.clients []) (events_of c.requires.stands.trace) c.requires.stands.trace c.next_event-event.result (kept c.step.new.self) end)
     c.in-Err-BadEvent.field-0-is
@@ -53,7 +54,7 @@ returns-in-Ok-clause-done c =
     }) c.next_event-event.ensures.counts))
     (goes_on c.args.asked c.args.n (kept c.args.world.now) (kept c.step.new.self) c.args.self.now c.requires.stands c.next_event-event.result c.next_event-event.new.self.dice
     (c.next_event-event.ensures.drawn
-    ∙ ap (λ up. next_event c.args.self.now.dice.draws.state c.args.self.now.packets c.args.world.now.clients.items (record { is_up = up; boots = c.args.self.now.boots })) (sym (some_map server_of c.args.world.now.node)))
+    ∙ ap (λ up. next_event c.args.self.now.dice.draws.state c.args.self.now.packets c.args.world.now.clients.items (record { is_up = up; boots = c.args.self.now.boots })) (sym (same_there server_of c.args.world.now.node)))
     c.in-Ok.answer
     (c.in-Ok.ensures.done (schedule_of c.args.asked.seed c.args.asked.clients []) (events_of c.requires.stands.trace) c.requires.stands.trace c.requires.stands.stands))
 
@@ -61,7 +62,7 @@ pub returns-in-Err-PacketLimit-clause-past : goal.returns-in-Err-PacketLimit-cla
 returns-in-Err-PacketLimit-clause-past c = λ _.
     goes_past c.args.asked c.args.n (kept c.args.world.now) (kept c.step.new.self) c.args.self.now c.requires.stands c.next_event-event.result c.next_event-event.new.self.dice
     (c.next_event-event.ensures.drawn
-    ∙ ap (λ up. next_event c.args.self.now.dice.draws.state c.args.self.now.packets c.args.world.now.clients.items (record { is_up = up; boots = c.args.self.now.boots })) (sym (some_map server_of c.args.world.now.node)))
+    ∙ ap (λ up. next_event c.args.self.now.dice.draws.state c.args.self.now.packets c.args.world.now.clients.items (record { is_up = up; boots = c.args.self.now.boots })) (sym (same_there server_of c.args.world.now.node)))
     c.requires.few
     (subst (λ end. EndsStep any_machine (schedule_of c.args.asked.seed c.args.asked.clients []) (events_of c.requires.stands.trace) c.requires.stands.trace c.next_event-event.result (kept c.step.new.self) end)
     c.in-Err-PacketLimit.field-0-is
