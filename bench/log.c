@@ -4,6 +4,8 @@
 #include <stdlib.h>
 #include <string.h>
 
+#include "network.h"
+
 enum { HEADER = 16, MOST = 1491, STREAM = 1 << 24 };
 enum { HELLO = 1, SUMMARY, LIST, ENTRY, BYTES, PART, CUTS, LENS, OPEN, OPENED, DATA, STABLE, READ, READS };
 
@@ -15,35 +17,6 @@ struct log {
     uint8_t bytes[STREAM];
     uint16_t lengths[STREAM / 1024];
 };
-
-static uint16_t word(const uint8_t *p) { return (uint16_t)(p[0] << 8 | p[1]); }
-
-static uint32_t number(const uint8_t *p) { return (uint32_t)word(p) << 16 | word(p + 2); }
-
-static void put(uint8_t *p, uint16_t n)
-{
-    p[0] = (uint8_t)(n >> 8);
-    p[1] = (uint8_t)n;
-}
-
-static void put_number(uint8_t *p, uint32_t n)
-{
-    put(p, (uint16_t)(n >> 16));
-    put(p + 2, (uint16_t)n);
-}
-
-static uint16_t sum(const uint8_t *p, size_t n)
-{
-    uint32_t total = 0;
-    size_t i;
-    for (i = 0; i + 1 < n; i += 2)
-        total += (uint32_t)p[i] << 8 | p[i + 1];
-    if (i < n)
-        total += (uint32_t)p[i] << 8;
-    while (total >> 16)
-        total = (total & 0xFFFF) + (total >> 16);
-    return (uint16_t)total;
-}
 
 /* writes the header of a message whose fields stand behind it */
 static size_t seal(uint8_t *p, uint8_t kind, uint64_t boot, size_t n)

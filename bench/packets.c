@@ -6,6 +6,8 @@
 #include <stdlib.h>
 #include <string.h>
 
+#include "network.h"
+
 enum { PACKETS = 64 };
 
 struct packet {
@@ -16,11 +18,7 @@ struct packet {
     size_t len;
 };
 
-static uint16_t word(const uint8_t *p) { return (uint16_t)(p[0] << 8 | p[1]); }
-
-static uint32_t number(const uint8_t *p) { return (uint32_t)word(p) << 16 | word(p + 2); }
-
-static uint32_t sum(const uint8_t *p, size_t n, uint32_t total)
+static uint32_t add_words(const uint8_t *p, size_t n, uint32_t total)
 {
     size_t i;
     for (i = 0; i + 1 < n; i += 2)
@@ -39,7 +37,7 @@ static uint16_t folded(uint32_t total)
 
 static uint16_t tcp_sum(const uint8_t *p, size_t n)
 {
-    return folded(sum(p + 20, n - 20, sum(p + 12, 8, 6 + (uint32_t)(n - 20))));
+    return folded(add_words(p + 20, n - 20, add_words(p + 12, 8, 6 + (uint32_t)(n - 20))));
 }
 
 /* 0, or the number of the first test that holds */
@@ -58,7 +56,7 @@ static int read_packet(const uint8_t *p, size_t n, struct packet *out)
         return 5;
     if (p[9] != 6)
         return 6;
-    if (folded(sum(p, 20, 0)) != 0xFFFF)
+    if (folded(add_words(p, 20, 0)) != 0xFFFF)
         return 7;
     start = 20 + 4 * (size_t)(p[32] >> 4);
     if (start < 40 || start > n)
@@ -94,12 +92,6 @@ static int read_packet(const uint8_t *p, size_t n, struct packet *out)
     return 0;
 }
 
-static void put(uint8_t *p, uint16_t n)
-{
-    p[0] = (uint8_t)(n >> 8);
-    p[1] = (uint8_t)n;
-}
-
 static void write_packet(uint8_t *p, size_t n, uint32_t seq)
 {
     static const uint8_t head[40] = {0x45, 0, 0, 0, 0, 0, 0x40, 0, 64, 6, 0, 0, 192, 0, 2, 1, 192, 0, 2, 100,
@@ -108,7 +100,7 @@ static void write_packet(uint8_t *p, size_t n, uint32_t seq)
     memset(p + 40, 'a', n - 40);
     put(p + 2, (uint16_t)n);
     put(p + 26, (uint16_t)seq);
-    put(p + 10, (uint16_t)~folded(sum(p, 20, 0)));
+    put(p + 10, (uint16_t)~folded(add_words(p, 20, 0)));
     put(p + 36, (uint16_t)~tcp_sum(p, n));
 }
 
