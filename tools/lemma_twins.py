@@ -4,8 +4,8 @@
     tools/lemma_twins.py [--crate NAME]
 
 Each group is a signature and the places where it stands, the lowest crate first: keep that one, and import it in the others. A law on Booleans, choices
-or results has its place in `ft_io/proofs` (`Booleans`, `Choices`, `Outcomes`), where std doesn't have it. Answers and the stored runs of `ft_model` are
-passed over: their goals have the same words for different things.
+or results has its place in `ft_io/proofs` (`Booleans`, `Choices`, `Outcomes`), where std doesn't have it. Answers and the worked runs of `ft_model` are
+passed over: their goals have the same words for different things. So may two signatures whose words are defined in each crate apart: look first.
 """
 import argparse
 import collections
@@ -49,7 +49,7 @@ def signatures(text):
             continue
         signature = line[head.end():]
         for more in lines[i + 1:]:
-            if not more.startswith(("    →", "    ≡")):
+            if not more.startswith(" "):
                 break
             signature += " " + more.strip()
         variables = list(dict.fromkeys(name for binder in BINDER.finditer(signature) for name in binder.group(1).split()))
