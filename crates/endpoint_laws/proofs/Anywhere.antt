@@ -5,7 +5,7 @@ use Rattle.std.proofs.Math.ListN.{replicate}
 use Rattle.std.proofs.Math.Seq.{drop-append_seam}
 use Rattle.std.proofs.lemmas.List.{length-replicate}
 use Rattle.seq_arith.specs.Number.{offset_of}
-use Rattle.ft_model.specs.Point.{Point}
+use Rattle.ft_model.specs.Point.{Point, blank_point}
 use Rattle.ft_model.specs.News.{News}
 use Rattle.tcp_endpoint.specs.States.{has_begun}
 use Rattle.tcp_endpoint.specs.Receiving.{Receiving}
@@ -21,17 +21,11 @@ ahead e = 2 ^ 24 - e.receiving.limit
 
 -- a point for it: the bytes that are read may have been any
 point_of : Tcb → Point
-point_of e = record {
-  key = record { ip = e.remote.ip; port = e.remote.port };
-  cisn = (e.receiving.irs + 2 ^ 32 - ahead e) % 2 ^ 32;
-  sisn = e.sending.iss;
-  mss = e.sending.mss;
+point_of e = record (blank_point (record { ip = e.remote.ip; port = e.remote.port }) ((e.receiving.irs + 2 ^ 32 - ahead e) % 2 ^ 32) e.sending.iss e.sending.mss) {
   fetched = ahead e;
   taken = replicate (e.receiving.read + ahead e) 0 ++ e.receiving.unread;
   fin = e.receiving.fin;
-  answered = 0;
   lengths = (e.receiving.read + ahead e) ∷ [];
-  reads_answered = 0;
   una = e.sending.una;
   sent = e.sending.sent;
   edge = e.sending.edge;
@@ -40,8 +34,6 @@ point_of e = record {
   syn_acked = e.sending.syn_acked;
   interval = e.sending.interval;
   rest = e.sending.rest;
-  end_ticks = 0;
-  reset = false;
 }
 
 number_back : (irs k : ℕ) → irs < 2 ^ 32 → k ≤ 2 ^ 24 → irs ≡ ((irs + 2 ^ 32 - k) % 2 ^ 32 + k) % 2 ^ 32

@@ -4,46 +4,31 @@
 -- is the bytes written, and one more once the user has closed.
 use Rattle.std.specs.Prelude.{◌≡◌, ℕ, Bool, true, false, pos, ◌+◌, ◌-◌, ◌*◌, ◌^◌, ◌<◌, ◌≤◌, ◌+ℤ◌, ◌-ℤ◌, ◌≤ℤ◌, ◌==◌, ◌&&◌, ◌||◌, not, nat_lt, int_lt, int_le, max, min, nat_abs, List, ◌++◌, length, take, drop, if◌then◌else◌}
 use Rattle.seq_arith.specs.Number.{offset_of}
-use Rattle.seq_arith.specs.Arrival.{int_eq, is_acceptable, below, una_after, updates_window}
+use Rattle.seq_arith.specs.Arrival.{int_eq, is_acceptable_or_at_edge, is_usable, una_after, updates_window}
 use Rattle.seq_arith.specs.Packet.{Segment, has_syn, has_rst, has_ack}
 use Rattle.seq_arith.specs.Offset.{one_if, text_of, fin_of, length_of}
 use Rattle.tcp_buffers.specs.Near.{IsNearFirst}
-use Rattle.tcp_endpoint.specs.Receiving.{Receiving, taken, next, receive_edge, announced_edge}
+use Rattle.tcp_endpoint.specs.Receiving.{Receiving, taken, next, announced_edge, with_segment}
 use Rattle.tcp_endpoint.specs.Sending.{Sending, target}
 use Rattle.tcp_endpoint.specs.Tcb.{Tcb}
 use Rattle.tcp_endpoint.specs.Arrival.{first, ack_at}
 
--- Taken: a segment counts where it has ACK and neither SYN nor RST, is acceptable by the next number and the announced edge, and, where no
--- acknowledgement has counted yet, acknowledges the SYN
+-- Taken: acceptable by the next number and the announced edge, or at that edge, ..
 abbrev pub accepts : Tcb → Segment → Bool
-accepts e p = is_acceptable (next e.receiving) (announced_edge e.receiving - next e.receiving) (first e p) (length_of p)
+accepts e p = is_acceptable_or_at_edge (next e.receiving) (announced_edge e.receiving - next e.receiving) (first e p) (length_of p)
 
+-- .. or at the next number while the window is zero
+abbrev pub uses : Tcb → Segment → Bool
+uses e p = is_usable (next e.receiving) (announced_edge e.receiving - next e.receiving) (first e p) (length_of p)
+
+-- a segment counts where it has ACK and neither SYN nor RST, is used by its place, and, where no acknowledgement has counted yet, acknowledges the
+-- SYN
 abbrev pub counts : Tcb → Segment → Bool
-counts e p = has_ack p && not (has_syn p) && not (has_rst p) && accepts e p && (e.sending.syn_acked || int_le (pos 0) (ack_at e p))
+counts e p = has_ack p && not (has_syn p) && not (has_rst p) && uses e p && (e.sending.syn_acked || int_le (pos 0) (ack_at e p))
 
--- its text and FIN are looked at: it counts, no FIN was taken before, and it leaves no gap
-abbrev pub continues : Tcb → Segment → Bool
-continues e p = counts e p && not e.receiving.fin && int_le (first e p) (pos (taken e.receiving))
-
--- Taken: the text from the end of the bytes taken up to the receive edge
-abbrev pub unread_after : Tcb → Segment → List ℕ
-unread_after e p =
-    if continues e p
-    then e.receiving.unread ++ take (receive_edge e.receiving - taken e.receiving) (drop (below (taken e.receiving) (first e p)) (text_of p))
-    else e.receiving.unread
-
--- the bytes taken then
-abbrev pub taken_after : Tcb → Segment → ℕ
-taken_after e p = e.receiving.read + length (unread_after e p)
-
--- Taken: the FIN, where it then stands at the end of the bytes taken and below the receive edge
-abbrev pub takes_fin : Tcb → Segment → Bool
-takes_fin e p =
-    continues e p && fin_of p && int_eq (first e p +ℤ pos (length (text_of p))) (pos (taken_after e p)) && nat_lt (taken_after e p) (receive_edge e.receiving)
-
--- nothing else changes what is taken
+-- Taken: what the text and the FIN of a segment that counts add. Nothing else changes what is taken
 unfoldable pub taken_by : Tcb → Segment → Receiving
-taken_by e p = record e.receiving { unread = unread_after e p; fin = e.receiving.fin || takes_fin e p }
+taken_by e p = if counts e p then with_segment e.receiving (first e p) (text_of p) (fin_of p) else e.receiving
 
 -- Sending: the acknowledgement of a segment that counts is used where it names an offset of the own stream
 abbrev pub acknowledges : Tcb → Segment → Bool

@@ -4,14 +4,18 @@ use Rattle.std.specs.Prelude.{ℕ, ◌+◌, max, min, length}
 use Rattle.ft_model.specs.Offset.{one_if}
 use Rattle.ft_model.specs.Point.{Point}
 use Rattle.ft_model.specs.News.{News}
-use Rattle.ft_model.specs.News.News.{Logged}
+use Rattle.ft_model.specs.News.News.{Comes, Logged, Ticks, Begins}
 
 -- Answered: the units known to be logged never fall
 unfoldable pub answered_after : News → Point → ℕ
 answered_after (Logged kept) p = max p.answered (kept.length + one_if kept.fin)
-answered_after _ p = p.answered
+answered_after (Comes segment) p = p.answered
+answered_after Ticks p = p.answered
+answered_after Begins p = p.answered
 
 -- .. nor does the count of answered reads, which is at most that of the reads made before the turn
 unfoldable pub reads_answered_after : News → Point → ℕ
 reads_answered_after (Logged kept) p = max p.reads_answered (min kept.reads (length p.lengths))
-reads_answered_after _ p = p.reads_answered
+reads_answered_after (Comes segment) p = p.reads_answered
+reads_answered_after Ticks p = p.reads_answered
+reads_answered_after Begins p = p.reads_answered

@@ -3,7 +3,8 @@ use Rattle.std.specs.Prelude.{◌≡◌, ℕ, ℤ, Bool, true, false, pos, ◌+�
 use Rattle.ft_io.specs.declared.Addr.{Addr}
 use Rattle.ft_io.specs.declared.Key.{Key}
 use Rattle.seq_arith.specs.Number.{number_at}
-use Rattle.seq_arith.specs.Arrival.{int_eq, is_acceptable, below}
+use Rattle.seq_arith.specs.Arrival.{int_eq, is_acceptable, is_usable}
+use Rattle.seq_arith.specs.Coming.{Came, comes}
 use Rattle.seq_arith.specs.Packet.{Segment, has_syn, has_rst, has_ack}
 use Rattle.ft_model.specs.Offset.{first_of, ack_of, text_of, fin_of, length_of, one_if}
 use Rattle.ft_model.specs.declared.phase.Phase.{Phase}
@@ -191,7 +192,11 @@ move_asked (events.Send client from len) = Some (client, Text from len)
 move_asked (events.Fin client) = Some (client, Fin)
 move_asked (events.Ack client window) = Some (client, Acknowledge)
 move_asked (events.Reset client) = Some (client, Rst)
-move_asked _ = None
+move_asked (events.Boot boot isn) = None
+move_asked events.Crash = None
+move_asked events.Tick = None
+move_asked (events.Deliver packet) = None
+move_asked (events.Flip packet bit) = None
 
 -- the client alone, and the move alone
 abbrev pub mover_of : Event → Option ℕ
@@ -206,7 +211,12 @@ window_of client (events.Begin number window) = window
 window_of client (events.Ack number window) = window
 window_of client (events.Send number from len) = min 65535 (client.edge - length client.accepted)
 window_of client (events.Fin number) = min 65535 (client.edge - length client.accepted)
-window_of client _ = 0
+window_of client (events.Reset number) = 0
+window_of client (events.Boot boot isn) = 0
+window_of client events.Crash = 0
+window_of client events.Tick = 0
+window_of client (events.Deliver packet) = 0
+window_of client (events.Flip packet bit) = 0
 
 -- why the client's state doesn't allow the move
 abbrev pub refusal_of_move : Client → Move → Option EventWhy
@@ -226,36 +236,33 @@ opened_by client segment =
     then (if has_rst segment then record client { phase = Reset } else (if has_syn segment then record client { phase = Established; sisn = segment.head.seq } else client))
     else client
 
--- text that continues what is accepted is accepted up to the right edge; once the server's FIN is, no text is any more
-abbrev pub with_text : Client → ℤ → List ℕ → Client
-with_text client first text =
-    if is_ended client.phase || int_lt (pos (length client.accepted)) first
-    then client
-    else record client { accepted = client.accepted ++ take (client.edge - length client.accepted) (drop (below (length client.accepted) first) text) }
-
--- a FIN at the next number, below the right edge, ends the server's stream; `behind` is the offset behind the text
-abbrev pub with_fin : Client → ℤ → Bool → Client
-with_fin client behind fin =
-    if fin && not (is_ended client.phase) && int_eq behind (pos (length client.accepted)) && nat_lt (length client.accepted) client.edge
-    then record client { phase = Ended }
-    else client
+-- the acknowledgement of a segment may be used: a scripted client goes by the four cases of TCP alone. A live one also takes what is at its right edge, and
+-- uses what a window of zero allows
+abbrev pub may_use : Client → Segment → Bool
+may_use client segment =
+    if is_live client.kind
+    then is_usable (next_of client) (room_of client) (first_of client.sisn segment) (length_of segment)
+    else is_acceptable (next_of client) (room_of client) (first_of client.sisn segment) (length_of segment)
 
 abbrev pub with_ack : Client → ℤ → Client
 with_ack client ack = record client { acknowledged = if int_lt (pos client.acknowledged) ack then nat_abs ack else client.acknowledged }
 
--- a segment with ACK that is acceptable, in an open connection. One that acknowledges what was not sent is dropped
+-- what a segment adds to the server's stream is accepted, and the server's FIN ends it
+abbrev pub with_added : Client → Came → Client
+with_added client came = record client { accepted = client.accepted ++ came.added; phase = if came.fin then Ended else client.phase }
+
+abbrev pub came : Client → Segment → Came
+came client segment = comes (length client.accepted) client.edge (is_ended client.phase) (first_of client.sisn segment) (text_of segment) (fin_of segment)
+
+-- a segment with ACK that may be used, in an open connection. One that acknowledges what was not sent is dropped
 abbrev pub used : Client → Segment → Client
 used client segment =
-    if int_lt (pos client.sent) (ack_of client.isn segment)
-    then client
-    else with_fin
-    (with_text (with_ack client (ack_of client.isn segment)) (first_of client.sisn segment) (text_of segment))
-    (first_of client.sisn segment +ℤ pos (length (text_of segment))) (fin_of segment)
+    if int_lt (pos client.sent) (ack_of client.isn segment) then client else with_added (with_ack client (ack_of client.isn segment)) (came client segment)
 
 -- RFC 9293, 3.10.7.4, as far as a client that never answers goes: acceptability, RST at exactly the next number, SYN, ACK
 abbrev pub arrived : Client → Segment → Client
 arrived client segment =
-    if is_acceptable (next_of client) (room_of client) (first_of client.sisn segment) (length_of segment)
+    if may_use client segment
     then (if has_rst segment
     then (if int_eq (first_of client.sisn segment) (pos (next_of client)) then record client { phase = Reset } else client)
     else (if has_syn segment || not (has_ack segment) then client else used client segment))

@@ -8,7 +8,7 @@ use Rattle.seq_arith.specs.Message.Body.{DataMsg}
 use Rattle.ft_model.specs.Offset.{first_of, text_of, fin_of}
 use Rattle.ft_model.specs.Point.{Point}
 use Rattle.ft_model.specs.News.{News}
-use Rattle.ft_model.specs.News.News.{Comes}
+use Rattle.ft_model.specs.News.News.{Comes, Logged, Ticks, Begins}
 use Rattle.ft_model.specs.Taken.{end_of}
 
 -- an offset of the stream; a segment that begins before its first byte, as a retransmission may, counts from there
@@ -41,4 +41,6 @@ unfoldable pub copies : News → Point → Point → List Body
 copies (Comes segment) before after =
     if nat_lt 0 (length (copied_text after segment)) || copies_fin after segment then DataMsg (copied_part after segment) ∷ []
     else (if nat_lt before.una after.una then DataMsg (una_part after) ∷ [] else [])
-copies _ before after = []
+copies (Logged kept) before after = []
+copies Ticks before after = []
+copies Begins before after = []

@@ -8,13 +8,15 @@ use Rattle.server_trait.specs.Service.{Machine}
 use Rattle.ft_model.specs.Offset.{first_of}
 use Rattle.ft_model.specs.Point.{Point, taken_units, acknowledgement, is_over}
 use Rattle.ft_model.specs.News.{News}
-use Rattle.ft_model.specs.News.News.{Comes}
+use Rattle.ft_model.specs.News.News.{Comes, Logged, Ticks, Begins}
 use Rattle.ft_model.specs.Timer.{is_tick}
 
 -- RFC 5961, 3.2: only a RST at exactly the next number resets, in every state
 unfoldable pub reset_after : News → Point → Bool
 reset_after (Comes segment) p = p.reset || (has_rst segment && int_eq (first_of p.cisn segment) (pos (taken_units p)))
-reset_after _ p = p.reset
+reset_after (Logged kept) p = p.reset
+reset_after Ticks p = p.reset
+reset_after Begins p = p.reset
 
 -- an end tick: the connection is over, and all that is taken is known to be logged
 abbrev pub is_end_tick : {State : Type 0} → Machine State → News → Point → Bool

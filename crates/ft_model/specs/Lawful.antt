@@ -15,7 +15,7 @@ use Rattle.ft_model.specs.News.News.{Begins}
 use Rattle.ft_model.specs.Connection.{told_by}
 use Rattle.ft_model.specs.Restart.{Fetched, Wanted, wanted, question, fetched_after, holding_segment, live_entry, entry_in, is_whole, point_of, IsSound}
 use Rattle.ft_model.specs.Node.{Node, Place, Stage, Input, booted, is_for}
-use Rattle.ft_model.specs.Node.Place.{Lives, Ended}
+use Rattle.ft_model.specs.Node.Place.{Opens, Lives, Ended}
 use Rattle.ft_model.specs.Node.Stage.{Asking, Fetching, Serving, Fenced}
 use Rattle.ft_model.specs.Node.Input.{Packet_comes, Message_comes, Noise_comes, Tick_comes}
 use Rattle.ft_model.specs.Serving.{Stays, LivesOn, AllGo, newcomers, ServingTurn}
@@ -85,7 +85,8 @@ abbrev pub StageTurn : {State : Type 0} → Machine State → Node → Stage →
 StageTurn service node Asking Tick_comes after sent = (after ≡ Asking) × (sent ≡ hello node)
 StageTurn service node Asking (Message_comes message) after sent =
     MatchOption (count_told node message) (Rests Asking after sent) (λ count. Fetches service node count [] after sent)
-StageTurn service node Asking _ after sent = Rests Asking after sent
+StageTurn service node Asking (Packet_comes segment) after sent = Rests Asking after sent
+StageTurn service node Asking Noise_comes after sent = Rests Asking after sent
 StageTurn service node (Fetching count fetched) Tick_comes after sent = (after ≡ Fetching count fetched) × (sent ≡ asked node (wanted count fetched))
 StageTurn service node (Fetching count fetched) (Message_comes message) after sent =
     MatchOption (fetched_then node message count fetched) (Rests (Fetching count fetched) after sent) (λ more. Fetches service node count more after sent)
@@ -102,7 +103,9 @@ newer_than boot _ = None
 -- a Stale of the server's own boot that names a larger one
 abbrev pub fence : Node → Input → Option ℕ
 fence node (Message_comes message) = if message.boot == node.boot then newer_than node.boot message.body else None
-fence node _ = None
+fence node (Packet_comes segment) = None
+fence node Noise_comes = None
+fence node Tick_comes = None
 
 abbrev pub NodeTurn : {State : Type 0} → Machine State → Node → Input → Option ℕ → Stage → List Packet → Type 0
 NodeTurn service node input (Some newer) after sent = (after ≡ Fenced newer) × (sent ≡ [])
@@ -139,18 +142,23 @@ IsLawful service first (turn ∷ earlier) = IsLawful service first earlier × La
 abbrev pub Lawful : {State : Type 0} → Machine State → Addr → (boot isn : ℕ) → List Packet → List Turn → Type 0
 Lawful service server boot isn at_boot turns = (at_boot ≡ hello (booted server boot isn)) × IsLawful service (booted server boot isn) turns
 
--- the premises of a lawful process: packets to its live connections are near, ..
-abbrev pub IsNearTo : Segment → Place → Type 0
-IsNearTo segment (Lives p) = key_eq (source_of segment) p.key ≡ true → IsNear p.cisn p.sisn segment
-IsNearTo segment _ = Unit {0}
+-- the premises of a lawful process: a packet for this server that comes from the client of a live connection is near to that connection, ..
+abbrev pub IsNearTo : Addr → Segment → Place → Type 0
+IsNearTo server segment (Opens numbers) = Unit {0}
+IsNearTo server segment (Lives p) = is_for server segment ≡ true → key_eq (source_of segment) p.key ≡ true → IsNear p.cisn p.sisn segment
+IsNearTo server segment (Ended key) = Unit {0}
 
-abbrev pub AreNear : Segment → Stage → Type 0
-AreNear segment (Serving opened places) = AllByRecursion (IsNearTo segment) places
-AreNear segment _ = Unit {0}
+abbrev pub AreNear : Addr → Segment → Stage → Type 0
+AreNear server segment Asking = Unit {0}
+AreNear server segment (Fetching count fetched) = Unit {0}
+AreNear server segment (Serving opened places) = AllByRecursion (IsNearTo server segment) places
+AreNear server segment (Fenced newer) = Unit {0}
 
-abbrev pub IsNearInput : Input → Stage → Type 0
-IsNearInput (Packet_comes segment) stage = AreNear segment stage
-IsNearInput _ stage = Unit {0}
+abbrev pub IsNearInput : Addr → Input → Stage → Type 0
+IsNearInput server (Packet_comes segment) stage = AreNear server segment stage
+IsNearInput server (Message_comes message) stage = Unit {0}
+IsNearInput server Noise_comes stage = Unit {0}
+IsNearInput server Tick_comes stage = Unit {0}
 
 -- .. and the entries that it has fetched whole are sound. One of which something is missing is no entry of the log yet, and one that is done isn't
 -- replayed
@@ -159,4 +167,9 @@ AreSound service fetched = AllByRecursion (λ f. f.head.done ≡ false → is_wh
 
 abbrev pub IsSoundInput : {State : Type 0} → Machine State → Node → Input → Stage → Type 0
 IsSoundInput service node (Message_comes message) (Fetching count fetched) = IfSome (fetched_then node message count fetched) (AreSound service)
-IsSoundInput service node _ _ = Unit {0}
+IsSoundInput service node (Message_comes message) Asking = Unit {0}
+IsSoundInput service node (Message_comes message) (Serving opened places) = Unit {0}
+IsSoundInput service node (Message_comes message) (Fenced newer) = Unit {0}
+IsSoundInput service node (Packet_comes segment) stage = Unit {0}
+IsSoundInput service node Noise_comes stage = Unit {0}
+IsSoundInput service node Tick_comes stage = Unit {0}

@@ -10,7 +10,7 @@ use Rattle.ft_model.specs.Wire.{wire_of}
 use Rattle.ft_model.specs.Schedule.{kind_of, clients_of}
 use Rattle.ft_model.specs.World.{World, Moment, client_at, with_client, world_after, events_of, Joint}
 use Rattle.ft_model.specs.declared.event.Event.{Event}
-use Rattle.ft_model.specs.declared.event.Event.TheVariants.{Boot, Crash, Tick, Deliver, Flip}
+use Rattle.ft_model.specs.declared.event.Event.TheVariants.{Boot, Crash, Tick, Deliver, Flip, Begin, Send, Fin, Ack, Reset}
 use Rattle.ft_model.specs.declared.event.EventWhy.{EventWhy}
 use Rattle.ft_model.specs.declared.event.EventWhy.TheVariants as why
 use Rattle.ft_model.specs.declared.schedule.Schedule.{Schedule}
@@ -41,7 +41,11 @@ refusal w Crash = if is_some w.node then None else Some why.Down
 refusal w Tick = if is_some w.node then None else Some why.Down
 refusal w (Deliver number) = if is_some (packet_at w.packets number) then None else Some why.Packet
 refusal w (Flip number bit) = refusal_of_flip (packet_at w.packets number) bit
-refusal w event = refusal_of_asked w.clients (move_asked event)
+refusal w (Begin client window) = refusal_of_asked w.clients (move_asked (Begin client window))
+refusal w (Send client from len) = refusal_of_asked w.clients (move_asked (Send client from len))
+refusal w (Fin client) = refusal_of_asked w.clients (move_asked (Fin client))
+refusal w (Ack client window) = refusal_of_asked w.clients (move_asked (Ack client window))
+refusal w (Reset client) = refusal_of_asked w.clients (move_asked (Reset client))
 
 -- a client makes the move that the event asks of it, with the scripted client's window: it sends that move's packet, and stands as after it
 abbrev pub IsScripted : World → Event → List Packet → World → Type 0

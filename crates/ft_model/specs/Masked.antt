@@ -11,7 +11,7 @@ use Rattle.ft_model.specs.Client.{Client, is_ended}
 use Rattle.ft_model.specs.Log.{Entry, Log}
 use Rattle.ft_model.specs.Growth.{IsPrefix, logged_lengths, logged_units}
 use Rattle.ft_model.specs.Network.{Packet, destination_of}
-use Rattle.ft_model.specs.Network.Packet.{To_client}
+use Rattle.ft_model.specs.Network.Packet.{To_server, To_client, To_logger, From_logger}
 use Rattle.ft_model.specs.Point.{Point, acknowledgement}
 use Rattle.ft_model.specs.News.News.{Begins}
 use Rattle.ft_model.specs.Connection.{LiveTurn}
@@ -35,7 +35,9 @@ abbrev pub AcknowledgesLogged : Log → List Client → Packet → Type 0
 AcknowledgesLogged log clients (To_client segment) =
     has_ack segment ≡ true → has_rst segment ≡ false
     → AllByRecursion (λ c. key_eq (destination_of segment) c.key ≡ true → ack_of c.isn segment ≤ℤ pos (logged_units c.key log)) clients
-AcknowledgesLogged log clients _ = Unit {0}
+AcknowledgesLogged log clients (To_server segment) = Unit {0}
+AcknowledgesLogged log clients (To_logger message) = Unit {0}
+AcknowledgesLogged log clients (From_logger message) = Unit {0}
 
 -- an entry's connection is live: it stood at the entry's point, and went on from there by the law of every turn
 pub record IsResumed {State : Type 0} (service : Machine State) (node : Node) (places : List Place) (entry : Entry) : Type 0 where
@@ -61,7 +63,9 @@ RestartIsExact service log _ _ = Unit {0}
 -- what a packet tells a client: its acknowledgement, if it is a segment with ACK and without RST to that client
 abbrev pub told_to : Key → Packet → Option ℕ
 told_to key (To_client segment) = if key_eq (destination_of segment) key && has_ack segment && not (has_rst segment) then Some segment.head.ack else None
-told_to key _ = None
+told_to key (To_server segment) = None
+told_to key (To_logger message) = None
+told_to key (From_logger message) = None
 
 abbrev pub or_before : Option ℕ → Option ℕ → Option ℕ
 or_before (Some later) before = Some later

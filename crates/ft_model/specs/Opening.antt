@@ -1,11 +1,11 @@
 -- The law Opening: how a connection comes to be (RFC 9293, 3.10.7.2; FT-TCP, INFOCOM 2001: the initial numbers are logged before the
 -- SYN-ACK leaves).
-use Rattle.std.specs.Prelude.{ℕ, Bool, false, pos, ◌+◌, ◌*◌, ◌%◌, ◌^◌, ◌&&◌, not, []}
+use Rattle.std.specs.Prelude.{ℕ, Bool, ◌+◌, ◌*◌, ◌%◌, ◌^◌, ◌&&◌, not}
 use Rattle.seq_arith.specs.Packet.{Segment, has_syn, has_rst, has_ack}
 use Rattle.seq_arith.specs.Message.{Numbers}
 pub use Rattle.seq_arith.specs.Packet.{segment_size}
 use Rattle.ft_model.specs.Network.{source_of}
-use Rattle.ft_model.specs.Point.{Point}
+use Rattle.ft_model.specs.Point.{Point, blank_point}
 
 -- a SYN that opens: without ACK and RST
 abbrev pub is_syn : Segment → Bool
@@ -21,25 +21,4 @@ numbers_for isn n syn = record { key = source_of syn; cisn = syn.head.seq; sisn 
 
 -- the point of a new connection, with the numbers that the log keeps: nothing is taken, and nothing may be sent yet
 abbrev pub point_opened : Numbers → Point
-point_opened numbers = record {
-  key = numbers.key;
-  cisn = numbers.cisn;
-  sisn = numbers.sisn;
-  mss = numbers.mss;
-  fetched = 0;
-  taken = [];
-  fin = false;
-  answered = 0;
-  lengths = [];
-  reads_answered = 0;
-  una = 0;
-  sent = 0;
-  edge = 0;
-  wl1 = pos 0;
-  wl2 = 0;
-  syn_acked = false;
-  interval = 1;
-  rest = 0;
-  end_ticks = 0;
-  reset = false;
-}
+point_opened numbers = blank_point numbers.key numbers.cisn numbers.sisn numbers.mss

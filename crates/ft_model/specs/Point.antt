@@ -1,7 +1,7 @@
 -- The point of a live connection: all that one incarnation of the server knows of it, and what is computed from that (RFC 9293, 3.3.1;
 -- FT-TCP, INFOCOM 2001: the stable number and the delayed output). Offsets and counts are whole numbers without wrap. Units count
 -- bytes, and one more where the FIN of that side is counted.
-use Rattle.std.specs.Prelude.{ℕ, ℤ, Bool, ◌+◌, ◌-◌, ◌^◌, ◌&&◌, nat_lt, max, min, sum, List, length, take}
+use Rattle.std.specs.Prelude.{ℕ, ℤ, Bool, false, pos, ◌+◌, ◌-◌, ◌^◌, ◌&&◌, nat_lt, max, min, sum, List, [], length, take}
 use Rattle.ft_io.specs.declared.Key.{Key}
 use Rattle.server_trait.specs.Service.{Machine, Run, reference}
 use Rattle.ft_model.specs.Offset.{one_if}
@@ -27,6 +27,31 @@ pub record Point : Type 0 where
   pub rest : ℕ  -- the ticks until the timer expires; 0 while it doesn't run
   pub end_ticks : ℕ  -- the end ticks counted so far, up to four
   pub reset : Bool  -- whether the client reset the connection
+
+-- a point of a connection in which nothing has happened yet: each other one is said by what differs from it
+abbrev pub blank_point : Key → (cisn sisn mss : ℕ) → Point
+blank_point key cisn sisn mss = record {
+  key = key;
+  cisn = cisn;
+  sisn = sisn;
+  mss = mss;
+  fetched = 0;
+  taken = [];
+  fin = false;
+  answered = 0;
+  lengths = [];
+  reads_answered = 0;
+  una = 0;
+  sent = 0;
+  edge = 0;
+  wl1 = pos 0;
+  wl2 = 0;
+  syn_acked = false;
+  interval = 1;
+  rest = 0;
+  end_ticks = 0;
+  reset = false;
+}
 
 -- RCV.NXT: the units taken
 abbrev pub taken_units : Point → ℕ

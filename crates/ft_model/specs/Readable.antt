@@ -6,7 +6,7 @@ use Rattle.ft_io.specs.declared.Addr.{Addr}
 use Rattle.ft_io.specs.declared.Key.{Key}
 use Rattle.ft_model.specs.Client.{Client}
 use Rattle.ft_model.specs.Network.{Packet, source_of, destination_of}
-use Rattle.ft_model.specs.Network.Packet.{To_server, To_client}
+use Rattle.ft_model.specs.Network.Packet.{To_server, To_client, To_logger, From_logger}
 use Rattle.ft_model.specs.Wire.{HasWire}
 use Rattle.ft_model.specs.World.{Moment}
 use Rattle.ft_model.specs.Report.{number_of_client}
@@ -54,7 +54,8 @@ IsOf server key = (key.ip ≡ server.ip) × (key.port ≡ server.port)
 abbrev pub HasEnds : Addr → List Client → Packet → Type 0
 HasEnds server clients (To_server s) = IsKnown clients (source_of s) × IsOf server (destination_of s)
 HasEnds server clients (To_client s) = IsKnown clients (destination_of s) × IsOf server (source_of s)
-HasEnds server clients _ = Unit {0}
+HasEnds server clients (To_logger message) = Unit {0}
+HasEnds server clients (From_logger message) = Unit {0}
 
 -- a packet whose line tells all of it
 abbrev pub IsReadable : Addr → List Client → Packet → Type 0

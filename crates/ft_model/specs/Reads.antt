@@ -8,7 +8,7 @@ use Rattle.seq_arith.specs.Message.Body.{ReadMsg}
 use Rattle.server_trait.specs.Service.{Machine}
 use Rattle.ft_model.specs.Point.{Point, bytes_read, made, released}
 use Rattle.ft_model.specs.News.{News}
-use Rattle.ft_model.specs.News.News.{Ticks}
+use Rattle.ft_model.specs.News.News.{Comes, Logged, Ticks, Begins}
 
 -- how much there is to read: of the fetched bytes while any is left, and else of all bytes taken; a read has at most 2,048 bytes. When
 -- all are read and the FIN is taken, one read of length 0 follows
@@ -51,7 +51,9 @@ read_messages key index (n ∷ lengths) = ReadMsg key index n ∷ read_messages 
 -- the first read that is told in this turn: a new one, but at a tick the first unanswered one
 abbrev pub first_told : News → Point → Point → ℕ
 first_told Ticks before after = after.reads_answered
-first_told _ before after = length before.lengths
+first_told (Comes segment) before after = length before.lengths
+first_told (Logged kept) before after = length before.lengths
+first_told Begins before after = length before.lengths
 
 -- Reads: a Read goes out in its own turn, and all unanswered ones go out again at each tick, by index
 unfoldable pub reads_told : News → Point → Point → List Body

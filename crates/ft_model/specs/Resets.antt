@@ -4,9 +4,11 @@ use Rattle.std.specs.Prelude.{◌≡◌, IfSome, true}
 use Rattle.seq_arith.specs.Packet.{has_rst}
 use Rattle.ft_model.specs.Log.{Log, entry_of}
 use Rattle.ft_model.specs.Network.{Packet, destination_of}
-use Rattle.ft_model.specs.Network.Packet.{To_client}
+use Rattle.ft_model.specs.Network.Packet.{To_server, To_client, To_logger, From_logger}
 
 -- a RST goes to no client whose entry is in the log and not done
 abbrev pub ResetsNoLogged : Log → Packet → Type 0
 ResetsNoLogged log (To_client segment) = has_rst segment ≡ true → IfSome (entry_of (destination_of segment) log) (λ e. e.done ≡ true)
-ResetsNoLogged log _ = Unit {0}
+ResetsNoLogged log (To_server segment) = Unit {0}
+ResetsNoLogged log (To_logger message) = Unit {0}
+ResetsNoLogged log (From_logger message) = Unit {0}

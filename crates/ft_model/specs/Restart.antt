@@ -13,7 +13,7 @@ use Rattle.seq_arith.specs.Message.Body.{ListMsg, EntryMsg, BytesMsg, PartMsg, C
 use Rattle.server_trait.specs.Service.{Machine, Run, reference}
 use Rattle.ft_model.specs.Offset.{one_if}
 use Rattle.ft_model.specs.Log.{Entry, may_follow}
-use Rattle.ft_model.specs.Point.{Point}
+use Rattle.ft_model.specs.Point.{Point, blank_point}
 
 -- an entry of the log, as far as it is fetched. Of one that is done the head alone is fetched
 pub record Fetched : Type 0 where
@@ -134,11 +134,7 @@ resumed_at service e = min e.acknowledged (length (run_of service e).output)
 
 -- The point of an entry: all of it is taken, known to be logged and read as before, and one acknowledgement has counted, with window 0
 abbrev pub point_of : {State : Type 0} → Machine State → Entry → Point
-point_of service e = record {
-  key = e.key;
-  cisn = e.cisn;
-  sisn = e.sisn;
-  mss = e.mss;
+point_of service e = record (blank_point e.key e.cisn e.sisn e.mss) {
   fetched = length e.bytes;
   taken = e.bytes;
   fin = e.fin;
@@ -151,10 +147,6 @@ point_of service e = record {
   wl1 = pos (length e.bytes);
   wl2 = resumed_at service e;
   syn_acked = true;
-  interval = 1;
-  rest = 0;
-  end_ticks = 0;
-  reset = false;
 }
 
 -- an entry is sound: a server that keeps its limits can have logged it

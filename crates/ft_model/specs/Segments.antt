@@ -8,7 +8,7 @@ use Rattle.seq_arith.specs.Packet.{Head, Segment}
 use Rattle.server_trait.specs.Service.{Machine}
 use Rattle.ft_model.specs.Point.{Point, taken_units, acknowledgement, announced_edge, answered_run, released}
 use Rattle.ft_model.specs.News.{News}
-use Rattle.ft_model.specs.News.News.{Comes, Begins}
+use Rattle.ft_model.specs.News.News.{Comes, Logged, Ticks, Begins}
 use Rattle.ft_model.specs.Opening.{is_syn}
 use Rattle.ft_model.specs.Sending.{sent_at_once}
 use Rattle.ft_model.specs.Timer.{expires}
@@ -70,7 +70,8 @@ repeats_syn p segment = is_syn segment && segment.head.seq == p.cisn && taken_un
 abbrev pub opens_with : News → Point → Bool
 opens_with (Comes segment) before = repeats_syn before segment
 opens_with Begins before = not before.syn_acked
-opens_with _ before = false
+opens_with (Logged kept) before = false
+opens_with Ticks before = false
 
 abbrev pub syn_acks : Addr → News → Point → Point → List Segment
 syn_acks server news before after = if opens_with news before then syn_ack server after ∷ [] else []

@@ -7,7 +7,7 @@ use Rattle.server_trait.specs.Service.{Machine}
 use Rattle.ft_model.specs.Offset.{first_of, ack_of, one_if}
 use Rattle.ft_model.specs.Point.{Point, target}
 use Rattle.ft_model.specs.News.{News}
-use Rattle.ft_model.specs.News.News.{Comes}
+use Rattle.ft_model.specs.News.News.{Comes, Logged, Ticks, Begins}
 use Rattle.ft_model.specs.Taken.{counts}
 use Rattle.ft_model.specs.Timer.{probes}
 
@@ -31,27 +31,37 @@ moves_edge p segment =
 
 unfoldable pub syn_acked_after : News → Point → Bool
 syn_acked_after (Comes segment) p = p.syn_acked || counts p segment
-syn_acked_after _ p = p.syn_acked
+syn_acked_after (Logged kept) p = p.syn_acked
+syn_acked_after Ticks p = p.syn_acked
+syn_acked_after Begins p = p.syn_acked
 
 -- SND.UNA
 unfoldable pub acknowledged_after : News → Point → ℕ
 acknowledged_after (Comes segment) p = if acknowledges p segment then una_after p.una (acknowledged_by p segment) else p.una
-acknowledged_after _ p = p.una
+acknowledged_after (Logged kept) p = p.una
+acknowledged_after Ticks p = p.una
+acknowledged_after Begins p = p.una
 
 -- the right edge is absolute: it stays where only SND.UNA moves
 unfoldable pub edge_after : News → Point → ℕ
 edge_after (Comes segment) p = if moves_edge p segment then acknowledged_by p segment + window_by p segment else p.edge
-edge_after _ p = p.edge
+edge_after (Logged kept) p = p.edge
+edge_after Ticks p = p.edge
+edge_after Begins p = p.edge
 
 -- SND.WL1
 unfoldable pub wl1_after : News → Point → ℤ
 wl1_after (Comes segment) p = if moves_edge p segment then first_of p.cisn segment else p.wl1
-wl1_after _ p = p.wl1
+wl1_after (Logged kept) p = p.wl1
+wl1_after Ticks p = p.wl1
+wl1_after Begins p = p.wl1
 
 -- SND.WL2
 unfoldable pub wl2_after : News → Point → ℕ
 wl2_after (Comes segment) p = if moves_edge p segment then acknowledged_by p segment else p.wl2
-wl2_after _ p = p.wl2
+wl2_after (Logged kept) p = p.wl2
+wl2_after Ticks p = p.wl2
+wl2_after Begins p = p.wl2
 
 -- what is sent at once: all that may leave, up to the right edge, and never less than before
 unfoldable pub sent_at_once : {State : Type 0} → Machine State → Point → Point → ℕ

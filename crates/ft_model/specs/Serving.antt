@@ -45,7 +45,10 @@ Meets service node (Packet_comes segment) (Lives p) now sent = LivesOn service n
 Meets service node (Packet_comes segment) (Ended key) now sent = (now ≡ Ended key ∷ []) × (sent ≡ map To_client (as_closed node.server segment))
 Meets service node (Message_comes message) place now sent = Hears service node message.body place now sent
 Meets service node Tick_comes (Lives p) now sent = LivesOn service node Ticks p now sent
-Meets service node _ place now sent = Stays place now sent
+Meets service node (Packet_comes segment) (Opens numbers) now sent = Stays (Opens numbers) now sent
+Meets service node Tick_comes (Opens numbers) now sent = Stays (Opens numbers) now sent
+Meets service node Tick_comes (Ended key) now sent = Stays (Ended key) now sent
+Meets service node Noise_comes place now sent = Stays place now sent
 
 -- a message to a known connection names its key
 abbrev pub names : Body → Key → Bool
@@ -82,19 +85,24 @@ is_strange node segment places = is_for node.server segment && not (is_known (so
 abbrev pub newcomers : Node → Input → (opened : ℕ) → List Place → List Place
 newcomers node (Packet_comes segment) opened places =
     if is_strange node segment places && is_syn segment && nat_lt (pending_count places) 64 then Opens (numbers_for node.isn opened segment) ∷ [] else []
-newcomers node _ opened places = []
+newcomers node (Message_comes message) opened places = []
+newcomers node Noise_comes opened places = []
+newcomers node Tick_comes opened places = []
 
 -- Reset and end: an acknowledgement of an unknown key is refused
 abbrev pub refusals : Node → Input → List Place → List Packet
 refusals node (Packet_comes segment) places = if is_strange node segment places then map To_client (as_listen node.server segment) else []
-refusals node _ places = []
+refusals node (Message_comes message) places = []
+refusals node Noise_comes places = []
+refusals node Tick_comes places = []
 
 -- Opening: a pending opening is asked for at its SYN, at each repetition of it, and at each tick
 abbrev pub is_asked : Node → Input → Numbers → Bool
 is_asked node (Packet_comes segment) numbers =
     is_for node.server segment && is_syn segment && key_eq (source_of segment) numbers.key && segment.head.seq == numbers.cisn
 is_asked node Tick_comes numbers = true
-is_asked node _ numbers = false
+is_asked node (Message_comes message) numbers = false
+is_asked node Noise_comes numbers = false
 
 abbrev pub opens_at : Node → Input → Place → List Packet
 opens_at node input (Opens numbers) = if is_asked node input numbers then told_by node.boot (OpenMsg numbers) ∷ [] else []

@@ -3,11 +3,13 @@ use Rattle.std.specs.Prelude.{ℕ, Bool, true, false, ◌-◌, ◌*◌, ◌==◌
 use Rattle.server_trait.specs.Service.{Machine}
 use Rattle.ft_model.specs.Point.{Point, target}
 use Rattle.ft_model.specs.News.{News}
-use Rattle.ft_model.specs.News.News.{Ticks}
+use Rattle.ft_model.specs.News.News.{Comes, Logged, Ticks, Begins}
 
 abbrev pub is_tick : News → Bool
 is_tick Ticks = true
-is_tick _ = false
+is_tick (Comes segment) = false
+is_tick (Logged kept) = false
+is_tick Begins = false
 
 -- the timer runs, and this tick is its last
 abbrev pub expires : News → Point → Bool

@@ -4,18 +4,22 @@ use Rattle.std.specs.Prelude.{◌≡◌, Bool, true, false, List}
 use Rattle.std.specs.List.{AllByRecursion, list_any}
 use Rattle.seq_arith.specs.Number.{number_at}
 use Rattle.ft_model.specs.Network.{Packet}
-use Rattle.ft_model.specs.Network.Packet.{To_client}
+use Rattle.ft_model.specs.Network.Packet.{To_server, To_client, To_logger, From_logger}
 use Rattle.ft_model.specs.Point.{Point, acknowledgement}
 use Rattle.ft_model.specs.Segments.{window}
 
 abbrev pub is_segment : Packet → Bool
 is_segment (To_client segment) = true
-is_segment _ = false
+is_segment (To_server segment) = false
+is_segment (To_logger message) = false
+is_segment (From_logger message) = false
 
 -- a segment to the client acknowledges what the point does, and announces its window
 abbrev pub Tells : Point → Packet → Type 0
 Tells p (To_client segment) = (segment.head.ack ≡ number_at p.cisn (acknowledgement p)) × (segment.head.window ≡ window p)
-Tells p _ = Unit {0}
+Tells p (To_server segment) = Unit {0}
+Tells p (To_logger message) = Unit {0}
+Tells p (From_logger message) = Unit {0}
 
 pub record IsTold (before after : Point) (sent : List Packet) : Type 0 where
   pub all : AllByRecursion (Tells after) sent

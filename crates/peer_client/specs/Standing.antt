@@ -166,9 +166,13 @@ IsBetween l c = IsWaiting l c ⊎ IsStanding l c
 abbrev pub IsDue : LiveState → Client → Type 0
 IsDue l c = Waits l c ⊎ (Stands l c ⊎ IsReset l c)
 
--- what comes acknowledges nothing far behind the client's stream
+-- a packet of the client's own connection
+abbrev pub is_for_client : Client → Segment → Bool
+is_for_client c segment = is_of (record { ip = c.key.ip; port = c.key.port }) c.server segment
+
+-- what comes from the client's server acknowledges nothing far behind the client's stream
 abbrev pub AcksNear : Client → Result Segment BadPacket → Type 0
-AcksNear c (Ok segment) = has_ack segment ≡ true → (pos 0 -ℤ pos (2 ^ 30)) ≤ℤ ack_of c.isn segment
+AcksNear c (Ok segment) = is_for_client c segment ≡ true → has_ack segment ≡ true → (pos 0 -ℤ pos (2 ^ 30)) ≤ℤ ack_of c.isn segment
 AcksNear c (Err bad) = Unit {0}
 
 -- an acknowledgement is a number of 32 bits

@@ -17,6 +17,24 @@ is_acceptable next window first len =
     then (if window == 0 then int_eq first (pos next) else lies_in next window first)
     else (if window == 0 then false else (lies_in next window first || lies_in next window (first +ℤ pos (len - 1))))
 
+-- a segment of length 0 at exactly the right edge, RCV.NXT + RCV.WND, where the window is open: so a sender whose window is full, and who has lost
+-- a segment, numbers its acknowledgements. The four cases leave it out
+unfoldable pub is_at_right_edge : ℕ → ℕ → ℤ → ℕ → Bool
+is_at_right_edge next window first len = len == 0 && nat_lt 0 window && int_eq first (pos (next + window))
+
+-- acceptable by the four cases, or at the right edge
+abbrev pub is_acceptable_or_at_edge : ℕ → ℕ → ℤ → ℕ → Bool
+is_acceptable_or_at_edge next window first len = is_acceptable next window first len || is_at_right_edge next window first len
+
+-- RFC 9293, 3.10.7.4, first check, special allowance: at a window of zero the acknowledgement and the window of a segment at exactly RCV.NXT are
+-- used, whatever its length
+unfoldable pub is_allowed_at_zero : ℕ → ℕ → ℤ → Bool
+is_allowed_at_zero next window first = window == 0 && int_eq first (pos next)
+
+-- the acknowledgement of such a segment is used
+abbrev pub is_usable : ℕ → ℕ → ℤ → ℕ → Bool
+is_usable next window first len = is_acceptable_or_at_edge next window first len || is_allowed_at_zero next window first
+
 -- how much of a text that begins at first lies before next
 abbrev pub below : ℕ → ℤ → ℕ
 below next (pos first) = next - first

@@ -1,5 +1,7 @@
 pub mod Number
 pub mod Arrival
+pub mod Coming
+pub mod Early
 pub mod Packet
 pub mod Offset
 pub mod Reset

@@ -1,6 +1,6 @@
 -- What a segment that arrives makes of an endpoint: the checks of RFC 9293, 3.10.7, in their order, one definition a check.
 use Rattle.std.specs.Prelude.{ℕ, ℤ, Bool, true, pos, ◌+◌, ◌%◌, ◌^◌, ◌&&◌, ◌||◌, not, nat_lt, int_lt, None, Some, if◌then◌else◌, ◌+ℤ◌, length, take}
-use Rattle.seq_arith.specs.Arrival.{int_eq, is_acceptable}
+use Rattle.seq_arith.specs.Arrival.{int_eq, is_acceptable_or_at_edge, is_allowed_at_zero}
 use Rattle.seq_arith.specs.Packet.{Segment, has_fin, has_syn, has_rst, has_ack}
 use Rattle.ft_io.specs.declared.Addr.{Addr}
 use Rattle.seq_arith.specs.Packet.{segment_size}
@@ -139,12 +139,18 @@ repeats_fin e p = fin_of p && int_eq (first e p +ℤ pos (length p.payload)) (po
 unfoldable pub waiting_again : Tcb → Segment → Tcb
 waiting_again e p = record e { wait = if is_time_wait e.name && repeats_fin e p then 4 else e.wait }
 
--- first check: an unacceptable segment is owed an answer, unless it is a RST
+-- acceptable: by the four cases, or at the right edge
+unfoldable pub accepts : Tcb → Segment → Bool
+accepts e p = is_acceptable_or_at_edge (next e.receiving) (window e.receiving) (first e p) (length_of p)
+
+-- special allowance: at a window of zero a segment at RCV.NXT is looked at further, in SYN-RECEIVED where it acknowledges the SYN. One with SYN or
+-- without ACK comes to the ACK that an unacceptable one is owed in either way, and so does text: none of it, and no FIN, lies below the edge
+unfoldable pub is_allowed : Tcb → Segment → Bool
+is_allowed e p = is_allowed_at_zero (next e.receiving) (window e.receiving) (first e p) && (e.sending.syn_acked || int_eq (ack_at e p) (pos 0))
+
+-- first check: a segment that is neither acceptable nor allowed is owed an answer, unless it is a RST
 unfoldable pub check_place : Tcb → Segment → Tcb
-check_place e p =
-    if is_acceptable (next e.receiving) (window e.receiving) (first e p) (length_of p)
-    then check_rst e p
-    else owing_if (not (has_rst p)) e
+check_place e p = if accepts e p || is_allowed e p then check_rst e p else owing_if (not (has_rst p)) e
 
 -- 3.10.7.4: SYN-RECEIVED and the synchronized states
 unfoldable pub in_others : Tcb → Segment → Tcb

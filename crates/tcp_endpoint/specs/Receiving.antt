@@ -1,7 +1,7 @@
 -- The receiving half of a connection, in offsets of the peer's stream: byte k has the offset k, and a FIN that is taken counts as one more
 -- (RFC 9293, 3.3.1, receive sequence variables, and 3.10.7.4, first, seventh and eighth check).
-use Rattle.std.specs.Prelude.{ℕ, ℤ, Bool, false, pos, ◌+◌, ◌-◌, ◌^◌, ◌≤◌, ◌+ℤ◌, ◌&&◌, ◌||◌, nat_lt, int_lt, min, List, [], ◌++◌, length, take, drop, if◌then◌else◌}
-use Rattle.seq_arith.specs.Arrival.{int_eq, below}
+use Rattle.std.specs.Prelude.{ℕ, ℤ, Bool, false, ◌+◌, ◌-◌, ◌^◌, ◌≤◌, min, List, [], ◌++◌, length, drop}
+use Rattle.seq_arith.specs.Coming.{Came, comes}
 use Rattle.seq_arith.specs.Offset.{one_if}
 
 pub record Receiving : Type 0 where
@@ -35,18 +35,16 @@ window r = receive_edge r - taken r
 abbrev pub receiving_up_to : ℕ → Receiving
 receiving_up_to limit = record { irs = 0; read = 0; unread = []; fin = false; limit = limit }
 
--- seventh check: the part of a text from RCV.NXT on is taken, up to the window's edge
-unfoldable pub with_text : Receiving → ℤ → List ℕ → Receiving
-with_text r first text = record r { unread = r.unread ++ take (window r) (drop (below (taken r) first) text) }
+-- what the text and the FIN of a segment add to the stream
+abbrev pub came : Receiving → ℤ → List ℕ → Bool → Came
+came r first text fin = comes (taken r) (receive_edge r) r.fin first text fin
 
--- eighth check: a FIN is taken where it stands at RCV.NXT, within the window
-unfoldable pub with_fin : Receiving → ℤ → Bool → Receiving
-with_fin r place fin = record r { fin = r.fin || (fin && int_eq place (pos (taken r)) && nat_lt (taken r) (receive_edge r)) }
+-- seventh and eighth check: both are taken
+unfoldable pub with_came : Receiving → Came → Receiving
+with_came r c = record r { unread = r.unread ++ c.added; fin = c.fin }
 
--- text and FIN of an acceptable segment: nothing of one that begins past RCV.NXT, and nothing behind the peer's FIN
-unfoldable pub with_segment : Receiving → ℤ → List ℕ → Bool → Receiving
-with_segment r first text fin =
-    if r.fin || int_lt (pos (taken r)) first then r else with_fin (with_text r first text) (first +ℤ pos (length text)) fin
+abbrev pub with_segment : Receiving → ℤ → List ℕ → Bool → Receiving
+with_segment r first text fin = with_came r (came r first text fin)
 
 -- the user reads so many bytes
 abbrev pub read_out : Receiving → ℕ → Receiving

@@ -1,7 +1,7 @@
 -- Where a connection stands in its two streams, as its parts tell it (RFC 9293, 3.3.1, and FT-TCP, INFOCOM 2001: the inner TCP's numbers are
 -- delta below the client's).
 use Rattle.std.specs.Prelude.{ℕ, Bool, true, false, pos, ◌+◌, ◌-◌, ◌%◌, ◌^◌, ◌&&◌, ◌||◌, not, nat_lt, int_lt, min, max, length, if◌then◌else◌}
-use Rattle.seq_arith.specs.Arrival.{int_eq, is_acceptable}
+use Rattle.seq_arith.specs.Arrival.{int_eq, is_acceptable_or_at_edge}
 use Rattle.seq_arith.specs.Number.{number_at, distance, offset_of}
 use Rattle.seq_arith.specs.Offset.{one_if, first_of, length_of}
 use Rattle.seq_arith.specs.Packet.{Segment, has_rst, has_syn, has_ack}
@@ -60,9 +60,9 @@ logged_units c = distance (number_at c.south.cisn c.south.answered) ((c.south.ci
 abbrev pub resets : {S : Type 0} → ConnState S → Segment → Bool
 resets c segment = has_rst segment && int_eq (first_of c.south.cisn segment) (pos (units_taken c))
 
--- RFC 9293, 3.10.7.4, first check
+-- RFC 9293, 3.10.7.4, first check: acceptable, or at the right edge
 abbrev pub accepts : {S : Type 0} → ConnState S → Segment → Bool
-accepts c segment = is_acceptable (units_taken c) (announced c - units_taken c) (first_of c.south.cisn segment) (length_of segment)
+accepts c segment = is_acceptable_or_at_edge (units_taken c) (announced c - units_taken c) (first_of c.south.cisn segment) (length_of segment)
 
 -- an answer is owed to an acceptable segment: a challenge ACK to a RST elsewhere than at the next number and to a SYN, and an ACK to what takes
 -- up numbers or begins past the next one ..

@@ -4,7 +4,7 @@ use Rattle.std.specs.Prelude.{pos, true, false, None, List, [], ◌∷◌}
 use Rattle.seq_arith.specs.Message.{EntryHead}
 use Rattle.seq_arith.specs.Message.Body.{SummaryMsg, ListMsg, EntryMsg, BytesMsg, PartMsg, CutsMsg, LensMsg, ReadMsg}
 use Rattle.ft_model.specs.Network.{Packet}
-use Rattle.ft_model.specs.Point.{Point}
+use Rattle.ft_model.specs.Point.{Point, blank_point}
 use Rattle.ft_model.specs.Lawful.{Turn}
 use Rattle.ft_model.specs.WorkedRuns.Common.{key, hello_text, to_client, to_log, on_message, serving_at, fetching, head_with, fetched_with}
 
@@ -14,27 +14,15 @@ head = head_with 5 false 2 0
 
 -- the connection when all has come: the bytes behind the logged reads are read in the same turn
 abbrev pub restarted : Point
-restarted = record {
-  key = key;
-  cisn = 1000;
-  sisn = 5000;
-  mss = 536;
+restarted = record (blank_point key 1000 5000 536) {
   fetched = 5;
   taken = hello_text;
-  fin = false;
   answered = 5;
   lengths = 2 ∷ 1 ∷ 2 ∷ [];
   reads_answered = 2;
-  una = 0;
-  sent = 0;
-  edge = 0;
   wl1 = pos 5;
-  wl2 = 0;
   syn_acked = true;
-  interval = 1;
   rest = 1;
-  end_ticks = 0;
-  reset = false;
 }
 
 abbrev pub turn_1 : Turn

@@ -4,7 +4,7 @@ use Rattle.seq_arith.specs.Packet.{Segment}
 use Rattle.seq_arith.specs.Message.{EntryHead}
 use Rattle.seq_arith.specs.Message.Body.{SummaryMsg, ListMsg, EntryMsg, BytesMsg, PartMsg, CutsMsg, LensMsg, DataMsg, ReadMsg}
 use Rattle.ft_model.specs.Network.{Packet}
-use Rattle.ft_model.specs.Point.{Point}
+use Rattle.ft_model.specs.Point.{Point, blank_point}
 use Rattle.ft_model.specs.Restart.{Fetched}
 use Rattle.ft_model.specs.Lawful.{Turn}
 use Rattle.ft_model.specs.WorkedRuns.Common.{key, hello_text, client_segment, to_client, to_log, part_with, on_message, on_segment, serving_at, fetching, head_with, fetched_with}
@@ -25,27 +25,15 @@ entry_with_lengths = fetched_with head [] (5 ∷ [])
 
 -- the connection after the restart, and when the segment is taken
 abbrev pub restarted : Point
-restarted = record {
-  key = key;
-  cisn = 1000;
-  sisn = 5000;
-  mss = 536;
+restarted = record (blank_point key 1000 5000 536) {
   fetched = 5;
   taken = hello_text;
-  fin = false;
   answered = 5;
   lengths = 5 ∷ [];
   reads_answered = 1;
-  una = 0;
-  sent = 0;
-  edge = 0;
   wl1 = pos 5;
-  wl2 = 0;
   syn_acked = true;
-  interval = 1;
   rest = 1;
-  end_ticks = 0;
-  reset = false;
 }
 
 abbrev pub taken : Point
