@@ -1,5 +1,5 @@
 -- What a segment adds to the peer's stream keeps to the receive edge, and is nothing at that edge, once the FIN is taken, and behind a gap.
-use Rattle.std.proofs.Common.{◌≡◌, ℕ, ◌+◌, ◌-◌, ◌<◌, ◌≤◌, max, Bool, true, false, refl, sym, ap, ap₂, ◌∙◌, true≢false, subst, List, [], length, take, drop, arith, length-take}
+use Rattle.std.proofs.Common.{◌≡◌, ℕ, ◌+◌, ◌-◌, ◌<◌, ◌≤◌, max, Bool, true, false, refl, sym, ap, ap₂, ◌∙◌, true≢false, inl, inr, ◌⊎◌, List, [], length, take, drop, arith, length-take}
 use Rattle.std.proofs.Math.Seq.{take-nil, drop-nil}
 use Rattle.std.specs.Prelude.{ℤ, pos, ◌+ℤ◌, ◌&&◌, ◌||◌, ◌==◌, nat_lt, int_lt, int_le, if◌then◌else◌}
 use Rattle.std.proofs.lemmas.Bool.{and_parts, ltb-true}
@@ -89,6 +89,17 @@ fin_comes n edge first text has_fin e =
     let two = and_parts has_fin (int_eq (first +ℤ pos (length text)) (pos end) && nat_lt end edge) e in
     let rest = and_parts (int_eq (first +ℤ pos (length text)) (pos end)) (nat_lt end edge) two.1 in
     record { own = two.0; place = rest.0; within = ltb-true _ _ rest.1 }
+
+-- a FIN that is taken stays so, and none is taken but one that was or the segment's own
+pub fin_stays : (n edge : ℕ) (fin : Bool) (first : ℤ) (text : List ℕ) (has_fin : Bool) → fin ≡ true → (comes n edge fin first text has_fin).fin ≡ true
+unfolding comes
+fin_stays n edge true first text has_fin e = refl
+fin_stays n edge false first text has_fin e = absurd (true≢false (sym e))
+
+pub was_or_own : (n edge : ℕ) (fin : Bool) (first : ℤ) (text : List ℕ) (has_fin : Bool) → (comes n edge fin first text has_fin).fin ≡ true
+    → (fin ≡ true) ⊎ (has_fin ≡ true)
+was_or_own n edge true first text has_fin e = inl refl
+was_or_own n edge false first text has_fin e = inr (fin_comes n edge first text has_fin e).own
 
 -- both sides of the tests move by one number: what comes is the same
 new_text_shift : (n edge k : ℕ) (fin : Bool) (first : ℤ) (text : List ℕ) → new_text (n + k) (edge + k) fin (first +ℤ pos k) text ≡ new_text n edge fin first text
