@@ -9,9 +9,9 @@ use Rattle.ft_model.proofs.Stands.{goes_on}
 use Rattle.ft_io.proofs.Choices.{holds_if}
 
 -- the bytes taken are a front of the stream, and a FIN is taken only at its end
-pub record Fronts (whole taken : List ℕ) (fin : Bool) : Type 0 where
+pub record Fronts (whole taken : List ℕ) (ended : Bool) : Type 0 where
   pub front : IsPrefix taken whole
-  pub fin : fin ≡ true → length taken ≡ length whole
+  pub fin : ended ≡ true → length taken ≡ length whole
 
 -- a text and a FIN of the stream, from an offset on; or none
 abbrev pub Says : List ℕ → ℤ → List ℕ → Bool → Type 0
@@ -61,7 +61,7 @@ pub comes_fits : (whole taken : List ℕ) (edge : ℕ) (fin : Bool) (first : ℤ
 comes_fits whole taken edge fin first text has_fin h says =
     ⊎_elim
     (λ s. subst (λ z. Fronts whole (taken ++ (comes (length taken) edge fin z text has_fin).added) (comes (length taken) edge fin z text has_fin).fin) (sym s.1)
-    (said_fits whole taken edge fin s.0 text has_fin h s.2 s.3))
+    (said_fits whole taken edge s.0 fin text has_fin h s.2 s.3))
     (λ s. subst (λ l. Fronts whole (taken ++ (comes (length taken) edge fin first l has_fin).added) (comes (length taken) edge fin first l has_fin).fin) (sym s.0)
     (subst (λ b. Fronts whole (taken ++ (comes (length taken) edge fin first [] b).added) (comes (length taken) edge fin first [] b).fin) (sym s.1)
     (subst (λ c. Fronts whole (taken ++ c.added) c.fin) (sym (bare_comes (length taken) edge fin first)) (unchanged whole taken fin h))))
