@@ -1,14 +1,14 @@
 //! A link in memory, for tests. It gives the datagrams that it was made with, tells what it was called for, fails where it is
 //! told to, and fails where memory runs out; from then on it tells nothing.
 
-ghost use Rattle.std.specs.Prelude.{◌≡◌, ◌≤◌, ◌<◌, ◌⊎◌, length, false, true, IsTrue, IsFalse, Some, None, IfSome, IfOk, OnOk, OnErr};
+ghost use Rattle.std.specs.Prelude.{◌≡◌, ◌≤◌, ◌<◌, ◌⊎◌, length, false, true, Some, None, IfSome, IfOk, OnOk, OnErr};
 ghost use Rattle.ft_io.specs.declared.link_call.LinkCall.TheVariants.{Bound, Missed, Handed};
 ghost use Rattle.ft_io.specs.Faults.{Rose};
 ghost use Rattle.ft_io.specs.NumberedCalls.{IsNextListed};
 ghost use Rattle.ft_io.specs.Told.{Tells};
 ghost use Rattle.ft_io.specs.Link.{bind_told, send_told, recv_told, heard_as, HasAtMost};
 ghost use Rattle.ft_io.specs.Arrival.{arriving};
-ghost use Rattle.ft_io.specs.MemLink.{fresh_link, told_of, noted, failed, starved, at_bind, sending, receiving, without_arrival};
+ghost use Rattle.ft_io.specs.MemLink.{fresh_link, failing_binds, BindFails, told_of, noted, failed, starved, at_bind, binding, sending, receiving, without_arrival};
 
 use crate::mem_source::copy_front;
 use crate::numbered::NumberedCalls;
@@ -31,6 +31,7 @@ pub struct MemLink {
     alloc: Global,
     arrivals: Vec<Arrival>,
     at: usize,
+    binds: NumberedCalls,
     sends: NumberedCalls,
     recvs: NumberedCalls,
     bind_fails: bool,
@@ -48,6 +49,7 @@ impl Model for MemLink {
 
     ghost view = { λ link. record {
       arrivals = drop link.at link.arrivals.items;
+      binds = link.binds;
       sends = link.sends;
       recvs = link.recvs;
       bind_fails = link.bind_fails;
@@ -77,6 +79,7 @@ impl MemLink {
             alloc,
             arrivals,
             at: 0,
+            binds: NumberedCalls::new(Vec::new(alloc)),
             sends: NumberedCalls::new(send_fails),
             recvs: NumberedCalls::new(recv_fails),
             bind_fails,
@@ -85,6 +88,22 @@ impl MemLink {
             bind_faults: 0,
             starved: 0,
         }
+    }
+
+    /// The same, but the binds fail whose numbers, from 1, stand in `bind_fails`. So a bind that is tried again shows.
+    pub fn with_bind_fails(
+        alloc: Global,
+        arrivals: Vec<Arrival>,
+        send_fails: Vec<u32>,
+        recv_fails: Vec<u32>,
+        bind_fails: Vec<u32>,
+    ) -> MemLink
+        ensures { result ≡ failing_binds
+            (fresh_link arrivals.items send_fails.items recv_fails.items false) bind_fails.items }
+    {
+        let mut link = MemLink::new(alloc, arrivals, send_fails, recv_fails, false);
+        link.binds = NumberedCalls::new(bind_fails);
+        link
     }
 
     /// How many calls failed for want of memory. The count never falls, and each of them counts among the faults too.
@@ -192,11 +211,11 @@ impl Link for MemLink {
 
     fn bind(&mut self, at: Addr) -> Result<(), Failed>
         // It fails exactly where it is to, or where memory is wanting.
-        ensures bound { OnOk result
-            (IsFalse self.old.bind_fails × (self.new ≡ noted self.old (Bound at))) }
-        ensures failed { OnErr result
-            ((IsTrue self.old.bind_fails × (self.new ≡ at_bind (failed self.old)))
-            ⊎ (self.new ≡ at_bind (starved self.old))) }
+        ensures bound { OnOk result ((BindFails self.old → ⊥)
+            × (self.new ≡ noted (binding self.old) (Bound at))) }
+        ensures failed { OnErr result ((BindFails self.old
+            × (self.new ≡ at_bind (failed (binding self.old))))
+            ⊎ (self.new ≡ at_bind (starved (binding self.old)))) }
 
         // What every link promises.
         ensures told { Tells (told_of self.old) (told_of self.new) (bind_told at result) }
@@ -207,7 +226,8 @@ impl Link for MemLink {
         ensures never_falls { self.old.faults ≤ self.new.faults }
         ensures bind_never_falls { self.old.bind_faults ≤ self.new.bind_faults }
     {
-        let bound = if self.bind_fails {
+        let is_listed = self.binds.next_fails();
+        let bound = if is_listed || self.bind_fails {
             Err(self.fail())
         } else {
             self.note(LinkCall::Bound(at))
