@@ -11,8 +11,8 @@ use std::marker::Model;
 use std::net::{IpAddr, Ipv4Addr, Net, SocketAddr, UdpSocket};
 use std::time::{Clock, Duration, Instant};
 
-/// How long a link hears datagrams before a receive gives `Heard::Nothing`, in milliseconds. Who hears without end must see time
-/// pass too: a timer that only silence moved would stand still as long as datagrams come.
+/// How many milliseconds after one `Heard::Nothing` the next is due, whatever comes. A timer that only silence moved would stand
+/// still as long as datagrams come.
 const PATIENCE: u64 = 20;
 
 /// By how many milliseconds the socket's timeout may differ from what is left of the patience before it is set anew: so it is
@@ -22,10 +22,10 @@ const LEEWAY: u64 = 4;
 /// The shortest timeout that is set, in milliseconds. One of 0 would wait without end.
 const SHORTEST: u64 = 1;
 
-/// A UDP socket. A call before the first bind that succeeded is a fault, and so are a datagram of an address that isn't IPv4
+/// A UDP socket. A call before the first bind that succeeded is a fault, and so are a datagram from an address that isn't IPv4
 /// and a monotonic clock that can't be read. A receive gives `Heard::Nothing` as soon as 20 milliseconds have passed since the
-/// last that did so, or since the bind, whatever comes, and waits no longer for a datagram; what waits in the socket then stays
-/// there for the next. Behind a silence the 20 milliseconds begin with the next receive.
+/// last that did so, or since the bind, whatever comes, and else waits for a datagram at most until then; what waits in the
+/// socket then stays there for the next. After a receive that timed out the 20 milliseconds begin with the next one.
 #[derive(Drop)]
 pub struct UdpLink<'a, R: Net + Clock> {
     system: &'a R,
@@ -110,7 +110,7 @@ struct Bound {
     socket: UdpSocket,
     /// The socket's timeout.
     timeout: Duration,
-    /// When the patience began; behind a silence it begins with the next receive.
+    /// When the patience began. After a timeout it begins with the next receive.
     since: Option<Instant>,
 }
 
@@ -126,7 +126,7 @@ impl Bound {
         })
     }
 
-    /// Hears a datagram or nothing, or `None` where the socket fails.
+    /// Receives a datagram or nothing; `None` where the socket fails.
     fn hear(&mut self, now: Instant, buf: &mut [u8]) -> Option<Heard>
         ensures { IfSome result (λ heard. HasAtMost heard (length buf.new)) }
     {
@@ -176,7 +176,7 @@ fn send_by(bound: &Option<Bound>, to: Addr, bytes: &[u8]) -> bool {
     matches!(bound.socket.send_to(bytes, socket_addr(to)), Ok(sent) if sent == bytes.len())
 }
 
-/// What the socket heard, or `None` where there is none, or where it or the clock failed.
+/// What the socket received, or `None` where there is no socket, or it or the clock failed.
 fn recv_by<R: Clock>(clock: &R, bound: &mut Option<Bound>, buf: &mut [u8]) -> Option<Heard>
     ensures { IfSome result (λ heard. HasAtMost heard (length buf.new)) }
 {
@@ -201,47 +201,5 @@ fn addr_of(from: SocketAddr) -> Option<Addr> {
             port: from.port(),
         }),
         SocketAddr::V6(_) => None,
-    }
-}
-
-#[cfg(test)]
-mod tests {
-    use super::*;
-
-    /// Binds the link to a port of this machine, one of 16 of which some may be taken.
-    fn bind_somewhere<L: Link>(link: &mut L) -> Option<Addr> {
-        for port in 7431..7447u16 {
-            let here = Addr {
-                ip: 0x7F00_0001,
-                port,
-            };
-            if link.bind(here).is_ok() {
-                return Some(here);
-            }
-        }
-        None
-    }
-
-    #[test]
-    fn a_datagram_to_itself_comes_back(rt: HostRuntime) {
-        let mut link = UdpLink::new(&rt);
-        let mut buf = [0u8; 2048];
-        assert_eq!(rt; link.recv(&mut buf), Err(Failed));
-        let here = bind_somewhere(&mut link).expect(&rt, "a port is free");
-        let (faults, bind_faults) = (link.faults(), link.bind_faults());
-        let got = |len| Ok(Heard::Got { len, from: here });
-        for text in [b"hello".as_slice(), b"", [7u8; 2048].as_slice()] {
-            assert_eq!(rt; link.send(here, text), Ok(()));
-            assert_eq!(rt; link.recv(&mut buf), got(text.len()));
-            assert!(rt; buf.starts_with(text));
-        }
-        assert_eq!(rt; link.send(here, &[9u8; 3000]), Ok(()));
-        assert_eq!(rt; link.recv(&mut buf), got(2048));
-        assert_eq!(rt; link.recv(&mut buf), Ok(Heard::Nothing));
-        assert_eq!(rt; (link.faults(), link.bind_faults()), (faults, bind_faults));
-        let mut other = UdpLink::new(&rt);
-        assert_eq!(rt; other.bind(here), Err(Failed));
-        assert_eq!(rt; other.send(here, b"early"), Err(Failed));
-        assert_eq!(rt; (other.faults(), other.bind_faults()), (2, 1));
     }
 }
