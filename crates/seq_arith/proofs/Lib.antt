@@ -1,5 +1,8 @@
 pub mod Damaged
+pub mod Flipped
 pub mod Gaps
+pub mod Headed
+pub mod MarkSpelling
 pub mod MessageSpelling
 pub mod Passing
 pub mod Refused
@@ -7,4 +10,5 @@ pub mod Shifts
 pub mod Spelling
 pub mod Sums
 pub mod Texts
+pub mod TwinSpelling
 pub mod Units
