@@ -12,6 +12,10 @@ ghost use Rattle.seq_arith.specs.Packet.{Segment};
 ghost use Rattle.seq_arith.specs.PacketGrammar.{IsSpellable, reading, spelling};
 ghost use Rattle.seq_arith.specs.Message.{Message};
 ghost use Rattle.seq_arith.specs.MessageGrammar.{IsSpellable as IsSpellableMessage, reading as message_reading, spelling as message_spelling};
+ghost use Rattle.seq_arith.specs.TwinDatagram.{TwinDatagram};
+ghost use Rattle.seq_arith.specs.TwinGrammar.{IsSpellable as IsSpellableTwin, reading as twin_reading, spelling as twin_spelling};
+ghost use Rattle.seq_arith.specs.Mark.{MarkMessage};
+ghost use Rattle.seq_arith.specs.MarkGrammar.{IsSpellable as IsSpellableMark, reading as mark_reading, spelling as mark_spelling};
 
 /// A gap stays where both its ends move by one number.
 pub fn gap_shifts()
@@ -163,4 +167,26 @@ pub fn shortened_message_is_refused()
 /// And one with further bytes behind it.
 pub fn lengthened_message_is_refused()
     ensures { (bytes behind : List ℕ) (message : Message) → message_reading bytes ≡ Ok message → 0 < length behind → IsErr (message_reading (bytes ++ behind)) }
+{}
+
+/// The spelling of a datagram between two loggers says that datagram.
+pub fn twin_is_read()
+    ensures { (datagram : TwinDatagram) → IsSpellableTwin datagram → twin_reading (twin_spelling datagram) ≡ Ok datagram }
+{}
+
+/// Such a datagram with one bit inverted is refused.
+pub fn flipped_twin_is_refused()
+    ensures { (bit : ℕ) (bytes : List ℕ) (datagram : TwinDatagram) → twin_reading bytes ≡ Ok datagram → bit < 8 * length bytes
+        → IsErr (twin_reading (flipped bit bytes)) }
+{}
+
+/// The spelling of a message about marks says that message.
+pub fn mark_is_read()
+    ensures { (message : MarkMessage) → IsSpellableMark message → mark_reading (mark_spelling message) ≡ Ok message }
+{}
+
+/// Such a message with one bit inverted is refused.
+pub fn flipped_mark_is_refused()
+    ensures { (bit : ℕ) (bytes : List ℕ) (message : MarkMessage) → mark_reading bytes ≡ Ok message → bit < 8 * length bytes
+        → IsErr (mark_reading (flipped bit bytes)) }
 {}
