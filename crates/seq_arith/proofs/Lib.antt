@@ -1,3 +1,4 @@
+pub mod Coming
 pub mod Damaged
 pub mod Gaps
 pub mod MessageSpelling
