@@ -1,10 +1,11 @@
 -- A connection goes on without its TCP, once that is CLOSED.
 use Rattle.std.proofs.Common.{◌≡◌, ℕ, zero, suc, ◌≤◌, ◌+◌, ◌-◌, ◌%◌, ◌^◌, ◌*◌, Bool, true, false, not, List, [], ◌∷◌, ◌++◌, length, take, drop, map, min, max, refl, sym, ap, subst, arith, append-nil, ◌∙◌, ◌<◌}
-use Rattle.std.specs.Prelude.{ℤ, pos, ◌==◌, ◌&&◌, ◌||◌, nat_abs, nat_lt, if◌then◌else◌}
+use Rattle.std.specs.Prelude.{pos, ◌==◌, ◌&&◌, ◌||◌, nat_abs, nat_lt, if◌then◌else◌}
 use Rattle.std.proofs.lemmas.Bool.{false≢true, and_parts}
 use Rattle.ft_io.specs.declared.Addr.{Addr}
 use Rattle.seq_arith.specs.Arrival.{una_after}
-use Rattle.seq_arith.specs.Coming.{nothing_came, comes, new_text}
+use Rattle.seq_arith.specs.Coming.{nothing_came, comes}
+use Rattle.seq_arith.proofs.Coming.{comes_ended}
 use Rattle.seq_arith.specs.Packet.{Segment, has_rst, has_ack}
 use Rattle.server_trait.specs.Service.{Machine, reference}
 use Rattle.ft_model.specs.Growth.{IsPrefix}
@@ -66,16 +67,12 @@ reads_rise Ticks p = omega arith
 reads_rise Begins p = omega arith
 
 -- where a FIN is taken nothing more is
-none_comes : (n edge : ℕ) (first : ℤ) (text : List ℕ) (fin : Bool) → comes n edge true first text fin ≡ nothing_came true
-unfolding comes new_text
-none_comes n edge first text fin = refl
-
 came_stays : (p : Point) (segment : Segment) → p.fin ≡ true → came p segment ≡ nothing_came true
 unfolding came
 came_stays p segment h =
     (λ j. if counts p segment then comes (length p.taken) (receive_edge p) (h j) (first_of p.cisn segment) (text_of segment) (fin_of segment) else nothing_came (h j))
     ∙ either (counts p segment) (comes (length p.taken) (receive_edge p) true (first_of p.cisn segment) (text_of segment) (fin_of segment)) (nothing_came true)
-    (none_comes (length p.taken) (receive_edge p) (first_of p.cisn segment) (text_of segment) (fin_of segment))
+    (comes_ended (length p.taken) (receive_edge p) (first_of p.cisn segment) (text_of segment) (fin_of segment))
 
 pub taken_stays : (news : News) (p : Point) → p.fin ≡ true → taken_after news p ≡ p.taken
 unfolding taken_after
