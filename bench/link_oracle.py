@@ -276,6 +276,16 @@ life(hello_comes, 5, 5, [], 2, 3, write=1)
 life([both, (ACK, 5001, 1002, b"he\n"), (RST, 5004, 0)], 5, 7, ["he", reset], 3, 3)
 life([both, (RST, 5002, 0)], 2, 8, [spent], 2, 3)
 life([], 1, 8, [spent], 1, 2)
+# The right edge of the client's window is 5001 + 65535. A RST there is answered by an ACK; one past it isn't. A bare acknowledgement there is used
+# and answered, so that the server's FIN, with an older one, comes to a client whose own FIN is acknowledged; a byte there, or one past it, is not used.
+EDGE = 5001 + 65535
+life([both, (RST, EDGE, 0)] + closed[1:], 5, 0, [], 3, 4)
+life([both, (RST, EDGE + 1, 0)] + closed[1:], 5, 0, [], 3, 3)
+late = (FIN | ACK, 5001, 1001)
+life([both, (ACK, EDGE, 1002), late], 3, 0, [], 3, 4)
+life([both, (ACK, EDGE, 1002, b"x"), late], 3, 8, [spent], 3, 4)
+life([both, (ACK, EDGE + 1, 1002), late], 3, 8, [spent], 3, 4)
+life([both, (ACK, EDGE, 1003), late], 3, 8, [spent], 3, 4)
 life([both, (FIN | ACK, 5001, 1004)], 5, 0, [], 2, 4, script=b"hi")
 life(closed, 5, 9, ["ftnode: read fault"], 0, 0, script=b"hi", read=2)
 life(closed, 5, 4, ["ftnode: link fault"], 0, 0, bind=1)

@@ -322,6 +322,31 @@ say(pkt(packet(client_key(1), SERVER, "A", 1001, 5002, 65535, None, b"")), to_cl
 say(conn(client_key(2)), numbers((5002 - (900000 + 65536)) % 2**32, 0, 0, 0, 0, 0, 0))
 say(conn(client_key(1)), "none")
 
+say("# at the right edge a bare segment is used and a RST is owed an ACK; a byte there, or a segment one past it, is not acceptable")
+say("boot 1 1 5000", to_logger(HELLO))
+say(msg(SUMMARY))
+say(pkt(syn(A)), to_logger(opening("Open", 1, A, 1000, 5000)))
+say(msg(opening("Opened", 1, A, 1000, 5000)), to_client(A, packet(SERVER, A, "AS", 5000, 1001, 65535, 1460, b"")))
+say(pkt(packet(A, SERVER, "A", 1001, 5001, 65535, None, b"hello")),
+    to_client(A, packet(SERVER, A, "A", 5001, 1001, 65535, None, b"")),
+    to_logger(told("Data", f"boot 1 key {text_key(A)} offset 0 acked 0 fin 0 bytes 68656c6c6f".split())),
+    to_logger(told("Read", f"boot 1 key {text_key(A)} index 0 length 5".split())))
+say(msg(kept("Stable", 1, A, 5, 0, 0)), to_client(A, packet(SERVER, A, "A", 5001, 1006, 65535, None, b"")))
+say(msg(kept("Reads", 1, A, 5, 0, 1)), to_client(A, packet(SERVER, A, "A", 5001, 1006, 65535, None, b"hello")))
+EDGE = 1006 + 65535
+unused = to_client(A, packet(SERVER, A, "A", 5006, 1006, 65535, None, b""))
+say(pkt(packet(A, SERVER, "A", EDGE, 5006, 65535, None, b"x")), unused)
+say(pkt(packet(A, SERVER, "AF", EDGE, 5006, 65535, None, b"")), unused)
+say(pkt(packet(A, SERVER, "A", EDGE + 1, 5006, 65535, None, b"")), unused)
+say(pkt(packet(A, SERVER, "A", EDGE, 5006, 65535, None, b"")[:-1] + b"!"))
+say(conn(A), numbers(0, 5, 5, 5, 1, 0, 5))
+say(pkt(packet(A, SERVER, "R", EDGE + 1, 0, 0, None, b"")))
+say(pkt(packet(A, SERVER, "R", EDGE, 0, 0, None, b"")), unused)
+say(pkt(packet(A, SERVER, "A", EDGE, 5006, 65535, None, b"")), unused,
+    to_logger(told("Data", f"boot 1 key {text_key(A)} offset 5 acked 5 fin 0 bytes -".split())))
+say(conn(A), numbers(0, 5, 5, 5, 1, 5, 5))
+say("tick")
+
 say("# hostile datagrams: a server that asks and one that fetches say nothing, and go on as if none had come")
 say("boot 1 1 5000", to_logger(HELLO))
 say("attack 10000 1", "silent")

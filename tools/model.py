@@ -178,6 +178,16 @@ def is_acceptable(first, length, following, edge):
     return following < edge and (following <= first < edge or following <= first + length - 1 < edge)
 
 
+def is_at_right_edge(first, length, following, edge):
+    """A segment of length 0 at the right edge of a window that isn't zero: acceptable besides the four cases, but for a scripted client."""
+    return length == 0 and following < edge == first
+
+
+def is_at_zero_window(came, first, following, edge):
+    """A segment at the next number while the window is zero: its acknowledgement and window are used, though it may be unacceptable."""
+    return first == following == edge and "A" in came.flags and not {"S", "R"} & set(came.flags)
+
+
 class Entry:
     """What the log keeps of one connection."""
 
@@ -370,16 +380,17 @@ class Connection:
     def arrive(self, came):
         """A segment comes: whether one is owed, whether nothing is to leave, and which part of it the log is to have."""
         first, length, following, edge = gap(came.seq, self.cisn + 1), length_of(came), self.taken(), self.right()
-        fits = is_acceptable(first, length, following, edge)
+        fits = is_acceptable(first, length, following, edge) or is_at_right_edge(first, length, following, edge)
         if "R" in came.flags:
             self.reset = fits and first == following
             return fits, False, None
         if "S" in came.flags:
             return True, False, None
         acked = gap(came.ack, self.sisn + 1)
-        if fits and "A" in came.flags and not self.counted and acked < 0:
+        below_syn = not self.counted and acked < 0
+        if fits and "A" in came.flags and below_syn:
             return False, True, self.copy(came, first)
-        if fits and "A" in came.flags:
+        if "A" in came.flags and not below_syn and (fits or is_at_zero_window(came, first, following, edge)):
             self.take(came, first, acked)
         owed = not fits or length > 0 or "A" in came.flags and first > following
         return owed, False, self.copy(came, first)

@@ -1,12 +1,18 @@
 #!/usr/bin/env python3
-"""Tests of tools/model.py: numbers that follow from the rules by hand, and a crash at each turn of the first path. Run it: tools/model_test.py"""
+"""Tests of tools/model.py: numbers that follow from the rules by hand, a crash at each turn of the first path, and the runs that are stored in
+crates/replay_script. It takes half a minute. Run it: tools/model_test.py"""
+import pathlib
+import re
 import unittest
 
 from model import Client, Connection, Log, Message, Segment, Server, Service, World, size_of
+from seed_model import play as report_of
+from seed_model import summary
 
 KEY, SERVER = "192.0.2.1:40000", "192.0.2.100:7"
 FIRST_PATH = "boot 1 5000|deliver 1|deliver 2|open 1 65535|deliver 3|deliver 4|deliver 5|deliver 6|ack 1 65535|deliver 7|send 1 0 5|deliver 8|deliver 10"
 FIRST_PATH += "|deliver 12|deliver 11|deliver 14|deliver 15"
+EDGE = 65535  # the right edge of a connection of which nothing is read
 
 
 def said(name, boot=1, **fields):
@@ -120,6 +126,95 @@ class Servers(unittest.TestCase):
         self.assertEqual(len(place.make_reads()), 32)
         place.reads_answered = 1
         self.assertEqual(len(place.make_reads()), 1)
+
+
+class Receiving(unittest.TestCase):
+    """What is used of one segment, and whether an ACK is owed. 5 bytes of output, from 5001 on, are sent and none is acknowledged."""
+
+    def connection(self, taken):
+        place = Connection(KEY, 1000, 5000, 536, "echo")
+        place.data, place.answered, place.output, place.counted, place.sent, place.edge = bytearray(taken), taken, bytearray(5), True, 5, 5
+        return place
+
+    def check(self, taken, rows):
+        """Each row: flags, place, acknowledgement, text; then whether an ACK is owed, una, whether the window is used, whether it is reset."""
+        for flags, at, ack, data, *wanted in rows:
+            place = self.connection(taken)
+            owed, silent, copied = place.arrive(Segment(flags, (1001 + at) % 2**32, 5001 + ack, 9, None, data))
+            came = [owed, place.una, place.edge == ack + 9, place.reset]
+            self.assertEqual((came, silent, copied, len(place.data), place.fin), (wanted, False, None, taken, 0), (flags, at, ack, data))
+
+    def test_zero_window(self):
+        self.check(EDGE, [
+            ("A", EDGE, 5, b"", False, 5, True, False),
+            ("A", EDGE, 5, b"xyz", True, 5, True, False),
+            ("AF", EDGE, 5, b"", True, 5, True, False),
+            ("AF", EDGE, 5, b"xyz", True, 5, True, False),
+            ("A", EDGE, 0, b"xyz", True, 0, True, False),
+            ("A", EDGE, -1, b"xyz", True, 0, False, False),
+            ("", EDGE, 5, b"xyz", True, 0, False, False),
+            ("S", EDGE, 5, b"", True, 0, False, False),
+            ("AS", EDGE, 5, b"xyz", True, 0, False, False),
+            ("AR", EDGE, 5, b"xyz", True, 0, False, True),
+            ("A", EDGE - 1, 5, b"xyz", True, 0, False, False),
+            ("A", EDGE - 1, 5, b"", True, 0, False, False),
+            ("A", EDGE + 1, 5, b"xyz", True, 0, False, False),
+            ("A", EDGE + 1, 5, b"", True, 0, False, False),
+            ("R", EDGE + 1, 0, b"", False, 0, False, False),
+        ])
+
+    def test_right_edge(self):
+        self.check(0, [
+            ("A", EDGE, 5, b"", True, 5, True, False),
+            ("A", EDGE, 0, b"", True, 0, True, False),
+            ("A", EDGE, -1, b"", True, 0, False, False),
+            ("", EDGE, 5, b"", False, 0, False, False),
+            ("A", EDGE, 5, b"x", True, 0, False, False),
+            ("AF", EDGE, 5, b"", True, 0, False, False),
+            ("AS", EDGE, 5, b"", True, 0, False, False),
+            ("R", EDGE, 0, b"", True, 0, False, False),
+            ("AR", EDGE, 5, b"xyz", True, 0, False, False),
+            ("A", EDGE - 1, 5, b"", True, 5, True, False),
+            ("A", EDGE + 1, 5, b"", True, 0, False, False),
+            ("", EDGE + 1, 5, b"", True, 0, False, False),
+            ("R", EDGE + 1, 0, b"", False, 0, False, False),
+        ])
+
+    def test_before_the_syn_is_acknowledged(self):
+        for taken, at, data, wanted in ((EDGE, EDGE, b"xyz", (True, False)), (EDGE, EDGE, b"", (False, True)), (0, EDGE, b"", (False, True))):
+            place = self.connection(taken)
+            place.counted = False
+            self.assertEqual(place.arrive(Segment("A", 1001 + at, 5000, 9, None, data))[:2], wanted)
+            self.assertFalse(place.counted)
+            place.arrive(Segment("A", 1001 + at, 5001, 9, None, data))
+            self.assertEqual((place.counted, place.edge, len(place.data)), (True, 9, taken))
+
+    def test_scripted_client(self):
+        for window, at, data in ((0, 0, b"x"), (100, 100, b"")):
+            client = Client(KEY, 1000, b"hello")
+            client.phase, client.sisn, client.sent, client.edge = "open", 5000, 5, window
+            client.receive(Segment("A", 5001 + at, 1006, 9, None, data))
+            self.assertEqual((client.acked, len(client.accepted)), (0, 0))
+
+
+class StoredRuns(unittest.TestCase):
+    def test_replay_script(self):
+        folder = pathlib.Path(__file__).parent.parent / "crates" / "replay_script"
+        stored, printed = (folder / "stdin").read_text(), (folder / "stdout").read_text()
+        text, played = "", 0
+        for block in stored.removeprefix("= ").split("\n= "):
+            order, _, lines = block.removesuffix("\n").partition("\n")
+            text = re.sub(r"(?m)^\*(\d+) (.*)\n", lambda it: (it[2] + "\n") * int(it[1]), lines + "\n") if lines else text
+            what, name, *words = order.split()
+            status, _, rest = printed.partition(f"{name}: status ")[2].partition("\n")
+            if what != "play" or words[1:4] != ["0", "0", "0"] or status not in ("0", "7"):
+                continue
+            words, last = words[0].split("~"), int(words[4])
+            report, why = (summary(*map(int, words[1:])), None) if words[0] == "seed" else report_of(text)
+            wanted = ([f"ftreplay: {why}"] if why else []) + report[-last:]
+            self.assertTrue(rest.startswith("\n".join(wanted) + "\n"), name)
+            played += 1
+        self.assertEqual(played, 50)
 
 
 class Worlds(unittest.TestCase):

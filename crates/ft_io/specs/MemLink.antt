@@ -1,20 +1,22 @@
 -- A link in memory.
-use Rattle.std.specs.Prelude.{ℕ, ◌==◌, Bool, List, [], ◌∷◌, ◌++◌, drop, None, Some, cond}
+use Rattle.std.specs.Prelude.{ℕ, ◌==◌, Bool, List, [], ◌∷◌, ◌++◌, drop, None, Some, IsTrue, ◌⊎◌, cond}
 use Rattle.std.specs.declared.option.Option.{Option}
 use Rattle.ft_io.specs.declared.link_call.LinkCall.{LinkCall}
 use Rattle.ft_io.specs.declared.mem_link.Arrival.{Arrival}
 use Rattle.ft_io.specs.Faults.{raised}
-use Rattle.ft_io.specs.NumberedCalls.{Calls, no_call, after_call}
+use Rattle.ft_io.specs.NumberedCalls.{Calls, no_call, after_call, IsNextListed}
 
 -- what a link in memory is to its callers
 pub record LinkState : Type 0 where
   -- what its receives have still to give
   pub arrivals : List Arrival
+  -- its binds
+  pub binds : Calls
   -- its sends
   pub sends : Calls
   -- its receives
   pub recvs : Calls
-  -- its binds fail
+  -- all its binds fail
   pub bind_fails : Bool
   -- the calls that it has noted, the oldest first
   pub calls : List LinkCall
@@ -28,7 +30,15 @@ pub record LinkState : Type 0 where
 -- a link before its first call
 abbrev pub fresh_link : List Arrival → List ℕ → List ℕ → Bool → LinkState
 fresh_link arriving send_fails recv_fails fails =
-    record { arrivals = arriving; sends = no_call send_fails; recvs = no_call recv_fails; bind_fails = fails; calls = []; faults = 0; bind_faults = 0; starved = 0 }
+    record { arrivals = arriving; binds = no_call []; sends = no_call send_fails; recvs = no_call recv_fails; bind_fails = fails; calls = []; faults = 0; bind_faults = 0; starved = 0 }
+
+-- the binds with these numbers are to fail
+abbrev pub failing_binds : LinkState → List ℕ → LinkState
+failing_binds link numbers = record link { binds = no_call numbers }
+
+-- the next bind is to fail
+abbrev pub BindFails : LinkState → Type 0
+BindFails link = IsTrue link.bind_fails ⊎ IsNextListed link.binds
 
 -- it tells all its calls, and nothing once memory was wanting in one
 abbrev pub told_of : LinkState → Option (List LinkCall)
@@ -49,6 +59,10 @@ starved link = record link { faults = raised link.faults; starved = raised link.
 -- a failed call was a bind
 abbrev pub at_bind : LinkState → LinkState
 at_bind link = record link { bind_faults = raised link.bind_faults }
+
+-- one bind is made
+abbrev pub binding : LinkState → LinkState
+binding link = record link { binds = after_call link.binds }
 
 -- one send is made
 abbrev pub sending : LinkState → LinkState

@@ -1,5 +1,5 @@
 -- Which calls on a spawner are told, by what they answered.
-use Rattle.std.specs.Prelude.{◌≡◌, ℕ, ℤ, ◌+◌, ◌≤◌, List, [], ◌∷◌, Ok, Err}
+use Rattle.std.specs.Prelude.{◌≡◌, ℕ, ℤ, ◌+◌, List, [], ◌∷◌, Ok, Err}
 use Rattle.std.specs.declared.result.Result.{Result}
 use Rattle.ft_io.specs.declared.Failed.{Failed}
 use Rattle.ft_io.specs.declared.spawn_call.SpawnCall.{SpawnCall}

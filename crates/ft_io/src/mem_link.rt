@@ -1,14 +1,14 @@
 //! A link in memory, for tests. It gives the datagrams that it was made with, tells what it was called for, fails where it is
 //! told to, and fails where memory runs out; from then on it tells nothing.
 
-ghost use Rattle.std.specs.Prelude.{◌≡◌, ◌≤◌, ◌<◌, ◌⊎◌, length, false, true, IsTrue, IsFalse, Some, None, IfSome, IfOk, OnOk, OnErr};
+ghost use Rattle.std.specs.Prelude.{◌≡◌, ◌≤◌, ◌<◌, ◌⊎◌, length, false, true, Some, None, IfSome, IfOk, OnOk, OnErr};
 ghost use Rattle.ft_io.specs.declared.link_call.LinkCall.TheVariants.{Bound, Missed, Handed};
 ghost use Rattle.ft_io.specs.Faults.{Rose};
 ghost use Rattle.ft_io.specs.NumberedCalls.{IsNextListed};
 ghost use Rattle.ft_io.specs.Told.{Tells};
 ghost use Rattle.ft_io.specs.Link.{bind_told, send_told, recv_told, heard_as, HasAtMost};
 ghost use Rattle.ft_io.specs.Arrival.{arriving};
-ghost use Rattle.ft_io.specs.MemLink.{fresh_link, told_of, noted, failed, starved, at_bind, sending, receiving, without_arrival};
+ghost use Rattle.ft_io.specs.MemLink.{fresh_link, failing_binds, BindFails, told_of, noted, failed, starved, at_bind, binding, sending, receiving, without_arrival};
 
 use crate::mem_source::copy_front;
 use crate::numbered::NumberedCalls;
@@ -31,6 +31,7 @@ pub struct MemLink {
     alloc: Global,
     arrivals: Vec<Arrival>,
     at: usize,
+    binds: NumberedCalls,
     sends: NumberedCalls,
     recvs: NumberedCalls,
     bind_fails: bool,
@@ -48,6 +49,7 @@ impl Model for MemLink {
 
     ghost view = { λ link. record {
       arrivals = drop link.at link.arrivals.items;
+      binds = link.binds;
       sends = link.sends;
       recvs = link.recvs;
       bind_fails = link.bind_fails;
@@ -77,6 +79,7 @@ impl MemLink {
             alloc,
             arrivals,
             at: 0,
+            binds: NumberedCalls::new(Vec::new(alloc)),
             sends: NumberedCalls::new(send_fails),
             recvs: NumberedCalls::new(recv_fails),
             bind_fails,
@@ -85,6 +88,22 @@ impl MemLink {
             bind_faults: 0,
             starved: 0,
         }
+    }
+
+    /// The same, but the binds fail whose numbers, from 1, stand in `bind_fails`. So a bind that is tried again shows.
+    pub fn with_bind_fails(
+        alloc: Global,
+        arrivals: Vec<Arrival>,
+        send_fails: Vec<u32>,
+        recv_fails: Vec<u32>,
+        bind_fails: Vec<u32>,
+    ) -> MemLink
+        ensures { result ≡ failing_binds
+            (fresh_link arrivals.items send_fails.items recv_fails.items false) bind_fails.items }
+    {
+        let mut link = MemLink::new(alloc, arrivals, send_fails, recv_fails, false);
+        link.binds = NumberedCalls::new(bind_fails);
+        link
     }
 
     /// How many calls failed for want of memory. The count never falls, and each of them counts among the faults too.
@@ -192,11 +211,11 @@ impl Link for MemLink {
 
     fn bind(&mut self, at: Addr) -> Result<(), Failed>
         // It fails exactly where it is to, or where memory is wanting.
-        ensures bound { OnOk result
-            (IsFalse self.old.bind_fails × (self.new ≡ noted self.old (Bound at))) }
-        ensures failed { OnErr result
-            ((IsTrue self.old.bind_fails × (self.new ≡ at_bind (failed self.old)))
-            ⊎ (self.new ≡ at_bind (starved self.old))) }
+        ensures bound { OnOk result ((BindFails self.old → ⊥)
+            × (self.new ≡ noted (binding self.old) (Bound at))) }
+        ensures failed { OnErr result ((BindFails self.old
+            × (self.new ≡ at_bind (failed (binding self.old))))
+            ⊎ (self.new ≡ at_bind (starved (binding self.old)))) }
 
         // What every link promises.
         ensures told { Tells (told_of self.old) (told_of self.new) (bind_told at result) }
@@ -207,7 +226,8 @@ impl Link for MemLink {
         ensures never_falls { self.old.faults ≤ self.new.faults }
         ensures bind_never_falls { self.old.bind_faults ≤ self.new.bind_faults }
     {
-        let bound = if self.bind_fails {
+        let is_listed = self.binds.next_fails();
+        let bound = if is_listed || self.bind_fails {
             Err(self.fail())
         } else {
             self.note(LinkCall::Bound(at))
@@ -269,97 +289,5 @@ impl Link for MemLink {
             return Err(self.fail());
         }
         self.hear(buf)
-    }
-}
-
-#[cfg(test)]
-mod tests {
-    use super::*;
-    use std::test::Fail;
-
-    const HOME: Addr = Addr {
-        ip: 0x7F00_0001,
-        port: 7007,
-    };
-
-    const PEER: Addr = Addr {
-        ip: 0x7F00_0001,
-        port: 7008,
-    };
-
-    /// A link to which come a short datagram, silence, one longer than the buffer, and one of length 0.
-    fn link_of_four(
-        alloc: Global,
-        send_fails: u32,
-        recv_fails: u32,
-        bind_fails: bool,
-    ) -> Result<MemLink, Fail> {
-        let mut arrivals = Vec::new(alloc);
-        for bytes in [
-            b"hello".to_vec(alloc)?,
-            vec![in alloc; 7; 3000]?,
-            Vec::new(alloc),
-        ] {
-            if arrivals.len() == 1 {
-                arrivals.push(Arrival::Nothing)?;
-            }
-            arrivals.push(Arrival::Datagram {
-                from: PEER,
-                bytes: Octets::new(bytes),
-            })?;
-        }
-        let send_fails = vec![in alloc; send_fails]?;
-        let recv_fails = vec![in alloc; recv_fails]?;
-        Ok(MemLink::new(alloc, arrivals, send_fails, recv_fails, bind_fails))
-    }
-
-    /// What is told of five receives, a number for each: the length of what came, or -1 for silence and -2 for a failed one.
-    #[test]
-    fn a_failed_receive_uses_up_no_arrival(rt: HostRuntime) -> Result<(), Fail> {
-        let rows: [(u32, [i64; 5]); 5] = [
-            (0, [5, -1, 2048, 0, -1]),
-            (1, [-2, 5, -1, 2048, 0]),
-            (3, [5, -1, -2, 2048, 0]),
-            (5, [5, -1, 2048, 0, -2]),
-            (6, [5, -1, 2048, 0, -1]),
-        ];
-        for (fails, want) in rows {
-            let mut link = link_of_four(rt.alloc(), 0, fails, false)?;
-            for length in want {
-                let mut buf = [1u8; 2048];
-                let heard = match link.recv(&mut buf) {
-                    Ok(Heard::Got { len, from }) if from == PEER => len as i64,
-                    Ok(Heard::Nothing) => -1,
-                    _ => -2,
-                };
-                if link.starved() == 0 {
-                    assert_eq!(rt; heard, length, "at {fails}");
-                    assert!(rt; length != 5 || buf.starts_with(b"hello"));
-                }
-            }
-        }
-        Ok(())
-    }
-
-    #[test]
-    fn binds_and_sends_fail_where_they_are_listed(rt: HostRuntime) -> Result<(), Fail> {
-        for (fails, bind_fails) in [(0, false), (1, true), (2, false), (3, true)] {
-            let mut link = link_of_four(rt.alloc(), fails, 0, bind_fails)?;
-            let bound = link.bind(HOME);
-            let first = link.send(PEER, b"abc");
-            let second = link.send(PEER, b"");
-            let Some(calls) = link.told() else {
-                continue;
-            };
-            assert_eq!(rt; bound.is_err(), bind_fails);
-            assert_eq!(rt; (first.is_err(), second.is_err()), (fails == 1, fails == 2));
-            assert_eq!(rt; calls.len(), if bind_fails { 2 } else { 3 });
-            assert_eq!(rt; link.bind_faults(), u64::from(bind_fails));
-            assert_eq!(rt;
-                link.faults(),
-                u64::from(bind_fails) + u64::from(fails == 1 || fails == 2)
-            );
-        }
-        Ok(())
     }
 }

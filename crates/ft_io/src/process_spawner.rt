@@ -100,35 +100,3 @@ fn exit_status<P: OpenProcess>(child: &mut Child<P>) -> Option<i32> {
         Err(_) => None,
     }
 }
-
-#[cfg(test)]
-mod tests {
-    use super::*;
-    use std::test::Fail;
-
-    /// The words that run this script by a shell.
-    fn shell(alloc: Global, program: &str, script: &str) -> Result<Vec<String>, Fail> {
-        let mut words = Vec::new(alloc);
-        for word in [program, "-c", script] {
-            words.push(String::from_str(alloc, word)?)?;
-        }
-        Ok(words)
-    }
-
-    #[test]
-    fn a_program_is_started_and_waited_for(rt: HostRuntime) -> Result<(), Fail> {
-        let alloc = rt.alloc();
-        let ends = shell(alloc, "/bin/sh", "cat; echo seen; exit 7")?;
-        let killed = shell(alloc, "/bin/sh", "kill -9 $$")?;
-        let missing = shell(alloc, "/no/such/program", "")?;
-        let mut spawner = ProcessSpawner::new(&rt, alloc);
-        assert_eq!(rt; spawner.start(&[]), Err(Failed));
-        assert_eq!(rt; spawner.start(&missing), Err(Failed));
-        let first = spawner.start(&ends)?;
-        assert_eq!(rt; spawner.wait(first), Ok(7));
-        let second = spawner.start(&killed)?;
-        assert_eq!(rt; spawner.wait(second), Err(Failed));
-        assert_eq!(rt; (first, second, spawner.faults()), (1, 2, 3));
-        Ok(())
-    }
-}

@@ -9,29 +9,32 @@ use crate::{Addr, Failed, Heard, Link};
 use std::io;
 use std::marker::Model;
 use std::net::{IpAddr, Ipv4Addr, Net, SocketAddr, UdpSocket};
-use std::time::Duration;
+use std::time::{Clock, Duration, Instant};
 
-/// How long a receive waits for a datagram, in milliseconds.
+/// How many milliseconds after one `Heard::Nothing` the next is due, whatever comes. A timer that only silence moved would stand
+/// still as long as datagrams come.
 const PATIENCE: u64 = 20;
 
-/// How many datagrams may come one behind another without a pause. Who hears without end must see time pass too: two TCPs can
-/// answer each other's segments for ever, and only a timer ends that.
-const BUSY: u32 = 1024;
+/// By how many milliseconds the socket's timeout may differ from what is left of the patience before it is set anew: so it is
+/// set some five times in 20 milliseconds, however many datagrams come.
+const LEEWAY: u64 = 4;
 
-/// A UDP socket. A call before the first bind that succeeded is a fault, and so is a datagram of an address that isn't IPv4. A
-/// receive that hears nothing for 20 milliseconds gives `Heard::Nothing`, and so does each receive behind 1,024 datagrams that
-/// came without such a pause; what waits in the socket then stays there for the next.
+/// The shortest timeout that is set, in milliseconds. One of 0 would wait without end.
+const SHORTEST: u64 = 1;
+
+/// A UDP socket. A call before the first bind that succeeded is a fault, and so are a datagram from an address that isn't IPv4
+/// and a monotonic clock that can't be read. A receive gives `Heard::Nothing` as soon as 20 milliseconds have passed since the
+/// last that did so, or since the bind, whatever comes, and else waits for a datagram at most until then; what waits in the
+/// socket then stays there for the next. After a receive that timed out the 20 milliseconds begin with the next one.
 #[derive(Drop)]
-pub struct UdpLink<'a, R: Net> {
-    net: &'a R,
-    socket: Option<UdpSocket>,
+pub struct UdpLink<'a, R: Net + Clock> {
+    system: &'a R,
+    bound: Option<Bound>,
     faults: u64,
     bind_faults: u64,
-    /// The datagrams heard since a receive last gave nothing.
-    unpaused: u32,
 }
 
-impl<'a, R: Net> Model for UdpLink<'a, R> {
+impl<'a, R: Net + Clock> Model for UdpLink<'a, R> {
     ghost use Rattle.ft_io.specs.UdpLink.{LinkCounts};
 
     ghost Value = { LinkCounts };
@@ -39,22 +42,21 @@ impl<'a, R: Net> Model for UdpLink<'a, R> {
     ghost view = { λ link. record { faults = link.faults; bind_faults = link.bind_faults } };
 }
 
-impl<'a, R: Net> UdpLink<'a, R> {
+impl<'a, R: Net + Clock> UdpLink<'a, R> {
     /// A link that isn't bound, with no fault yet.
-    pub fn new(net: &'a R) -> UdpLink<'a, R>
+    pub fn new(system: &'a R) -> UdpLink<'a, R>
         ensures { result ≡ fresh_link }
     {
         UdpLink {
-            net,
-            socket: None,
+            system,
+            bound: None,
             faults: 0,
             bind_faults: 0,
-            unpaused: 0,
         }
     }
 }
 
-impl<'a, R: Net> Link for UdpLink<'a, R> {
+impl<'a, R: Net + Clock> Link for UdpLink<'a, R> {
     ghost told = { λ _. None };
 
     ghost fault_count = { λ counts. counts.faults };
@@ -70,9 +72,9 @@ impl<'a, R: Net> Link for UdpLink<'a, R> {
     }
 
     fn bind(&mut self, at: Addr) -> Result<(), Failed> {
-        match bound_socket(self.net, at) {
-            Ok(socket) => {
-                self.socket = Some(socket);
+        match Bound::open(self.system, at) {
+            Ok(bound) => {
+                self.bound = Some(bound);
                 Ok(())
             }
             Err(_) => {
@@ -84,7 +86,7 @@ impl<'a, R: Net> Link for UdpLink<'a, R> {
     }
 
     fn send(&mut self, to: Addr, bytes: &[u8]) -> Result<(), Failed> {
-        if send_by(&self.socket, to, bytes) {
+        if send_by(&self.bound, to, bytes) {
             return Ok(());
         }
         self.faults = self.faults.saturating_add(1);
@@ -92,19 +94,8 @@ impl<'a, R: Net> Link for UdpLink<'a, R> {
     }
 
     fn recv(&mut self, buf: &mut [u8]) -> Result<Heard, Failed> {
-        if self.unpaused >= BUSY {
-            self.unpaused = 0;
-            return Ok(Heard::Nothing);
-        }
-        match recv_by(&self.socket, buf) {
-            Some(Heard::Nothing) => {
-                self.unpaused = 0;
-                Ok(Heard::Nothing)
-            }
-            Some(heard) => {
-                self.unpaused += 1;
-                Ok(heard)
-            }
+        match recv_by(self.system, &mut self.bound, buf) {
+            Some(heard) => Ok(heard),
             None => {
                 self.faults = self.faults.saturating_add(1);
                 Err(Failed)
@@ -113,35 +104,86 @@ impl<'a, R: Net> Link for UdpLink<'a, R> {
     }
 }
 
-fn bound_socket<R: Net>(net: &R, at: Addr) -> io::Result<UdpSocket> {
-    let socket = UdpSocket::bind(net, socket_addr(at))?;
-    socket.set_read_timeout(Some(Duration::from_millis(PATIENCE)))?;
-    Ok(socket)
+/// A socket that is bound, and its patience.
+#[derive(Drop)]
+struct Bound {
+    socket: UdpSocket,
+    /// The socket's timeout.
+    timeout: Duration,
+    /// When the patience began. After a timeout it begins with the next receive.
+    since: Option<Instant>,
+}
+
+impl Bound {
+    fn open<R: Net + Clock>(system: &R, at: Addr) -> io::Result<Bound> {
+        let socket = UdpSocket::bind(system, socket_addr(at))?;
+        let timeout = Duration::from_millis(PATIENCE);
+        socket.set_read_timeout(Some(timeout))?;
+        Ok(Bound {
+            socket,
+            timeout,
+            since: Some(Instant::now(system)?),
+        })
+    }
+
+    /// Receives a datagram or nothing; `None` where the socket fails.
+    fn hear(&mut self, now: Instant, buf: &mut [u8]) -> Option<Heard>
+        ensures { IfSome result (λ heard. HasAtMost heard (length buf.new)) }
+    {
+        let left = self.patience_left(now);
+        if left.is_zero() {
+            self.since = Some(now);
+            return Some(Heard::Nothing);
+        }
+        self.wait_for(left).ok()?;
+        match self.socket.recv_from(buf) {
+            Ok((len, from)) => Some(Heard::Got {
+                len,
+                from: addr_of(from)?,
+            }),
+            Err(error) if is_silence(error.kind()) => {
+                self.since = None;
+                Some(Heard::Nothing)
+            }
+            Err(_) => None,
+        }
+    }
+
+    /// What is left of the patience at this time, 0 once it is over.
+    fn patience_left(&mut self, now: Instant) -> Duration {
+        let since = self.since.unwrap_or(now);
+        self.since = Some(since);
+        Duration::from_millis(PATIENCE).saturating_sub(now.duration_since(since))
+    }
+
+    /// Sets the socket's timeout, unless it is about as long already.
+    fn wait_for(&mut self, left: Duration) -> io::Result<()> {
+        if left.abs_diff(self.timeout) < Duration::from_millis(LEEWAY) {
+            return Ok(());
+        }
+        let timeout = left.max(Duration::from_millis(SHORTEST));
+        self.socket.set_read_timeout(Some(timeout))?;
+        self.timeout = timeout;
+        Ok(())
+    }
 }
 
 /// Whether the socket is there and took the datagram whole.
-fn send_by(socket: &Option<UdpSocket>, to: Addr, bytes: &[u8]) -> bool {
-    let Some(socket) = socket else {
+fn send_by(bound: &Option<Bound>, to: Addr, bytes: &[u8]) -> bool {
+    let Some(bound) = bound else {
         return false;
     };
-    matches!(socket.send_to(bytes, socket_addr(to)), Ok(sent) if sent == bytes.len())
+    matches!(bound.socket.send_to(bytes, socket_addr(to)), Ok(sent) if sent == bytes.len())
 }
 
-/// What the socket heard, or `None` where there is none or it failed.
-fn recv_by(socket: &Option<UdpSocket>, buf: &mut [u8]) -> Option<Heard>
+/// What the socket received, or `None` where there is no socket, or it or the clock failed.
+fn recv_by<R: Clock>(clock: &R, bound: &mut Option<Bound>, buf: &mut [u8]) -> Option<Heard>
     ensures { IfSome result (λ heard. HasAtMost heard (length buf.new)) }
 {
-    let Some(socket) = socket else {
+    let Some(bound) = bound else {
         return None;
     };
-    match socket.recv_from(buf) {
-        Ok((len, from)) => Some(Heard::Got {
-            len,
-            from: addr_of(from)?,
-        }),
-        Err(error) if is_silence(error.kind()) => Some(Heard::Nothing),
-        Err(_) => None,
-    }
+    bound.hear(Instant::now(clock).ok()?, buf)
 }
 
 fn is_silence(kind: io::ErrorKind) -> bool {
@@ -159,47 +201,5 @@ fn addr_of(from: SocketAddr) -> Option<Addr> {
             port: from.port(),
         }),
         SocketAddr::V6(_) => None,
-    }
-}
-
-#[cfg(test)]
-mod tests {
-    use super::*;
-
-    /// Binds the link to a port of this machine, one of 16 of which some may be taken.
-    fn bind_somewhere<L: Link>(link: &mut L) -> Option<Addr> {
-        for port in 7431..7447u16 {
-            let here = Addr {
-                ip: 0x7F00_0001,
-                port,
-            };
-            if link.bind(here).is_ok() {
-                return Some(here);
-            }
-        }
-        None
-    }
-
-    #[test]
-    fn a_datagram_to_itself_comes_back(rt: HostRuntime) {
-        let mut link = UdpLink::new(&rt);
-        let mut buf = [0u8; 2048];
-        assert_eq!(rt; link.recv(&mut buf), Err(Failed));
-        let here = bind_somewhere(&mut link).expect(&rt, "a port is free");
-        let (faults, bind_faults) = (link.faults(), link.bind_faults());
-        let got = |len| Ok(Heard::Got { len, from: here });
-        for text in [b"hello".as_slice(), b"", [7u8; 2048].as_slice()] {
-            assert_eq!(rt; link.send(here, text), Ok(()));
-            assert_eq!(rt; link.recv(&mut buf), got(text.len()));
-            assert!(rt; buf.starts_with(text));
-        }
-        assert_eq!(rt; link.send(here, &[9u8; 3000]), Ok(()));
-        assert_eq!(rt; link.recv(&mut buf), got(2048));
-        assert_eq!(rt; link.recv(&mut buf), Ok(Heard::Nothing));
-        assert_eq!(rt; (link.faults(), link.bind_faults()), (faults, bind_faults));
-        let mut other = UdpLink::new(&rt);
-        assert_eq!(rt; other.bind(here), Err(Failed));
-        assert_eq!(rt; other.send(here, b"early"), Err(Failed));
-        assert_eq!(rt; (other.faults(), other.bind_faults()), (2, 1));
     }
 }

@@ -5,10 +5,10 @@ use Rattle.std.specs.List.{AllByRecursion, list_any}
 use Rattle.std.proofs.lemmas.Bool.{and_parts, or_parts}
 use Rattle.ft_io.specs.declared.Key.{Key}
 use Rattle.ft_io.specs.Key.{key_eq}
-use Rattle.seq_arith.specs.Message.{Numbers, Part, Body, Message}
+use Rattle.seq_arith.specs.Message.{Numbers, Part, Body, Message, is_answer}
 use Rattle.seq_arith.specs.Message.Body.{OpenMsg, DataMsg, ReadMsg, DoneMsg}
 use Rattle.server_trait.specs.Service.{Machine, EndsAtZero, CanCut}
-use Rattle.ft_model.specs.Log.{Log, Entry, new_entry, with_bytes, with_its_fin, with_part, may_follow, is_next_read, with_read, with_body, is_hello, is_answer, log_after}
+use Rattle.ft_model.specs.Log.{Log, Entry, new_entry, with_bytes, with_its_fin, with_part, may_follow, is_next_read, with_read, with_body, is_hello, log_after}
 use Rattle.ft_model.specs.Network.{Packet}
 use Rattle.ft_model.specs.World.{World, Moment, Joint, world_after}
 use Rattle.ft_model.proofs.Happened.{Happened, holds_after}

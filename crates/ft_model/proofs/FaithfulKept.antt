@@ -6,13 +6,13 @@ use Rattle.ft_io.specs.declared.Addr.{Addr}
 use Rattle.ft_io.specs.declared.Key.{Key}
 use Rattle.ft_io.specs.Key.{key_eq}
 use Rattle.seq_arith.specs.Number.{number_at}
-use Rattle.seq_arith.specs.Arrival.{int_eq, is_acceptable, below}
+use Rattle.seq_arith.specs.Arrival.{int_eq}
 use Rattle.seq_arith.specs.Packet.{Segment, has_syn, has_rst, has_ack}
 use Rattle.seq_arith.specs.Message.{Numbers, Body, Message}
 use Rattle.seq_arith.specs.Message.Body.{OpenMsg, DataMsg, ReadMsg, DoneMsg}
 use Rattle.server_trait.specs.Service.{Machine}
 use Rattle.ft_model.specs.Offset.{first_of, ack_of, text_of, fin_of, length_of}
-use Rattle.ft_model.specs.Client.{Client, received, opened_by, arrived, used, with_text, with_fin, with_ack, is_opening, is_open, is_ended, next_of, room_of}
+use Rattle.ft_model.specs.Client.{Client, received, opened_by, arrived, used, may_use, with_ack, with_added, came, is_opening, is_open, is_ended, next_of, room_of}
 use Rattle.ft_model.specs.declared.phase.Phase.TheVariants as phases
 use Rattle.ft_model.specs.Log.{Log, Entry, new_entry, opened, with_part, with_read, is_next_read, with_body, log_after}
 use Rattle.ft_model.specs.Network.{Packet, source_of}
@@ -63,36 +63,17 @@ pub record IsSameClient (before after : Client) : Type 0 where
 same_client : (c : Client) → IsSameClient c c
 same_client c = record { kind = refl; key = refl; isn = refl; script = refl }
 
-then_same : (a b c : Client) → IsSameClient a b → IsSameClient b c → IsSameClient a c
-then_same a b c p q = record { kind = q.kind ∙ p.kind; key = q.key ∙ p.key; isn = q.isn ∙ p.isn; script = q.script ∙ p.script }
-
-text_same : (c : Client) (first : ℤ) (text : List ℕ) → IsSameClient c (with_text c first text)
-text_same c first text =
-    holds_if (IsSameClient c) (is_ended c.phase || int_lt (pos (length c.accepted)) first) c
-    (record c { accepted = c.accepted ++ take (c.edge - length c.accepted) (drop (below (length c.accepted) first) text) })
-    (λ t. same_client c) (λ t. record { kind = refl; key = refl; isn = refl; script = refl })
-
-fin_same : (c : Client) (behind : ℤ) (fin : Bool) → IsSameClient c (with_fin c behind fin)
-fin_same c behind fin =
-    holds_if (IsSameClient c) (fin && not (is_ended c.phase) && int_eq behind (pos (length c.accepted)) && nat_lt (length c.accepted) c.edge)
-    (record c { phase = phases.Ended }) c (λ t. record { kind = refl; key = refl; isn = refl; script = refl }) (λ t. same_client c)
-
 used_same : (c : Client) (segment : Segment) → IsSameClient c (used c segment)
 used_same c segment =
-    let acked : Client = with_ack c (ack_of c.isn segment) in
-    let texted : Client = with_text acked (first_of c.sisn segment) (text_of segment) in
-    let finned : Client = with_fin texted (first_of c.sisn segment +ℤ pos (length (text_of segment))) (fin_of segment) in
-    holds_if (IsSameClient c) (int_lt (pos c.sent) (ack_of c.isn segment)) c finned (λ t. same_client c)
-    (λ t. then_same c texted finned
-    (then_same c acked texted (record { kind = refl; key = refl; isn = refl; script = refl }) (text_same acked (first_of c.sisn segment) (text_of segment)))
-    (fin_same texted (first_of c.sisn segment +ℤ pos (length (text_of segment))) (fin_of segment)))
+    holds_if (IsSameClient c) (int_lt (pos c.sent) (ack_of c.isn segment)) c (with_added (with_ack c (ack_of c.isn segment)) (came c segment)) (λ t. same_client c)
+    (λ t. record { kind = refl; key = refl; isn = refl; script = refl })
 
 arrived_same : (c : Client) (segment : Segment) → IsSameClient c (arrived c segment)
 arrived_same c segment =
     let gone : Client = record c { phase = phases.Reset } in
     let rst : Client = if int_eq (first_of c.sisn segment) (pos (next_of c)) then gone else c in
     let other : Client = if has_syn segment || not (has_ack segment) then c else used c segment in
-    holds_if (IsSameClient c) (is_acceptable (next_of c) (room_of c) (first_of c.sisn segment) (length_of segment)) (if has_rst segment then rst else other) c
+    holds_if (IsSameClient c) (may_use c segment) (if has_rst segment then rst else other) c
     (λ t. holds_if (IsSameClient c) (has_rst segment) rst other
     (λ r. holds_if (IsSameClient c) (int_eq (first_of c.sisn segment) (pos (next_of c))) gone c (λ x. record { kind = refl; key = refl; isn = refl; script = refl }) (λ x. same_client c))
     (λ r. holds_if (IsSameClient c) (has_syn segment || not (has_ack segment)) c (used c segment) (λ x. same_client c) (λ x. used_same c segment)))

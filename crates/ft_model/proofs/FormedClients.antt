@@ -2,13 +2,13 @@
 use Rattle.std.proofs.Common.{◌≡◌, ℕ, ◌+◌, ◌-◌, ◌<◌, ◌≤◌, ◌^◌, ◌==◌, ℤ, pos, ◌+ℤ◌, int_lt, Bool, true, ◌&&◌, ◌||◌, not, nat_lt, nat_le, refl, sym, ap, ◌∙◌, subst, eqb-true, Option, Some, None, IfSome, List, ◌++◌, length, take, drop, arith, leb-true, length-take, if◌then◌else◌}
 use Rattle.std.proofs.lemmas.Bool.{ltb-true, and_parts}
 use Rattle.seq_arith.specs.Number.{number_at}
-use Rattle.seq_arith.specs.Arrival.{int_eq, is_acceptable, below}
+use Rattle.seq_arith.specs.Arrival.{int_eq}
 use Rattle.seq_arith.specs.Packet.{Segment, has_syn, has_rst, has_ack}
 use Rattle.seq_arith.specs.PacketGrammar.{mss_option, packet_length}
 use Rattle.server_trait.specs.Service.{AreBytes}
 use Rattle.ft_model.specs.Offset.{first_of, ack_of, text_of, fin_of, length_of}
 use Rattle.ft_model.specs.declared.phase.Phase.TheVariants as phases
-use Rattle.ft_model.specs.Client.{Client, ClientKind, Move, IsMove, seq_of, ack_number_of, flags_of, mss_of, payload_of, is_acknowledging, accepted_units, segment_of, may_announce, is_live, may_offer, suits_kind, suits_phase, suits_range, received, opened_by, arrived, used, with_text, with_fin, with_ack, is_opening, is_open, is_ended, next_of, room_of}
+use Rattle.ft_model.specs.Client.{Client, ClientKind, Move, IsMove, seq_of, ack_number_of, flags_of, mss_of, payload_of, is_acknowledging, accepted_units, segment_of, may_announce, is_live, may_offer, suits_kind, suits_phase, suits_range, received, opened_by, arrived, used, may_use, with_ack, with_added, came, is_opening, is_open, is_ended, next_of, room_of}
 use Rattle.ft_model.specs.Client.Move.{Syn, Text, Fin, Acknowledge, Rst, Refuse}
 use Rattle.ft_model.specs.Network.Packet.{To_server}
 use Rattle.ft_model.specs.World.{World}
@@ -17,23 +17,9 @@ use Rattle.ft_model.proofs.Formed.{bytes_take, bytes_drop, HasClient, PacketForm
 use Rattle.ft_io.proofs.Choices.{holds_if}
 
 -- a client keeps the server's address
-text_server : (c : Client) (first : ℤ) (text : List ℕ) → (with_text c first text).server ≡ c.server
-text_server c first text =
-    holds_if (λ x. x.server ≡ c.server) (is_ended c.phase || int_lt (pos (length c.accepted)) first) c
-    (record c { accepted = c.accepted ++ take (c.edge - length c.accepted) (drop (below (length c.accepted) first) text) }) (λ t. refl) (λ t. refl)
-
-fin_server : (c : Client) (behind : ℤ) (fin : Bool) → (with_fin c behind fin).server ≡ c.server
-fin_server c behind fin =
-    holds_if (λ x. x.server ≡ c.server) (fin && not (is_ended c.phase) && int_eq behind (pos (length c.accepted)) && nat_lt (length c.accepted) c.edge)
-    (record c { phase = phases.Ended }) c (λ t. refl) (λ t. refl)
-
 used_server : (c : Client) (segment : Segment) → (used c segment).server ≡ c.server
 used_server c segment =
-    let acked : Client = with_ack c (ack_of c.isn segment) in
-    let texted : Client = with_text acked (first_of c.sisn segment) (text_of segment) in
-    holds_if (λ x. x.server ≡ c.server) (int_lt (pos c.sent) (ack_of c.isn segment)) c
-    (with_fin texted (first_of c.sisn segment +ℤ pos (length (text_of segment))) (fin_of segment)) (λ t. refl)
-    (λ t. fin_server texted (first_of c.sisn segment +ℤ pos (length (text_of segment))) (fin_of segment) ∙ text_server acked (first_of c.sisn segment) (text_of segment))
+    holds_if (λ x. x.server ≡ c.server) (int_lt (pos c.sent) (ack_of c.isn segment)) c (with_added (with_ack c (ack_of c.isn segment)) (came c segment)) (λ t. refl) (λ t. refl)
 
 arrived_server : (c : Client) (segment : Segment) → (arrived c segment).server ≡ c.server
 arrived_server c segment =
@@ -41,7 +27,7 @@ arrived_server c segment =
     let gone : Client = record c { phase = phases.Reset } in
     let rst : Client = if int_eq (first_of c.sisn segment) (pos (next_of c)) then gone else c in
     let other : Client = if has_syn segment || not (has_ack segment) then c else used c segment in
-    holds_if P (is_acceptable (next_of c) (room_of c) (first_of c.sisn segment) (length_of segment)) (if has_rst segment then rst else other) c
+    holds_if P (may_use c segment) (if has_rst segment then rst else other) c
     (λ t. holds_if P (has_rst segment) rst other
     (λ r. holds_if P (int_eq (first_of c.sisn segment) (pos (next_of c))) gone c (λ x. refl) (λ x. refl))
     (λ r. holds_if P (has_syn segment || not (has_ack segment)) c (used c segment) (λ x. refl) (λ x. used_server c segment)))

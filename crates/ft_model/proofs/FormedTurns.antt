@@ -38,7 +38,8 @@ use Rattle.ft_model.proofs.Spoken.Spoken.{spoken_syn, spoken_text, spoken_fin, s
 use Rattle.ft_model.proofs.StageTurns.{either_turn}
 use Rattle.ft_model.proofs.PlaceTurns.{PlaceWent, IsNews}
 use Rattle.ft_model.proofs.PlaceTurns.PlaceWent.{stayed, went_on, began, dropped, ended, refused}
-use Rattle.ft_model.proofs.Scripts.{NewsFits, int_same}
+use Rattle.ft_model.proofs.Scripts.{NewsFits}
+use Rattle.ft_model.proofs.Coming.{int_same}
 use Rattle.ft_model.proofs.Faithful.{AnswerFits, PlaceFits, EntriesFit, NewsKnown, connection_fits}
 use Rattle.ft_model.proofs.FaithfulKept.{InputFits, news_fit, opened_point}
 use Rattle.ft_model.proofs.FaithfulOver.{script_of, isn_of}

@@ -4,10 +4,10 @@ use Rattle.std.specs.List.{list_any}
 use Rattle.std.proofs.lemmas.Bool.{or_parts, or_right}
 use Rattle.ft_io.specs.declared.Key.{Key}
 use Rattle.ft_io.specs.Key.{key_eq}
-use Rattle.seq_arith.specs.Message.{Numbers, Part, Body, Message}
+use Rattle.seq_arith.specs.Message.{Numbers, Part, Body, Message, is_answer}
 use Rattle.seq_arith.specs.Message.Body.{HelloMsg, OpenMsg, DataMsg, ReadMsg, DoneMsg}
 use Rattle.ft_model.specs.Offset.{one_if}
-use Rattle.ft_model.specs.Log.{Entry, Log, entry_of, new_entry, opened, with_bytes, with_its_fin, with_part, is_next_read, with_read, with_body, is_hello, is_answer, heard, log_after}
+use Rattle.ft_model.specs.Log.{Entry, Log, entry_of, new_entry, opened, with_bytes, with_its_fin, with_part, is_next_read, with_read, with_body, is_hello, heard, log_after}
 use Rattle.ft_model.specs.Growth.{IsPrefix, EntryGrows, EntriesGrow, LogGrows, lengths_in, units_in, logged_lengths, logged_units}
 use Rattle.ft_model.proofs.Lists.{prefix_refl, prefix_more, prefix_trans, none_is_some, some_is, or_cases}
 use Rattle.ft_io.proofs.Choices.{holds_if}

@@ -42,6 +42,7 @@ pub mod Asked
 pub mod Resumed
 pub mod Exact
 pub mod Stands
+pub mod Coming
 pub mod Scripts
 pub mod Spoken
 pub mod FinsClosed

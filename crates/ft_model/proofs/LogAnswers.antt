@@ -2,9 +2,9 @@
 use Rattle.std.proofs.Common.{◌≡◌, ℕ, ◌<◌, ◌≤◌, Bool, true, false, ◌==◌, ◌||◌, nat_lt, nat_le, refl, sym, ◌∙◌, subst, eqb-true, ltb-true, ⊎_elim, inl, inr, ◌⊎◌, Option, Some, None, option_map, option_to_list, [], ◌∷◌, ◌++◌, length, arith, if◌then◌else◌}
 use Rattle.std.specs.List.{AllByRecursion, list_any}
 use Rattle.std.proofs.lemmas.Bool.{or_parts, or_from}
-use Rattle.seq_arith.specs.Message.{Numbers, Body, Message}
+use Rattle.seq_arith.specs.Message.{Numbers, Body, Message, is_answer}
 use Rattle.seq_arith.specs.Message.Body.{OpenMsg, DataMsg, ReadMsg, DoneMsg, StaleMsg}
-use Rattle.ft_model.specs.Log.{Log, log_after, answer_to, answer_body, told, heard, with_body, opened, new_entry, is_hello, is_answer}
+use Rattle.ft_model.specs.Log.{Log, log_after, answer_to, answer_body, told, heard, with_body, opened, new_entry, is_hello}
 use Rattle.ft_model.specs.Network.{Packet}
 use Rattle.ft_model.specs.Network.Packet.{From_logger}
 use Rattle.ft_model.proofs.Lists.{none_is_some, some_is}

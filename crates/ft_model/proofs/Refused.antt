@@ -6,9 +6,9 @@ use Rattle.std.proofs.lemmas.Bool.{or_parts, or_right}
 use Rattle.ft_io.specs.declared.Key.{Key}
 use Rattle.ft_io.specs.Key.{key_eq}
 use Rattle.seq_arith.specs.Packet.{has_rst, has_ack}
-use Rattle.seq_arith.specs.Message.{Numbers, Body, Message}
+use Rattle.seq_arith.specs.Message.{Numbers, Body, Message, is_answer}
 use Rattle.seq_arith.specs.Message.Body.{HelloMsg, ListMsg, EntryMsg, BytesMsg, PartMsg, CutsMsg, LensMsg, OpenMsg, DataMsg, StableMsg, ReadMsg, ReadsMsg, DoneMsg, EndedMsg, FullMsg}
-use Rattle.ft_model.specs.Log.{Log, Entry, entry_of, new_entry, opened, with_part, with_read, with_body, is_hello, is_answer, log_after, opened_answer, told, kept_of, head_of, part_of, lens_of}
+use Rattle.ft_model.specs.Log.{Log, Entry, entry_of, new_entry, opened, with_part, with_read, with_body, is_hello, log_after, opened_answer, told, kept_of, head_of, part_of, lens_of}
 use Rattle.ft_model.specs.Network.{Packet, source_of, destination_of}
 use Rattle.ft_model.specs.Network.Packet.{To_server, To_client, To_logger, From_logger}
 use Rattle.ft_model.specs.Growth.{LogGrows}

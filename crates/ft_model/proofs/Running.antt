@@ -8,7 +8,7 @@ use Rattle.ft_model.specs.Network.{Packet}
 use Rattle.ft_model.specs.News.{News}
 use Rattle.ft_model.specs.News.News.{Comes, Logged, Ticks, Begins}
 use Rattle.ft_model.specs.Point.{Point, made, released}
-use Rattle.ft_model.specs.Taken.{taken_after, continues}
+use Rattle.ft_model.specs.Taken.{taken_after, came}
 use Rattle.ft_model.specs.Answered.{reads_answered_after}
 use Rattle.ft_model.specs.Reads.{next_length, may_read, next_read, with_read, Makes}
 use Rattle.ft_model.specs.Connection.{ResetTurn, LiveTurn}
@@ -71,7 +71,7 @@ makes_within service p (n ∷ ns) small f e s m =
 
 pub taken_grows : (news : News) (p : Point) → IsPrefix p.taken (taken_after news p)
 unfolding taken_after
-taken_grows (Comes segment) p = holds_if (IsPrefix p.taken) (continues p segment) _ p.taken (λ t. prefix_more p.taken _) (λ t. prefix_refl p.taken)
+taken_grows (Comes segment) p = prefix_more p.taken (came p segment).added
 taken_grows (Logged kept) p = prefix_refl p.taken
 taken_grows Ticks p = prefix_refl p.taken
 taken_grows Begins p = prefix_refl p.taken

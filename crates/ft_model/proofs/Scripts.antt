@@ -4,6 +4,7 @@ use Rattle.std.specs.List.{AllByRecursion}
 use Rattle.std.proofs.lemmas.Bool.{and_parts, or_parts}
 use Rattle.ft_io.specs.declared.Key.{Key}
 use Rattle.seq_arith.specs.Arrival.{int_eq, below}
+use Rattle.seq_arith.specs.Coming.{nothing_came, comes}
 use Rattle.seq_arith.specs.Packet.{Segment, has_syn}
 use Rattle.seq_arith.specs.Message.{Part, Body}
 use Rattle.seq_arith.specs.Message.Body.{DataMsg}
@@ -15,11 +16,12 @@ use Rattle.ft_model.specs.Log.{Entry, with_part, with_bytes, with_its_fin}
 use Rattle.ft_model.specs.Point.{Point, receive_edge}
 use Rattle.ft_model.specs.News.{News}
 use Rattle.ft_model.specs.News.News.{Comes, Logged, Ticks, Begins}
-use Rattle.ft_model.specs.Taken.{counts, continues, end_of, taken_after, takes_fin, fin_after}
+use Rattle.ft_model.specs.Taken.{counts, end_of, came, taken_after, fin_after}
 use Rattle.ft_model.specs.Copy.{from_start, copy_start, copied_text, copies_fin, una_part, copied_part, copies}
 use Rattle.ft_model.specs.Growth.{IsPrefix}
 use Rattle.ft_model.proofs.Lists.{take_first, or_cases}
-use Rattle.ft_model.proofs.Stands.{nothing_first, part_stands, goes_on, goes_on_all, take_nothing}
+use Rattle.ft_model.proofs.Stands.{nothing_first, part_stands, goes_on_all, take_nothing}
+use Rattle.ft_model.proofs.Coming.{Fronts, Says, int_same, unchanged, comes_fits}
 use Rattle.ft_io.proofs.Choices.{holds_if}
 use Rattle.ft_io.proofs.Booleans.{middle_false}
 
@@ -55,70 +57,29 @@ abbrev pub NewsFits : List ℕ → ℕ → News → Type 0
 NewsFits script isn (Comes segment) = FitsScript script isn segment
 NewsFits script isn _ = Unit {0}
 
-last_of_three : (a b c : Bool) → (a && b && c) ≡ true → c ≡ true
-last_of_three true true c e = e
-last_of_three true false c e = absurd (true≢false (sym e))
-last_of_three false true c e = absurd (true≢false (sym e))
-last_of_three false false c e = absurd (true≢false (sym e))
-
--- the law Taken, in one sentence: each byte taken is the script's byte at its offset
-taken_stands : (script : List ℕ) (isn : ℕ) (segment : Segment) (p : Point) → FitsScript script isn segment → HasTaken script isn p
-    → IsPrefix (taken_after (Comes segment) p) script
-unfolding taken_after
-taken_stands script isn segment p f h =
-    holds_if (λ l. IsPrefix l script) (continues p segment) _ p.taken
-    (λ t. let within : int_le (first_of p.cisn segment) (pos (length p.taken)) ≡ true = last_of_three (counts p segment) (not p.fin) _ t in
-    ⊎_elim
-    (λ c. let at : first_of p.cisn segment ≡ pos c.0 = subst (λ n. first_of n segment ≡ pos c.0) (sym h.cisn) c.1 in
-    let low : c.0 ≤ length p.taken = leb-true _ _ (subst (λ z. int_le z (pos (length p.taken)) ≡ true) at within) in
-    subst (λ z. IsPrefix (p.taken ++ take (receive_edge p - length p.taken) (drop (below (length p.taken) z) (text_of segment))) script) (sym at)
-    (goes_on (receive_edge p - length p.taken) c.0 p.taken (text_of segment) script h.front c.2 low))
-    (λ c. subst (λ x. IsPrefix (p.taken ++ take (receive_edge p - length p.taken) (drop (below (length p.taken) (first_of p.cisn segment)) x)) script) (sym c.0)
-    (subst (λ x. IsPrefix (p.taken ++ x) script) (sym (take_nothing (receive_edge p - length p.taken) (below (length p.taken) (first_of p.cisn segment))))
-    (subst (λ x. IsPrefix x script) (sym (append-nil p.taken)) h.front))) f.text)
-    (λ t. h.front)
-
--- behind a FIN nothing is taken
-ended_taken : (segment : Segment) (p : Point) → p.fin ≡ true → taken_after (Comes segment) p ≡ p.taken
-unfolding taken_after
-ended_taken segment p e =
-    ap (λ b. if b then p.taken ++ take (receive_edge p - length p.taken) (drop (below (length p.taken) (first_of p.cisn segment)) (text_of segment)) else p.taken)
-    (middle_false (counts p segment) (not p.fin) (int_le (first_of p.cisn segment) (pos (length p.taken))) (ap not e))
-
-pub int_same : (m n : ℕ) → int_eq (pos m) (pos n) ≡ true → m ≡ n
-int_same m n e =
-    let parts = and_parts (int_le (pos m) (pos n)) (int_le (pos n) (pos m)) e in
-    let low : m ≤ n = leb-true _ _ parts.0 in
-    let high : n ≤ m = leb-true _ _ parts.1 in
-    omega (arith, low, high)
-
--- .. and a FIN is taken only at the script's end
-fin_stands : (script : List ℕ) (isn : ℕ) (segment : Segment) (p : Point) → FitsScript script isn segment → HasTaken script isn p
-    → fin_after (Comes segment) p ≡ true → length (taken_after (Comes segment) p) ≡ length script
-unfolding fin_after
-fin_stands script isn segment p f h e =
-    ⊎_elim (λ was. ap length (ended_taken segment p was) ∙ h.fin was)
-    (λ takes.
-    let L : ℕ = length (taken_after (Comes segment) p) in
-    let one = and_parts (continues p segment && fin_of segment && int_eq (end_of p segment) (pos L)) (nat_lt L (receive_edge p)) takes in
-    let three = and_parts (continues p segment && fin_of segment) (int_eq (end_of p segment) (pos L)) one.0 in
-    let two = and_parts (continues p segment) (fin_of segment) three.0 in
-    ⊎_elim
-    (λ c. let at : first_of p.cisn segment ≡ pos c.0 = subst (λ n. first_of n segment ≡ pos c.0) (sym h.cisn) c.1 in
-    let same : c.0 + length (text_of segment) ≡ L = int_same (c.0 + length (text_of segment)) L (subst (λ z. int_eq (z +ℤ pos (length (text_of segment))) (pos L) ≡ true) at three.1) in
-    sym same ∙ c.3 two.1)
-    (λ c. absurd (true≢false (sym two.1 ∙ c.1))) f.text)
-    (or_cases p.fin (takes_fin p segment) e)
+-- the law Taken, in one sentence: each byte taken is the script's byte at its offset, and a FIN is taken only at the script's end
+came_fits : (script : List ℕ) (isn : ℕ) (segment : Segment) (p : Point) → FitsScript script isn segment → HasTaken script isn p
+    → Fronts script (taken_after (Comes segment) p) (fin_after (Comes segment) p)
+unfolding taken_after fin_after came
+came_fits script isn segment p f h =
+    let taken : Fronts script p.taken p.fin = record { front = h.front; fin = h.fin } in
+    holds_if (λ c. Fronts script (p.taken ++ c.added) c.fin) (counts p segment)
+    (comes (length p.taken) (receive_edge p) p.fin (first_of p.cisn segment) (text_of segment) (fin_of segment)) (nothing_came p.fin)
+    (λ t. comes_fits script p.taken (receive_edge p) p.fin (first_of p.cisn segment) (text_of segment) (fin_of segment) taken
+    (subst (λ n. Says script (first_of n segment) (text_of segment) (fin_of segment)) (sym h.cisn) f.text))
+    (λ t. unchanged script p.taken p.fin taken)
 
 -- the law Taken: what is taken after any news is a front of the script still
 pub taken_fits : (script : List ℕ) (isn : ℕ) (news : News) (p q : Point) → NewsFits script isn news → HasTaken script isn p
     → q.taken ≡ taken_after news p → q.fin ≡ fin_after news p → q.cisn ≡ p.cisn → HasTaken script isn q
 unfolding taken_after fin_after
-taken_fits script isn (Comes segment) p q f h t e c = record {
-  front = subst (λ l. IsPrefix l script) (sym t) (taken_stands script isn segment p f h);
-  fin = λ k. ap length t ∙ fin_stands script isn segment p f h (sym e ∙ k);
-  cisn = c ∙ h.cisn;
-}
+taken_fits script isn (Comes segment) p q f h t e c =
+    let after = came_fits script isn segment p f h in
+    record {
+      front = subst (λ l. IsPrefix l script) (sym t) after.front;
+      fin = λ k. ap length t ∙ after.fin (sym e ∙ k);
+      cisn = c ∙ h.cisn;
+    }
 taken_fits script isn news p q f h t e c = record {
   front = subst (λ l. IsPrefix l script) (sym t) h.front;
   fin = λ k. ap length t ∙ h.fin (sym e ∙ k);

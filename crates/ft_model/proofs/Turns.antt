@@ -2,9 +2,11 @@
 use Rattle.std.proofs.Common.{◌≡◌, ℕ, Bool, true, false, nat_le, MatchBool, None, List, [], ◌∷◌, ◌++◌, length, refl, sym, ap, ◌∙◌, subst, append-nil, ◌+◌, true≢false, arith}
 use Rattle.ft_io.specs.declared.Addr.{Addr}
 use Rattle.seq_arith.specs.Number.{offset_of}
+use Rattle.seq_arith.specs.Arrival.{is_at_right_edge, is_allowed_at_zero}
+use Rattle.seq_arith.specs.Coming.{comes, new_text, is_fin_at}
 use Rattle.server_trait.specs.Service.{Machine, reference}
 use Rattle.ft_model.specs.Log.{log_after, answer_to}
-use Rattle.ft_model.specs.Taken.{accepts, counts, taken_after, fin_after}
+use Rattle.ft_model.specs.Taken.{accepts, uses, counts, came, taken_after, fin_after}
 use Rattle.ft_model.specs.Answered.{answered_after, reads_answered_after}
 use Rattle.ft_model.specs.Reads.{next_length, may_read, reads_told}
 use Rattle.ft_model.specs.Timer.{must_run, interval_after, rest_after}
@@ -31,7 +33,7 @@ use Rattle.ft_model.proofs.LiveTurns.{turned, live_turn}
 
 -- names all laws that a run computes: `unfolding laws` opens them
 unfoldable pub laws : Type 0
-unfolding turned reference offset_of log_after answer_to accepts counts taken_after fin_after answered_after reads_answered_after next_length may_read reads_told must_run interval_after rest_after syn_acked_after acknowledged_after edge_after wl1_after wl2_after sent_at_once sent_after copies reset_after end_ticks_after dones owes is_owed resent new_texts new_fin full_segments segments_of
+unfolding turned reference offset_of log_after answer_to accepts uses is_at_right_edge is_allowed_at_zero counts came comes new_text is_fin_at taken_after fin_after answered_after reads_answered_after next_length may_read reads_told must_run interval_after rest_after syn_acked_after acknowledged_after edge_after wl1_after wl2_after sent_at_once sent_after copies reset_after end_ticks_after dones owes is_owed resent new_texts new_fin full_segments segments_of
 laws = Unit {0}
 
 -- a server with one place: what it does there is the whole turn

@@ -4,7 +4,7 @@ use Rattle.std.specs.Prelude.{ℕ, Bool, true, false, ◌+◌, ◌-◌, ◌==◌
 use Rattle.std.specs.List.{list_any}
 use Rattle.ft_io.specs.declared.Key.{Key}
 use Rattle.ft_io.specs.Key.{key_eq}
-use Rattle.seq_arith.specs.Message.{Numbers, Kept, EntryHead, Part, Body, Message}
+use Rattle.seq_arith.specs.Message.{Numbers, Kept, EntryHead, Part, Body, Message, is_answer}
 use Rattle.seq_arith.specs.Message.Body.{HelloMsg, SummaryMsg, ListMsg, EntryMsg, BytesMsg, PartMsg, CutsMsg, LensMsg, OpenMsg, OpenedMsg, DataMsg, StableMsg, ReadMsg, ReadsMsg, DoneMsg, EndedMsg, StaleMsg, FullMsg}
 
 pub record Entry : Type 0 where
@@ -74,20 +74,6 @@ with_body _ log = log
 abbrev pub is_hello : Body → Bool
 is_hello HelloMsg = true
 is_hello _ = false
-
--- the kinds that only the logger sends
-abbrev pub is_answer : Body → Bool
-is_answer (SummaryMsg count) = true
-is_answer (EntryMsg index head) = true
-is_answer (PartMsg key offset bytes) = true
-is_answer (LensMsg key first lens) = true
-is_answer (OpenedMsg n) = true
-is_answer (StableMsg k) = true
-is_answer (ReadsMsg k) = true
-is_answer (EndedMsg key) = true
-is_answer (StaleMsg newer) = true
-is_answer (FullMsg key) = true
-is_answer _ = false
 
 -- a Hello makes its boot the log's; any other kind counts only in the log's own boot
 abbrev pub heard : Message → Log → Log

@@ -1,8 +1,8 @@
 -- A message of an older boot gets Stale.
 use Rattle.std.proofs.Common.{◌≡◌, true, false, ◌<◌, ◌≤◌, nat_lt, refl, arith, Some, true≢false, ⊎_elim}
-use Rattle.seq_arith.specs.Message.{Message}
+use Rattle.seq_arith.specs.Message.{Message, is_answer}
 use Rattle.seq_arith.specs.Message.Body.{StaleMsg}
-use Rattle.ft_model.specs.Log.{Log, log_after, answer_to, is_hello, is_answer}
+use Rattle.ft_model.specs.Log.{Log, log_after, answer_to, is_hello}
 use Rattle.ft_model.specs.Growth.{LogGrows}
 use Rattle.ft_model.proofs.Grows.{hello_raises}
 

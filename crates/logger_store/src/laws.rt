@@ -1,9 +1,9 @@
 //! The fence, in the words of what the store's contract names.
 
 ghost use Rattle.std.specs.Prelude.{◌≡◌, ◌<◌, true, false, Some};
-ghost use Rattle.seq_arith.specs.Message.{Message};
+ghost use Rattle.seq_arith.specs.Message.{Message, is_answer};
 ghost use Rattle.seq_arith.specs.Message.Body.{StaleMsg};
-ghost use Rattle.ft_model.specs.Log.{Log, log_after, answer_to, is_hello, is_answer};
+ghost use Rattle.ft_model.specs.Log.{Log, log_after, answer_to, is_hello};
 ghost use Rattle.ft_model.specs.Growth.{LogGrows};
 
 /// After a Hello, however far the log has grown since, a message of a smaller boot number changes nothing, and gets Stale unless only the logger

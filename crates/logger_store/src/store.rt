@@ -2,7 +2,8 @@
 
 ghost use Rattle.std.specs.Prelude.{[], ◌≡◌, ◌≤◌, ◌<◌, ◌^◌, ◌+◌, ℕ, Some, None, true, false, option_map, option_copied, OnOk, OnErr, IsOk, IfSome, length};
 ghost use Rattle.std.specs.Prelude.{slice_get, slice_index};
-ghost use Rattle.ft_model.specs.Log.{Entry, Log, log_after, answer_to, empty_log, opened, with_body, told, is_answer, is_hello, entry_of, with_entry};
+ghost use Rattle.seq_arith.specs.Message.{is_answer};
+ghost use Rattle.ft_model.specs.Log.{Entry, Log, log_after, answer_to, empty_log, opened, with_body, told, is_hello, entry_of, with_entry};
 ghost use Rattle.ft_model.specs.Log.{with_part, with_read, head_of};
 ghost use Rattle.std.specs.Prelude.{◌||◌, nat_le};
 ghost use Rattle.std.specs.List.{list_any};

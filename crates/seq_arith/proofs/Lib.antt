@@ -1,5 +1,9 @@
+pub mod Coming
 pub mod Damaged
+pub mod Flipped
 pub mod Gaps
+pub mod Headed
+pub mod MarkSpelling
 pub mod MessageSpelling
 pub mod Passing
 pub mod Refused
@@ -7,4 +11,5 @@ pub mod Shifts
 pub mod Spelling
 pub mod Sums
 pub mod Texts
+pub mod TwinSpelling
 pub mod Units

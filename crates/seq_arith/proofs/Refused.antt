@@ -19,11 +19,11 @@ use Rattle.seq_arith.proofs.Damaged.{flip_is_seen, flip_in_front, flip_behind}
 use Rattle.ft_io.proofs.Booleans.{left_false}
 
 -- what isn't accepted is refused
-refused : {V E : Type 0} (r : Result V E) → (IsOk r → ⊥) → IsErr r
+pub refused : {V E : Type 0} (r : Result V E) → (IsOk r → ⊥) → IsErr r
 refused (Ok v) never = absurd (never refl)
 refused (Err e) never = refl
 
-accepted : {V E : Type 0} {r : Result V E} {v : V} → r ≡ Ok v → IsOk r
+pub accepted : {V E : Type 0} {r : Result V E} {v : V} → r ≡ Ok v → IsOk r
 accepted e = ap is_ok e
 
 -- what acceptance says of a packet's length and of its checksums
@@ -89,7 +89,7 @@ record IsWholeMessage (bytes : List ℕ) : Type 0 where
   sum : checksum bytes ≡ 0
 
 -- no refusal came first
-goes_on : {E V : Type 0} (b : Bool) (e : E) (later : Result V E) → IsOk (if b then Err e else later) → (b ≡ false) × IsOk later
+pub goes_on : {E V : Type 0} (b : Bool) (e : E) (later : Result V E) → IsOk (if b then Err e else later) → (b ≡ false) × IsOk later
 goes_on true e later ok = absurd (cc)
 goes_on false e later ok = (refl, ok)
 

@@ -13,3 +13,8 @@ pub mod PacketGrammar
 pub mod MessageGrammar
 pub mod Generator
 pub mod Damage
+pub mod Header
+pub mod TwinDatagram
+pub mod TwinGrammar
+pub mod Mark
+pub mod MarkGrammar

@@ -1,5 +1,5 @@
 -- What a message between server and logger says: a boot number and one of eighteen bodies.
-use Rattle.std.specs.Prelude.{ℕ, Bool, List}
+use Rattle.std.specs.Prelude.{ℕ, Bool, true, false, List}
 use Rattle.ft_io.specs.declared.Key.{Key}
 
 -- the numbers of a connection: the client's and the server's initial numbers as the client knows them, and the segment size
@@ -59,3 +59,17 @@ pub data Body : Type 0 where
 pub record Message : Type 0 where
   pub boot : ℕ
   pub body : Body
+
+-- the kinds that only the logger sends
+abbrev pub is_answer : Body → Bool
+is_answer (SummaryMsg count) = true
+is_answer (EntryMsg index head) = true
+is_answer (PartMsg key offset bytes) = true
+is_answer (LensMsg key first lens) = true
+is_answer (OpenedMsg numbers) = true
+is_answer (StableMsg kept) = true
+is_answer (ReadsMsg kept) = true
+is_answer (EndedMsg key) = true
+is_answer (StaleMsg newer) = true
+is_answer (FullMsg key) = true
+is_answer _ = false

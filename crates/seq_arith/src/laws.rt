@@ -1,16 +1,21 @@
 //! Laws of the words in `specs`, each the clause of a function that does nothing: what a crate above may cite. Most say that a test on
 //! numbers or on offsets stays as it is where both its sides move by one number.
 
-ghost use Rattle.std.specs.Prelude.{◌≡◌, ◌<◌, ◌≤◌, ◌+◌, ◌-◌, ◌*◌, ◌/◌, ◌%◌, ◌^◌, ℕ, ℤ, pos, ◌+ℤ◌, ◌-ℤ◌, ◌≤ℤ◌, Bool, false, List, ◌∷◌, ◌++◌, length, take, drop};
+ghost use Rattle.std.specs.Prelude.{◌≡◌, ◌<◌, ◌≤◌, ◌+◌, ◌-◌, ◌*◌, ◌/◌, ◌%◌, ◌^◌, ℕ, ℤ, pos, ◌+ℤ◌, ◌-ℤ◌, ◌≤ℤ◌, int_lt, max, Bool, true, false, List, ◌∷◌, ◌++◌, length, take, drop};
 ghost use Rattle.std.specs.Prelude.{nat_abs, Ok, IsErr};
 ghost use Rattle.seq_arith.specs.Number.{gap, number_at, offset_of};
-ghost use Rattle.seq_arith.specs.Arrival.{is_acceptable, below, text_between, is_new_ack, is_beyond, una_after, updates_window};
+ghost use Rattle.seq_arith.specs.Arrival.{is_acceptable, is_usable, below, text_between, is_new_ack, is_beyond, una_after, updates_window};
+ghost use Rattle.seq_arith.specs.Coming.{nothing_came, comes};
 ghost use Rattle.seq_arith.specs.Checksum.{word_sum, odd_after, check_of, Summed, with_bytes};
 ghost use Rattle.seq_arith.specs.Damage.{flipped};
 ghost use Rattle.seq_arith.specs.Packet.{Segment};
 ghost use Rattle.seq_arith.specs.PacketGrammar.{IsSpellable, reading, spelling};
 ghost use Rattle.seq_arith.specs.Message.{Message};
 ghost use Rattle.seq_arith.specs.MessageGrammar.{IsSpellable as IsSpellableMessage, reading as message_reading, spelling as message_spelling};
+ghost use Rattle.seq_arith.specs.TwinDatagram.{TwinDatagram};
+ghost use Rattle.seq_arith.specs.TwinGrammar.{IsSpellable as IsSpellableTwin, reading as twin_reading, spelling as twin_spelling};
+ghost use Rattle.seq_arith.specs.Mark.{MarkMessage};
+ghost use Rattle.seq_arith.specs.MarkGrammar.{IsSpellable as IsSpellableMark, reading as mark_reading, spelling as mark_spelling};
 
 /// A gap stays where both its ends move by one number.
 pub fn gap_shifts()
@@ -46,6 +51,17 @@ pub fn acceptable_shifts()
         → is_acceptable (next + k) window (first +ℤ pos k) len ≡ is_acceptable next window first len }
 {}
 
+/// So does whether a segment's acknowledgement is used.
+pub fn usable_shifts()
+    ensures { (next window k : ℕ) (first : ℤ) (len : ℕ) → is_usable (next + k) window (first +ℤ pos k) len ≡ is_usable next window first len }
+{}
+
+/// So does what a segment adds to the stream.
+pub fn coming_shifts()
+    ensures { (n edge k : ℕ) (fin : Bool) (first : ℤ) (text : List ℕ) (has_fin : Bool)
+        → comes (n + k) (edge + k) fin (first +ℤ pos k) text has_fin ≡ comes n edge fin first text has_fin }
+{}
+
 /// So does how much of a text was taken before.
 pub fn below_shifts()
     ensures { (next k : ℕ) (first : ℤ) → below (next + k) (first +ℤ pos k) ≡ below next first }
@@ -70,6 +86,23 @@ pub fn una_shifts()
 pub fn window_update_shifts()
     ensures { (una : ℕ) (wl1 : ℤ) (wl2 : ℕ) (first : ℤ) (ack j k : ℕ)
         → updates_window (una + k) (wl1 +ℤ pos j) (wl2 + k) (first +ℤ pos j) (ack + k) ≡ updates_window una wl1 wl2 first ack }
+{}
+
+/// What is taken keeps to the receive edge, and a FIN that is newly taken lies below it.
+pub fn coming_keeps_to_the_edge()
+    ensures bytes { (n edge : ℕ) (fin : Bool) (first : ℤ) (text : List ℕ) (has_fin : Bool)
+        → n + length (comes n edge fin first text has_fin).added ≤ max n edge }
+    ensures fin { (n edge : ℕ) (first : ℤ) (text : List ℕ) (has_fin : Bool) → (comes n edge false first text has_fin).fin ≡ true
+        → n + length (comes n edge false first text has_fin).added < edge }
+{}
+
+/// A segment adds nothing at the receive edge, once the FIN is taken, and behind a gap.
+pub fn nothing_comes()
+    ensures shut { (n edge : ℕ) (fin : Bool) (first : ℤ) (text : List ℕ) (has_fin : Bool) → edge ≤ n
+        → comes n edge fin first text has_fin ≡ nothing_came fin }
+    ensures ended { (n edge : ℕ) (first : ℤ) (text : List ℕ) (has_fin : Bool) → comes n edge true first text has_fin ≡ nothing_came true }
+    ensures gap { (n edge : ℕ) (fin : Bool) (first : ℤ) (text : List ℕ) (has_fin : Bool) → int_lt (pos n) first ≡ true
+        → comes n edge fin first text has_fin ≡ nothing_came fin }
 {}
 
 /// The text between two offsets is what stands behind its bytes below the first, cut where the second comes.
@@ -134,4 +167,26 @@ pub fn shortened_message_is_refused()
 /// And one with further bytes behind it.
 pub fn lengthened_message_is_refused()
     ensures { (bytes behind : List ℕ) (message : Message) → message_reading bytes ≡ Ok message → 0 < length behind → IsErr (message_reading (bytes ++ behind)) }
+{}
+
+/// The spelling of a datagram between two loggers says that datagram.
+pub fn twin_is_read()
+    ensures { (datagram : TwinDatagram) → IsSpellableTwin datagram → twin_reading (twin_spelling datagram) ≡ Ok datagram }
+{}
+
+/// Such a datagram with one bit inverted is refused.
+pub fn flipped_twin_is_refused()
+    ensures { (bit : ℕ) (bytes : List ℕ) (datagram : TwinDatagram) → twin_reading bytes ≡ Ok datagram → bit < 8 * length bytes
+        → IsErr (twin_reading (flipped bit bytes)) }
+{}
+
+/// The spelling of a message about marks says that message.
+pub fn mark_is_read()
+    ensures { (message : MarkMessage) → IsSpellableMark message → mark_reading (mark_spelling message) ≡ Ok message }
+{}
+
+/// Such a message with one bit inverted is refused.
+pub fn flipped_mark_is_refused()
+    ensures { (bit : ℕ) (bytes : List ℕ) (message : MarkMessage) → mark_reading bytes ≡ Ok message → bit < 8 * length bytes
+        → IsErr (mark_reading (flipped bit bytes)) }
 {}

@@ -11,8 +11,10 @@ pub use flags::{ACK, CWR, ECE, FIN, PSH, RST, SYN, URG, has};
 pub use generator::Generator;
 pub use head::Head;
 pub use kinds::{BadMsg, Field, Kind};
+pub use mark::{BadMark, MarkKind};
 pub use options::segment_size;
 pub use text::{below, text_between};
+pub use twin::{BadTwin, TwinKind};
 
 mod checksum;
 mod damage;
@@ -21,10 +23,12 @@ mod generator;
 mod head;
 mod kinds;
 pub mod laws;
+mod mark;
 mod options;
 #[cfg(test)]
 mod tests;
 mod text;
+mod twin;
 
 /// Why a string of bytes is no packet: the first test of the packet grammar that it fails, in this order.
 #[derive(Clone, Copy, Debug, PartialEq, Eq)]

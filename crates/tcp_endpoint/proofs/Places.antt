@@ -44,3 +44,7 @@ ends_at irs number n small few first =
 pub near_of_acceptable : (next window : ℕ) (first : ℤ) (len : ℕ) → next ≤ 2 ^ 30 + 1 → window ≤ 2 ^ 16 → len ≤ 2 ^ 16
     → is_acceptable next window first len ≡ true → IsNearFirst first
 near_of_acceptable next window first len near small short h = (grind (arith, ints), grind (arith, ints))
+
+-- .. and so does one at a place of the receiver's
+pub near_of_place : (place : ℕ) (first : ℤ) → place ≤ 2 ^ 30 + 1 → int_eq first (pos place) ≡ true → IsNearFirst first
+near_of_place place first near h = (grind (arith, ints), grind (arith, ints))

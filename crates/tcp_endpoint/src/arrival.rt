@@ -4,11 +4,12 @@ ghost use Rattle.std.specs.Prelude.{◌≡◌, ◌+◌, ◌/◌, ◌%◌, ◌^�
 ghost use Rattle.seq_arith.specs.Packet.{has_fin, has_syn, has_rst, has_ack};
 ghost use Rattle.segment_codec.specs.Value.{segment_of};
 ghost use Rattle.seq_arith.specs.Offset.{length_of};
+ghost use Rattle.std.specs.Bool.{OnTrue};
 ghost use Rattle.tcp_buffers.specs.Near.{IsNearFirst};
 ghost use Rattle.tcp_endpoint.specs.Sending.{IsShort};
 ghost use Rattle.tcp_endpoint.specs.Arrival.{first, ack_at, refusing, refusing_without_ack, owing_if, killed, entering, in_closed, begun, in_listen, answered};
 ghost use Rattle.tcp_endpoint.specs.Arrival.{in_syn_sent, with_text_and_fin, with_fin_acked, with_first_ack, with_ack, check_ack, check_syn, check_rst};
-ghost use Rattle.tcp_endpoint.specs.Arrival.{waiting_again, check_place, in_others, received, within_ip};
+ghost use Rattle.tcp_endpoint.specs.Arrival.{waiting_again, is_allowed, check_place, in_others, received, within_ip};
 
 use crate::endpoint::Endpoint;
 use crate::states::StateName;
@@ -236,18 +237,30 @@ impl Endpoint {
         self.owed = self.owed || is_owed;
     }
 
-    /// RFC 9293, 3.10.7.4, first check.
-    #[tactic(auto, unfolding(crate::specs::Arrival::check_place, crate::specs::Arrival::in_others, crate::specs::Arrival::waiting_again))]
+    /// RFC 9293, 3.10.7.4, first check: a segment that is neither acceptable nor allowed is owed an answer, unless it is a RST.
+    #[tactic(auto, unfolding(crate::specs::Arrival::accepts, crate::specs::Arrival::check_place, crate::specs::Arrival::in_others, crate::specs::Arrival::waiting_again))]
     fn in_others(&mut self, p: PacketRef<'_>)
         requires { length p.payload.now ≤ 65535 }
         ensures { IsShort self.old.sending → self.new ≡ in_others self.old (segment_of p.entry) }
     {
         self.wait_again(p);
-        if self.receiver.accepts(p.head.seq, length_of(p)) {
+        if self.receiver.accepts(p.head.seq, length_of(p)) || self.is_allowed(p) {
             self.check_rst(p);
         } else {
             self.owe(!has_rst(p));
         }
+    }
+
+    /// First check, special allowance: at a window of zero a segment at RCV.NXT is looked at further, in SYN-RECEIVED where it acknowledges
+    /// the SYN.
+    #[tactic(auto, unfolding(crate::specs::Arrival::is_allowed))]
+    fn is_allowed(&self, p: PacketRef<'_>) -> bool
+        ensures allowed { result ≡ is_allowed self.now (segment_of p.entry) }
+        // What is allowed is near.
+        ensures near { OnTrue result (IsNearFirst (first self.now (segment_of p.entry))) }
+    {
+        self.receiver.allows(p.head.seq)
+            && (self.sender.is_syn_acked() || self.sender.acks_syn(p.head.ack))
     }
 
     /// The peer's FIN that comes again starts TIME-WAIT again.

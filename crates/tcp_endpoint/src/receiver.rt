@@ -1,12 +1,13 @@
 //! The receiving half of a connection: the one place that compares the peer's numbers, modulo 2^32. Contracts see offsets in the peer's
 //! stream, whatever its initial number.
 
-ghost use Rattle.std.specs.Prelude.{◌≡◌, ℕ, ◌+◌, ◌-◌, ◌^◌, ◌<◌, ◌≤◌, ◌==◌, ◌&&◌, pos, ◌+ℤ◌, int_lt, Bool, false, true, List, [], ◌++◌, length, min, take, drop};
+ghost use Rattle.std.specs.Prelude.{◌≡◌, ℕ, ◌+◌, ◌-◌, ◌^◌, ◌<◌, ◌≤◌, ◌==◌, ◌&&◌, ◌||◌, pos, ◌+ℤ◌, int_lt, Bool, false, true, List, [], ◌++◌, length, min, take, drop};
 ghost use Rattle.std.specs.Bool.{OnTrue};
 ghost use Rattle.seq_arith.specs.Number.{number_at, offset_of};
-ghost use Rattle.seq_arith.specs.Arrival.{int_eq, lies_in, is_acceptable, below};
+ghost use Rattle.seq_arith.specs.Arrival.{int_eq, lies_in, is_acceptable, is_at_right_edge, is_acceptable_or_at_edge, is_allowed_at_zero, below};
+ghost use Rattle.seq_arith.specs.Coming.{new_text, is_fin_at};
 ghost use Rattle.tcp_buffers.specs.Near.{IsNearFirst};
-ghost use Rattle.tcp_endpoint.specs.Receiving.{taken, next, receive_edge, announced_edge, window, receiving_up_to, with_text, with_fin, with_segment, read_out};
+ghost use Rattle.tcp_endpoint.specs.Receiving.{taken, next, receive_edge, announced_edge, window, receiving_up_to, with_segment, read_out};
 ghost use Rattle.tcp_endpoint.specs.Tcb.{kept_limit};
 
 use seq_arith::Seq;
@@ -148,12 +149,11 @@ impl Receiver {
         seq == self.next_number()
     }
 
-    /// Whether a segment is acceptable (RFC 9293, 3.10.7.4, first check, table 6).
+    /// Whether a segment is acceptable by the four cases (RFC 9293, 3.10.7.4, first check, table 6).
     #[tactic(auto, using(crate::proofs::Places::near_of_acceptable))]
-    pub(crate) fn accepts(&self, seq: Seq, len: u32) -> bool
+    fn is_acceptable(&self, seq: Seq, len: u32) -> bool
         requires { len ≤ 2 ^ 16 }
         ensures acceptable { result ≡ is_acceptable (next self.now) (window self.now) (offset_of self.now.irs seq.0) len }
-        // What is acceptable is near.
         ensures near { OnTrue result (IsNearFirst (offset_of self.now.irs seq.0)) }
     {
         self.ranges(seq);
@@ -168,6 +168,39 @@ impl Receiver {
         } else {
             self.has(seq) || self.has_last(seq, len)
         }
+    }
+
+    /// Whether a segment of length 0 stands at exactly the right edge of an open window. A sender whose window is full, and who has lost a
+    /// segment, numbers its acknowledgements so.
+    #[tactic(auto, using(crate::proofs::Places::is_next, crate::proofs::Places::near_of_place), unfolding(seq_arith::specs::Arrival::is_at_right_edge))]
+    fn is_at_right_edge(&self, seq: Seq, len: u32) -> bool
+        ensures edge { result ≡ is_at_right_edge (next self.now) (window self.now) (offset_of self.now.irs seq.0) len }
+        ensures near { OnTrue result (IsNearFirst (offset_of self.now.irs seq.0)) }
+    {
+        self.ranges(seq);
+        len == 0 && self.window() > 0 && seq == self.irs.add(1).add(self.announced_edge())
+    }
+
+    /// Whether a segment is acceptable, or without length at the right edge.
+    pub(crate) fn accepts(&self, seq: Seq, len: u32) -> bool
+        requires { len ≤ 2 ^ 16 }
+        ensures acceptable { result ≡ is_acceptable_or_at_edge (next self.now) (window self.now) (offset_of self.now.irs seq.0) len }
+        // What is accepted is near.
+        ensures near { OnTrue result (IsNearFirst (offset_of self.now.irs seq.0)) }
+    {
+        self.is_acceptable(seq, len) || self.is_at_right_edge(seq, len)
+    }
+
+    /// Whether this is RCV.NXT while the window is zero: the acknowledgement and the window of a segment there are used, whatever its length
+    /// (RFC 9293, 3.10.7.4, first check, special allowance).
+    #[tactic(auto, using(crate::proofs::Places::near_of_place), unfolding(seq_arith::specs::Arrival::is_allowed_at_zero))]
+    pub(crate) fn allows(&self, seq: Seq) -> bool
+        ensures allowed { result ≡ is_allowed_at_zero (next self.now) (window self.now) (offset_of self.now.irs seq.0) }
+        // What is allowed is near.
+        ensures near { OnTrue result (IsNearFirst (offset_of self.now.irs seq.0)) }
+    {
+        self.ranges(seq);
+        self.window() == 0 && self.is_next(seq)
     }
 
     /// Whether a segment begins past RCV.NXT.
@@ -218,39 +251,44 @@ impl Receiver {
         self.taken_number().minus(seq)
     }
 
-    /// Takes the text and the FIN of an acceptable segment (RFC 9293, 3.10.7.4, seventh and eighth check).
-    #[tactic(auto, using(crate::proofs::Places::ends_at), unfolding(crate::specs::Receiving::with_segment, crate::specs::Receiving::with_text))]
+    /// Takes the text and the FIN of a segment whose acknowledgement is used (RFC 9293, 3.10.7.4, seventh and eighth check).
+    #[tactic(auto, using(crate::proofs::Places::ends_at), unfolding(crate::specs::Receiving::with_came, seq_arith::specs::Coming::comes))]
     pub(crate) fn take(&mut self, seq: Seq, text: &[u8], fin: bool)
         requires near { IsNearFirst (offset_of self.old.irs seq.0) }
         requires short { length text.now ≤ 2 ^ 16 }
         ensures { self.new ≡ with_segment self.old (offset_of self.old.irs seq.0) text.now fin }
     {
-        if self.fin || self.is_past(seq) {
-            return;
-        }
         self.ranges(seq);
         self.take_text(seq, text);
         self.take_fin(seq.add(text.len() as u32), fin);
     }
 
-    /// Takes the part of a text from RCV.NXT on, up to the window's edge.
-    #[tactic(auto, unfolding(crate::specs::Receiving::with_text))]
+    /// Takes the part of a text from the bytes taken on, up to the receive edge: none of a text that begins past them, and none once the
+    /// peer's FIN is taken.
+    #[tactic(auto, unfolding(seq_arith::specs::Coming::new_text))]
     fn take_text(&mut self, seq: Seq, text: &[u8])
         requires near { IsNearFirst (offset_of self.old.irs seq.0) }
-        requires no_gap { int_lt (pos (taken self.old)) (offset_of self.old.irs seq.0) ≡ false }
-        ensures { self.new ≡ with_text self.old (offset_of self.old.irs seq.0) text.now }
+        ensures { self.new ≡ record self.old {
+          unread = self.old.unread ++ new_text (taken self.old) (receive_edge self.old) self.old.fin (offset_of self.old.irs seq.0) text.now;
+        } }
     {
+        if self.fin || self.is_past(seq) {
+            return;
+        }
         self.ranges(seq);
         let known = self.known(seq) as usize;
         let room = usize::from(self.window());
         append(&mut self.unread, part(text, known, room));
     }
 
-    /// Takes a FIN at this number, where it stands at RCV.NXT within the window.
-    #[tactic(auto, using(crate::proofs::Places::is_next), unfolding(crate::specs::Receiving::with_fin))]
+    /// Takes a FIN at this number, where all bytes end that are taken, below the receive edge.
+    #[tactic(auto, using(crate::proofs::Places::is_next), unfolding(seq_arith::specs::Coming::is_fin_at))]
     fn take_fin(&mut self, place: Seq, fin: bool)
-        ensures { self.new ≡ with_fin self.old (offset_of self.old.irs place.0) fin }
+        ensures { self.new ≡ record self.old {
+          fin = self.old.fin || (fin && is_fin_at (taken self.old) (receive_edge self.old) (offset_of self.old.irs place.0));
+        } }
     {
+        self.ranges(place);
         self.fin = self.fin
             || (fin && place == self.taken_number() && self.taken() < self.receive_edge());
     }

@@ -1,0 +1,31 @@
+//! The kinds of datagrams between two loggers, and why a string of bytes is none.
+
+/// Why a string of bytes is no datagram between two loggers: the first test of their grammar that it fails, in this order.
+#[derive(Clone, Copy, Debug, PartialEq, Eq)]
+pub enum BadTwin {
+    /// There are fewer than 16 bytes.
+    Short,
+    /// The first two bytes aren't the magic.
+    Magic,
+    /// The version isn't 1.
+    Version,
+    /// The kind isn't 1 to 3.
+    Kind,
+    /// The length isn't the count of bytes, or isn't one of the kind's.
+    Length,
+    /// The datagram doesn't sum to its checksum.
+    Sum,
+    /// The number is outside its range, or the forwarded bytes are no message that a server sends.
+    Field,
+}
+
+/// The kinds of datagrams between two loggers, each with its number on the wire.
+#[derive(Clone, Copy, Debug)]
+pub enum TwinKind {
+    /// A server's message with its number, from the head to the tail.
+    Forward = 1,
+    /// All messages up to this number are applied, from the tail to the head.
+    Got = 2,
+    /// The other logger has stopped, from whoever saw to it.
+    Alone = 3,
+}
