@@ -17,7 +17,7 @@ use Rattle.ft_model.proofs.Lists.{prefix_trans}
 use Rattle.ft_model.proofs.Grows.{found_later, logged_lengths_grow}
 use Rattle.ft_model.proofs.Fetching.{full_front}
 use Rattle.ft_model.proofs.Coming.{Fronts, Says, comes_fits}
-use Rattle.seq_arith.proofs.Coming.{fin_stays, was_or_own}
+use Rattle.seq_arith.proofs.Coming.{fin_stays, was_or_comes}
 use Rattle.ft_model.proofs.Services.{reads_go_on}
 use Rattle.ft_model.proofs.Authored.{CarriesOutput, logged_run}
 use Rattle.ft_io.proofs.Choices.{holds_if}
@@ -75,7 +75,7 @@ added_seen run sisn c ack segment s open_ t =
       ended = λ e.
           let fin : (came c segment).fin ≡ true = ended_by was (came c segment).fin c.phase refl (fin_stays n c.edge was first (text_of segment) (fin_of segment)) e in
           let size = after.fin fin in
-          (⊎_elim (λ y. (s.ended y).0) (λ y. closes run sisn segment y t) (was_or_own n c.edge was first (text_of segment) (fin_of segment) fin),
+          (⊎_elim (λ y. (s.ended y).0) (λ y. closes run sisn segment y.own t) (was_or_comes n c.edge was first (text_of segment) (fin_of segment) fin),
           full_front (c.accepted ++ (came c segment).added) run.output after.front (omega (arith, size)));
       sisn_is = λ o. s.sisn_is open_;
     }

@@ -76,13 +76,13 @@ comes_within n edge fin first text has_fin =
     holds_either_way (λ l. n + length l ≤ max n edge) (fin || int_lt (pos n) first) [] (take (edge - n) (drop (below n first) text)) (omega arith)
     (let size = length-take (edge - n) (drop (below n first) text) in omega (arith, size))
 
--- a FIN that is newly taken is the segment's own, stands behind all bytes taken, and lies below the edge
-pub record FinComes (n edge : ℕ) (first : ℤ) (text : List ℕ) (has_fin : Bool) : Type 0 where
+-- a FIN that a segment brings is its own, stands behind all bytes taken, and lies below the edge
+pub record FinComes (n edge : ℕ) (was : Bool) (first : ℤ) (text : List ℕ) (has_fin : Bool) : Type 0 where
   pub own : has_fin ≡ true
-  pub place : int_eq (first +ℤ pos (length text)) (pos (n + length (comes n edge false first text has_fin).added)) ≡ true
-  pub within : n + length (comes n edge false first text has_fin).added < edge
+  pub place : int_eq (first +ℤ pos (length text)) (pos (n + length (comes n edge was first text has_fin).added)) ≡ true
+  pub within : n + length (comes n edge was first text has_fin).added < edge
 
-pub fin_comes : (n edge : ℕ) (first : ℤ) (text : List ℕ) (has_fin : Bool) → (comes n edge false first text has_fin).fin ≡ true → FinComes n edge first text has_fin
+pub fin_comes : (n edge : ℕ) (first : ℤ) (text : List ℕ) (has_fin : Bool) → (comes n edge false first text has_fin).fin ≡ true → FinComes n edge false first text has_fin
 unfolding comes is_fin_at
 fin_comes n edge first text has_fin e =
     let end : ℕ = n + length (new_text n edge false first text) in
@@ -90,16 +90,17 @@ fin_comes n edge first text has_fin e =
     let rest = and_parts (int_eq (first +ℤ pos (length text)) (pos end)) (nat_lt end edge) two.1 in
     record { own = two.0; place = rest.0; within = ltb-true _ _ rest.1 }
 
--- a FIN that is taken stays so, and none is taken but one that was or the segment's own
+-- a FIN that is taken was so before, or it comes
+pub was_or_comes : (n edge : ℕ) (fin : Bool) (first : ℤ) (text : List ℕ) (has_fin : Bool) → (comes n edge fin first text has_fin).fin ≡ true
+    → (fin ≡ true) ⊎ FinComes n edge fin first text has_fin
+was_or_comes n edge true first text has_fin e = inl refl
+was_or_comes n edge false first text has_fin e = inr (fin_comes n edge first text has_fin e)
+
+-- .. and one that was taken stays so
 pub fin_stays : (n edge : ℕ) (fin : Bool) (first : ℤ) (text : List ℕ) (has_fin : Bool) → fin ≡ true → (comes n edge fin first text has_fin).fin ≡ true
 unfolding comes
 fin_stays n edge true first text has_fin e = refl
 fin_stays n edge false first text has_fin e = absurd (true≢false (sym e))
-
-pub was_or_own : (n edge : ℕ) (fin : Bool) (first : ℤ) (text : List ℕ) (has_fin : Bool) → (comes n edge fin first text has_fin).fin ≡ true
-    → (fin ≡ true) ⊎ (has_fin ≡ true)
-was_or_own n edge true first text has_fin e = inl refl
-was_or_own n edge false first text has_fin e = inr (fin_comes n edge first text has_fin e).own
 
 -- both sides of the tests move by one number: what comes is the same
 new_text_shift : (n edge k : ℕ) (fin : Bool) (first : ℤ) (text : List ℕ) → new_text (n + k) (edge + k) fin (first +ℤ pos k) text ≡ new_text n edge fin first text

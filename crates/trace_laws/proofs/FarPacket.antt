@@ -18,10 +18,10 @@ use Rattle.trace_laws.proofs.Near.{packets_near}
 pub small : HasSmallOutputs echo
 small state chunk h = omega (arith, h)
 
-pub not_near : AreNear row.far (path.node_live path.open_point).stage → ⊥
+pub not_near : AreNear (path.node_live path.open_point).server row.far (path.node_live path.open_point).stage → ⊥
 unfolding offset_of
 not_near n =
-    let low : (pos 0 -ℤ pos (2 ^ 30)) ≤ℤ negsuc 2147483647 = (n.0 refl).first.0 in
+    let low : (pos 0 -ℤ pos (2 ^ 30)) ≤ℤ negsuc 2147483647 = (n.0 refl refl).first.0 in
     omega (arith, ints, low)
 
 lawful : Happens echo path.moment_10.world row.wrong.event (path.packet_7 ∷ []) (record path.moment_10.world { packets = path.moment_10.world.packets ++ path.packet_7 ∷ [] })

@@ -41,7 +41,7 @@ earlier_joint service start (moment ∷ later) earlier j = earlier_joint service
 -- every move but a refusal
 pub moves_near : {State : Type 0} (service : Machine State) → HasSmallOutputs service → (number : ℕ) (start : World) (later earlier : List Moment) (moment : Moment) (node : Node)
     → Joint service start (later ++ moment ∷ earlier) → (m : Moves (world_after start earlier) number moment.sent moment.world) → is_refusal m.move.move ≡ false
-    → (world_after start (later ++ moment ∷ earlier)).node ≡ Some node → AreNear m.segment node.stage
+    → (world_after start (later ++ moment ∷ earlier)).node ≡ Some node → AreNear node.server m.segment node.stage
 moves_near service small number start later earlier moment node j m plain up =
     let isn : Key → ℕ = isn_of start in
     let script : Key → List ℕ = script_of start in
@@ -60,7 +60,7 @@ moves_near service small number start later earlier moment node j m plain up =
     let same : moment.world.log ≡ then_.log = ap (λ w. w.log) m.after_is in
     let there : PacketNear isn now.log (To_server m.segment) =
     near_later isn moment.world.log now.log (log_over service start later (moment ∷ earlier) j) (To_server m.segment) (subst (λ l. PacketNear isn l (To_server m.segment)) (sym same) near) in
-    stage_near script isn now.log m.segment first there.1 node.stage (is.0.faithful.stage node up)
+    stage_near node.server script isn now.log m.segment first there.1 node.stage (is.0.faithful.stage node up)
 
 -- a legal trace: its moves are the schedule's, none a refusal
 
@@ -147,14 +147,14 @@ legal_own service small start (moment ∷ earlier) j a =
     (moment_own service start before moment.event moment.sent moment.world (near_after service small start earlier j.0) j.1 a.1.allowed a.1.scripted))
 
 input_near : {State : Type 0} (service : Machine State) (start w : World) (node : Node) (input : Input) → KeptNear service start w → AllByRecursion (OwnNear (isn_of start)) w.packets
-    → w.node ≡ Some node → MayCome w input → IsNearInput input node.stage
+    → w.node ≡ Some node → MayCome w input → IsNearInput node.server input node.stage
 input_near service start w node (Packet_comes segment) k own up comes = all_near service start w node segment k up comes (all_sent (OwnNear (isn_of start)) w (To_server segment) own comes)
 input_near service start w node (Message_comes message) k own up comes = tt
 input_near service start w node Noise_comes k own up comes = tt
 input_near service start w node Tick_comes k own up comes = tt
 
 pub inputs_near : {State : Type 0} (service : ℕ → Machine State) → ((kind : ℕ) → HasSmallOutputs (service kind)) → (schedule : Schedule) (trace : List Moment) (node : Node) (input : Input)
-    → Legal service schedule trace → (world_after (start_of schedule) trace).node ≡ Some node → MayCome (world_after (start_of schedule) trace) input → IsNearInput input node.stage
+    → Legal service schedule trace → (world_after (start_of schedule) trace).node ≡ Some node → MayCome (world_after (start_of schedule) trace) input → IsNearInput node.server input node.stage
 inputs_near service small schedule trace node input l up comes =
     let kind : ℕ = kind_of schedule.service in
     input_near (service kind) (start_of schedule) (world_after (start_of schedule) trace) node input (near_after (service kind) (small kind) (start_of schedule) trace l.joint)

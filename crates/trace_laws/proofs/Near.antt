@@ -3,26 +3,27 @@ use Rattle.std.proofs.Common.{◌≡◌, ℕ, ◌+◌, ◌-◌, ◌≤◌, ◌^�
 use Rattle.std.specs.List.{AllByRecursion}
 use Rattle.std.proofs.lemmas.Int.{ints}
 use Rattle.std.proofs.lemmas.Bool.{and_parts}
+use Rattle.ft_io.specs.declared.Addr.{Addr}
 use Rattle.ft_io.specs.declared.Key.{Key}
 use Rattle.seq_arith.specs.Number.{distance, number_at, offset_of}
-use Rattle.seq_arith.specs.Arrival.{int_eq, is_acceptable, below}
+use Rattle.seq_arith.specs.Arrival.{int_eq}
 use Rattle.seq_arith.specs.Packet.{Segment, has_rst, has_syn, has_ack}
 use Rattle.seq_arith.proofs.Shifts.{offset_of_number}
 use Rattle.server_trait.specs.Service.{Machine}
 use Rattle.ft_model.specs.Offset.{first_of, ack_of, text_of, fin_of, length_of, one_if, IsNearOffset}
-use Rattle.ft_model.specs.Client.{Client, Move, received, opened_by, arrived, used, with_text, with_fin, with_ack, is_opening, is_open, is_ended, next_of, room_of, accepted_units, may_move, suits_phase, suits_range, segment_of, seq_of, moved}
+use Rattle.ft_model.specs.Client.{Client, Move, received, opened_by, arrived, used, may_use, with_ack, with_added, came, is_opening, is_open, is_ended, next_of, room_of, accepted_units, may_move, suits_phase, suits_range, segment_of, seq_of, moved}
 use Rattle.ft_model.specs.Client.Move.{Syn, Text, Fin, Acknowledge, Rst, Refuse}
 use Rattle.ft_model.specs.declared.phase.Phase.TheVariants as phases
 use Rattle.ft_model.specs.Log.{Log, Entry, entry_of, log_after}
 use Rattle.ft_model.specs.Growth.{LogGrows}
 use Rattle.ft_model.specs.Network.{Packet, source_of, destination_of}
 use Rattle.ft_model.specs.Network.Packet.{To_server}
-use Rattle.ft_model.specs.Node.{Node, Place, Stage}
+use Rattle.ft_model.specs.Node.{Node, Place, Stage, is_for}
 use Rattle.ft_model.specs.Node.Place.{Opens, Lives, Ended}
 use Rattle.ft_model.specs.Node.Stage.{Asking, Fetching, Serving, Fenced}
 use Rattle.ft_model.specs.Lawful.{IsNearTo, AreNear}
 use Rattle.ft_model.specs.World.{World, Moment, WasSent, Joint, Moves, IsStart, IsNewClient, world_after}
-use Rattle.ft_model.proofs.Lists.{all_weaker, all_append, same_key, some_is}
+use Rattle.ft_model.proofs.Lists.{all_of, all_weaker, all_append, same_key, some_is}
 use Rattle.ft_model.proofs.Grows.{log_grows, found_later}
 use Rattle.ft_model.proofs.LogAnswers.{all_answers}
 use Rattle.ft_model.proofs.Happened.{Happened, all_sent, holds_after}
@@ -62,30 +63,16 @@ near_syn isn =
 abbrev pub SentWithin : Client → Type 0
 SentWithin c = c.sent ≤ length c.script + 1
 
-text_sent : (c : Client) (first : ℤ) (text : List ℕ) → (with_text c first text).sent ≡ c.sent
-text_sent c first text =
-    holds_if (λ x. x.sent ≡ c.sent) (is_ended c.phase || int_lt (pos (length c.accepted)) first) c
-    (record c { accepted = c.accepted ++ take (c.edge - length c.accepted) (drop (below (length c.accepted) first) text) }) (λ t. refl) (λ t. refl)
-
-fin_sent : (c : Client) (behind : ℤ) (fin : Bool) → (with_fin c behind fin).sent ≡ c.sent
-fin_sent c behind fin =
-    holds_if (λ x. x.sent ≡ c.sent) (fin && not (is_ended c.phase) && int_eq behind (pos (length c.accepted)) && nat_lt (length c.accepted) c.edge)
-    (record c { phase = phases.Ended }) c (λ t. refl) (λ t. refl)
-
 used_sent : (c : Client) (segment : Segment) → (used c segment).sent ≡ c.sent
 used_sent c segment =
-    let acked : Client = with_ack c (ack_of c.isn segment) in
-    let texted : Client = with_text acked (first_of c.sisn segment) (text_of segment) in
-    let behind : ℤ = first_of c.sisn segment +ℤ pos (length (text_of segment)) in
-    holds_if (λ x. x.sent ≡ c.sent) (int_lt (pos c.sent) (ack_of c.isn segment)) c (with_fin texted behind (fin_of segment)) (λ t. refl)
-    (λ t. fin_sent texted behind (fin_of segment) ∙ text_sent acked (first_of c.sisn segment) (text_of segment))
+    holds_if (λ x. x.sent ≡ c.sent) (int_lt (pos c.sent) (ack_of c.isn segment)) c (with_added (with_ack c (ack_of c.isn segment)) (came c segment)) (λ t. refl) (λ t. refl)
 
 arrived_sent : (c : Client) (segment : Segment) → (arrived c segment).sent ≡ c.sent
 arrived_sent c segment =
     let gone : Client = record c { phase = phases.Reset } in
     let rst : Client = if int_eq (first_of c.sisn segment) (pos (next_of c)) then gone else c in
     let other : Client = if has_syn segment || not (has_ack segment) then c else used c segment in
-    holds_if (λ x. x.sent ≡ c.sent) (is_acceptable (next_of c) (room_of c) (first_of c.sisn segment) (length_of segment)) (if has_rst segment then rst else other) c
+    holds_if (λ x. x.sent ≡ c.sent) (may_use c segment) (if has_rst segment then rst else other) c
     (λ t. holds_if (λ x. x.sent ≡ c.sent) (has_rst segment) rst other
     (λ r. holds_if (λ x. x.sent ≡ c.sent) (int_eq (first_of c.sisn segment) (pos (next_of c))) gone c (λ x. refl) (λ x. refl))
     (λ r. holds_if (λ x. x.sent ≡ c.sent) (has_syn segment || not (has_ack segment)) c (used c segment) (λ x. refl) (λ x. used_sent c segment)))
@@ -273,9 +260,9 @@ near_after service small start trace j =
     (λ before sent after o h. (masked.sound_goes_on service small start before sent after s o.0 h, near_goes_on service start before sent after o.0 o.1 h)) trace j
 
 -- .. to each live connection
-near_to : (script : Key → List ℕ) (isn : Key → ℕ) (log : Log) (segment : Segment) → FirstNear isn segment → (has_ack segment ≡ true → AckNear log (source_of segment) segment)
-    → (place : Place) → PlaceFits script isn log place → IsNearTo segment place
-near_to script isn log segment first ack (Lives p) f = λ k.
+near_to : (server : Addr) (script : Key → List ℕ) (isn : Key → ℕ) (log : Log) (segment : Segment) → FirstNear isn segment → (has_ack segment ≡ true → AckNear log (source_of segment) segment)
+    → (place : Place) → PlaceFits script isn log place → IsNearTo server segment place
+near_to server script isn log segment first ack (Lives p) f = λ ours k.
     let same : source_of segment ≡ p.key = same_key (source_of segment) p.key k in
     record {
       first = subst (λ n. IsNearOffset (first_of n segment)) (sym f.0.cisn) (subst (λ x. IsNearOffset (first_of (isn x) segment)) same first);
@@ -283,23 +270,35 @@ near_to script isn log segment first ack (Lives p) f = λ k.
           let one : x.0 ≡ f.1.entry = some_is x.0 f.1.entry (sym x.1 ∙ (ap (λ y. entry_of y log) same ∙ f.1.found)) in
           subst (λ n. IsNearOffset (ack_of n segment)) (ap (λ e. e.sisn) one ∙ f.1.sisn) x.2;
     }
-near_to script isn log segment first ack (Opens n) f = tt
-near_to script isn log segment first ack (Ended k) f = tt
+near_to server script isn log segment first ack (Opens n) f = tt
+near_to server script isn log segment first ack (Ended k) f = tt
 
-pub stage_near : (script : Key → List ℕ) (isn : Key → ℕ) (log : Log) (segment : Segment) → FirstNear isn segment → (has_ack segment ≡ true → AckNear log (source_of segment) segment)
-    → (stage : Stage) → StageFits script isn log stage → AreNear segment stage
-stage_near script isn log segment first ack (Serving opened places) f = all_weaker (PlaceFits script isn log) (IsNearTo segment) places (near_to script isn log segment first ack) f
-stage_near script isn log segment first ack Asking f = tt
-stage_near script isn log segment first ack (Fetching count fetched) f = tt
-stage_near script isn log segment first ack (Fenced newer) f = tt
+-- a packet for another address
+other_near : (server : Addr) (segment : Segment) → is_for server segment ≡ false → (place : Place) → IsNearTo server segment place
+other_near server segment e (Lives p) = λ ours k. absurd (true≢false (sym ours ∙ e))
+other_near server segment e (Opens n) = tt
+other_near server segment e (Ended k) = tt
+
+pub others_near : (server : Addr) (segment : Segment) (stage : Stage) → is_for server segment ≡ false → AreNear server segment stage
+others_near server segment (Serving opened places) e = all_of (IsNearTo server segment) places (other_near server segment e)
+others_near server segment Asking e = tt
+others_near server segment (Fetching count fetched) e = tt
+others_near server segment (Fenced newer) e = tt
+
+pub stage_near : (server : Addr) (script : Key → List ℕ) (isn : Key → ℕ) (log : Log) (segment : Segment) → FirstNear isn segment → (has_ack segment ≡ true → AckNear log (source_of segment) segment)
+    → (stage : Stage) → StageFits script isn log stage → AreNear server segment stage
+stage_near server script isn log segment first ack (Serving opened places) f = all_weaker (PlaceFits script isn log) (IsNearTo server segment) places (near_to server script isn log segment first ack) f
+stage_near server script isn log segment first ack Asking f = tt
+stage_near server script isn log segment first ack (Fetching count fetched) f = tt
+stage_near server script isn log segment first ack (Fenced newer) f = tt
 
 pub all_near : {State : Type 0} (service : Machine State) (start w : World) (node : Node) (segment : Segment) → KeptNear service start w → w.node ≡ Some node → WasSent w (To_server segment)
-    → FirstNear (isn_of start) segment → AreNear segment node.stage
+    → FirstNear (isn_of start) segment → AreNear node.server segment node.stage
 all_near service start w node segment k up sent first =
-    stage_near (script_of start) (isn_of start) w.log segment first (all_sent (PacketNear (isn_of start) w.log) w (To_server segment) k.1.packets sent).1 node.stage (k.0.faithful.stage node up)
+    stage_near node.server (script_of start) (isn_of start) w.log segment first (all_sent (PacketNear (isn_of start) w.log) w (To_server segment) k.1.packets sent).1 node.stage (k.0.faithful.stage node up)
 
 pub packets_near : {State : Type 0} (service : Machine State) → HasSmallOutputs service → (start : World) (trace : List Moment) (node : Node) (segment : Segment) → Joint service start trace
-    → (world_after start trace).node ≡ Some node → WasSent (world_after start trace) (To_server segment) → has_rst segment ≡ false → AreNear segment node.stage
+    → (world_after start trace).node ≡ Some node → WasSent (world_after start trace) (To_server segment) → has_rst segment ≡ false → AreNear node.server segment node.stage
 packets_near service small start trace node segment j up sent no_rst =
     let w : World = world_after start trace in
     let k : KeptNear service start w = near_after service small start trace j in

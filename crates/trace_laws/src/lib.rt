@@ -14,7 +14,7 @@ ghost use Rattle.ft_model.specs.Network.Packet.{To_server};
 ghost use Rattle.ft_model.specs.News.{News};
 ghost use Rattle.ft_model.specs.Point.{Point, target, answered_run, whole_run};
 ghost use Rattle.ft_model.specs.Restart.{Fetched, IsSound};
-ghost use Rattle.ft_model.specs.Node.{Node, Input};
+ghost use Rattle.ft_model.specs.Node.{Node, Stage, Input, is_for};
 ghost use Rattle.ft_model.specs.Lawful.{AreNear, IsNearInput, IsSoundInput, fence};
 ghost use Rattle.ft_model.specs.Legal.{Legal, machines, start_of};
 ghost use Rattle.ft_model.specs.Schedule.{kind_of};
@@ -54,11 +54,11 @@ pub fn fronts_run_short<S: Service>()
         → length (reference (machine (S.started kind) S.after) f.bytes lengths).output ≤ 2 ^ 24 }
 {}
 
-/// Every packet without RST that a client ever sent is near to its connection, wherever that is live when the packet comes.
+/// Every packet without RST that a client ever sent to the server is near to its connection, wherever that is live when the packet comes.
 pub fn packets_are_near<S: Service>()
     ensures { (kind : ℕ) (start : World) (trace : List Moment) (node : Node) (segment : Segment)
         → Joint (machine (S.started kind) S.after) start trace → (world_after start trace).node ≡ Some node
-        → WasSent (world_after start trace) (To_server segment) → has_rst segment ≡ false → AreNear segment node.stage }
+        → WasSent (world_after start trace) (To_server segment) → has_rst segment ≡ false → AreNear node.server segment node.stage }
 {}
 
 /// So is the packet of every move, RST or not, at each moment from then on, but for a live client's refusal of a wrong acknowledgement, which
@@ -67,14 +67,19 @@ pub fn moves_are_near<S: Service>()
     ensures { (kind number : ℕ) (start : World) (later earlier : List Moment) (moment : Moment) (node : Node)
         → Joint (machine (S.started kind) S.after) start (later ++ moment ∷ earlier)
         → (moves : Moves (world_after start earlier) number moment.sent moment.world) → is_refusal moves.move.move ≡ false
-        → (world_after start (later ++ moment ∷ earlier)).node ≡ Some node → AreNear moves.segment node.stage }
+        → (world_after start (later ++ moment ∷ earlier)).node ≡ Some node → AreNear node.server moves.segment node.stage }
+{}
+
+/// A packet for another address is near in any case: what a stranger sends elsewhere voids nothing.
+pub fn packets_for_others_are_near()
+    ensures { (server : Addr) (segment : Segment) (stage : Stage) → is_for server segment ≡ false → AreNear server segment stage }
 {}
 
 /// The premises of a server's contract hold in every legal trace, of whatever may come next: a packet is near, what is fetched is sound, and
 /// nothing fences.
 pub fn premises_hold<S: Service>()
     ensures near { (schedule : Schedule) (trace : List Moment) (node : Node) (input : Input) → Legal (machines S.started S.after) schedule trace
-        → (world_after (start_of schedule) trace).node ≡ Some node → MayCome (world_after (start_of schedule) trace) input → IsNearInput input node.stage }
+        → (world_after (start_of schedule) trace).node ≡ Some node → MayCome (world_after (start_of schedule) trace) input → IsNearInput node.server input node.stage }
     ensures sound { (schedule : Schedule) (trace : List Moment) (node : Node) (input : Input) → Legal (machines S.started S.after) schedule trace
         → (world_after (start_of schedule) trace).node ≡ Some node → MayCome (world_after (start_of schedule) trace) input
         → IsSoundInput (machines S.started S.after (kind_of schedule.service)) node input node.stage }
@@ -101,7 +106,7 @@ pub fn far_packets_are_refused()
     ensures wrong_once { IsWrongOnce echo FirstPath.start [] FarPacket.wrong FirstPath.opening_trace }
     ensures up { FarPacket.wrong.world.node ≡ Some (FirstPath.node_live FirstPath.open_point) }
     ensures sent { WasSent FarPacket.wrong.world (To_server FarPacket.far) }
-    ensures not_near { AreNear FarPacket.far (FirstPath.node_live FirstPath.open_point).stage → ⊥ }
+    ensures not_near { AreNear (FirstPath.node_live FirstPath.open_point).server FarPacket.far (FirstPath.node_live FirstPath.open_point).stage → ⊥ }
 {}
 
 /// So does soundness: in a trace with one moment in which the log keeps a FIN behind 2^24 bytes, an entry isn't sound.
