@@ -1,9 +1,10 @@
 -- The scripted client over bytes: what it sends at an event of a schedule, and what it does with bytes that come.
-use Rattle.std.specs.Prelude.{◌≡◌, ℕ, ◌<◌, ◌^◌, ◌++◌, List, take, drop, Some, None, Result, Ok, Err}
+use Rattle.std.specs.Prelude.{◌≡◌, ℕ, ℤ, Bool, ◌<◌, ◌^◌, ◌++◌, List, length, take, drop, Some, None, Result, Ok, Err}
+use Rattle.seq_arith.specs.Coming.{Came, comes}
 use Rattle.seq_arith.specs.Packet.{Segment}
 use Rattle.seq_arith.specs.PacketGrammar.{reading, spelling}
 use Rattle.seq_arith.specs.declared.BadPacket.{BadPacket}
-use Rattle.ft_model.specs.Client.{Client, Move as Moves, move_of, window_of, refusal_of_move, segment_of, moved, received}
+use Rattle.ft_model.specs.Client.{Client, Move as Moves, move_of, window_of, refusal_of_move, segment_of, moved, received, is_ended}
 use Rattle.ft_model.specs.declared.event.Event.{Event}
 use Rattle.ft_model.specs.declared.event.EventWhy.{EventWhy}
 
@@ -23,6 +24,10 @@ pub record Refuses (client : Client) (event : Event) (why : EventWhy) : Type 0 w
   pub move : Moves
   pub asked : move_of event ≡ Some move
   pub refused : refusal_of_move client move ≡ Some why
+
+-- what a text that begins at `first`, and a FIN behind it, add to what the client has accepted
+abbrev pub added : Client → ℤ → List ℕ → Bool → Came
+added client first text fin = comes (length client.accepted) client.edge (is_ended client.phase) first text fin
 
 -- the client with bytes that come to it: it receives the segment that they say, and drops bytes that say none
 abbrev pub hearing : Client → Result Segment BadPacket → Client

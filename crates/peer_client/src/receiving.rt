@@ -1,11 +1,13 @@
 //! What the scripted client does with a packet that comes to it (RFC 9293, 3.10.7.3 and 3.10.7.4, as far as a client that never answers goes).
 
-ghost use Rattle.std.specs.Prelude.{◌≡◌, ◌^◌, ◌<◌, pos, ◌+ℤ◌, ◌≤ℤ◌, OnOk, OnErr};
+ghost use Rattle.std.specs.Prelude.{◌≡◌, pos, ◌≤ℤ◌, OnOk, OnErr, length};
+ghost use Rattle.seq_arith.specs.Coming.{new_text};
 ghost use Rattle.segment_codec.specs.Value.{segment_of as value_of};
 ghost use Rattle.ft_model.specs.Client as machine;
-ghost use Rattle.peer_client.specs.Scripted.{delivered};
+ghost use Rattle.ft_model.specs.Client.{is_ended};
+ghost use Rattle.peer_client.specs.Scripted.{delivered, added};
 
-use crate::arrival::{is_acceptable, is_at, number_of, offset_of, part, skipped};
+use crate::arrival::{is_acceptable, is_at, is_fin_at, number_of, offset_of, part, skipped};
 use crate::client::Client;
 use crate::segment::{counted_text, counts_fin, has_ack, has_rst, has_syn, segment_len};
 use ft_io::NoMemory;
@@ -77,7 +79,8 @@ impl Client {
         self.use_segment(segment)
     }
 
-    /// An acceptable segment with ACK. One that acknowledges what was not sent is dropped.
+    /// An acceptable segment with ACK. One that acknowledges what was not sent is dropped. Nothing is acknowledged where there is no memory
+    /// for the text.
     fn use_segment(&mut self, segment: &PacketRef<'_>) -> Result<(), NoMemory>
         ensures taken { OnOk result (self.new ≡ machine.used self.old (value_of segment.now)) }
         ensures kept { OnErr result (self.new ≡ self.old) }
@@ -87,36 +90,35 @@ impl Client {
             return Ok(());
         }
         let first = offset_of(self.sisn, segment.head.seq.0);
-        let text = counted_text(segment);
-        self.use_ack_and_text(ack, first, text)?;
-        self.accept_fin(first, text.len() as u64, counts_fin(segment));
-        Ok(())
-    }
-
-    /// Nothing is acknowledged where there is no memory for the text.
-    #[tactic(auto, using(crate::proofs::Order::ack_or_text_first))]
-    fn use_ack_and_text(&mut self, ack: i64, first: i64, text: &[u8]) -> Result<(), NoMemory>
-        requires { ack ≤ℤ pos self.old.sent }
-        ensures taken { OnOk result (self.new ≡ machine.with_text (machine.with_ack self.old ack) first text.now) }
-        ensures kept { OnErr result (self.new ≡ self.old) }
-    {
-        self.accept_text(first, text)?;
+        self.accept(first, counted_text(segment), counts_fin(segment))?;
         self.note_ack(ack);
         Ok(())
     }
 
-    /// Text that continues what is accepted is accepted up to the right edge.
-    fn accept_text(&mut self, first: i64, text: &[u8]) -> Result<(), NoMemory>
-        ensures taken { OnOk result (self.new ≡ machine.with_text self.old first text.now) }
+    /// Accepts what a text that begins at `first`, and the FIN behind it, add to the server's stream.
+    fn accept(&mut self, first: i64, text: &[u8], fin: bool) -> Result<(), NoMemory>
+        ensures taken { OnOk result (self.new ≡ machine.with_added self.old (added self.old first text.now fin)) }
         ensures kept { OnErr result (self.new ≡ self.old) }
     {
-        let next = self.accepted.len() as u64;
-        if self.phase != Phase::Ended && (first < 0 || first as u64 <= next) {
-            let room = self.edge.saturating_sub(next);
-            self.accepted
-                .extend_from_slice(part(text, skipped(next, first), room))?;
+        let added = self.new_text(first, text);
+        let next = (self.accepted.len() + added.len()) as u64;
+        self.accepted.extend_from_slice(added)?;
+        if fin && is_fin_at(next, self.edge, first, text.len() as u64) {
+            self.phase = Phase::Ended;
         }
         Ok(())
+    }
+
+    /// The part of a text that continues what is accepted, up to the right edge.
+    #[tactic(auto, unfolding(seq_arith::specs::Coming::new_text))]
+    fn new_text<'a>(&self, first: i64, text: &'a [u8]) -> &'a [u8]
+        ensures { result.now ≡ new_text (length self.now.accepted) self.now.edge (is_ended self.now.phase) first text.now }
+    {
+        let next = self.accepted.len() as u64;
+        if self.phase == Phase::Ended || (first >= 0 && first as u64 > next) {
+            return &[];
+        }
+        part(text, skipped(next, first), self.edge.saturating_sub(next))
     }
 
     fn note_ack(&mut self, ack: i64)
@@ -125,17 +127,6 @@ impl Client {
     {
         if ack > i64::from(self.acknowledged) {
             self.acknowledged = ack as u32;
-        }
-    }
-
-    /// A FIN at the next offset, below the right edge, ends the server's stream. It stands `len` behind `first`.
-    fn accept_fin(&mut self, first: i64, len: u64, fin: bool)
-        requires { len < 2 ^ 63 }
-        ensures { self.new ≡ machine.with_fin self.old (first +ℤ pos len) fin }
-    {
-        let next = self.accepted.len() as u64;
-        if fin && self.phase != Phase::Ended && is_at(next, first, len) && next < self.edge {
-            self.phase = Phase::Ended;
         }
     }
 }
