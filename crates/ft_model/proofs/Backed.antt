@@ -41,6 +41,7 @@ use Rattle.ft_model.proofs.Services.{reads_go_on, units_go_on}
 use Rattle.ft_model.proofs.Faithful.{IsKnown}
 use Rattle.ft_model.proofs.Authored.{logged_run}
 use Rattle.ft_model.proofs.AuthorKept.{change_all}
+use Rattle.ft_model.proofs.Copied.{all_copies}
 use Rattle.ft_io.proofs.Choices.{holds_if}
 
 -- the units of the run over a client's logged reads: its output, and one more where it has closed
@@ -168,14 +169,9 @@ una_backed service script log Begins p n h = h
 -- every Data carries SND.UNA
 copies_backed : {State : Type 0} (service : Machine State) (script : Key → List ℕ) (log : Log) (news : News) (p q : Point) → q.una ≤ logged_output service script log q.key
     → AllByRecursion (BodyBacked service script log) (copies news p q)
-unfolding copies
-copies_backed service script log (Comes segment) p q h =
-    holds_if (AllByRecursion (BodyBacked service script log)) (nat_lt 0 (length (copied_text q segment)) || copies_fin q segment) (DataMsg (copied_part q segment) ∷ [])
-    (if nat_lt p.una q.una then DataMsg (una_part q) ∷ [] else []) (λ t. (h, tt))
-    (λ t. holds_if (AllByRecursion (BodyBacked service script log)) (nat_lt p.una q.una) (DataMsg (una_part q) ∷ []) [] (λ x. (h, tt)) (λ x. tt))
-copies_backed service script log (Logged kept) p q h = tt
-copies_backed service script log Ticks p q h = tt
-copies_backed service script log Begins p q h = tt
+copies_backed service script log news p q h =
+    all_copies (BodyBacked service script log) news p q
+    (λ part c. subst (λ k. part.acked ≤ logged_output service script log k) (sym c.key) (subst (λ n. n ≤ logged_output service script log q.key) (sym c.acked) h))
 
 messages_backed : {State : Type 0} (service : Machine State) (script : Key → List ℕ) (log : Log) (key : Key) (index : ℕ) (lengths : List ℕ) → AllByRecursion (BodyBacked service script log) (read_messages key index lengths)
 messages_backed service script log key index [] = tt

@@ -46,6 +46,7 @@ use Rattle.ft_model.proofs.FaithfulOver.{script_of, isn_of}
 use Rattle.ft_model.proofs.Formed.{bytes_take, bytes_drop, bytes_front, bytes_output, HasClient, IsSize, AreLengths, IsBoot, NumbersFormed, BodyFormed, SegmentFormed, PacketFormed, StartFormed, PointFormed, PlaceFormed}
 use Rattle.ft_model.proofs.FormedLog.{no_zero, lengths_drop}
 use Rattle.ft_io.proofs.Booleans.{not_true}
+use Rattle.ft_model.proofs.Copied.{text_in, all_copies, cut_short}
 use Rattle.ft_io.proofs.Choices.{holds_if}
 
 -- the reads of a turn: each has a byte, or is the only one of length 0
@@ -144,48 +145,28 @@ text_short : (segment : Segment) → packet_length segment ≤ 1500 → length (
 text_short segment h =
     holds_if (λ t. length t ≤ 1460) (has_syn segment || has_rst segment) [] segment.payload (λ t. omega arith) (λ t. omega (arith, h))
 
--- the part that is copied begins within what is taken, where its FIN alone is copied
-pub begins_within : (answered : ℕ) (first : ℤ) (text taken : ℕ) → int_eq (first +ℤ pos text) (pos taken) ≡ true → answered ≤ taken
-    → max answered (from_start first) ≤ taken
-begins_within answered (pos n) text taken e h = let same = int_same (n + text) taken e in omega (arith, same, h)
-begins_within answered (negsuc n) text taken e h = omega (arith, h)
+news_bytes : (news : News) → NewsFormed news → AreBytes (text_in news)
+news_bytes (Comes segment) n = text_bytes segment n.5
+news_bytes (Logged kept) n = tt
+news_bytes Ticks n = tt
+news_bytes Begins n = tt
 
-pub copied_within : (q : Point) (segment : Segment) → (nat_lt 0 (length (copied_text q segment)) || copies_fin q segment) ≡ true
-    → copy_start q segment + length (copied_text q segment) ≤ length q.taken
-copied_within q segment e =
-    let size = length-take (length q.taken - copy_start q segment) (drop (below q.answered (first_of q.cisn segment)) (text_of segment)) in
-    ⊎_elim
-    (λ t. let some : 0 < length (copied_text q segment) = ltb-true _ _ t in omega (arith, size, some))
-    (λ t. let one = and_parts (fin_of segment && q.fin && int_eq (end_of q segment) (pos (length q.taken))) (nat_le q.answered (length q.taken)) t in
-    let two = and_parts (fin_of segment && q.fin) (int_eq (end_of q segment) (pos (length q.taken))) one.0 in
-    let low : q.answered ≤ length q.taken = leb-true _ _ one.1 in
-    let at = begins_within q.answered (first_of q.cisn segment) (length (text_of segment)) (length q.taken) two.1 low in
-    omega (arith, size, at))
-    (or_cases _ _ e)
+news_short : (news : News) → NewsFormed news → length (text_in news) ≤ 1460
+news_short (Comes segment) n = text_short segment n.6
+news_short (Logged kept) n = omega arith
+news_short Ticks n = omega arith
+news_short Begins n = omega arith
 
 copies_formed : (start : World) (boot : ℕ) (news : News) (p q : Point) → NewsFormed news → HasClient start q.key → Stands start q
     → AllByRecursion (BodyFormed start boot) (copies news p q)
-unfolding copies
-copies_formed start boot (Comes segment) p q n key s =
-    let text = text_of segment in
-    let cut = length-take (length q.taken - copy_start q segment) (drop (below q.answered (first_of q.cisn segment)) text) in
-    let behind = length-drop (below q.answered (first_of q.cisn segment)) text in
-    let short = text_short segment n.6 in
-    holds_if (AllByRecursion (BodyFormed start boot)) (nat_lt 0 (length (copied_text q segment)) || copies_fin q segment) (DataMsg (copied_part q segment) ∷ []) _
-    (λ t. let within = copied_within q segment t in (
-      (
-        key,
-        omega (arith, within, s.short),
-        bytes_take (length q.taken - copy_start q segment) _ (bytes_drop _ (text_of segment) (text_bytes segment n.5)),
-        omega (arith, cut, behind, short),
-      ),
-      tt,
+copies_formed start boot news p q n key s =
+    all_copies (BodyFormed start boot) news p q
+    (λ part c. (
+      subst (HasClient start) (sym c.key) key,
+      omega (arith, c.within, s.short),
+      subst AreBytes (sym c.text.2) (bytes_take c.text.1 (drop c.text.0 (text_in news)) (bytes_drop c.text.0 (text_in news) (news_bytes news n))),
+      cut_short part.bytes (text_in news) 1460 c.text (news_short news n),
     ))
-    (λ t. holds_if (AllByRecursion (BodyFormed start boot)) (nat_lt p.una q.una) (DataMsg (una_part q) ∷ []) []
-    (λ x. ((key, omega (arith, s.short), tt, omega arith), tt)) (λ x. tt))
-copies_formed start boot (Logged kept) p q n key s = tt
-copies_formed start boot Ticks p q n key s = tt
-copies_formed start boot Begins p q n key s = tt
 
 messages_formed : (start : World) (boot : ℕ) (key : Key) (index : ℕ) (lengths : List ℕ) → HasClient start key → AreLengths lengths
     → (0 < length lengths → index + length lengths ≤ 2 ^ 24 + 1) → AllByRecursion (BodyFormed start boot) (read_messages key index lengths)

@@ -48,6 +48,7 @@ use Rattle.ft_model.proofs.FaithfulKept.{InputFits}
 use Rattle.ft_model.proofs.Distinct.{stays_or_drops}
 use Rattle.ft_model.proofs.Refused.{ResetsEnded, HasCaller, IsDone, IsShut, BodySays, Says, KeysGo, keys_go, done_later, shut_later}
 use Rattle.ft_io.proofs.Booleans.{not_true}
+use Rattle.ft_model.proofs.Copied.{all_copies}
 use Rattle.ft_io.proofs.Choices.{holds_if}
 
 -- the key has a place
@@ -182,13 +183,7 @@ bodies_plain log boot [] a = tt
 bodies_plain log boot (body ∷ bodies) a = ((tt, a.0), bodies_plain log boot bodies a.1)
 
 copies_plain : (news : News) (p q : Point) → AllByRecursion NoOpen (copies news p q)
-unfolding copies
-copies_plain (Comes segment) p q =
-    holds_if (AllByRecursion NoOpen) (nat_lt 0 (length (copied_text q segment)) || copies_fin q segment) (DataMsg (copied_part q segment) ∷ []) _ (λ t. (refl, tt))
-    (λ t. holds_if (AllByRecursion NoOpen) (nat_lt p.una q.una) (DataMsg (una_part q) ∷ []) [] (λ u. (refl, tt)) (λ u. tt))
-copies_plain (Logged kept) p q = tt
-copies_plain Ticks p q = tt
-copies_plain Begins p q = tt
+copies_plain news p q = all_copies NoOpen news p q (λ part c. refl)
 
 messages_plain : (key : Key) (index : ℕ) (lengths : List ℕ) → AllByRecursion NoOpen (read_messages key index lengths)
 messages_plain key index [] = tt

@@ -43,6 +43,7 @@ pub mod Resumed
 pub mod Exact
 pub mod Stands
 pub mod Coming
+pub mod Copied
 pub mod Scripts
 pub mod Spoken
 pub mod FinsClosed
