@@ -1,10 +1,9 @@
 -- What a turn of a connection sends is for its client or for the logger, and each number in it fits its field.
-use Rattle.std.proofs.Common.{◌≡◌, ℕ, ◌+◌, ◌-◌, ◌<◌, ◌≤◌, ◌^◌, true, ◌&&◌, ◌||◌, nat_lt, nat_le, refl, sym, subst, ⊎_elim, Option, Some, None, IfSome, List, [], ◌∷◌, ◌++◌, map, length, take, drop, arith, length-drop, length-take}
+use Rattle.std.proofs.Common.{◌≡◌, ℕ, ◌+◌, ◌<◌, ◌≤◌, ◌^◌, true, ◌&&◌, ◌||◌, nat_le, refl, sym, subst, ⊎_elim, Option, Some, None, IfSome, List, [], ◌∷◌, ◌++◌, map, length, take, drop, arith, length-drop, length-take}
 use Rattle.std.specs.List.{AllByRecursion}
 use Rattle.std.proofs.lemmas.Bool.{and_from, le-leb}
 use Rattle.ft_io.specs.declared.Addr.{Addr}
 use Rattle.ft_io.specs.declared.Key.{Key}
-use Rattle.seq_arith.specs.Arrival.{below}
 use Rattle.seq_arith.specs.Packet.{Segment, has_syn, has_rst}
 use Rattle.seq_arith.specs.PacketGrammar as packet
 use Rattle.seq_arith.specs.Message.{Part, Body}
@@ -13,13 +12,13 @@ use Rattle.seq_arith.specs.MessageGrammar as message
 use Rattle.seq_arith.specs.MessageGrammar.{flag, is_sound, has_length}
 use Rattle.server_trait.specs.Service.{Machine}
 use Rattle.ft_model.specs.Connection.{LiveTurn, ResetTurn, told_by}
-use Rattle.ft_model.specs.Copy.{copy_start, copied_text, copies_fin, una_part, copied_part, copies}
+use Rattle.ft_model.specs.Copy.{copies}
 use Rattle.ft_model.specs.Ending.{dones, tells_done}
 use Rattle.ft_model.specs.Network.{Packet, destination_of}
 use Rattle.ft_model.specs.Network.Packet.{To_client, To_logger}
 use Rattle.ft_model.specs.News.{News}
 use Rattle.ft_model.specs.News.News.{Comes, Logged, Ticks, Begins}
-use Rattle.ft_model.specs.Offset.{first_of, text_of}
+use Rattle.ft_model.specs.Offset.{text_of}
 use Rattle.ft_model.specs.Point.{Point, answered_run}
 use Rattle.ft_model.specs.Readable.{FitsAddr}
 use Rattle.ft_model.specs.Reads.{read_messages, first_told, reads_told}
@@ -30,7 +29,7 @@ use Rattle.ft_model.proofs.Spoken.Spoken.{spoken_syn, spoken_text, spoken_fin, s
 use Rattle.wrapped_conn.proofs.Sendable.{FitsKey, done_sendable, read_sendable}
 use Rattle.ft_io.proofs.Choices.{holds_if}
 use Rattle.ft_model.proofs.Wires.{flag_low}
-use Rattle.ft_model.proofs.FormedTurns.{copied_within}
+use Rattle.ft_model.proofs.Copied.{all_copies, text_in, cut_short}
 
 -- the numbers of a point are within their ranges
 pub record IsInRange (q : Point) : Type 0 where
@@ -102,19 +101,16 @@ IsShort _ = Unit {0}
 text_short : (segment : Segment) → length segment.payload ≤ 1460 → length (text_of segment) ≤ 1460
 text_short segment h = holds_if (λ t. length t ≤ 1460) (has_syn segment || has_rst segment) [] segment.payload (λ t. omega arith) (λ t. h)
 
+text_within : (news : News) → IsShort news → length (text_in news) ≤ 1460
+text_within (Comes segment) h = text_short segment h
+text_within (Logged kept) h = omega arith
+text_within Ticks h = omega arith
+text_within Begins h = omega arith
+
 copies_told : (boot : ℕ) (news : News) (p q : Point) → IsBoot boot → IsShort news → IsInRange q → AllByRecursion (IsTold boot) (copies news p q)
-unfolding copies
-copies_told boot (Comes segment) p q b short r =
-    let cut = length-take (length q.taken - copy_start q segment) (drop (below q.answered (first_of q.cisn segment)) (text_of segment)) in
-    let behind = length-drop (below q.answered (first_of q.cisn segment)) (text_of segment) in
-    let few = text_short segment short in
-    holds_if (AllByRecursion (IsTold boot)) (nat_lt 0 (length (copied_text q segment)) || copies_fin q segment) (DataMsg (copied_part q segment) ∷ []) _
-    (λ t. let within = copied_within q segment t in (data_told boot (copied_part q segment) b r.key (omega (arith, within, r.taken)) r.una (omega (arith, cut, behind, few)), tt))
-    (λ t. holds_if (AllByRecursion (IsTold boot)) (nat_lt p.una q.una) (DataMsg (una_part q) ∷ []) []
-    (λ x. (data_told boot (una_part q) b r.key (omega (arith, r.taken)) r.una (omega arith), tt)) (λ x. tt))
-copies_told boot (Logged kept) p q b short r = tt
-copies_told boot Ticks p q b short r = tt
-copies_told boot Begins p q b short r = tt
+copies_told boot news p q b short r =
+    all_copies (IsTold boot) news p q
+    (λ part c. data_told boot part b (subst FitsKey (sym c.key) r.key) (omega (arith, c.within, r.taken)) (omega (arith, c.acked, r.una)) (cut_short part.bytes (text_in news) 1460 c.text (text_within news short)))
 
 abbrev pub AreLow : List ℕ → Type 0
 AreLow lengths = AllByRecursion (λ n. n ≤ 2048) lengths
