@@ -1,6 +1,6 @@
 -- No client acknowledges more than the output of the logged reads, and one more where that has closed; so neither does a point, a Data or the
 -- log. Of the laws of sending this needs only that SND.UNA never passes what was acknowledged.
-use Rattle.std.proofs.Common.{◌≡◌, ℕ, ◌+◌, ◌≤◌, ℤ, pos, negsuc, ◌≤ℤ◌, true, ◌&&◌, ◌||◌, not, nat_lt, nat_le, int_le, nat_abs, max, le_trans, sym, ap, ◌∙◌, subst, true≢false, Some, List, [], ◌∷◌, ◌++◌, map, length, drop, arith, if◌then◌else◌}
+use Rattle.std.proofs.Common.{◌≡◌, ℕ, ◌+◌, ◌≤◌, ℤ, pos, negsuc, ◌≤ℤ◌, true, ◌&&◌, ◌||◌, not, nat_lt, nat_le, int_le, nat_abs, max, le_trans, sym, ap, ◌∙◌, subst, true≢false, Some, List, [], ◌∷◌, ◌++◌, map, length, drop, arith}
 use Rattle.std.specs.List.{AllByRecursion, list_any}
 use Rattle.std.proofs.lemmas.Int.{ints}
 use Rattle.std.proofs.lemmas.Bool.{and_parts}
@@ -22,7 +22,7 @@ use Rattle.ft_model.specs.News.News.{Comes, Logged, Ticks, Begins}
 use Rattle.ft_model.specs.Taken.{uses, counts}
 use Rattle.ft_model.specs.Sending.{acknowledges, acknowledged_by, acknowledged_after}
 use Rattle.ft_model.specs.Segments.{segments_of}
-use Rattle.ft_model.specs.Copy.{copies, copied_text, copies_fin, copied_part, una_part}
+use Rattle.ft_model.specs.Copy.{copies}
 use Rattle.ft_model.specs.Reads.{reads_told, read_messages, first_told}
 use Rattle.ft_model.specs.Ending.{dones, tells_done}
 use Rattle.ft_model.specs.Connection.{ConnectionTurn, told_by}

@@ -1,16 +1,15 @@
 -- A server that hears what is well formed sends nothing else.
-use Rattle.std.proofs.Common.{◌≡◌, ℕ, ◌+◌, ◌-◌, ◌<◌, ◌≤◌, ◌^◌, ◌==◌, ℤ, pos, negsuc, ◌+ℤ◌, true, ◌&&◌, ◌||◌, not, nat_lt, nat_le, max, min, sym, ap, subst, inl, inr, ◌⊎◌, ⊎_elim, Option, Some, None, List, [], ◌∷◌, ◌++◌, map, length, take, drop, sum, arith, append-nil, append_assoc, length-append, length-drop, length-take, ltb-true, leb-true}
+use Rattle.std.proofs.Common.{◌≡◌, ℕ, ◌+◌, ◌-◌, ◌<◌, ◌≤◌, ◌^◌, ◌==◌, ◌&&◌, ◌||◌, not, nat_lt, min, sym, ap, subst, inl, inr, ◌⊎◌, ⊎_elim, Option, Some, None, List, [], ◌∷◌, ◌++◌, map, length, take, drop, sum, arith, append-nil, append_assoc, length-append, length-drop, length-take, ltb-true}
 use Rattle.std.specs.List.{AllByRecursion, list_any}
 use Rattle.std.proofs.lemmas.Bool.{and_parts}
 use Rattle.ft_io.specs.declared.Addr.{Addr}
 use Rattle.ft_io.specs.declared.Key.{Key}
-use Rattle.seq_arith.specs.Arrival.{int_eq, below}
 use Rattle.seq_arith.specs.Packet.{Segment, has_syn, has_rst, has_ack}
 use Rattle.seq_arith.specs.PacketGrammar.{packet_length}
 use Rattle.seq_arith.specs.Message.{Numbers, Body}
-use Rattle.seq_arith.specs.Message.Body.{DataMsg, DoneMsg}
+use Rattle.seq_arith.specs.Message.Body.{DoneMsg}
 use Rattle.server_trait.specs.Service.{Machine, AreBytes, WritesBytes}
-use Rattle.ft_model.specs.Offset.{first_of, text_of, fin_of}
+use Rattle.ft_model.specs.Offset.{text_of}
 use Rattle.ft_model.specs.Log.{Log}
 use Rattle.ft_model.specs.Network.{Packet}
 use Rattle.ft_model.specs.Network.Packet.{To_server, To_client, From_logger}
@@ -18,7 +17,7 @@ use Rattle.ft_model.specs.Point.{Point, answered_run}
 use Rattle.ft_model.specs.News.{News}
 use Rattle.ft_model.specs.News.News.{Comes, Logged, Ticks, Begins}
 use Rattle.ft_model.specs.Reads.{next_length, may_read, next_read, with_read, Makes, read_messages, first_told, reads_told}
-use Rattle.ft_model.specs.Copy.{from_start, copy_start, copied_text, copies_fin, una_part, copied_part, copies}
+use Rattle.ft_model.specs.Copy.{copies}
 use Rattle.ft_model.specs.Ending.{dones, tells_done}
 use Rattle.ft_model.specs.Segments.{segments_of}
 use Rattle.ft_model.specs.Opening.{is_syn, numbers_for, segment_size, point_opened}
@@ -29,9 +28,9 @@ use Rattle.ft_model.specs.Node.Place.{Opens, Lives}
 use Rattle.ft_model.specs.Node.Input.{Packet_comes, Message_comes, Noise_comes, Tick_comes}
 use Rattle.ft_model.specs.Serving.{newcomers, refusals, is_strange}
 use Rattle.ft_model.specs.World.{World}
-use Rattle.ft_model.proofs.Lists.{or_cases, all_weaker, all_map, all_append, none_is_some, some_is}
+use Rattle.ft_model.proofs.Lists.{all_weaker, all_map, all_append, none_is_some, some_is}
 use Rattle.ft_model.proofs.Services.{sum_append, prefix_length}
-use Rattle.ft_model.specs.Taken.{end_of, taken_after}
+use Rattle.ft_model.specs.Taken.{taken_after}
 use Rattle.ft_model.proofs.Running.{next_within, taken_grows}
 use Rattle.ft_model.proofs.Spoken.{Spoken, segments_spoken}
 use Rattle.ft_model.proofs.Spoken.Spoken.{spoken_syn, spoken_text, spoken_fin, spoken_bare}
@@ -39,7 +38,6 @@ use Rattle.ft_model.proofs.StageTurns.{either_turn}
 use Rattle.ft_model.proofs.PlaceTurns.{PlaceWent, IsNews}
 use Rattle.ft_model.proofs.PlaceTurns.PlaceWent.{stayed, went_on, began, dropped, ended, refused}
 use Rattle.ft_model.proofs.Scripts.{NewsFits}
-use Rattle.ft_model.proofs.Coming.{int_same}
 use Rattle.ft_model.proofs.Faithful.{AnswerFits, PlaceFits, EntriesFit, NewsKnown, connection_fits}
 use Rattle.ft_model.proofs.FaithfulKept.{InputFits, news_fit, opened_point}
 use Rattle.ft_model.proofs.FaithfulOver.{script_of, isn_of}

@@ -1,5 +1,5 @@
 -- Every byte of a client that is under way, logged or taken is its script's at that offset, and a FIN stands only at the script's end.
-use Rattle.std.proofs.Common.{ap₂, ◌≡◌, ℕ, ◌+◌, ◌-◌, ◌≤◌, ◌^◌, pos, ◌+ℤ◌, int_le, Bool, true, false, ◌==◌, ◌&&◌, ◌||◌, not, nat_lt, nat_le, min, refl, sym, ap, ◌∙◌, subst, true≢false, inl, inr, ◌⊎◌, ⊎_elim, List, [], ◌∷◌, ◌++◌, length, take, drop, arith, append-nil, length-take, length-drop, leb-true, ltb-false, eqb-true, if◌then◌else◌}
+use Rattle.std.proofs.Common.{ap₂, ◌≡◌, ℕ, ◌+◌, ◌-◌, ◌≤◌, ◌^◌, pos, ◌+ℤ◌, true, false, ◌==◌, ◌&&◌, ◌||◌, nat_lt, nat_le, min, refl, sym, ap, ◌∙◌, subst, true≢false, inl, inr, ◌⊎◌, ⊎_elim, List, [], ◌++◌, length, take, drop, arith, length-take, length-drop, leb-true, ltb-false, eqb-true}
 use Rattle.std.specs.List.{AllByRecursion}
 use Rattle.std.proofs.lemmas.Bool.{and_parts, or_parts}
 use Rattle.ft_io.specs.declared.Key.{Key}
@@ -17,14 +17,13 @@ use Rattle.ft_model.specs.Point.{Point, receive_edge}
 use Rattle.ft_model.specs.News.{News}
 use Rattle.ft_model.specs.News.News.{Comes, Logged, Ticks, Begins}
 use Rattle.ft_model.specs.Taken.{counts, end_of, came, taken_after, fin_after}
-use Rattle.ft_model.specs.Copy.{from_start, copy_start, copied_text, copies_fin, una_part, copied_part, copies}
+use Rattle.ft_model.specs.Copy.{from_start, copy_start, copied_text, una_part, copied_part, copies}
 use Rattle.ft_model.specs.Growth.{IsPrefix}
-use Rattle.ft_model.proofs.Lists.{take_first, or_cases}
+use Rattle.ft_model.proofs.Lists.{take_first}
 use Rattle.ft_model.proofs.Stands.{nothing_first, part_stands, goes_on_all, take_nothing}
 use Rattle.ft_model.proofs.Copied.{HasForm, all_copies}
 use Rattle.ft_model.proofs.Coming.{Fronts, Says, int_same, unchanged, comes_fits}
 use Rattle.ft_io.proofs.Choices.{holds_if}
-use Rattle.ft_io.proofs.Booleans.{middle_false}
 
 -- a segment carries a part of its client's script, or nothing
 abbrev pub Carries : List ℕ → ℕ → Segment → Type 0

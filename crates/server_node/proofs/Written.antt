@@ -1,9 +1,10 @@
 -- What a turn of a connection sends is for its client or for the logger, and each number in it fits its field.
-use Rattle.std.proofs.Common.{◌≡◌, ℕ, ◌+◌, ◌<◌, ◌≤◌, ◌^◌, true, ◌&&◌, ◌||◌, nat_le, refl, sym, subst, ⊎_elim, Option, Some, None, IfSome, List, [], ◌∷◌, ◌++◌, map, length, take, drop, arith, length-drop, length-take}
+use Rattle.std.proofs.Common.{◌≡◌, ℕ, ◌+◌, ◌-◌, ◌<◌, ◌≤◌, ◌^◌, true, ◌&&◌, ◌||◌, nat_lt, nat_le, refl, sym, subst, ⊎_elim, Option, Some, None, IfSome, List, [], ◌∷◌, ◌++◌, map, length, take, drop, arith, length-drop, length-take}
 use Rattle.std.specs.List.{AllByRecursion}
 use Rattle.std.proofs.lemmas.Bool.{and_from, le-leb}
 use Rattle.ft_io.specs.declared.Addr.{Addr}
 use Rattle.ft_io.specs.declared.Key.{Key}
+use Rattle.seq_arith.specs.Arrival.{below}
 use Rattle.seq_arith.specs.Packet.{Segment, has_syn, has_rst}
 use Rattle.seq_arith.specs.PacketGrammar as packet
 use Rattle.seq_arith.specs.Message.{Part, Body}
@@ -12,13 +13,13 @@ use Rattle.seq_arith.specs.MessageGrammar as message
 use Rattle.seq_arith.specs.MessageGrammar.{flag, is_sound, has_length}
 use Rattle.server_trait.specs.Service.{Machine}
 use Rattle.ft_model.specs.Connection.{LiveTurn, ResetTurn, told_by}
-use Rattle.ft_model.specs.Copy.{copies}
+use Rattle.ft_model.specs.Copy.{copy_start, copied_text, copies_fin, una_part, copied_part, copies}
 use Rattle.ft_model.specs.Ending.{dones, tells_done}
 use Rattle.ft_model.specs.Network.{Packet, destination_of}
 use Rattle.ft_model.specs.Network.Packet.{To_client, To_logger}
 use Rattle.ft_model.specs.News.{News}
 use Rattle.ft_model.specs.News.News.{Comes, Logged, Ticks, Begins}
-use Rattle.ft_model.specs.Offset.{text_of}
+use Rattle.ft_model.specs.Offset.{first_of, text_of}
 use Rattle.ft_model.specs.Point.{Point, answered_run}
 use Rattle.ft_model.specs.Readable.{FitsAddr}
 use Rattle.ft_model.specs.Reads.{read_messages, first_told, reads_told}
@@ -29,7 +30,7 @@ use Rattle.ft_model.proofs.Spoken.Spoken.{spoken_syn, spoken_text, spoken_fin, s
 use Rattle.wrapped_conn.proofs.Sendable.{FitsKey, done_sendable, read_sendable}
 use Rattle.ft_io.proofs.Choices.{holds_if}
 use Rattle.ft_model.proofs.Wires.{flag_low}
-use Rattle.ft_model.proofs.Copied.{all_copies, text_in, cut_short}
+use Rattle.ft_model.proofs.Copied.{text_in, all_copies, cut_short}
 
 -- the numbers of a point are within their ranges
 pub record IsInRange (q : Point) : Type 0 where
@@ -101,16 +102,17 @@ IsShort _ = Unit {0}
 text_short : (segment : Segment) → length segment.payload ≤ 1460 → length (text_of segment) ≤ 1460
 text_short segment h = holds_if (λ t. length t ≤ 1460) (has_syn segment || has_rst segment) [] segment.payload (λ t. omega arith) (λ t. h)
 
-text_within : (news : News) → IsShort news → length (text_in news) ≤ 1460
-text_within (Comes segment) h = text_short segment h
-text_within (Logged kept) h = omega arith
-text_within Ticks h = omega arith
-text_within Begins h = omega arith
+news_short : (news : News) → IsShort news → length (text_in news) ≤ 1460
+news_short (Comes segment) h = text_short segment h
+news_short (Logged kept) h = omega arith
+news_short Ticks h = omega arith
+news_short Begins h = omega arith
 
 copies_told : (boot : ℕ) (news : News) (p q : Point) → IsBoot boot → IsShort news → IsInRange q → AllByRecursion (IsTold boot) (copies news p q)
 copies_told boot news p q b short r =
     all_copies (IsTold boot) news p q
-    (λ part c. data_told boot part b (subst FitsKey (sym c.key) r.key) (omega (arith, c.within, r.taken)) (omega (arith, c.acked, r.una)) (cut_short part.bytes (text_in news) 1460 c.text (text_within news short)))
+    (λ part c. data_told boot part b (subst FitsKey (sym c.key) r.key) (omega (arith, c.within, r.taken)) (subst (λ n. n ≤ 2 ^ 24 + 1) (sym c.acked) r.una)
+    (cut_short part.bytes (text_in news) 1460 c.text (news_short news short)))
 
 abbrev pub AreLow : List ℕ → Type 0
 AreLow lengths = AllByRecursion (λ n. n ≤ 2048) lengths
