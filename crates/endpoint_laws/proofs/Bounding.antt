@@ -2,7 +2,6 @@
 use Rattle.std.proofs.Common.{◌≡◌, ℕ, ◌<◌, ◌≤◌, ◌+◌, ◌-◌, ◌^◌, Bool, true, false, not, List, ◌++◌, length, length-append, length-drop, take, drop, max, min, refl, sym, ap, subst, arith, ◌∙◌}
 use Rattle.std.specs.Prelude.{ℤ, pos, ◌==◌, ◌&&◌, nat_abs, nat_lt, int_le, if◌then◌else◌}
 use Rattle.std.proofs.lemmas.Int.{ints}
-use Rattle.std.proofs.lemmas.List.{length-take}
 use Rattle.std.proofs.lemmas.Bool.{false≢true}
 use Rattle.seq_arith.specs.Number.{offset_of}
 use Rattle.seq_arith.specs.Arrival.{int_eq, is_new_ack}
@@ -98,7 +97,7 @@ came_within r first text fin = record {
   taken = λ h. within_by r.read (length r.unread) r.limit r.unread _ refl (comes_within (taken r) (receive_edge r) r.fin first text fin) h;
 }
 
-taken_within : (e : Tcb) (p : Segment) → StaysWithin e.receiving (taken_by e p)
+pub taken_within : (e : Tcb) (p : Segment) → StaysWithin e.receiving (taken_by e p)
 unfolding taken_by
 taken_within e p =
     holds_either_way (λ (r : Receiving). StaysWithin e.receiving r) (counts e p) (with_segment e.receiving (first e p) (text_of p) (fin_of p)) e.receiving
