@@ -37,11 +37,6 @@ skipped irs number next small near first no_gap =
     let low : offset_of irs number ≤ℤ pos next = grind (arith, ints)
     in omega (arith, ints, offset_leads irs number small, below_low next (offset_of irs number) low)
 
-pub ends_at : (irs number n : ℕ) → number < 2 ^ 32 → n ≤ 2 ^ 17 → IsNearFirst (offset_of irs number)
-    → offset_of irs ((number + n) % 2 ^ 32) ≡ (offset_of irs number +ℤ pos n)
-ends_at irs number n small few first =
-    omega (arith, ints, offset_leads irs number small, offset_leads irs ((number + n) % 2 ^ 32) (omega arith))
-
 -- an acceptable segment begins near to the window
 pub near_of_acceptable : (next window : ℕ) (first : ℤ) (len : ℕ) → next ≤ 2 ^ 30 + 1 → window ≤ 2 ^ 16 → len ≤ 2 ^ 16
     → is_acceptable next window first len ≡ true → IsNearFirst first
