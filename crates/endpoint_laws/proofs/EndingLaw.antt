@@ -1,6 +1,6 @@
 -- The state of a connection through a turn: it follows what its halves tell, and it is CLOSED by a RST or once both FINs are through.
 use Rattle.std.proofs.Common.{◌≡◌, ◌⊎◌, inl, inr, ℕ, ◌≤◌, ◌+◌, ◌-◌, ◌*◌, Bool, true, false, not, None, List, [], ◌∷◌, length, min, refl, sym, ap, subst, arith, ◌∙◌}
-use Rattle.std.specs.Prelude.{ℤ, pos, ◌+ℤ◌, ◌==◌, ◌&&◌, ◌||◌, nat_abs, nat_lt, int_lt, if◌then◌else◌}
+use Rattle.std.specs.Prelude.{ℤ, pos, ◌==◌, ◌&&◌, ◌||◌, nat_abs, nat_lt, int_lt, if◌then◌else◌}
 use Rattle.std.proofs.lemmas.Int.{ints}
 use Rattle.std.proofs.lemmas.Bool.{false≢true}
 use Rattle.seq_arith.specs.Arrival.{int_eq, is_acceptable, is_at_right_edge, is_new_ack}
@@ -190,7 +190,7 @@ still true false stays h = absurd (false≢true (sym h))
 still false true stays h = sym (stays refl)
 still false false stays h = refl
 
-stays_taken : (r : Receiving) (z : ℤ) (text : List ℕ) (fin : Bool) → r.fin ≡ true → (with_segment r z text fin).fin ≡ true
+pub stays_taken : (r : Receiving) (z : ℤ) (text : List ℕ) (fin : Bool) → r.fin ≡ true → (with_segment r z text fin).fin ≡ true
 unfolding with_came
 stays_taken r z text fin h = fin_stays (taken r) (receive_edge r) r.fin z text fin h
 

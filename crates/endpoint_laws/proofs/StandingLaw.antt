@@ -5,7 +5,7 @@ use Rattle.std.proofs.lemmas.Int.{ints}
 use Rattle.std.proofs.lemmas.List.{drop-append-le}
 use Rattle.std.proofs.lemmas.Bool.{false≢true, and_right, and_left}
 use Rattle.seq_arith.specs.Number.{offset_of}
-use Rattle.seq_arith.specs.Arrival.{int_eq, lies_in, is_acceptable, is_at_right_edge, is_acceptable_or_at_edge, is_allowed_at_zero, is_usable, una_after, updates_window}
+use Rattle.seq_arith.specs.Arrival.{int_eq, lies_in, is_acceptable, is_at_right_edge, is_acceptable_or_at_edge, is_allowed_at_zero, una_after, updates_window}
 use Rattle.seq_arith.specs.Coming.{Came, nothing_came, comes}
 use Rattle.seq_arith.specs.Packet.{Segment, has_syn, has_rst, has_ack}
 use Rattle.seq_arith.proofs.Gaps.{Leads, offset_leads}
@@ -173,7 +173,7 @@ uses_is p e segment m =
     let few : p.fetched ≤ 2 ^ 24 = fetched_few e.receiving.limit p.fetched r.limit in
     let near : next e.receiving ≤ 2 ^ 30 + 1 = next_near e.receiving m.bounds.limit m.bounds.taken in
     let at_zero : is_allowed_at_zero (taken_units p) (room p) (first_of p.cisn segment)
-        ≡ is_allowed_at_zero (next e.receiving) (announced_edge e.receiving - next e.receiving) (first e segment) =
+    ≡ is_allowed_at_zero (next e.receiving) (announced_edge e.receiving - next e.receiving) (first e segment) =
     (λ i. is_allowed_at_zero (next_is p e r i) (room_is p e r i) (first_of p.cisn segment))
     ∙ zero_moves (next e.receiving) (announced_edge e.receiving - next e.receiving) p.fetched (first_of p.cisn segment) (first e segment) (moved_first p e segment m) few near in
     λ i. accepts_is p e segment m i || at_zero i

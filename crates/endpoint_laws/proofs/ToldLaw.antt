@@ -4,7 +4,7 @@ use Rattle.std.specs.Prelude.{pos, ◌==◌, ◌&&◌, ◌||◌, nat_lt, int_lt,
 use Rattle.std.proofs.lemmas.Bool.{false≢true, and_parts}
 use Rattle.seq_arith.specs.Arrival.{int_eq}
 use Rattle.seq_arith.specs.Packet.{Segment, has_syn, has_rst, has_ack}
-use Rattle.seq_arith.specs.Offset.{one_if, length_of}
+use Rattle.seq_arith.specs.Offset.{one_if}
 use Rattle.tcp_buffers.specs.Near.{is_ahead}
 use Rattle.tcp_endpoint.specs.States.{after_syn_acked, after_fin, after_fin_acked, is_syn_sent, has_begun}
 use Rattle.tcp_endpoint.specs.Receiving.{next, announced_edge}

@@ -13,7 +13,7 @@ use Rattle.tcp_buffers.specs.Near.{is_ahead}
 use Rattle.tcp_endpoint.specs.declared.states.StateName.{StateName}
 use Rattle.tcp_endpoint.specs.declared.states.StateName.TheVariants.{Closed, Listen, SynSent, SynReceived, Established, FinWait1, FinWait2, CloseWait, Closing, LastAck, TimeWait}
 use Rattle.tcp_endpoint.specs.States.{after_syn_acked, after_close, after_fin, after_fin_acked, is_time_wait, has_begun}
-use Rattle.tcp_endpoint.specs.Receiving.{Receiving, next, taken, receive_edge, with_came, with_segment}
+use Rattle.tcp_endpoint.specs.Receiving.{next, taken, with_segment}
 use Rattle.tcp_endpoint.specs.Sending.{Sending, with_syn_acked, acknowledged, fin_acked, expires, ticked, timed}
 use Rattle.tcp_endpoint.specs.Tcb.{Tcb}
 use Rattle.tcp_endpoint.specs.Arrival.{first, ack_at, owing_if, killed, entering, refusing, with_text_and_fin, with_fin_acked, with_first_ack, with_ack, check_ack, check_syn, check_rst, repeats_fin, waiting_again, check_place, in_others, received}
@@ -26,8 +26,7 @@ use Rattle.endpoint_laws.specs.Waiting.{time_wait_ticks, brings_fin_again, ticks
 use Rattle.endpoint_laws.proofs.TakenLaw.{begun_is, goes_on}
 use Rattle.endpoint_laws.proofs.TurnLaw.{after_steps}
 use Rattle.endpoint_laws.proofs.SegmentsLaw.{kept}
-use Rattle.endpoint_laws.proofs.EndingLaw.{IsPlaced, FollowsAt, flushed_name, reset_closed, unreset_follows}
-use Rattle.seq_arith.proofs.Coming.{fin_stays}
+use Rattle.endpoint_laws.proofs.EndingLaw.{IsPlaced, FollowsAt, stays_taken, flushed_name, reset_closed, unreset_follows}
 use Rattle.ft_io.proofs.Choices.{by_cases, holds_if}
 use Rattle.endpoint_laws.proofs.Listening.{closed_by_calls}
 
@@ -148,10 +147,6 @@ record Waits (wait : ℕ) (t : Tcb) : Type 0 where
   syn_acked_is : t.sending.syn_acked ≡ true
   fin : t.receiving.fin ≡ true
 
-taken_already : (r : Receiving) (first : ℤ) (text : List ℕ) (fin : Bool) → r.fin ≡ true → (with_segment r first text fin).fin ≡ true
-unfolding with_came
-taken_already r first text fin h = fin_stays (taken r) (receive_edge r) r.fin first text fin h
-
 not_anew : (a b : Bool) → b ≡ true → (a && not b) ≡ false
 not_anew true true h = refl
 not_anew true false h = absurd (false≢true h)
@@ -166,7 +161,7 @@ waits_text wait e p w =
     } in
     holds_if (Waits wait) (taking.receiving.fin && not e.receiving.fin) (entering (after_fin e.name) taking) taking
     (λ b. absurd (false≢true (sym (not_anew taking.receiving.fin e.receiving.fin w.fin) ∙ b)))
-    (λ b. record { name = w.name; wait_is = w.wait_is; syn_acked_is = w.syn_acked_is; fin = taken_already e.receiving (first e p) p.payload (has_fin p) w.fin })
+    (λ b. record { name = w.name; wait_is = w.wait_is; syn_acked_is = w.syn_acked_is; fin = stays_taken e.receiving (first e p) p.payload (has_fin p) w.fin })
 
 still_there : (e : Tcb) (name : StateName) → e.name ≡ TimeWait → name ≡ TimeWait → (if is_time_wait name && not (is_time_wait e.name) then 4 else e.wait) ≡ e.wait
 still_there e name here there = λ i. if is_time_wait (there i) && not (is_time_wait (here i)) then 4 else e.wait
