@@ -1,19 +1,20 @@
 -- The RST that answers a segment, and what a segment leaves of what else is due.
 use Rattle.std.proofs.Common.{◌≡◌, ℕ, Bool, true, false, not, Some, refl, sym, ap, arith, ◌∙◌}
 use Rattle.std.specs.Prelude.{ℤ, pos, ◌≤ℤ◌, ◌&&◌, ◌||◌, nat_lt, int_lt, if◌then◌else◌}
-use Rattle.seq_arith.specs.Arrival.{int_eq, is_acceptable}
+use Rattle.seq_arith.specs.Arrival.{int_eq, is_allowed_at_zero}
 use Rattle.seq_arith.specs.Packet.{Segment, has_syn, has_rst, has_ack}
 use Rattle.seq_arith.specs.Offset.{length_of}
 use Rattle.std.proofs.lemmas.Int.{ints}
 use Rattle.tcp_buffers.specs.Near.{is_ahead}
 use Rattle.tcp_endpoint.specs.declared.states.StateName.{StateName}
 use Rattle.tcp_endpoint.specs.States.{after_syn_acked, after_fin, after_fin_acked, has_begun}
-use Rattle.tcp_endpoint.specs.Receiving.{Receiving, next}
+use Rattle.tcp_endpoint.specs.Receiving.{Receiving, next, window}
 use Rattle.tcp_endpoint.specs.Sending.{Sending, with_syn_acked, acknowledged, fin_acked}
 use Rattle.tcp_endpoint.specs.Tcb.{Tcb}
 use Rattle.tcp_endpoint.specs.Arrival.{first, ack_at, rst, killed, owing_if, entering, with_text_and_fin, with_fin_acked, with_first_ack, with_ack, waiting_again, received, refusing}
+use Rattle.tcp_endpoint.specs.Arrival as check
 use Rattle.endpoint_laws.specs.Laws.{accepts, acknowledges_less, is_refused, IsBounded, IsUsual}
-use Rattle.endpoint_laws.proofs.TakenLaw.{part_of_if, same_if, if_when, begun_is, Aside, at_ack, others_part, segment_taken, window_is}
+use Rattle.endpoint_laws.proofs.TakenLaw.{part_of_if, same_if, if_when, begun_is, Aside, at_ack, others_part, segment_taken, accepts_same}
 
 -- a part of the endpoint that only the checks on state, numbers and buffers leave
 pub record Beside {X : Type 0} (f : Tcb → X) : Type 0 where
@@ -43,17 +44,28 @@ first_part f e p b =
     part_of_if f is_syn (with_text_and_fin opening p) (refusing e p)
     ∙ ap (λ x. if is_syn then x else f (refusing e p)) (b.text opening p ∙ b.opening e p)
 
+-- a segment that goes on for its place at a window of zero is answered by no RST
+off_zero : {X : Type 0} (z rst syn ack o k : Bool) (x y : X)
+    → (if z && (o || k) then (if rst then x else (if syn then x else (if ack then (if o then x else (if k then x else y)) else x))) else x) ≡ x
+off_zero z true syn ack o k x y = same_if (z && (o || k)) x
+off_zero z false true ack o k x y = same_if (z && (o || k)) x
+off_zero z false false false o k x y = same_if (z && (o || k)) x
+off_zero z false false true true k x y = same_if (z && true) x
+off_zero z false false true false true x y = same_if (z && true) x
+off_zero true false false true false false x y = refl
+off_zero false false false true false false x y = refl
+
 -- by all checks, in the law's one test
-refused_by : {X : Type 0} (acceptable rst syn ack syn_acked acked less : Bool) (x y : X) → (ack ≡ true → syn_acked ≡ false → acked ≡ not less) → (ack ≡ false → less ≡ false) → (syn_acked ≡ true → less ≡ false)
-    → (if acceptable then (if rst then x else (if syn then x else (if ack then (if syn_acked then x else (if acked then x else y)) else x))) else x)
+refused_by : {X : Type 0} (acceptable at_zero rst syn ack syn_acked acked less : Bool) (x y : X) → (ack ≡ true → syn_acked ≡ false → acked ≡ not less) → (ack ≡ false → less ≡ false) → (syn_acked ≡ true → less ≡ false)
+    → (if acceptable || (at_zero && (syn_acked || acked)) then (if rst then x else (if syn then x else (if ack then (if syn_acked then x else (if acked then x else y)) else x))) else x)
     ≡ (if acceptable && not rst && not syn && less then y else x)
-refused_by true true syn ack syn_acked acked less x y same p q = refl
-refused_by true false true ack syn_acked acked less x y same p q = refl
-refused_by true false false false syn_acked acked less x y same p q = ap (λ v. if v then y else x) (sym (p refl))
-refused_by true false false true true acked less x y same p q = ap (λ v. if v then y else x) (sym (q refl))
-refused_by true false false true false acked true x y same p q = ap (λ v. if v then x else y) (same refl refl)
-refused_by true false false true false acked false x y same p q = ap (λ v. if v then x else y) (same refl refl)
-refused_by false rst syn ack syn_acked acked less x y same p q = refl
+refused_by true z true syn ack syn_acked acked less x y same p q = refl
+refused_by true z false true ack syn_acked acked less x y same p q = refl
+refused_by true z false false false syn_acked acked less x y same p q = ap (λ v. if v then y else x) (sym (p refl))
+refused_by true z false false true true acked less x y same p q = ap (λ v. if v then y else x) (sym (q refl))
+refused_by true z false false true false acked true x y same p q = ap (λ v. if v then x else y) (same refl refl)
+refused_by true z false false true false acked false x y same p q = ap (λ v. if v then x else y) (same refl refl)
+refused_by false z rst syn ack syn_acked acked less x y same p q = off_zero z rst syn ack syn_acked acked x y
 
 off_middle : (a b : Bool) → (a && false && b) ≡ false
 off_middle true b = refl
@@ -80,19 +92,19 @@ syn_or_less e p b usual is_ack syn_unacked =
 -- what the checks leave of such a part
 pub beside_is : {X : Type 0} (f : Tcb → X) (e : Tcb) (p : Segment) → Beside f → has_begun e.name ≡ true → IsBounded e → IsUsual e p
     → f (received e p) ≡ (if is_refused e p then f (refusing (at_ack e p) p) else f e)
-unfolding received waiting_again
+unfolding received waiting_again check.is_allowed
 beside_is {X = X} f e p b begun bounded usual =
     let e1 : Tcb = at_ack e p in
-    let acceptable : ℕ → Bool = λ w. is_acceptable (next e.receiving) w (first e p) (length_of p) in
     let back : f e1 ≡ f e = b.aside.owing (nat_lt 0 (length_of p)) (waiting_again e p) ∙ b.aside.waiting e p in
     let refused : X = f (refusing e1 p) in
     let is_syn : Bool = int_eq (ack_at e p) (pos 0) in
     ap f (begun_is e.name e p begun) ∙ others_part f e p b.aside
-    ∙ (λ i. if acceptable (sym (window_is e.receiving) i)
+    ∙ (λ i. if accepts_same e p i || check.is_allowed e p
     then (if has_rst p then f e else (if has_syn p then f e
     else (if has_ack p then (if e.sending.syn_acked then (later_part f e1 p b ∙ back) i else (first_part f e1 p b ∙ ap (λ x. if is_syn then x else refused) back) i) else f e)))
     else f e)
-    ∙ refused_by (accepts e p) (has_rst p) (has_syn p) (has_ack p) e.sending.syn_acked is_syn (acknowledges_less e p) (f e) refused
+    ∙ refused_by (accepts e p) (is_allowed_at_zero (next e.receiving) (window e.receiving) (first e p)) (has_rst p) (has_syn p) (has_ack p) e.sending.syn_acked is_syn
+    (acknowledges_less e p) (f e) refused
     (λ is_ack syn_unacked. syn_or_less e p bounded usual is_ack syn_unacked) (no_ack_less e p) (syn_acked_not_less e p)
 
 -- such parts: the RST that answers, what else is due in the turn, what was last announced, and the numbers of the connection

@@ -1,7 +1,7 @@
 -- What a turn's news make of an endpoint that stands at a point: they lead it to where the laws lead the point, and say what is due.
 use Rattle.std.proofs.Common.{◌≡◌, ℕ, ◌≤◌, ◌+◌, ◌-◌, Bool, true, false, not, Option, Some, None, List, [], ◌∷◌, length, max, refl, sym, ap, subst, arith, ◌∙◌}
-use Rattle.std.specs.Prelude.{ℤ, pos, ◌+ℤ◌, ◌==◌, ◌&&◌, ◌||◌, nat_abs, nat_lt, int_lt, if◌then◌else◌}
-use Rattle.std.proofs.lemmas.Bool.{false≢true}
+use Rattle.std.specs.Prelude.{pos, ◌+ℤ◌, ◌==◌, ◌&&◌, ◌||◌, nat_abs, nat_lt, int_lt, if◌then◌else◌}
+use Rattle.std.proofs.lemmas.Bool.{false≢true, or_left}
 use Rattle.seq_arith.specs.Number.{offset_of}
 use Rattle.seq_arith.specs.Arrival.{int_eq, una_after}
 use Rattle.seq_arith.specs.Packet.{Segment, has_syn, has_rst, has_ack}
@@ -190,7 +190,7 @@ owes_is p e segment m unrefused =
     ap (λ b. if b then rule.owes_acceptable p segment else not (has_rst segment)) (accepts_is p e segment m)
     ∙ if_when (accepts e segment) _ _ _ _
     (λ acceptable.
-    let z : first_of p.cisn segment ≡ first e segment +ℤ pos k = first_is p e segment m acceptable in
+    let z : first_of p.cisn segment ≡ first e segment +ℤ pos k = first_is p e segment m (or_left (accepts e segment) _ acceptable) in
     let place : int_eq (first_of p.cisn segment) (pos (taken_units p)) ≡ int_eq (first e segment) (pos n) =
     (λ i. int_eq (z i) (pos (units i))) ∙ point_shift n k (first e segment) in
     let early : int_lt (pos (taken_units p)) (first_of p.cisn segment) ≡ int_lt (pos n) (first e segment) =

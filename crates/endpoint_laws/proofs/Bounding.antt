@@ -1,29 +1,30 @@
 -- The bounds on an endpoint's offsets are kept.
-use Rattle.std.proofs.Common.{◌≡◌, ℕ, ◌<◌, ◌≤◌, ◌+◌, ◌-◌, ◌^◌, Bool, true, false, not, List, ◌++◌, length, length-append, length-drop, take, drop, max, min, refl, sym, ap, subst, arith, ◌∙◌}
+use Rattle.std.proofs.Common.{◌≡◌, ℕ, ◌<◌, ◌≤◌, ◌+◌, ◌-◌, ◌^◌, Bool, true, false, not, List, ◌++◌, length, length-append, length-drop, drop, max, min, refl, sym, ap, subst, arith, ◌∙◌}
 use Rattle.std.specs.Prelude.{ℤ, pos, ◌==◌, ◌&&◌, nat_abs, nat_lt, int_le, if◌then◌else◌}
 use Rattle.std.proofs.lemmas.Int.{ints}
-use Rattle.std.proofs.lemmas.List.{length-take}
 use Rattle.std.proofs.lemmas.Bool.{false≢true}
 use Rattle.seq_arith.specs.Number.{offset_of}
 use Rattle.seq_arith.specs.Arrival.{int_eq, is_new_ack}
 use Rattle.seq_arith.proofs.Gaps.{offset_leads}
 use Rattle.seq_arith.specs.Packet.{Segment, has_syn, has_rst, has_ack}
 use Rattle.ft_io.specs.declared.Addr.{Addr}
-use Rattle.seq_arith.specs.Offset.{one_if}
+use Rattle.seq_arith.specs.Offset.{one_if, text_of, fin_of}
 use Rattle.tcp_buffers.specs.Near.{IsNearFirst}
 use Rattle.tcp_endpoint.specs.declared.states.StateName.{StateName}
 use Rattle.tcp_endpoint.specs.declared.states.StateName.TheVariants.{Listen, SynSent}
 use Rattle.tcp_endpoint.specs.States.{has_begun}
-use Rattle.tcp_endpoint.specs.Receiving.{Receiving, taken}
+use Rattle.tcp_endpoint.specs.Receiving.{Receiving, taken, receive_edge, with_came, with_segment}
 use Rattle.tcp_endpoint.specs.Sending.{Sending, with_syn_acked, acknowledged, moves_edge, sendable, expires, ticked, timed, with_sent, with_fin_sent, IsShort}
 use Rattle.tcp_endpoint.specs.Tcb.{Tcb, listening, connecting}
-use Rattle.tcp_endpoint.specs.Arrival.{ack_at, received, received_in, in_listen, begun, refusing, answered, in_syn_sent}
+use Rattle.tcp_endpoint.specs.Arrival.{first, ack_at, received, received_in, in_listen, begun, refusing, answered, in_syn_sent}
 use Rattle.tcp_endpoint.specs.Leaving.{probes_text, probes_fin, with_probe, with_text_sent, new_fin, with_fin_out, after_full, announced, is_timed, with_turn_ended, flushed}
 use Rattle.tcp_endpoint.specs.Turning.{after_tick, timer_ticked, waited, after_read, after_write}
-use Rattle.endpoint_laws.specs.Laws.{counts, continues, taken_by, Bounds, IsBounded, IsUsual}
+use Rattle.endpoint_laws.specs.Laws.{counts, taken_by, Bounds, IsBounded, IsUsual}
 use Rattle.endpoint_laws.proofs.TakenLaw.{taken_law}
 use Rattle.endpoint_laws.proofs.SendingLaw.{sending_is, held_field, near_of_counts}
+use Rattle.seq_arith.proofs.Coming.{comes_within}
 use Rattle.ft_io.proofs.Booleans.{left_true}
+use Rattle.ft_io.proofs.Choices.{holds_either_way}
 
 pub bounded_is_short : (e : Tcb) → IsBounded e → IsShort e.sending
 bounded_is_short e b = record { sent = grind (arith, b.sent); wl2 = grind (arith, b.wl2, b.order, b.sent) }
@@ -79,10 +80,28 @@ bounded_in_listen e p name syn_unacked b =
     let P : StateName → Type 0 = λ n. IsBounded (received_in n e p) in subst P (sym name) (in_listen_bounded e p syn_unacked b)
 
 -- a segment: the receiving half
-taken_within : (read limit : ℕ) (unread text : List ℕ) (b : Bool) → read + length unread ≤ limit
-    → read + length (if b then unread ++ take (min (read + 65535) limit - (read + length unread)) text else unread) ≤ limit
-taken_within read limit unread text true h = omega (arith, length-append {A = ℕ}, length-take {A = ℕ})
-taken_within read limit unread text false h = h
+pub record StaysWithin (before after : Receiving) : Type 0 where
+  pub irs : after.irs ≡ before.irs
+  pub limit : after.limit ≡ before.limit
+  pub taken : taken before ≤ before.limit → taken after ≤ after.limit
+
+within_by : (read n limit : ℕ) (unread added : List ℕ) → length unread ≡ n → read + n + length added ≤ max (read + n) (min (read + 65535) limit) → read + n ≤ limit
+    → read + length (unread ++ added) ≤ limit
+within_by read n limit unread added long most h = omega (arith, long, most, h, length-append unread added)
+
+came_within : (r : Receiving) (first : ℤ) (text : List ℕ) (fin : Bool) → StaysWithin r (with_segment r first text fin)
+unfolding with_came
+came_within r first text fin = record {
+  irs = refl;
+  limit = refl;
+  taken = λ h. within_by r.read (length r.unread) r.limit r.unread _ refl (comes_within (taken r) (receive_edge r) r.fin first text fin) h;
+}
+
+pub taken_within : (e : Tcb) (p : Segment) → StaysWithin e.receiving (taken_by e p)
+unfolding taken_by
+taken_within e p =
+    holds_either_way (λ (r : Receiving). StaysWithin e.receiving r) (counts e p) (with_segment e.receiving (first e p) (text_of p) (fin_of p)) e.receiving
+    (came_within e.receiving (first e p) (text_of p) (fin_of p)) (record { irs = refl; limit = refl; taken = λ h. h })
 
 -- the sending half, for a later acknowledgement
 pub new_within : (una sent : ℕ) (z : ℤ) → una ≤ sent → (if is_new_ack una sent z then nat_abs z else una) ≤ sent
@@ -173,14 +192,15 @@ chosen_bounds r x y z true false p q s = q refl refl
 chosen_bounds r x y z false o p q s = s
 
 pub bounded_by_segment : (e : Tcb) (p : Segment) → has_begun e.name ≡ true → IsBounded e → IsUsual e p → IsBounded (received e p)
-unfolding taken_by
 bounded_by_segment e p begun b usual =
     let r' : Receiving = taken_by e p in
-    let within : taken r' ≤ r'.limit = taken_within e.receiving.read e.receiving.limit e.receiving.unread _ (continues e p) b.taken in
+    let w : StaysWithin e.receiving r' = taken_within e p in
+    let limit : r'.limit ≤ 2 ^ 24 = omega (arith, w.limit, b.limit) in
+    let within : taken r' ≤ r'.limit = w.taken b.taken in
     let bounds = chosen_bounds r' _ _ _ (counts e p) e.sending.syn_acked
-    (λ counted h. later_bounds e.receiving e.sending p.head.seq p.head.window (ack_at e p) b (near_of_counts e p b usual counted) usual.seq usual.window h r' b.limit within refl)
-    (λ counted h. first_bounds e.receiving e.sending p.head.seq p.head.window b (near_of_counts e p b usual counted) usual.seq usual.window h r' b.limit within refl)
-    (other_bounds e.receiving e.sending b r' b.limit within refl) in
+    (λ counted h. later_bounds e.receiving e.sending p.head.seq p.head.window (ack_at e p) b (near_of_counts e p b usual counted) usual.seq usual.window h r' limit within w.irs)
+    (λ counted h. first_bounds e.receiving e.sending p.head.seq p.head.window b (near_of_counts e p b usual counted) usual.seq usual.window h r' limit within w.irs)
+    (other_bounds e.receiving e.sending b r' limit within w.irs) in
     let P : Receiving → Type 0 = λ r. Bounds r (received e p).sending in
     let Q : Sending → Type 0 = λ s. Bounds r' s in
     subst P (sym (taken_law e p begun b usual)) (subst Q (sym (sending_is e p begun b usual)) bounds)

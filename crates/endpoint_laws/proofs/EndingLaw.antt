@@ -1,9 +1,9 @@
 -- The state of a connection through a turn: it follows what its halves tell, and it is CLOSED by a RST or once both FINs are through.
 use Rattle.std.proofs.Common.{◌≡◌, ◌⊎◌, inl, inr, ℕ, ◌≤◌, ◌+◌, ◌-◌, ◌*◌, Bool, true, false, not, None, List, [], ◌∷◌, length, min, refl, sym, ap, subst, arith, ◌∙◌}
-use Rattle.std.specs.Prelude.{ℤ, pos, ◌+ℤ◌, ◌==◌, ◌&&◌, ◌||◌, nat_abs, nat_lt, int_lt, if◌then◌else◌}
+use Rattle.std.specs.Prelude.{ℤ, pos, ◌==◌, ◌&&◌, ◌||◌, nat_abs, nat_lt, int_lt, if◌then◌else◌}
 use Rattle.std.proofs.lemmas.Int.{ints}
 use Rattle.std.proofs.lemmas.Bool.{false≢true}
-use Rattle.seq_arith.specs.Arrival.{int_eq, is_acceptable, is_new_ack}
+use Rattle.seq_arith.specs.Arrival.{int_eq, is_acceptable, is_at_right_edge, is_new_ack}
 use Rattle.seq_arith.specs.Packet.{Segment, has_fin, has_syn, has_rst, has_ack}
 use Rattle.seq_arith.specs.Offset.{one_if, length_of}
 use Rattle.ft_model.specs.Opening.{is_syn}
@@ -13,20 +13,22 @@ use Rattle.tcp_buffers.specs.Near.{is_ahead}
 use Rattle.tcp_endpoint.specs.declared.states.StateName.{StateName}
 use Rattle.tcp_endpoint.specs.declared.states.StateName.TheVariants.{Closed, Listen, SynSent, SynReceived, Established, FinWait1, FinWait2, CloseWait, Closing, LastAck, TimeWait}
 use Rattle.tcp_endpoint.specs.States.{after_syn_acked, after_close, after_fin, after_fin_acked, is_time_wait, has_begun}
-use Rattle.tcp_endpoint.specs.Receiving.{Receiving, next, taken, window, with_text, with_fin, with_segment}
+use Rattle.tcp_endpoint.specs.Receiving.{Receiving, next, taken, receive_edge, window, with_came, with_segment}
 use Rattle.tcp_endpoint.specs.Sending.{Sending, with_syn_acked, acknowledged, fin_acked, sendable, sends_fin, timed, expires, with_sent, with_fin_sent}
 use Rattle.tcp_endpoint.specs.Tcb.{Tcb}
 use Rattle.tcp_endpoint.specs.Arrival.{first, ack_at, owing_if, killed, entering, refusing, begun, with_text_and_fin, with_fin_acked, with_first_ack, with_ack, check_ack, check_syn, check_rst, waiting_again, check_place, in_others, received}
+use Rattle.tcp_endpoint.specs.Arrival as check
 use Rattle.tcp_endpoint.specs.Leaving.{probes_text, probes_fin, with_probe, with_text_sent, with_fin_out, after_full, announced, with_turn_ended, flushed, answer_segments}
 use Rattle.tcp_endpoint.specs.Turning.{after_tick, timer_ticked, waited}
 use Rattle.endpoint_laws.specs.Turn.{Call, called, used, IsBetweenTurns, arrived, before_flush, turned, sent_in}
 use Rattle.endpoint_laws.specs.Turn.Call.{Reads, Writes, Closes}
 use Rattle.endpoint_laws.specs.Ending.{IsNamed, IsNamedRightly, resets, is_over}
 use Rattle.endpoint_laws.specs.Listening.{IsListening}
-use Rattle.endpoint_laws.proofs.TakenLaw.{begun_is}
+use Rattle.endpoint_laws.proofs.TakenLaw.{begun_is, goes_on}
 use Rattle.endpoint_laws.proofs.Listening.{begun_by, closed_by_calls}
 use Rattle.endpoint_laws.proofs.TurnLaw.{after_steps}
 use Rattle.endpoint_laws.proofs.AnswersAlone.{closed_sends}
+use Rattle.seq_arith.proofs.Coming.{fin_stays}
 use Rattle.ft_io.proofs.Booleans.{left_true, right_true, not_true, false_by, or_false, or_true}
 use Rattle.ft_io.proofs.Choices.{by_cases, holds_if}
 use Rattle.endpoint_laws.proofs.Bounding.{new_within}
@@ -188,10 +190,9 @@ still true false stays h = absurd (false≢true (sym h))
 still false true stays h = sym (stays refl)
 still false false stays h = refl
 
-stays_taken : (r : Receiving) (z : ℤ) (text : List ℕ) (fin : Bool) → r.fin ≡ true → (with_segment r z text fin).fin ≡ true
-unfolding with_segment
-stays_taken r z text fin h =
-    ap (λ b. (if b || int_lt (pos (taken r)) z then r else with_fin (with_text r z text) (z +ℤ pos (length text)) fin).fin) h ∙ h
+pub stays_taken : (r : Receiving) (z : ℤ) (text : List ℕ) (fin : Bool) → r.fin ≡ true → (with_segment r z text fin).fin ≡ true
+unfolding with_came
+stays_taken r z text fin h = fin_stays (taken r) (receive_edge r) r.fin z text fin h
 
 text_follows : (e : Tcb) (p : Segment) → e.sending.syn_acked ≡ true → FollowsAt e → FollowsAt (with_text_and_fin e p)
 unfolding with_text_and_fin
@@ -293,7 +294,7 @@ others_follow : (e : Tcb) (p : Segment) → (has_rst p && int_eq (first e p) (po
 unfolding in_others check_place waiting_again
 others_follow e p unreset h =
     let m : Tcb = waiting_again e p in
-    holds_if (λ (t : Tcb). FollowsAt t) (is_acceptable (next e.receiving) (window e.receiving) (first e p) (length_of p)) (check_rst m p) (owing_if (not (has_rst p)) m)
+    holds_if (λ (t : Tcb). FollowsAt t) (goes_on m p) (check_rst m p) (owing_if (not (has_rst p)) m)
     (λ is. rst_follows m p unreset h) (λ none. h)
 
 pub received_follows : (e : Tcb) (p : Segment) → has_begun e.name ≡ true → (has_rst p && int_eq (first e p) (pos (next e.receiving))) ≡ false → FollowsAt e
@@ -441,13 +442,14 @@ pub acceptable_at : (n w : ℕ) (z : ℤ) → int_eq z (pos n) ≡ true → is_a
 acceptable_at n w z h = grind (arith, ints)
 
 reset_is : (e : Tcb) (p : Segment) → has_rst p ≡ true → int_eq (first e p) (pos (next e.receiving)) ≡ true → in_others e p ≡ killed (waiting_again e p)
-unfolding in_others check_place check_rst waiting_again
+unfolding in_others check_place check_rst waiting_again check.accepts
 reset_is e p is at =
     let m : Tcb = waiting_again e p in
     let len : length_of p ≡ 0 = ap (λ b. if b then 0 else (if has_syn p then 1 else length p.payload + one_if (has_fin p))) is in
     let acceptable : is_acceptable (next e.receiving) (window e.receiving) (first e p) (length_of p) ≡ true =
     ap (is_acceptable (next e.receiving) (window e.receiving) (first e p)) len ∙ acceptable_at (next e.receiving) (window e.receiving) (first e p) at in
-    (λ i. if acceptable i then (if is i then (if at i then killed m else owing_if true m) else check_syn m p) else owing_if (not (has_rst p)) m)
+    let at_edge : Bool = is_at_right_edge (next e.receiving) (window e.receiving) (first e p) (length_of p) in
+    (λ i. if (acceptable i || at_edge) || check.is_allowed m p then (if is i then (if at i then killed m else owing_if true m) else check_syn m p) else owing_if (not (has_rst p)) m)
 
 arrived_reset : (news : News) (e : Tcb) → has_begun e.name ≡ true → resets news e ≡ true
     → (ticks : ℕ) × (arrived news e ≡ killed (record e { wait = ticks }))
@@ -565,7 +567,7 @@ others_reset : (e : Tcb) (p : Segment) → (has_rst p && int_eq (first e p) (pos
 unfolding in_others check_place waiting_again
 others_reset e p unreset =
     let m : Tcb = waiting_again e p in
-    holds_if (λ (t : Tcb). t.reset ≡ e.reset) (is_acceptable (next e.receiving) (window e.receiving) (first e p) (length_of p)) (check_rst m p) (owing_if (not (has_rst p)) m)
+    holds_if (λ (t : Tcb). t.reset ≡ e.reset) (goes_on m p) (check_rst m p) (owing_if (not (has_rst p)) m)
     (λ is. rst_resets m p unreset) (λ none. refl)
 
 unreset_same : (news : News) (e : Tcb) → has_begun e.name ≡ true → resets news e ≡ false → (arrived news e).reset ≡ e.reset

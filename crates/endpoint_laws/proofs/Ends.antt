@@ -11,7 +11,7 @@ use Rattle.ft_model.specs.Point.{Point}
 use Rattle.ft_model.specs.Point as point
 use Rattle.ft_model.specs.News.{News}
 use Rattle.ft_model.specs.News.News.{Comes, Logged, Ticks, Begins}
-use Rattle.ft_model.specs.Taken.{accepts, counts}
+use Rattle.ft_model.specs.Taken.{accepts, uses, counts}
 use Rattle.ft_model.specs.Owed.{is_refused}
 use Rattle.ft_model.specs.Sending.{syn_acked_after, sent_at_once, sent_after}
 use Rattle.ft_model.specs.Timer as timer
@@ -73,10 +73,10 @@ off_three false b c h = refl
 pub less_is : (z : ℤ) → int_lt z (pos 0) ≡ not (int_le (pos 0) z)
 less_is z = grind (arith, ints)
 
-unrefused : (acc rst syn syn_acked ack low neg : Bool) → neg ≡ not low → (syn_acked || (ack && not syn && not rst && acc && (syn_acked || low))) ≡ true
+unrefused : (used_by_place rst syn syn_acked ack low neg : Bool) → neg ≡ not low → (syn_acked || (ack && not syn && not rst && used_by_place && (syn_acked || low))) ≡ true
     → (not syn_acked && ack && neg) ≡ false
-unrefused acc rst syn true ack low neg is h = refl
-unrefused acc rst syn false ack low neg is h = off_three true ack neg (is ∙ ap not (last_of ack (not syn) (not rst) acc low h))
+unrefused used_by_place rst syn true ack low neg is h = refl
+unrefused used_by_place rst syn false ack low neg is h = off_three true ack neg (is ∙ ap not (last_of ack (not syn) (not rst) used_by_place low h))
 
 pub none_if : (b : Bool) (x : Segment) → b ≡ false → (if b then x ∷ [] else []) ≡ []
 none_if true x h = absurd (false≢true (sym h))
@@ -86,7 +86,7 @@ no_answer : (server : Addr) (news : News) (before : Point) → syn_acked_after n
 unfolding syn_acked_after counts
 no_answer server (Comes segment) before h =
     none_if (refuses before segment) _ (off_four (accepts before segment) (not (has_rst segment)) (not (has_syn segment)) (is_refused before segment)
-    (unrefused (accepts before segment) (has_rst segment) (has_syn segment) before.syn_acked (has_ack segment) (int_le (pos 0) (ack_of before.sisn segment))
+    (unrefused (uses before segment) (has_rst segment) (has_syn segment) before.syn_acked (has_ack segment) (int_le (pos 0) (ack_of before.sisn segment))
     (int_lt (ack_of before.sisn segment) (pos 0)) (less_is (ack_of before.sisn segment)) h))
 no_answer server (Logged kept) before h = refl
 no_answer server Ticks before h = refl

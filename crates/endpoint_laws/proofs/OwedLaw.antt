@@ -1,9 +1,9 @@
 -- The checks on a segment, one by one, owe an answer where the law Owed says.
-use Rattle.std.proofs.Common.{◌≡◌, ℕ, Bool, true, false, not, sym, ap, arith, ◌∙◌}
-use Rattle.std.specs.Prelude.{ℤ, pos, ◌≤ℤ◌, ◌&&◌, ◌||◌, nat_lt, int_lt, if◌then◌else◌}
+use Rattle.std.proofs.Common.{◌≡◌, ℕ, Bool, true, false, not, refl, sym, ap, arith, ◌∙◌}
+use Rattle.std.specs.Prelude.{ℤ, pos, ◌≤ℤ◌, ◌==◌, ◌&&◌, ◌||◌, nat_lt, int_lt, if◌then◌else◌}
 use Rattle.std.proofs.lemmas.Int.{ints}
-use Rattle.std.proofs.lemmas.Bool.{false≢true}
-use Rattle.seq_arith.specs.Arrival.{int_eq, is_acceptable}
+use Rattle.std.proofs.lemmas.Bool.{false≢true, and_parts}
+use Rattle.seq_arith.specs.Arrival.{int_eq, is_acceptable, is_at_right_edge, is_acceptable_or_at_edge, is_allowed_at_zero}
 use Rattle.seq_arith.specs.Packet.{Segment, has_syn, has_rst, has_ack}
 use Rattle.seq_arith.specs.Offset.{length_of}
 use Rattle.tcp_buffers.specs.Near.{is_ahead}
@@ -12,9 +12,11 @@ use Rattle.tcp_endpoint.specs.Receiving.{Receiving, next, window}
 use Rattle.tcp_endpoint.specs.Sending.{with_syn_acked, acknowledged, fin_acked}
 use Rattle.tcp_endpoint.specs.Tcb.{Tcb}
 use Rattle.tcp_endpoint.specs.Arrival.{first, ack_at, owing_if, killed, entering, with_text_and_fin, with_fin_acked, with_first_ack, with_ack, check_ack, check_syn, check_rst, waiting_again, check_place, in_others, received, refusing}
+use Rattle.tcp_endpoint.specs.Arrival as check
 use Rattle.endpoint_laws.specs.Laws.{accepts, acknowledges_less, is_refused, owes_acceptable, owes, IsBounded, IsUsual}
-use Rattle.endpoint_laws.proofs.TakenLaw.{part_of_if, same_if, if_when, begun_is, at_ack, segment_taken, sent_bool, window_is, acked_part}
-use Rattle.ft_io.proofs.Booleans.{or_false, false_or}
+use Rattle.endpoint_laws.proofs.TakenLaw.{part_of_if, same_if, if_when, begun_is, at_ack, goes_on, segment_taken, sent_bool, accepts_same, acked_part}
+use Rattle.ft_io.proofs.Booleans.{or_false, or_other, and_false, left_false, false_or}
+use Rattle.ft_io.proofs.Choices.{by_cases}
 
 text_part : (e : Tcb) (p : Segment) → (with_text_and_fin e p).owed ≡ (e.owed || int_lt (pos (next e.receiving)) (first e p))
 unfolding with_text_and_fin
@@ -91,21 +93,79 @@ not_less_of true false true less h a r s = absurd (false≢true (sym s))
 not_less_of true true syn less h a r s = absurd (false≢true (sym r))
 not_less_of false rst syn less h a r s = absurd (false≢true a)
 
-pub owed_law : (e : Tcb) (p : Segment) → has_begun e.name ≡ true → IsBounded e → IsUsual e p → e.owed ≡ false → is_refused e p ≡ false
-    → (received e p).owed ≡ owes e p
-unfolding received in_others check_place check_rst check_syn waiting_again
-owed_law e p begun b usual none unrefused =
+-- a segment without length at the next number is acceptable where the window is zero, so one that is only allowed has length, and no RST
+place_has_length : (next window : ℕ) (first : ℤ) (len : ℕ) → is_acceptable next window first len ≡ false → (window == 0 && int_eq first (pos next)) ≡ true → nat_lt 0 len ≡ true
+place_has_length next window first len h at = grind (arith, ints)
+
+allowed_has_length : (next window : ℕ) (first : ℤ) (len : ℕ) → is_acceptable_or_at_edge next window first len ≡ false → is_allowed_at_zero next window first ≡ true
+    → nat_lt 0 len ≡ true
+unfolding is_allowed_at_zero
+allowed_has_length next window first len h at =
+    place_has_length next window first len (left_false (is_acceptable next window first len) (is_at_right_edge next window first len) h) at
+
+no_rst_of : (rst : Bool) (n : ℕ) → nat_lt 0 (if rst then 0 else n) ≡ true → rst ≡ false
+no_rst_of true n h = absurd (false≢true h)
+no_rst_of false n h = refl
+
+-- what is allowed acknowledges no less than the SYN
+allowed_by : (o ack k less : Bool) → (o || k) ≡ true → (k ≡ true → less ≡ false) → (not o && ack && less) ≡ false
+allowed_by true ack k less h none = refl
+allowed_by false ack true less h none = ap (λ v. ack && v) (none refl) ∙ and_false ack
+allowed_by false ack false less h none = absurd (false≢true h)
+
+at_syn : (z : ℤ) → int_eq z (pos 0) ≡ true → int_lt z (pos 0) ≡ false
+at_syn z h = grind (arith, ints)
+
+-- the checks behind the first, of an acceptable segment, ..
+acceptable_owed : (e : Tcb) (p : Segment) → IsBounded e → IsUsual e p → e.owed ≡ false → is_refused e p ≡ false → accepts e p ≡ true
+    → (check_rst (waiting_again e p) p).owed ≡ owes_acceptable e p
+unfolding check_rst check_syn waiting_again
+acceptable_owed e p b usual none unrefused h =
     let e0 : Tcb = waiting_again e p in
-    let acceptable : ℕ → Bool = λ w. is_acceptable (next e.receiving) w (first e p) (length_of p) in
     let at_next : Bool = int_eq (first e p) (pos (next e.receiving)) in
-    ap (λ (t : Tcb). t.owed) (begun_is e.name e p begun)
-    ∙ part_of_if (λ (t : Tcb). t.owed) (acceptable (window e.receiving)) (check_rst e0 p) (owing_if (not (has_rst p)) e0)
-    ∙ if_when (acceptable (window e.receiving)) _ (owes_acceptable e p) _ (not (has_rst p))
-    (λ h. part_of_if (λ (t : Tcb). t.owed) (has_rst p) (if at_next then killed e0 else owing_if true e0) (check_syn e0 p)
+    part_of_if (λ (t : Tcb). t.owed) (has_rst p) (if at_next then killed e0 else owing_if true e0) (check_syn e0 p)
     ∙ if_when (has_rst p) _ (not at_next) _ _
     (λ is_rst. part_of_if (λ (t : Tcb). t.owed) at_next (killed e0) (owing_if true e0) ∙ reset_owed e.owed at_next none)
     (λ no_rst. part_of_if (λ (t : Tcb). t.owed) (has_syn p) (owing_if true e0) (check_ack (at_ack e p) p)
     ∙ if_when (has_syn p) _ true _ _ (λ is_syn. false_or e.owed true none) (λ no_syn. plain_owed e p b usual none
-    (not_less_of (accepts e p) (has_rst p) (has_syn p) (acknowledges_less e p) unrefused (ap acceptable (window_is e.receiving) ∙ h) no_rst no_syn))))
-    (λ h. false_or e.owed (not (has_rst p)) none)
-    ∙ ap (λ w. if acceptable w then owes_acceptable e p else not (has_rst p)) (sym (window_is e.receiving))
+    (not_less_of (accepts e p) (has_rst p) (has_syn p) (acknowledges_less e p) unrefused h no_rst no_syn)))
+
+-- .. and of one that is only allowed: its length is owed an answer
+allowed_owed : (e : Tcb) (p : Segment) → IsBounded e → IsUsual e p → e.owed ≡ false → check.accepts e p ≡ false → check.is_allowed e p ≡ true
+    → (check_rst (waiting_again e p) p).owed ≡ not (has_rst p)
+unfolding check_rst check_syn waiting_again check.accepts check.is_allowed
+allowed_owed e p b usual none unacceptable allowed =
+    let e0 : Tcb = waiting_again e p in
+    let at_next : Bool = int_eq (first e p) (pos (next e.receiving)) in
+    let two = and_parts (is_allowed_at_zero (next e.receiving) (window e.receiving) (first e p)) (e.sending.syn_acked || int_eq (ack_at e p) (pos 0)) allowed in
+    let some : nat_lt 0 (length_of p) ≡ true = allowed_has_length (next e.receiving) (window e.receiving) (first e p) (length_of p) unacceptable two.0 in
+    let no_rst : has_rst p ≡ false = no_rst_of (has_rst p) _ some in
+    let not_less : acknowledges_less e p ≡ false =
+    allowed_by e.sending.syn_acked (has_ack p) (int_eq (ack_at e p) (pos 0)) (int_lt (ack_at e p) (pos 0)) two.1 (at_syn (ack_at e p)) in
+    ap (λ v. (if v then (if at_next then killed e0 else owing_if true e0) else check_syn e0 p).owed) no_rst
+    ∙ part_of_if (λ (t : Tcb). t.owed) (has_syn p) (owing_if true e0) (check_ack (at_ack e p) p)
+    ∙ if_when (has_syn p) _ true _ true (λ is_syn. false_or e.owed true none)
+    (λ no_syn. plain_owed e p b usual none not_less ∙ ap (λ v. v || (has_ack p && int_lt (pos (next e.receiving)) (first e p))) some)
+    ∙ same_if (has_syn p) true ∙ ap not (sym no_rst)
+
+-- a segment that goes on
+further_owed : (e : Tcb) (p : Segment) → IsBounded e → IsUsual e p → e.owed ≡ false → is_refused e p ≡ false → goes_on e p ≡ true
+    → (check_rst (waiting_again e p) p).owed ≡ owes e p
+further_owed e p b usual none unrefused goes =
+    by_cases (check.accepts e p)
+    (λ h. let is : accepts e p ≡ true = sym (accepts_same e p) ∙ h in
+    acceptable_owed e p b usual none unrefused is ∙ ap (λ v. if v then owes_acceptable e p else not (has_rst p)) (sym is))
+    (λ h. allowed_owed e p b usual none h (or_other (check.accepts e p) (check.is_allowed e p) h goes)
+    ∙ ap (λ v. if v then owes_acceptable e p else not (has_rst p)) (sym h ∙ accepts_same e p))
+
+pub owed_law : (e : Tcb) (p : Segment) → has_begun e.name ≡ true → IsBounded e → IsUsual e p → e.owed ≡ false → is_refused e p ≡ false
+    → (received e p).owed ≡ owes e p
+unfolding received in_others check_place waiting_again check.accepts check.is_allowed
+owed_law e p begun b usual none unrefused =
+    let e0 : Tcb = waiting_again e p in
+    ap (λ (t : Tcb). t.owed) (begun_is e.name e p begun)
+    ∙ part_of_if (λ (t : Tcb). t.owed) (goes_on e p) (check_rst e0 p) (owing_if (not (has_rst p)) e0)
+    ∙ if_when (goes_on e p) _ (owes e p) _ (owes e p) (λ goes. further_owed e p b usual none unrefused goes)
+    (λ stays. false_or e.owed (not (has_rst p)) none
+    ∙ ap (λ v. if v then owes_acceptable e p else not (has_rst p)) (sym (left_false (check.accepts e p) (check.is_allowed e p) stays) ∙ accepts_same e p))
+    ∙ same_if (goes_on e p) (owes e p)

@@ -3,7 +3,7 @@ use Rattle.std.proofs.Common.{◌≡◌, ◌⊎◌, inl, inr, ℕ, Bool, true, f
 use Rattle.std.specs.Prelude.{pos, nat_lt, if◌then◌else◌}
 use Rattle.std.specs.List.{AllByRecursion}
 use Rattle.std.proofs.lemmas.Bool.{false≢true}
-use Rattle.seq_arith.specs.Arrival.{int_eq, is_acceptable}
+use Rattle.seq_arith.specs.Arrival.{int_eq}
 use Rattle.seq_arith.specs.Offset.{length_of}
 use Rattle.seq_arith.specs.Packet.{Segment, has_syn, has_rst, has_ack}
 use Rattle.segment_codec.specs.declared.Head.{Head}
@@ -12,13 +12,14 @@ use Rattle.ft_model.specs.News.News.{Comes, Logged, Ticks, Begins}
 use Rattle.tcp_endpoint.specs.declared.states.StateName.{StateName}
 use Rattle.tcp_endpoint.specs.declared.states.StateName.TheVariants.{Closed, Listen, SynSent, SynReceived, Established, FinWait1, FinWait2, CloseWait, Closing, LastAck, TimeWait}
 use Rattle.tcp_endpoint.specs.States.{after_syn_acked, has_begun}
-use Rattle.tcp_endpoint.specs.Receiving.{next, window}
+use Rattle.tcp_endpoint.specs.Receiving.{next}
 use Rattle.tcp_endpoint.specs.Sending.{with_syn_acked}
 use Rattle.tcp_endpoint.specs.Tcb.{Tcb}
 use Rattle.tcp_endpoint.specs.Arrival.{first, ack_at, owing_if, killed, refusing, refusing_without_ack, begun, answered, in_closed, in_listen, in_syn_sent, with_text_and_fin, with_first_ack, with_ack, check_ack, check_syn, check_rst, waiting_again, check_place, in_others, received_in, received}
 use Rattle.tcp_endpoint.specs.Leaving.{answer_segments}
 use Rattle.tcp_endpoint.specs.Turning.{after_tick, timer_ticked, waited}
 use Rattle.endpoint_laws.specs.Turn.{arrived}
+use Rattle.endpoint_laws.proofs.TakenLaw.{goes_on}
 use Rattle.endpoint_laws.proofs.Answering.{Beside, apart_beside, answer_apart, later_part}
 use Rattle.ft_io.proofs.Choices.{holds_if}
 
@@ -73,8 +74,7 @@ by_others : (taken : ℕ) (e : Tcb) (p : Segment) → Came taken e → Refuses t
 unfolding in_others check_place waiting_again
 by_others taken e p c =
     let m : Tcb = waiting_again e p in
-    holds_if (λ (t : Tcb). Refuses taken t) (is_acceptable (next e.receiving) (window e.receiving) (first e p) (length_of p)) (check_rst m p)
-    (owing_if (not (has_rst p)) m) (λ b. by_rst taken m p c) (λ b. inl c.0)
+    holds_if (λ (t : Tcb). Refuses taken t) (goes_on m p) (check_rst m p) (owing_if (not (has_rst p)) m) (λ b. by_rst taken m p c) (λ b. inl c.0)
 
 -- CLOSED, LISTEN and SYN-SENT
 by_closed : (taken : ℕ) (e : Tcb) (p : Segment) → Came taken e → Refuses taken (in_closed e p)

@@ -4,19 +4,19 @@ use Rattle.std.specs.Prelude.{ℤ, pos, ◌≤ℤ◌, ◌==◌, ◌&&◌, ◌||�
 use Rattle.std.proofs.lemmas.Int.{ints}
 use Rattle.std.proofs.lemmas.Bool.{false≢true}
 use Rattle.seq_arith.specs.Number.{offset_of, precedes}
-use Rattle.seq_arith.specs.Arrival.{int_eq, is_acceptable, is_new_ack, una_after, updates_window}
+use Rattle.seq_arith.specs.Arrival.{int_eq, is_new_ack, una_after, updates_window}
 use Rattle.seq_arith.specs.Packet.{Segment, has_fin, has_syn, has_rst, has_ack}
 use Rattle.seq_arith.specs.Offset.{length_of}
 use Rattle.tcp_buffers.specs.Near.{IsNearFirst, is_ahead}
 use Rattle.tcp_buffers.proofs.NumbersTell.{between_is, same_is}
 use Rattle.tcp_endpoint.specs.States.{after_syn_acked, after_fin, after_fin_acked, has_begun}
-use Rattle.tcp_endpoint.specs.Receiving.{Receiving, taken, next, announced_edge, window}
+use Rattle.tcp_endpoint.specs.Receiving.{Receiving, taken, next, announced_edge}
 use Rattle.tcp_endpoint.specs.Sending.{Sending, with_syn_acked, acknowledged, fin_acked, moves_edge}
 use Rattle.tcp_endpoint.specs.Tcb.{Tcb}
 use Rattle.tcp_endpoint.specs.Arrival.{first, ack_at, owing_if, entering, with_text_and_fin, with_fin_acked, with_first_ack, with_ack, waiting_again, in_others, received, refusing}
-use Rattle.endpoint_laws.specs.Laws.{accepts, counts, acknowledges, uses_window, IsSentBy, IsBounded, IsUsual}
-use Rattle.tcp_endpoint.proofs.Places.{near_of_acceptable}
-use Rattle.endpoint_laws.proofs.TakenLaw.{part_of_if, same_if, if_when, by_checks, begun_is, Aside, at_ack, others_part, segment_taken, sent_bool, window_is, syn_only, dull, dull_more, dull_most}
+use Rattle.endpoint_laws.specs.Laws.{uses, counts, acknowledges, uses_window, IsSentBy, IsBounded, IsUsual}
+use Rattle.tcp_endpoint.proofs.Places.{near_of_usable}
+use Rattle.endpoint_laws.proofs.TakenLaw.{part_of_if, same_if, if_when, by_checks, begun_is, Aside, at_ack, goes_on, others_part, segment_taken, sent_bool, chosen_is, dull, dull_more, dull_most}
 use Rattle.ft_io.proofs.Booleans.{or_false}
 
 text_part : (e : Tcb) (p : Segment) → (with_text_and_fin e p).sending ≡ e.sending
@@ -64,12 +64,12 @@ used_by e p =
 
 checks_use : (e : Tcb) (p : Segment) → IsBounded e → IsUsual e p
     → (in_others e p).sending
-    ≡ by_checks (is_acceptable (next e.receiving) (window e.receiving) (first e p) (length_of p)) (has_rst p) (has_syn p) (has_ack p) e.sending.syn_acked
+    ≡ by_checks (goes_on e p) (has_rst p) (has_syn p) (has_ack p) e.sending.syn_acked
     (int_eq (ack_at e p) (pos 0)) (acknowledged e.sending p.head.seq (ack_at e p) p.head.window) (with_syn_acked e.sending p.head.seq p.head.window) e.sending
 unfolding waiting_again
 checks_use e p bounded usual =
-    others_part (λ (t : Tcb). t.sending) e p sending_aside ∙ if_when (is_acceptable (next e.receiving) (window e.receiving) (first e p) (length_of p)) _ _ _ _
-    (λ acceptable. if_when (has_rst p) _ _ _ _ (λ h. refl)
+    others_part (λ (t : Tcb). t.sending) e p sending_aside ∙ if_when (goes_on e p) _ _ _ _
+    (λ goes. if_when (has_rst p) _ _ _ _ (λ h. refl)
     (λ no_rst. if_when (has_syn p) _ _ _ _ (λ h. refl)
     (λ no_syn. if_when (has_ack p) _ _ _ _
     (λ is_ack. if_when e.sending.syn_acked _ _ _ _
@@ -78,50 +78,23 @@ checks_use e p bounded usual =
     (λ h. refl))))
     (λ h. refl)
 
-off_by : (a b : Bool) (x y : Sending) → y ≡ (if true && a && false && b then x else y)
-off_by true b x y = refl
-off_by false b x y = refl
-
--- the choice of the checks, in the law's one test
-by_law : (acceptable rst syn ack syn_acked acks_syn acked : Bool) (x x' y : Sending) → (ack ≡ true → syn_acked ≡ false → acks_syn ≡ acked)
-    → by_checks acceptable rst syn ack syn_acked acks_syn x x' y
-    ≡ (if ack && not syn && not rst && acceptable && (syn_acked || acked) then (if syn_acked then x else x') else y)
-by_law true true true true syn_acked acks_syn acked x x' y same = refl
-by_law true true true false syn_acked acks_syn acked x x' y same = refl
-by_law true true false true syn_acked acks_syn acked x x' y same = refl
-by_law true true false false syn_acked acks_syn acked x x' y same = refl
-by_law true false true true syn_acked acks_syn acked x x' y same = refl
-by_law true false true false syn_acked acks_syn acked x x' y same = refl
-by_law true false false true true acks_syn acked x x' y same = refl
-by_law true false false true false acks_syn acked x x' y same = ap (λ b. if b then x' else y) (same refl refl)
-by_law true false false false syn_acked acks_syn acked x x' y same = refl
-by_law false rst syn true syn_acked acks_syn acked x x' y same = off_by (not syn && not rst) (syn_acked || acked) (if syn_acked then x else x') y
-by_law false rst syn false syn_acked acks_syn acked x x' y same = refl
-
 -- the sending half after a segment, whole
 pub sending_is : (e : Tcb) (p : Segment) → has_begun e.name ≡ true → IsBounded e → IsUsual e p
     → (received e p).sending ≡ (if counts e p then used_by e p else e.sending)
 unfolding received
 sending_is e p begun bounded usual =
-    let acceptable : ℕ → Bool = λ w. is_acceptable (next e.receiving) w (first e p) (length_of p) in
-    let acked : Bool = int_le (pos 0) (ack_at e p) in
-    let chosen : ℕ → Sending = λ w.
-    if has_ack p && not (has_syn p) && not (has_rst p) && acceptable w && (e.sending.syn_acked || acked) then used_by e p else e.sending in
     ap (λ (t : Tcb). t.sending) (begun_is e.name e p begun) ∙ checks_use e p bounded usual
-    ∙ by_law (acceptable (window e.receiving)) (has_rst p) (has_syn p) (has_ack p) e.sending.syn_acked (int_eq (ack_at e p) (pos 0)) acked
-    (acknowledged e.sending p.head.seq (ack_at e p) p.head.window) (with_syn_acked e.sending p.head.seq p.head.window) e.sending
-    (λ is_ack syn_unacked. syn_only e p (usual.sent is_ack) (bounded.syn_unacked syn_unacked))
-    ∙ ap chosen (sym (window_is e.receiving))
+    ∙ chosen_is e p (acknowledged e.sending p.head.seq (ack_at e p) p.head.window) (with_syn_acked e.sending p.head.seq p.head.window) e.sending bounded usual
 
 -- what counts has ACK, and acknowledges the SYN where that is the first
-pub counts_ack : (ack syn rst acceptable syn_acked acked : Bool) → (ack && not syn && not rst && acceptable && (syn_acked || acked)) ≡ true
+pub counts_ack : (ack syn rst used syn_acked acked : Bool) → (ack && not syn && not rst && used && (syn_acked || acked)) ≡ true
     → (ack ≡ true) × (syn_acked ≡ false → acked ≡ true)
 counts_ack true false false true true acked h = (refl, λ e. cc)
 counts_ack true false false true false acked h = (refl, λ e. h)
 counts_ack true false false false syn_acked acked h = cc
-counts_ack true false true acceptable syn_acked acked h = absurd (false≢true (dull acceptable (syn_acked || acked) h))
-counts_ack true true rst acceptable syn_acked acked h = absurd (false≢true (dull_more rst acceptable (syn_acked || acked) h))
-counts_ack false syn rst acceptable syn_acked acked h = absurd (false≢true (dull_most syn rst acceptable (syn_acked || acked) h))
+counts_ack true false true used syn_acked acked h = absurd (false≢true (dull used (syn_acked || acked) h))
+counts_ack true true rst used syn_acked acked h = absurd (false≢true (dull_more rst used (syn_acked || acked) h))
+counts_ack false syn rst used syn_acked acked h = absurd (false≢true (dull_most syn rst used (syn_acked || acked) h))
 
 -- the fields of an acknowledgement that was sent, of a connection whose SYN is acknowledged
 una_field : (una sent : ℕ) (z : ℤ) → z ≤ℤ pos sent
@@ -169,16 +142,16 @@ window_short r = window_by r.read r.limit (length r.unread) (if r.fin then 1 els
 pub length_short : (p : Segment) → length p.payload ≤ 65535 → length_of p ≤ 2 ^ 16
 length_short p h = length_by (has_rst p) (has_syn p) (has_fin p) (length p.payload) h
 
-pub acceptable_of : (ack syn rst acceptable acked : Bool) → (ack && not syn && not rst && acceptable && acked) ≡ true → acceptable ≡ true
-acceptable_of ack syn rst true acked h = refl
-acceptable_of ack syn rst false acked h = absurd (false≢true (dull_end (ack && not syn && not rst) acked h))
+pub used_of : (ack syn rst used acked : Bool) → (ack && not syn && not rst && used && acked) ≡ true → used ≡ true
+used_of ack syn rst true acked h = refl
+used_of ack syn rst false acked h = absurd (false≢true (dull_end (ack && not syn && not rst) acked h))
 
--- what counts is acceptable, and so begins near
+-- what counts is used by its place, and so begins near
 pub near_of_counts : (e : Tcb) (p : Segment) → IsBounded e → IsUsual e p → counts e p ≡ true → IsNearFirst (first e p)
 near_of_counts e p bounded usual does_count =
-    near_of_acceptable (next e.receiving) (announced_edge e.receiving - next e.receiving) (first e p) (length_of p)
+    near_of_usable (next e.receiving) (announced_edge e.receiving - next e.receiving) (first e p) (length_of p)
     (next_near e.receiving bounded.limit bounded.taken) (window_short e.receiving) (length_short p usual.text)
-    (acceptable_of (has_ack p) (has_syn p) (has_rst p) (accepts e p) (e.sending.syn_acked || int_le (pos 0) (ack_at e p)) does_count)
+    (used_of (has_ack p) (has_syn p) (has_rst p) (uses e p) (e.sending.syn_acked || int_le (pos 0) (ack_at e p)) does_count)
 
 -- the test on a window, as the law says it
 abbrev is_newer : Tcb → Segment → Bool
@@ -207,7 +180,7 @@ unfolding acknowledged
 later_law e p bounded usual is_syn_acked does_count =
     let s : Sending = e.sending in
     let z : ℤ = ack_at e p in
-    let sent : z ≤ℤ pos s.sent = usual.sent (counts_ack (has_ack p) (has_syn p) (has_rst p) (accepts e p) s.syn_acked (int_le (pos 0) z) does_count).0 in
+    let sent : z ≤ℤ pos s.sent = usual.sent (counts_ack (has_ack p) (has_syn p) (has_rst p) (uses e p) s.syn_acked (int_le (pos 0) z) does_count).0 in
     let used : moves_edge s p.head.seq z ≡ uses_window e p = window_is_used e p bounded usual is_syn_acked does_count sent in
     record {
       iss = refl;
@@ -232,7 +205,7 @@ first_law : (e : Tcb) (p : Segment) → IsBounded e → IsUsual e p → e.sendin
 first_law e p bounded usual syn_unacked does_count =
     let s : Sending = e.sending in
     let z : ℤ = ack_at e p in
-    let facts = counts_ack (has_ack p) (has_syn p) (has_rst p) (accepts e p) s.syn_acked (int_le (pos 0) z) does_count in
+    let facts = counts_ack (has_ack p) (has_syn p) (has_rst p) (uses e p) s.syn_acked (int_le (pos 0) z) does_count in
     let none : s.sent ≡ 0 = bounded.syn_unacked syn_unacked in
     let una : s.una ≡ 0 = omega (arith, bounded.order) in
     let acked : acknowledges e p ≡ true = ap (λ b. b && int_le (pos 0) z) does_count ∙ facts.1 syn_unacked in

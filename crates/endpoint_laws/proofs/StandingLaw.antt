@@ -1,14 +1,16 @@
 -- What a segment makes of an endpoint is what the laws of `ft_model` make of the point at which it stands.
-use Rattle.std.proofs.Common.{◌≡◌, ℕ, zero, suc, ◌<◌, ◌≤◌, ◌+◌, ◌-◌, ◌*◌, ◌/◌, ◌%◌, ◌^◌, Bool, true, false, not, List, ◌++◌, length, length-append, take, drop, min, refl, sym, ap, arith, ◌∙◌}
+use Rattle.std.proofs.Common.{◌≡◌, ℕ, zero, suc, ◌<◌, ◌≤◌, ◌+◌, ◌-◌, ◌*◌, ◌/◌, ◌%◌, ◌^◌, Bool, true, false, not, List, ◌++◌, length, length-append, append-nil, drop, min, refl, sym, ap, arith, ◌∙◌}
 use Rattle.std.specs.Prelude.{ℤ, pos, ◌+ℤ◌, ◌-ℤ◌, ◌<ℤ◌, ◌≤ℤ◌, ◌==◌, ◌&&◌, ◌||◌, nat_abs, nat_lt, int_lt, int_le, if◌then◌else◌}
 use Rattle.std.proofs.lemmas.Int.{ints}
 use Rattle.std.proofs.lemmas.List.{drop-append-le}
 use Rattle.std.proofs.lemmas.Bool.{false≢true, and_right, and_left}
 use Rattle.seq_arith.specs.Number.{offset_of}
-use Rattle.seq_arith.specs.Arrival.{int_eq, lies_in, is_acceptable, below, una_after, updates_window}
+use Rattle.seq_arith.specs.Arrival.{int_eq, lies_in, is_acceptable, is_at_right_edge, is_acceptable_or_at_edge, is_allowed_at_zero, una_after, updates_window}
+use Rattle.seq_arith.specs.Coming.{Came, nothing_came, comes}
 use Rattle.seq_arith.specs.Packet.{Segment, has_syn, has_rst, has_ack}
 use Rattle.seq_arith.proofs.Gaps.{Leads, offset_leads}
-use Rattle.seq_arith.proofs.Shifts.{lies_in_shift, below_shift, updates_window_shift, under_shift}
+use Rattle.seq_arith.proofs.Shifts.{lies_in_shift, updates_window_shift}
+use Rattle.seq_arith.proofs.Coming.{comes_shift}
 use Rattle.seq_arith.specs.Offset.{one_if, first_of, ack_of, text_of, fin_of, length_of}
 use Rattle.ft_model.specs.Point.{Point, taken_units, room}
 use Rattle.ft_model.specs.Point as point
@@ -17,14 +19,15 @@ use Rattle.ft_model.specs.Taken as model
 use Rattle.ft_model.specs.Sending as sender
 use Rattle.tcp_buffers.specs.Near.{IsNearFirst}
 use Rattle.tcp_endpoint.specs.States.{has_begun}
-use Rattle.tcp_endpoint.specs.Receiving.{Receiving, taken, next, receive_edge, announced_edge}
+use Rattle.tcp_endpoint.specs.Receiving.{Receiving, taken, next, receive_edge, announced_edge, came, with_came}
 use Rattle.tcp_endpoint.specs.Tcb.{Tcb}
 use Rattle.tcp_endpoint.specs.Arrival.{first, ack_at, received}
-use Rattle.endpoint_laws.specs.Laws.{accepts, counts, continues, unread_after, taken_by, takes_fin, acknowledges, uses_window, IsSentBy, IsBounded, IsUsual}
+use Rattle.endpoint_laws.specs.Laws.{accepts, uses, counts, taken_by, acknowledges, uses_window, IsSentBy, IsBounded, IsUsual}
 use Rattle.endpoint_laws.specs.Standing.{ReceivesAt, SendsAt}
-use Rattle.tcp_endpoint.proofs.Places.{near_of_acceptable}
-use Rattle.endpoint_laws.proofs.TakenLaw.{if_when, taken_law}
-use Rattle.endpoint_laws.proofs.SendingLaw.{sending_law, next_near, window_short, length_short, acceptable_of, counts_ack}
+use Rattle.tcp_endpoint.proofs.Places.{near_of_usable}
+use Rattle.endpoint_laws.proofs.TakenLaw.{part_of_if, if_when, taken_law}
+use Rattle.endpoint_laws.proofs.Bounding.{taken_within}
+use Rattle.endpoint_laws.proofs.SendingLaw.{sending_law, next_near, window_short, length_short, used_of, counts_ack}
 use Rattle.ft_io.proofs.Booleans.{left_true, right_true, and_when}
 
 -- an endpoint at a point, and a segment that comes to it
@@ -102,21 +105,21 @@ lies_in_moved : (start window n fetched : ℕ) (z moved : ℤ) → Moved z moved
 lies_in_moved start window n fetched z moved m few near short small =
     lies_by m.turns start window n fetched z moved m.is m.low m.high few near short small
 
+place_moved : (place fetched : ℕ) (z moved : ℤ) → Moved z moved fetched → fetched ≤ 2 ^ 24 → place ≤ 2 ^ 30 + 2 ^ 17
+    → int_eq z (pos (place + fetched)) ≡ int_eq moved (pos place)
+place_moved place fetched z moved m few near = grind (arith, ints, m.is, m.low, m.high)
+
 pub is_moved : (start fetched : ℕ) (z moved : ℤ) → Moved z moved fetched → fetched ≤ 2 ^ 24 → start ≤ 2 ^ 30 + 1
     → int_eq z (pos (start + fetched)) ≡ int_eq moved (pos start)
-is_moved start fetched z moved m few near = grind (arith, ints, m.is, m.low, m.high)
+is_moved start fetched z moved m few near = place_moved start fetched z moved m few (omega (arith, near))
 
 plus_none : (z : ℤ) → z +ℤ pos 0 ≡ z
 plus_none z = omega (arith, ints)
 
--- a number that is far names no acceptable segment, from wherever it is counted
-acceptable_moves : (cisn irs number fetched upper window len : ℕ) → number < 2 ^ 32 → irs ≡ (cisn + fetched) % 2 ^ 32 → fetched ≤ 2 ^ 24
-    → upper ≤ 2 ^ 30 + 1 → window ≤ 2 ^ 16 → len ≤ 2 ^ 16
-    → is_acceptable (upper + fetched) window (offset_of cisn number) len ≡ is_acceptable upper window (offset_of irs number) len
-acceptable_moves cisn irs number fetched upper window len fits is few near short small =
-    let z : ℤ = offset_of cisn number in
-    let y : ℤ = offset_of irs number in
-    let m : Moved z y fetched = turns_by cisn irs number fetched z y is few (offset_leads cisn number fits) (offset_leads irs number fits) in
+-- a number that is far names no segment that is used, from wherever it is counted
+acceptable_moves : (upper window len fetched : ℕ) (z y : ℤ) → Moved z y fetched → fetched ≤ 2 ^ 24 → upper ≤ 2 ^ 30 + 1 → window ≤ 2 ^ 16 → len ≤ 2 ^ 16
+    → is_acceptable (upper + fetched) window z len ≡ is_acceptable upper window y len
+acceptable_moves upper window len fetched z y m few near short small =
     let point : int_eq z (pos (upper + fetched)) ≡ int_eq y (pos upper) = is_moved upper fetched z y m few near in
     let first_lies : lies_in (upper + fetched) window z ≡ lies_in upper window y =
     (λ i. lies_in (upper + fetched) window (sym (plus_none z) i)) ∙ lies_in_moved upper window 0 fetched z y m few near short (omega arith)
@@ -127,28 +130,64 @@ acceptable_moves cisn irs number fetched upper window len fits is few near short
     then (if window == 0 then point i else first_lies i)
     else (if window == 0 then false else (first_lies i || last_lies i))
 
+right_edge_moves : (upper window len fetched : ℕ) (z y : ℤ) → Moved z y fetched → fetched ≤ 2 ^ 24 → upper ≤ 2 ^ 30 + 1 → window ≤ 2 ^ 16
+    → is_at_right_edge (upper + fetched) window z len ≡ is_at_right_edge upper window y len
+unfolding is_at_right_edge
+right_edge_moves upper window len fetched z y m few near short =
+    let end : upper + fetched + window ≡ upper + window + fetched = omega arith in
+    let place : int_eq z (pos (upper + fetched + window)) ≡ int_eq y (pos (upper + window)) =
+    ap (λ n. int_eq z (pos n)) end ∙ place_moved (upper + window) fetched z y m few (omega (arith, near, short)) in
+    λ i. len == 0 && nat_lt 0 window && place i
+
+zero_moves : (upper window fetched : ℕ) (z y : ℤ) → Moved z y fetched → fetched ≤ 2 ^ 24 → upper ≤ 2 ^ 30 + 1
+    → is_allowed_at_zero (upper + fetched) window z ≡ is_allowed_at_zero upper window y
+unfolding is_allowed_at_zero
+zero_moves upper window fetched z y m few near = λ i. window == 0 && is_moved upper fetched z y m few near i
+
 fetched_few : (limit fetched : ℕ) → limit + fetched ≡ 2 ^ 24 → fetched ≤ 2 ^ 24
 fetched_few limit fetched h = omega arith
+
+moved_first : (p : Point) (e : Tcb) (segment : Segment) → Meets p e segment → Moved (first_of p.cisn segment) (first e segment) p.fetched
+moved_first p e segment m =
+    let r : ReceivesAt p e = m.receives in
+    turns_by p.cisn e.receiving.irs segment.head.seq p.fetched (first_of p.cisn segment) (first e segment) r.cisn (fetched_few e.receiving.limit p.fetched r.limit)
+    (offset_leads p.cisn segment.head.seq m.usual.seq) (offset_leads e.receiving.irs segment.head.seq m.usual.seq)
 
 pub accepts_is : (p : Point) (e : Tcb) (segment : Segment) → Meets p e segment → model.accepts p segment ≡ accepts e segment
 unfolding model.accepts
 accepts_is p e segment m =
     let r : ReceivesAt p e = m.receives in
-    (λ i. is_acceptable (next_is p e r i) (room_is p e r i) (first_of p.cisn segment) (length_of segment))
-    ∙ acceptable_moves p.cisn e.receiving.irs segment.head.seq p.fetched (next e.receiving) (announced_edge e.receiving - next e.receiving) (length_of segment)
-    m.usual.seq r.cisn (fetched_few e.receiving.limit p.fetched r.limit) (next_near e.receiving m.bounds.limit m.bounds.taken) (window_short e.receiving)
-    (length_short segment m.usual.text)
+    let few : p.fetched ≤ 2 ^ 24 = fetched_few e.receiving.limit p.fetched r.limit in
+    let moved : Moved (first_of p.cisn segment) (first e segment) p.fetched = moved_first p e segment m in
+    let near : next e.receiving ≤ 2 ^ 30 + 1 = next_near e.receiving m.bounds.limit m.bounds.taken in
+    let short : announced_edge e.receiving - next e.receiving ≤ 2 ^ 16 = window_short e.receiving in
+    (λ i. is_acceptable_or_at_edge (next_is p e r i) (room_is p e r i) (first_of p.cisn segment) (length_of segment))
+    ∙ (λ i. acceptable_moves (next e.receiving) (announced_edge e.receiving - next e.receiving) (length_of segment) p.fetched (first_of p.cisn segment) (first e segment) moved few near
+    short (length_short segment m.usual.text) i
+    || right_edge_moves (next e.receiving) (announced_edge e.receiving - next e.receiving) (length_of segment) p.fetched (first_of p.cisn segment) (first e segment) moved few near short i)
 
-pub near_of_accepts : (e : Tcb) (segment : Segment) → IsBounded e → IsUsual e segment → accepts e segment ≡ true → IsNearFirst (first e segment)
-near_of_accepts e segment b usual h =
-    near_of_acceptable (next e.receiving) (announced_edge e.receiving - next e.receiving) (first e segment) (length_of segment)
+uses_is : (p : Point) (e : Tcb) (segment : Segment) → Meets p e segment → model.uses p segment ≡ uses e segment
+unfolding model.uses model.accepts
+uses_is p e segment m =
+    let r : ReceivesAt p e = m.receives in
+    let few : p.fetched ≤ 2 ^ 24 = fetched_few e.receiving.limit p.fetched r.limit in
+    let near : next e.receiving ≤ 2 ^ 30 + 1 = next_near e.receiving m.bounds.limit m.bounds.taken in
+    let at_zero : is_allowed_at_zero (taken_units p) (room p) (first_of p.cisn segment)
+    ≡ is_allowed_at_zero (next e.receiving) (announced_edge e.receiving - next e.receiving) (first e segment) =
+    (λ i. is_allowed_at_zero (next_is p e r i) (room_is p e r i) (first_of p.cisn segment))
+    ∙ zero_moves (next e.receiving) (announced_edge e.receiving - next e.receiving) p.fetched (first_of p.cisn segment) (first e segment) (moved_first p e segment m) few near in
+    λ i. accepts_is p e segment m i || at_zero i
+
+near_of_uses : (e : Tcb) (segment : Segment) → IsBounded e → IsUsual e segment → uses e segment ≡ true → IsNearFirst (first e segment)
+near_of_uses e segment b usual h =
+    near_of_usable (next e.receiving) (announced_edge e.receiving - next e.receiving) (first e segment) (length_of segment)
     (next_near e.receiving b.limit b.taken) (window_short e.receiving) (length_short segment usual.text) h
 
-pub first_is : (p : Point) (e : Tcb) (segment : Segment) → Meets p e segment → accepts e segment ≡ true
+pub first_is : (p : Point) (e : Tcb) (segment : Segment) → Meets p e segment → uses e segment ≡ true
     → first_of p.cisn segment ≡ first e segment +ℤ pos p.fetched
 first_is p e segment m h =
     near_moves p.cisn e.receiving.irs segment.head.seq p.fetched m.usual.seq m.receives.cisn
-    (fetched_few e.receiving.limit p.fetched m.receives.limit) (near_of_accepts e segment m.bounds m.usual h)
+    (fetched_few e.receiving.limit p.fetched m.receives.limit) (near_of_uses e segment m.bounds m.usual h)
 
 pub ack_is : (p : Point) (e : Tcb) (segment : Segment) → Meets p e segment → ack_of p.sisn segment ≡ ack_at e segment
 ack_is p e segment m = λ i. offset_of (m.sends.sisn i) segment.head.ack
@@ -156,87 +195,48 @@ ack_is p e segment m = λ i. offset_of (m.sends.sisn i) segment.head.ack
 counts_is : (p : Point) (e : Tcb) (segment : Segment) → Meets p e segment → model.counts p segment ≡ counts e segment
 unfolding model.counts
 counts_is p e segment m = λ i.
-    has_ack segment && not (has_syn segment) && not (has_rst segment) && accepts_is p e segment m i && (m.sends.syn_acked i || int_le (pos 0) (ack_is p e segment m i))
+    has_ack segment && not (has_syn segment) && not (has_rst segment) && uses_is p e segment m i && (m.sends.syn_acked i || int_le (pos 0) (ack_is p e segment m i))
 
--- what counts is acceptable
-accepts_of : (e : Tcb) (segment : Segment) → counts e segment ≡ true → accepts e segment ≡ true
-accepts_of e segment h =
-    acceptable_of (has_ack segment) (has_syn segment) (has_rst segment) (accepts e segment) (e.sending.syn_acked || int_le (pos 0) (ack_at e segment)) h
+-- what counts is used by its place
+uses_of : (e : Tcb) (segment : Segment) → counts e segment ≡ true → uses e segment ≡ true
+uses_of e segment h =
+    used_of (has_ack segment) (has_syn segment) (has_rst segment) (uses e segment) (e.sending.syn_acked || int_le (pos 0) (ack_at e segment)) h
 
-continues_is : (p : Point) (e : Tcb) (segment : Segment) → Meets p e segment → model.continues p segment ≡ continues e segment
-continues_is p e segment m =
-    (λ i. counts_is p e segment m i && not (m.receives.fin i) && int_le (first_of p.cisn segment) (pos (m.receives.long i)))
-    ∙ and_when (counts e segment && not e.receiving.fin) _ _
-    (λ h. ap (λ z. int_le z (pos (taken e.receiving + p.fetched))) (first_is p e segment m (accepts_of e segment (left_true (counts e segment) (not e.receiving.fin) h)))
-    ∙ under_shift (taken e.receiving) p.fetched (first e segment))
+-- what comes is the same, counted from some bytes behind a stream's beginning
+abbrev brought : Tcb → Segment → Came
+brought e segment = if counts e segment then came e.receiving (first e segment) (text_of segment) (fin_of segment) else nothing_came e.receiving.fin
 
-continues_accepts : (e : Tcb) (segment : Segment) → continues e segment ≡ true → accepts e segment ≡ true
-continues_accepts e segment h =
-    accepts_of e segment (left_true (counts e segment) (not e.receiving.fin)
-    (left_true (counts e segment && not e.receiving.fin) (int_le (first e segment) (pos (taken e.receiving))) h))
+came_is : (p : Point) (e : Tcb) (segment : Segment) → Meets p e segment → model.came p segment ≡ brought e segment
+unfolding model.came
+came_is p e segment m =
+    let r : Receiving = e.receiving in
+    ap (λ b. if b then comes (length p.taken) (point.receive_edge p) p.fin (first_of p.cisn segment) (text_of segment) (fin_of segment) else nothing_came p.fin)
+    (counts_is p e segment m)
+    ∙ if_when (counts e segment) _ _ _ _
+    (λ h. (λ i. comes (m.receives.long i) (edge_is p e m.receives i) (m.receives.fin i) (first_is p e segment m (uses_of e segment h) i) (text_of segment) (fin_of segment))
+    ∙ comes_shift (taken r) (receive_edge r) p.fetched r.fin (first e segment) (text_of segment) (fin_of segment))
+    (λ h i. nothing_came (m.receives.fin i))
 
 -- bytes are put behind all that were taken, and so behind those that aren't read
-abbrev brought : Tcb → Segment → List ℕ
-brought e segment = take (receive_edge e.receiving - taken e.receiving) (drop (below (taken e.receiving) (first e segment)) (text_of segment))
+grown_rest : (all unread more : List ℕ) (read fetched : ℕ) → drop (read + fetched) all ≡ unread → length all ≡ read + length unread + fetched
+    → drop (read + fetched) (all ++ more) ≡ unread ++ more
+grown_rest all unread more read fetched rest long = drop-append-le (read + fetched) all more (omega (arith, long)) ∙ ap (λ xs. xs ++ more) rest
 
-less_moves : (a b k : ℕ) → a + k - (b + k) ≡ a - b
-less_moves a b k = omega arith
+grown_long : (all unread more : List ℕ) (read fetched : ℕ) → length all ≡ read + length unread + fetched
+    → length (all ++ more) ≡ read + length (unread ++ more) + fetched
+grown_long all unread more read fetched long = omega (arith, long, length-append all more, length-append unread more)
 
-brought_is : (p : Point) (e : Tcb) (segment : Segment) → Meets p e segment → accepts e segment ≡ true
-    → take (point.receive_edge p - length p.taken) (drop (below (length p.taken) (first_of p.cisn segment)) (text_of segment)) ≡ brought e segment
-brought_is p e segment m h =
-    (λ i. take (edge_is p e m.receives i - m.receives.long i) (drop (below (m.receives.long i) (first_is p e segment m h i)) (text_of segment)))
-    ∙ (λ i. take (less_moves (receive_edge e.receiving) (taken e.receiving) p.fetched i)
-    (drop (below_shift (taken e.receiving) p.fetched (first e segment) i) (text_of segment)))
+-- .. and the endpoint takes just that
+nothing_more : (r : Receiving) → r ≡ with_came r (nothing_came r.fin)
+unfolding with_came
+nothing_more r = λ i. record r { unread = sym (append-nil r.unread) i }
 
-taken_is : (p : Point) (e : Tcb) (segment : Segment) → Meets p e segment
-    → model.taken_after (Comes segment) p ≡ (if continues e segment then p.taken ++ brought e segment else p.taken)
-unfolding model.taken_after
-taken_is p e segment m =
-    ap (λ b. if b then p.taken ++ take (point.receive_edge p - length p.taken) (drop (below (length p.taken) (first_of p.cisn segment)) (text_of segment)) else p.taken)
-    (continues_is p e segment m)
-    ∙ if_when (continues e segment) _ _ p.taken p.taken
-    (λ h. ap (λ xs. p.taken ++ xs) (brought_is p e segment m (continues_accepts e segment h))) (λ h. refl)
-
-grown_rest : (c : Bool) (all unread more : List ℕ) (read fetched : ℕ) → drop (read + fetched) all ≡ unread → length all ≡ read + length unread + fetched
-    → drop (read + fetched) (if c then all ++ more else all) ≡ (if c then unread ++ more else unread)
-grown_rest true all unread more read fetched rest long = drop-append-le (read + fetched) all more (omega (arith, long)) ∙ ap (λ xs. xs ++ more) rest
-grown_rest false all unread more read fetched rest long = rest
-
-grown_long : (c : Bool) (all unread more : List ℕ) (read fetched : ℕ) → length all ≡ read + length unread + fetched
-    → length (if c then all ++ more else all) ≡ read + length (if c then unread ++ more else unread) + fetched
-grown_long true all unread more read fetched long = omega (arith, long, length-append all more, length-append unread more)
-grown_long false all unread more read fetched long = long
-
-long_is : (p : Point) (e : Tcb) (segment : Segment) → Meets p e segment
-    → length (model.taken_after (Comes segment) p) ≡ e.receiving.read + length (unread_after e segment) + p.fetched
-long_is p e segment m =
-    ap length (taken_is p e segment m)
-    ∙ grown_long (continues e segment) p.taken e.receiving.unread (brought e segment) e.receiving.read p.fetched m.receives.long
-
--- a FIN's place and the edge move along
-end_moves : (z : ℤ) (n t edge k : ℕ) → (int_eq (z +ℤ pos k +ℤ pos n) (pos (t + k)) && nat_lt (t + k) (edge + k)) ≡ (int_eq (z +ℤ pos n) (pos t) && nat_lt t edge)
-end_moves z n t edge k = grind (arith, ints)
-
-last_two : (a b c c' d d' : Bool) → (a ≡ true → (c && d) ≡ (c' && d')) → (a && b && c && d) ≡ (a && b && c' && d')
-last_two true true c c' d d' same = same refl
-last_two true false c c' d d' same = refl
-last_two false b c c' d d' same = refl
-
-takes_fin_is : (p : Point) (e : Tcb) (segment : Segment) → Meets p e segment → model.takes_fin p segment ≡ takes_fin e segment
-takes_fin_is p e segment m =
-    let t : ℕ = e.receiving.read + length (unread_after e segment) in
-    let n : ℕ = length (text_of segment) in
-    let edge : ℕ = receive_edge e.receiving in
-    (λ i. continues_is p e segment m i && fin_of segment && int_eq (model.end_of p segment) (pos (long_is p e segment m i))
-    && nat_lt (long_is p e segment m i) (edge_is p e m.receives i))
-    ∙ last_two (continues e segment) (fin_of segment) _ _ _ _
-    (λ h. ap (λ z. int_eq (z +ℤ pos n) (pos (t + p.fetched)) && nat_lt (t + p.fetched) (edge + p.fetched)) (first_is p e segment m (continues_accepts e segment h))
-    ∙ end_moves (first e segment) n t edge p.fetched)
-
-fin_is : (p : Point) (e : Tcb) (segment : Segment) → Meets p e segment → model.fin_after (Comes segment) p ≡ (e.receiving.fin || takes_fin e segment)
-unfolding model.fin_after
-fin_is p e segment m = λ i. m.receives.fin i || takes_fin_is p e segment m i
+taken_by_is : (e : Tcb) (segment : Segment) → taken_by e segment ≡ with_came e.receiving (brought e segment)
+unfolding taken_by
+taken_by_is e segment =
+    let r : Receiving = e.receiving in
+    if_when (counts e segment) _ _ _ _ (λ h. refl) (λ h. nothing_more r)
+    ∙ sym (part_of_if (with_came r) (counts e segment) (came r (first e segment) (text_of segment) (fin_of segment)) (nothing_came r.fin))
 
 -- an acknowledgement of at most what was sent is used whole
 used_whole : (z : ℤ) (sent : ℕ) → int_le (pos 0) z ≡ true → z ≤ℤ pos sent → min (nat_abs z) sent ≡ nat_abs z
@@ -247,7 +247,7 @@ acknowledges_is p e segment m = λ i. counts_is p e segment m i && int_le (pos 0
 
 ack_of_counts : (e : Tcb) (segment : Segment) → counts e segment ≡ true → has_ack segment ≡ true
 ack_of_counts e segment h =
-    (counts_ack (has_ack segment) (has_syn segment) (has_rst segment) (accepts e segment) e.sending.syn_acked (int_le (pos 0) (ack_at e segment)) h).0
+    (counts_ack (has_ack segment) (has_syn segment) (has_rst segment) (uses e segment) e.sending.syn_acked (int_le (pos 0) (ack_at e segment)) h).0
 
 acknowledged_is : (p : Point) (e : Tcb) (segment : Segment) → Meets p e segment → acknowledges e segment ≡ true
     → sender.acknowledged_by p segment ≡ nat_abs (ack_at e segment)
@@ -265,8 +265,8 @@ una_is p e segment m =
     (λ h i. una_after (m.sends.una i) (acknowledged_is p e segment m h i)) (λ h. m.sends.una)
 
 -- the window's test, once an acknowledgement has counted
-accepts_acknowledged : (e : Tcb) (segment : Segment) → acknowledges e segment ≡ true → accepts e segment ≡ true
-accepts_acknowledged e segment h = accepts_of e segment (left_true (counts e segment) (int_le (pos 0) (ack_at e segment)) h)
+uses_of_acknowledged : (e : Tcb) (segment : Segment) → acknowledges e segment ≡ true → uses e segment ≡ true
+uses_of_acknowledged e segment h = uses_of e segment (left_true (counts e segment) (int_le (pos 0) (ack_at e segment)) h)
 
 window_test_moves : (una wl2 : ℕ) (wl1 first : ℤ) (ack k : ℕ) → updates_window una (wl1 +ℤ pos k) wl2 (first +ℤ pos k) ack ≡ updates_window una wl1 wl2 first ack
 window_test_moves una wl2 wl1 first ack k =
@@ -280,7 +280,7 @@ newer_is : (p : Point) (e : Tcb) (segment : Segment) → Meets p e segment → a
     → updates_window p.una p.wl1 p.wl2 (first_of p.cisn segment) (sender.acknowledged_by p segment)
     ≡ updates_window e.sending.una (offset_of e.receiving.irs e.sending.wl1) e.sending.wl2 (first e segment) (nat_abs (ack_at e segment))
 newer_is p e segment m does is_syn_acked =
-    (λ i. updates_window (m.sends.una i) (m.sends.wl1 is_syn_acked i) (m.sends.wl2 i) (first_is p e segment m (accepts_acknowledged e segment does) i)
+    (λ i. updates_window (m.sends.una i) (m.sends.wl1 is_syn_acked i) (m.sends.wl2 i) (first_is p e segment m (uses_of_acknowledged e segment does) i)
     (acknowledged_is p e segment m does i))
     ∙ window_test_moves e.sending.una e.sending.wl2 (offset_of e.receiving.irs e.sending.wl1) (first e segment) (nat_abs (ack_at e segment)) p.fetched
 
@@ -323,7 +323,7 @@ first_uses false false a w up h none = h
 syn_acked_before : (e : Tcb) (segment : Segment) → (e.sending.syn_acked || counts e segment) ≡ true → uses_window e segment ≡ false → e.sending.syn_acked ≡ true
 syn_acked_before e segment h none =
     first_uses (counts e segment) e.sending.syn_acked (int_le (pos 0) (ack_at e segment)) _
-    (λ c o. (counts_ack (has_ack segment) (has_syn segment) (has_rst segment) (accepts e segment) e.sending.syn_acked (int_le (pos 0) (ack_at e segment)) c).1 o) h none
+    (λ c o. (counts_ack (has_ack segment) (has_syn segment) (has_rst segment) (uses e segment) e.sending.syn_acked (int_le (pos 0) (ack_at e segment)) c).1 o) h none
 
 wl1_choice : (u : Bool) (z x x' y y' : ℤ) → z ≡ (if u then x' else y') → (u ≡ true → x ≡ x') → (u ≡ false → y ≡ y') → (if u then x else y) ≡ z
 wl1_choice true z x x' y y' is on off = on refl ∙ sym is
@@ -340,7 +340,7 @@ unfolding sender.wl1_after
 wl1_is p e segment m is_syn_acked =
     ap (λ b. if b then first_of p.cisn segment else p.wl1) (moves_is p e segment m)
     ∙ if_when (uses_window e segment) (first_of p.cisn segment) (first e segment +ℤ pos p.fetched) p.wl1 (offset_of e.receiving.irs e.sending.wl1 +ℤ pos p.fetched)
-    (λ h. first_is p e segment m (accepts_acknowledged e segment (uses_acknowledges e segment h)))
+    (λ h. first_is p e segment m (uses_of_acknowledged e segment (uses_acknowledges e segment h)))
     (λ h. m.sends.wl1 (syn_acked_before e segment is_syn_acked h))
     ∙ sym (plus_choice (uses_window e segment) (first e segment) (offset_of e.receiving.irs e.sending.wl1) (pos p.fetched))
 
@@ -370,29 +370,30 @@ point_after segment p = record p {
 }
 
 receives_after : (p : Point) (e after : Tcb) (segment : Segment) → Meets p e segment → after.receiving ≡ taken_by e segment → ReceivesAt (point_after segment p) after
-unfolding taken_by
+unfolding with_came model.taken_after model.fin_after
 receives_after p e after segment m receiving =
     let r : ReceivesAt p e = m.receives in
-    let irs : after.receiving.irs ≡ e.receiving.irs = ap (λ (q : Receiving). q.irs) receiving in
-    let limit : after.receiving.limit ≡ e.receiving.limit = ap (λ (q : Receiving). q.limit) receiving in
-    let read : after.receiving.read ≡ e.receiving.read = ap (λ (q : Receiving). q.read) receiving in
-    let unread : after.receiving.unread ≡ unread_after e segment = ap (λ (q : Receiving). q.unread) receiving in
-    let fin : after.receiving.fin ≡ (e.receiving.fin || takes_fin e segment) = ap (λ (q : Receiving). q.fin) receiving in
+    let is : after.receiving ≡ with_came e.receiving (brought e segment) = receiving ∙ taken_by_is e segment in
+    let irs : after.receiving.irs ≡ e.receiving.irs = ap (λ (q : Receiving). q.irs) is in
+    let limit : after.receiving.limit ≡ e.receiving.limit = ap (λ (q : Receiving). q.limit) is in
+    let read : after.receiving.read ≡ e.receiving.read = ap (λ (q : Receiving). q.read) is in
+    let unread : after.receiving.unread ≡ e.receiving.unread ++ (brought e segment).added = ap (λ (q : Receiving). q.unread) is in
+    let added : (model.came p segment).added ≡ (brought e segment).added = ap (λ (c : Came). c.added) (came_is p e segment m) in
     record {
       cisn = irs ∙ r.cisn;
       limit = ap (λ n. n + p.fetched) limit ∙ r.limit;
       read = r.read ∙ ap (λ n. n + p.fetched) (sym read);
-      long = long_is p e segment m ∙ (λ i. sym read i + length (sym unread i) + p.fetched);
-      unread = (λ i. drop (read i + p.fetched) (taken_is p e segment m i))
-          ∙ grown_rest (continues e segment) p.taken e.receiving.unread (brought e segment) e.receiving.read p.fetched r.unread r.long ∙ sym unread;
-      fin = fin_is p e segment m ∙ sym fin;
+      long = (λ i. length (p.taken ++ added i)) ∙ grown_long p.taken e.receiving.unread (brought e segment).added e.receiving.read p.fetched r.long
+          ∙ (λ i. sym read i + length (sym unread i) + p.fetched);
+      unread = (λ i. drop (read i + p.fetched) (p.taken ++ added i))
+          ∙ grown_rest p.taken e.receiving.unread (brought e segment).added e.receiving.read p.fetched r.unread r.long ∙ sym unread;
+      fin = ap (λ (c : Came). c.fin) (came_is p e segment m) ∙ sym (ap (λ (q : Receiving). q.fin) is);
     }
 
 sends_after : (p : Point) (e after : Tcb) (segment : Segment) → Meets p e segment → after.receiving ≡ taken_by e segment → IsSentBy e segment after.sending
     → after.sending.mss ≡ e.sending.mss → SendsAt (point_after segment p) after
-unfolding taken_by
 sends_after p e after segment m receiving sending mss =
-    let irs : after.receiving.irs ≡ e.receiving.irs = ap (λ (q : Receiving). q.irs) receiving in
+    let irs : after.receiving.irs ≡ e.receiving.irs = ap (λ (q : Receiving). q.irs) receiving ∙ (taken_within e segment).irs in
     record {
       sisn = m.sends.sisn ∙ sym sending.iss;
       mss = m.sends.mss ∙ sym mss;

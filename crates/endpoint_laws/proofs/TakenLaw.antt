@@ -1,21 +1,22 @@
 -- The checks on a segment, one by one, take what the law Taken says.
-use Rattle.std.proofs.Common.{◌≡◌, ℕ, ◌≤◌, ◌+◌, ◌-◌, ◌^◌, Bool, true, false, not, List, ◌++◌, length, take, drop, refl, sym, ap, arith, ◌∙◌}
-use Rattle.std.specs.Prelude.{ℤ, pos, ◌+ℤ◌, ◌-ℤ◌, ◌≤ℤ◌, ◌&&◌, ◌||◌, nat_lt, int_lt, int_le, if◌then◌else◌}
+use Rattle.std.proofs.Common.{◌≡◌, ℕ, ◌≤◌, ◌+◌, ◌-◌, ◌^◌, Bool, true, false, not, refl, sym, ap, arith, ◌∙◌}
+use Rattle.std.specs.Prelude.{ℤ, pos, ◌-ℤ◌, ◌≤ℤ◌, ◌&&◌, ◌||◌, nat_lt, int_lt, int_le, if◌then◌else◌}
 use Rattle.std.proofs.lemmas.Int.{ints}
 use Rattle.std.proofs.lemmas.Bool.{false≢true}
 use Rattle.seq_arith.specs.Number.{offset_of}
-use Rattle.seq_arith.specs.Arrival.{int_eq, is_acceptable, below}
+use Rattle.seq_arith.specs.Arrival.{int_eq, is_acceptable_or_at_edge, is_allowed_at_zero, is_usable}
 use Rattle.seq_arith.specs.Packet.{Segment, has_fin, has_syn, has_rst, has_ack}
 use Rattle.seq_arith.specs.Offset.{one_if, length_of, text_of, fin_of}
 use Rattle.tcp_buffers.specs.Near.{is_ahead}
 use Rattle.tcp_endpoint.specs.declared.states.StateName.{StateName}
 use Rattle.tcp_endpoint.specs.declared.states.StateName.TheVariants.{Closed, Listen, SynSent, SynReceived, Established, FinWait1, FinWait2, CloseWait, Closing, LastAck, TimeWait}
 use Rattle.tcp_endpoint.specs.States.{after_syn_acked, after_fin, after_fin_acked, has_begun}
-use Rattle.tcp_endpoint.specs.Receiving.{Receiving, taken, next, receive_edge, announced_edge, window, with_text, with_fin, with_segment}
+use Rattle.tcp_endpoint.specs.Receiving.{Receiving, next, announced_edge, window, with_segment}
 use Rattle.tcp_endpoint.specs.Sending.{with_syn_acked, acknowledged, fin_acked}
 use Rattle.tcp_endpoint.specs.Tcb.{Tcb}
 use Rattle.tcp_endpoint.specs.Arrival.{first, ack_at, owing_if, killed, entering, with_text_and_fin, with_fin_acked, with_first_ack, with_ack, check_ack, check_syn, check_rst, waiting_again, check_place, in_others, received_in, received, refusing}
-use Rattle.endpoint_laws.specs.Laws.{accepts, counts, continues, taken_by, IsBounded, IsUsual}
+use Rattle.tcp_endpoint.specs.Arrival as check
+use Rattle.endpoint_laws.specs.Laws.{accepts, uses, counts, taken_by, IsBounded, IsUsual}
 use Rattle.ft_io.proofs.Booleans.{and_true}
 
 -- a choice that makes no difference to a part
@@ -27,10 +28,14 @@ pub same_if : {X : Type 0} (b : Bool) (x : X) → (if b then x else x) ≡ x
 same_if true x = refl
 same_if false x = refl
 
+-- the first check lets a segment go on to the others
+abbrev pub goes_on : Tcb → Segment → Bool
+goes_on e p = check.accepts e p || check.is_allowed e p
+
 -- what the checks choose, by their tests in the order of the checks
-abbrev pub by_checks : {X : Type 0} → (acceptable rst syn ack syn_acked acks_syn : Bool) → X → X → X → X
-by_checks acceptable rst syn ack syn_acked acks_syn later first_one other =
-    if acceptable
+abbrev pub by_checks : {X : Type 0} → (goes rst syn ack syn_acked acks_syn : Bool) → X → X → X → X
+by_checks goes rst syn ack syn_acked acks_syn later first_one other =
+    if goes
     then (if rst then other else (if syn then other else (if ack then (if syn_acked then later else (if acks_syn then first_one else other)) else other)))
     else other
 
@@ -73,12 +78,11 @@ pub record Aside {X : Type 0} (f : Tcb → X) : Type 0 where
   pub owing : (b : Bool) (e : Tcb) → f (owing_if b e) ≡ f e
   pub waiting : (e : Tcb) (p : Segment) → f (waiting_again e p) ≡ f e
 
-place_part : {X : Type 0} (f : Tcb → X) (e : Tcb) (p : Segment) → Aside f
-    → f (check_place e p) ≡ (if is_acceptable (next e.receiving) (window e.receiving) (first e p) (length_of p) then f (check_rst e p) else f e)
+place_part : {X : Type 0} (f : Tcb → X) (e : Tcb) (p : Segment) → Aside f → f (check_place e p) ≡ (if goes_on e p then f (check_rst e p) else f e)
 unfolding check_place
 place_part f e p aside =
-    part_of_if f (is_acceptable (next e.receiving) (window e.receiving) (first e p) (length_of p)) (check_rst e p) (owing_if (not (has_rst p)) e)
-    ∙ ap (λ x. if is_acceptable (next e.receiving) (window e.receiving) (first e p) (length_of p) then f (check_rst e p) else x) (aside.owing (not (has_rst p)) e)
+    part_of_if f (goes_on e p) (check_rst e p) (owing_if (not (has_rst p)) e)
+    ∙ ap (λ x. if goes_on e p then f (check_rst e p) else x) (aside.owing (not (has_rst p)) e)
 
 reset_part : {X : Type 0} (f : Tcb → X) (e : Tcb) (b : Bool) → Aside f → f (if b then killed e else owing_if true e) ≡ f e
 reset_part f e true aside = aside.killed e
@@ -110,21 +114,21 @@ at_ack e p = owing_if (nat_lt 0 (length_of p)) (waiting_again e p)
 
 pub others_part : {X : Type 0} (f : Tcb → X) (e : Tcb) (p : Segment) → Aside f
     → f (in_others e p)
-    ≡ (if is_acceptable (next e.receiving) (window e.receiving) (first e p) (length_of p)
+    ≡ (if goes_on e p
     then (if has_rst p then f e else (if has_syn p then f e else (if has_ack p then (if e.sending.syn_acked then f (with_ack (at_ack e p) p) else f (with_first_ack (at_ack e p) p)) else f e)))
     else f e)
-unfolding in_others waiting_again
+unfolding in_others waiting_again check.accepts check.is_allowed
 others_part f e p aside =
     let e0 : Tcb = waiting_again e p in
-    place_part f e0 p aside ∙ if_when (is_acceptable (next e.receiving) (window e.receiving) (first e p) (length_of p)) _ _ _ _
-    (λ acceptable. rst_part f e0 p aside ∙ if_when (has_rst p) _ _ _ _
+    place_part f e0 p aside ∙ if_when (goes_on e p) _ _ _ _
+    (λ goes. rst_part f e0 p aside ∙ if_when (has_rst p) _ _ _ _
     (λ h. aside.waiting e p)
     (λ no_rst. syn_part f e0 p aside ∙ if_when (has_syn p) _ _ _ _
     (λ h. aside.waiting e p)
     (λ no_syn. ack_part f (at_ack e p) p ∙ if_when (has_ack p) _ _ _ _
     (λ h. refl)
     (λ h. aside.owing (nat_lt 0 (length_of p)) e0 ∙ aside.waiting e p))))
-    (λ unacceptable. aside.waiting e p)
+    (λ stays. aside.waiting e p)
 
 -- the receiving half, step by step
 text_part : (e : Tcb) (p : Segment) → (with_text_and_fin e p).receiving ≡ segment_taken e p
@@ -163,12 +167,12 @@ receiving_aside = record { killed = λ e. refl; owing = λ b e. refl; waiting = 
 
 checks_take : (e : Tcb) (p : Segment) → IsBounded e → IsUsual e p
     → (in_others e p).receiving
-    ≡ by_checks (is_acceptable (next e.receiving) (window e.receiving) (first e p) (length_of p)) (has_rst p) (has_syn p) (has_ack p) e.sending.syn_acked
+    ≡ by_checks (goes_on e p) (has_rst p) (has_syn p) (has_ack p) e.sending.syn_acked
     (int_eq (ack_at e p) (pos 0)) (segment_taken e p) (segment_taken e p) e.receiving
 unfolding waiting_again
 checks_take e p bounded usual =
-    others_part (λ (t : Tcb). t.receiving) e p receiving_aside ∙ if_when (is_acceptable (next e.receiving) (window e.receiving) (first e p) (length_of p)) _ _ _ _
-    (λ acceptable. if_when (has_rst p) _ _ _ _ (λ h. refl)
+    others_part (λ (t : Tcb). t.receiving) e p receiving_aside ∙ if_when (goes_on e p) _ _ _ _
+    (λ goes. if_when (has_rst p) _ _ _ _ (λ h. refl)
     (λ no_rst. if_when (has_syn p) _ _ _ _ (λ h. refl)
     (λ no_syn. if_when (has_ack p) _ _ _ _
     (λ is_ack. if_when e.sending.syn_acked _ _ _ _
@@ -177,24 +181,38 @@ checks_take e p bounded usual =
     (λ h. refl))))
     (λ h. refl)
 
-off_by : {X : Type 0} (a b : Bool) (x y : X) → y ≡ (if true && a && false && b then x else y)
-off_by true b x y = refl
-off_by false b x y = refl
+-- a segment with RST or SYN, or without ACK, doesn't count
+off_rst : {X : Type 0} (ack syn used acked : Bool) (x y : X) → y ≡ (if ack && not syn && not true && used && acked then x else y)
+off_rst true true used acked x y = refl
+off_rst true false used acked x y = refl
+off_rst false syn used acked x y = refl
+
+off_syn : {X : Type 0} (ack used acked : Bool) (x y : X) → y ≡ (if ack && not true && not false && used && acked then x else y)
+off_syn true used acked x y = refl
+off_syn false used acked x y = refl
+
+-- one that does, by whether an acknowledgement has counted before
+later_by_law : {X : Type 0} (acceptable at_zero : Bool) (x y : X) → (if acceptable || (at_zero && true) then x else y) ≡ (if (acceptable || at_zero) && true then x else y)
+later_by_law true at_zero x y = refl
+later_by_law false true x y = refl
+later_by_law false false x y = refl
+
+first_by_law : {X : Type 0} (acceptable at_zero acks_syn : Bool) (x y : X)
+    → (if acceptable || (at_zero && acks_syn) then (if acks_syn then x else y) else y) ≡ (if (acceptable || at_zero) && acks_syn then x else y)
+first_by_law true at_zero acks_syn x y = refl
+first_by_law false true true x y = refl
+first_by_law false true false x y = refl
+first_by_law false false acks_syn x y = refl
 
 -- the choice of the checks, in the law's one test
-by_law : {X : Type 0} (acceptable rst syn ack syn_acked acks_syn acked : Bool) (x y : X) → (ack ≡ true → syn_acked ≡ false → acks_syn ≡ acked)
-    → by_checks acceptable rst syn ack syn_acked acks_syn x x y ≡ (if ack && not syn && not rst && acceptable && (syn_acked || acked) then x else y)
-by_law true true true true syn_acked acks_syn acked x y same = refl
-by_law true true true false syn_acked acks_syn acked x y same = refl
-by_law true true false true syn_acked acks_syn acked x y same = refl
-by_law true true false false syn_acked acks_syn acked x y same = refl
-by_law true false true true syn_acked acks_syn acked x y same = refl
-by_law true false true false syn_acked acks_syn acked x y same = refl
-by_law true false false true true acks_syn acked x y same = refl
-by_law true false false true false acks_syn acked x y same = ap (λ b. if b then x else y) (same refl refl)
-by_law true false false false syn_acked acks_syn acked x y same = refl
-by_law false rst syn true syn_acked acks_syn acked x y same = off_by (not syn && not rst) (syn_acked || acked) x y
-by_law false rst syn false syn_acked acks_syn acked x y same = refl
+pub by_law : {X : Type 0} (acceptable at_zero rst syn ack syn_acked acks_syn acked : Bool) (x x' y : X) → (ack ≡ true → syn_acked ≡ false → acks_syn ≡ acked)
+    → by_checks (acceptable || (at_zero && (syn_acked || acks_syn))) rst syn ack syn_acked acks_syn x x' y
+    ≡ (if ack && not syn && not rst && (acceptable || at_zero) && (syn_acked || acked) then (if syn_acked then x else x') else y)
+by_law a z true syn ack o k q x x' y same = same_if (a || (z && (o || k))) y ∙ off_rst ack syn (a || z) (o || q) (if o then x else x') y
+by_law a z false true ack o k q x x' y same = same_if (a || (z && (o || k))) y ∙ off_syn ack (a || z) (o || q) (if o then x else x') y
+by_law a z false false true true k q x x' y same = later_by_law a z x y
+by_law a z false false true false k q x x' y same = first_by_law a z k x' y ∙ ap (λ b. if (a || z) && b then x' else y) (same refl refl)
+by_law a z false false false o k q x x' y same = same_if (a || (z && (o || k))) y
 
 -- the window is what is announced beyond RCV.NXT
 pub window_is : (r : Receiving) → announced_edge r - next r ≡ window r
@@ -206,53 +224,6 @@ text_whole p no_syn no_rst = rw (no_syn, no_rst) refl
 
 fin_whole : (p : Segment) → has_syn p ≡ false → has_rst p ≡ false → fin_of p ≡ has_fin p
 fin_whole p no_syn no_rst = rw (no_syn, no_rst) (and_true (has_fin p))
-
--- what a segment brings, by the law's sentences
-abbrev unread_by : Bool → Receiving → ℤ → List ℕ → List ℕ
-unread_by continues r z text = if continues then r.unread ++ take (receive_edge r - taken r) (drop (below (taken r) z) text) else r.unread
-
-abbrev by_sentences : Bool → Receiving → ℤ → List ℕ → Bool → Receiving
-by_sentences continues r z text fin = record r {
-  unread = unread_by continues r z text;
-  fin = r.fin
-      || (continues && fin && int_eq (z +ℤ pos (length text)) (pos (r.read + length (unread_by continues r z text)))
-      && nat_lt (r.read + length (unread_by continues r z text)) (receive_edge r));
-}
-
-abbrev receiver : (irs read : ℕ) → List ℕ → Bool → ℕ → Receiving
-receiver irs read unread fin limit = record { irs = irs; read = read; unread = unread; fin = fin; limit = limit }
-
-gap_cases : (irs read : ℕ) (unread : List ℕ) (limit : ℕ) (z : ℤ) (text : List ℕ) (fin gap : Bool)
-    → (if gap then receiver irs read unread false limit
-    else with_fin (with_text (receiver irs read unread false limit) z text) (z +ℤ pos (length text)) fin)
-    ≡ by_sentences (not gap) (receiver irs read unread false limit) z text fin
-unfolding with_fin with_text
-gap_cases irs read unread limit z text fin true = refl
-gap_cases irs read unread limit z text fin false = refl
-
-no_gap_is : (n : ℕ) (z : ℤ) → not (int_lt (pos n) z) ≡ int_le z (pos n)
-no_gap_is n z = grind (arith, ints)
-
-syn_acked_part : (irs read : ℕ) (unread : List ℕ) (had_fin : Bool) (limit : ℕ) (z : ℤ) (text : List ℕ) (fin : Bool)
-    → with_segment (receiver irs read unread had_fin limit) z text fin
-    ≡ by_sentences (not had_fin && int_le z (pos (read + length unread))) (receiver irs read unread had_fin limit) z text fin
-unfolding with_segment
-syn_acked_part irs read unread true limit z text fin = refl
-syn_acked_part irs read unread false limit z text fin =
-    gap_cases irs read unread limit z text fin (int_lt (pos (read + length unread)) z)
-    ∙ ap (λ b. by_sentences b (receiver irs read unread false limit) z text fin) (no_gap_is (read + length unread) z)
-
-syn_unacked_part : (irs read : ℕ) (unread : List ℕ) (had_fin : Bool) (limit : ℕ) (z : ℤ) (text : List ℕ) (fin : Bool)
-    → receiver irs read unread had_fin limit ≡ by_sentences false (receiver irs read unread had_fin limit) z text fin
-syn_unacked_part irs read unread true limit z text fin = refl
-syn_unacked_part irs read unread false limit z text fin = refl
-
-sentences : (r : Receiving) (z : ℤ) (counts : Bool) (payload text : List ℕ) (has_fin fin : Bool) → (counts ≡ true → payload ≡ text) → (counts ≡ true → has_fin ≡ fin)
-    → (if counts then with_segment r z payload has_fin else r) ≡ by_sentences (counts && not r.fin && int_le z (pos (taken r))) r z text fin
-sentences r z true payload text has_fin fin same_text same_fin =
-    ap (λ t. with_segment r z t has_fin) (same_text refl) ∙ ap (λ b. with_segment r z text b) (same_fin refl)
-    ∙ syn_acked_part r.irs r.read r.unread r.fin r.limit z text fin
-sentences r z false payload text has_fin fin same_text same_fin = syn_unacked_part r.irs r.read r.unread r.fin r.limit z text fin
 
 -- with the SYN alone sent, only its acknowledgement isn't below
 pub syn_only : (e : Tcb) (p : Segment) → ack_at e p ≤ℤ pos e.sending.sent → e.sending.sent ≡ 0 → int_eq (ack_at e p) (pos 0) ≡ int_le (pos 0) (ack_at e p)
@@ -270,24 +241,41 @@ pub dull_most : (syn rst a b : Bool) → (false && not syn && not rst && a && b)
 dull_most syn rst a b h = h
 
 -- what counts has neither SYN nor RST
-pub counts_plain : (ack syn rst acceptable acked : Bool) → (ack && not syn && not rst && acceptable && acked) ≡ true → (syn ≡ false) × (rst ≡ false)
-counts_plain true false false acceptable acked h = (refl, refl)
-counts_plain true false true acceptable acked h = absurd (false≢true (dull acceptable acked h))
-counts_plain true true rst acceptable acked h = absurd (false≢true (dull_more rst acceptable acked h))
-counts_plain false syn rst acceptable acked h = absurd (false≢true (dull_most syn rst acceptable acked h))
+pub counts_plain : (ack syn rst used acked : Bool) → (ack && not syn && not rst && used && acked) ≡ true → (syn ≡ false) × (rst ≡ false)
+counts_plain true false false used acked h = (refl, refl)
+counts_plain true false true used acked h = absurd (false≢true (dull used acked h))
+counts_plain true true rst used acked h = absurd (false≢true (dull_more rst used acked h))
+counts_plain false syn rst used acked h = absurd (false≢true (dull_most syn rst used acked h))
+
+-- the first check goes by the law's words
+pub accepts_same : (e : Tcb) (p : Segment) → check.accepts e p ≡ accepts e p
+unfolding check.accepts
+accepts_same e p = λ i. is_acceptable_or_at_edge (next e.receiving) (sym (window_is e.receiving) i) (first e p) (length_of p)
+
+-- what the checks choose, in the words of the law
+pub chosen_is : {X : Type 0} (e : Tcb) (p : Segment) (later first_one other : X) → IsBounded e → IsUsual e p
+    → by_checks (goes_on e p) (has_rst p) (has_syn p) (has_ack p) e.sending.syn_acked (int_eq (ack_at e p) (pos 0)) later first_one other
+    ≡ (if counts e p then (if e.sending.syn_acked then later else first_one) else other)
+unfolding check.accepts check.is_allowed
+chosen_is {X = X} e p later first_one other bounded usual =
+    let acked : Bool = int_le (pos 0) (ack_at e p) in
+    let chosen : ℕ → X = λ w.
+    if has_ack p && not (has_syn p) && not (has_rst p) && is_usable (next e.receiving) w (first e p) (length_of p) && (e.sending.syn_acked || acked)
+    then (if e.sending.syn_acked then later else first_one)
+    else other in
+    by_law (check.accepts e p) (is_allowed_at_zero (next e.receiving) (window e.receiving) (first e p)) (has_rst p) (has_syn p) (has_ack p) e.sending.syn_acked
+    (int_eq (ack_at e p) (pos 0)) acked later first_one other
+    (λ is_ack syn_unacked. syn_only e p (usual.sent is_ack) (bounded.syn_unacked syn_unacked))
+    ∙ ap chosen (sym (window_is e.receiving))
 
 pub taken_law : (e : Tcb) (p : Segment) → has_begun e.name ≡ true → IsBounded e → IsUsual e p → (received e p).receiving ≡ taken_by e p
 unfolding received taken_by
 taken_law e p begun bounded usual =
-    let acceptable : ℕ → Bool = λ w. is_acceptable (next e.receiving) w (first e p) (length_of p) in
-    let acked : Bool = int_le (pos 0) (ack_at e p) in
-    let chosen : ℕ → Receiving = λ w.
-    if has_ack p && not (has_syn p) && not (has_rst p) && acceptable w && (e.sending.syn_acked || acked) then segment_taken e p else e.receiving in
+    let r : Receiving = e.receiving in
     let plain : counts e p ≡ true → (has_syn p ≡ false) × (has_rst p ≡ false) =
-    λ h. counts_plain (has_ack p) (has_syn p) (has_rst p) (accepts e p) (e.sending.syn_acked || acked) h in
+    λ h. counts_plain (has_ack p) (has_syn p) (has_rst p) (uses e p) (e.sending.syn_acked || int_le (pos 0) (ack_at e p)) h in
     ap (λ (t : Tcb). t.receiving) (begun_is e.name e p begun) ∙ checks_take e p bounded usual
-    ∙ by_law (acceptable (window e.receiving)) (has_rst p) (has_syn p) (has_ack p) e.sending.syn_acked (int_eq (ack_at e p) (pos 0)) acked (segment_taken e p) e.receiving
-    (λ is_ack syn_unacked. syn_only e p (usual.sent is_ack) (bounded.syn_unacked syn_unacked))
-    ∙ ap chosen (sym (window_is e.receiving))
-    ∙ sentences e.receiving (first e p) (counts e p) p.payload (text_of p) (has_fin p) (fin_of p)
-    (λ h. sym (text_whole p (plain h).0 (plain h).1)) (λ h. sym (fin_whole p (plain h).0 (plain h).1))
+    ∙ chosen_is e p (segment_taken e p) (segment_taken e p) r bounded usual
+    ∙ if_when (counts e p) _ _ r r
+    (λ h. same_if e.sending.syn_acked (segment_taken e p)
+    ∙ (λ i. with_segment r (first e p) (sym (text_whole p (plain h).0 (plain h).1) i) (sym (fin_whole p (plain h).0 (plain h).1) i))) (λ h. refl)

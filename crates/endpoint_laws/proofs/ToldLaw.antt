@@ -2,19 +2,19 @@
 use Rattle.std.proofs.Common.{◌≡◌, ℕ, ◌≤◌, ◌+◌, ◌-◌, Bool, true, false, not, List, ◌++◌, length, length-append, max, min, refl, sym, ap, arith, ◌∙◌}
 use Rattle.std.specs.Prelude.{pos, ◌==◌, ◌&&◌, ◌||◌, nat_lt, int_lt, if◌then◌else◌}
 use Rattle.std.proofs.lemmas.Bool.{false≢true, and_parts}
-use Rattle.seq_arith.specs.Arrival.{int_eq, is_acceptable}
+use Rattle.seq_arith.specs.Arrival.{int_eq}
 use Rattle.seq_arith.specs.Packet.{Segment, has_syn, has_rst, has_ack}
-use Rattle.seq_arith.specs.Offset.{one_if, length_of}
+use Rattle.seq_arith.specs.Offset.{one_if}
 use Rattle.tcp_buffers.specs.Near.{is_ahead}
 use Rattle.tcp_endpoint.specs.States.{after_syn_acked, after_fin, after_fin_acked, is_syn_sent, has_begun}
-use Rattle.tcp_endpoint.specs.Receiving.{next, window, announced_edge}
+use Rattle.tcp_endpoint.specs.Receiving.{next, announced_edge}
 use Rattle.tcp_endpoint.specs.Sending.{Sending, with_syn_acked, acknowledged, fin_acked, target, sendable, sends_fin, must_run, timed, expires, ticked, with_sent, with_fin_sent}
 use Rattle.tcp_endpoint.specs.Tcb.{Tcb}
 use Rattle.tcp_endpoint.specs.Arrival.{first, ack_at, owing_if, entering, with_text_and_fin, with_fin_acked, with_first_ack, with_ack, waiting_again, received, refusing}
 use Rattle.tcp_endpoint.specs.Leaving.{or_bare, is_owed, bare_segment, full_out, leaving, probes_text, probes_fin, with_probe, with_text_sent, with_fin_out, after_full, announced, is_timed, with_turn_ended, flushed}
 use Rattle.tcp_endpoint.specs.Turning.{after_tick, timer_ticked, waited, after_write}
 use Rattle.endpoint_laws.specs.Laws.{is_refused, owes, told, asks, IsBounded, IsUsual, ProbesRightly, IsShut}
-use Rattle.endpoint_laws.proofs.TakenLaw.{part_of_if, same_if, if_when, begun_is, Aside, at_ack, others_part, segment_taken}
+use Rattle.endpoint_laws.proofs.TakenLaw.{part_of_if, same_if, if_when, begun_is, goes_on, Aside, at_ack, others_part, segment_taken}
 use Rattle.endpoint_laws.proofs.OwedLaw.{owed_law}
 use Rattle.endpoint_laws.proofs.Bounding.{text_facts, two_more_off, three_off, four_off}
 use Rattle.endpoint_laws.proofs.TurnLaw.{after_steps, sent_law, timed_sent, by_probe}
@@ -92,7 +92,7 @@ pub told_by_segment : (e : Tcb) (p : Segment) → has_begun e.name ≡ true → 
 unfolding received waiting_again
 told_by_segment e p begun =
     ap told (begun_is e.name e p begun) ∙ others_part told e p told_aside
-    ∙ all_same (is_acceptable (next e.receiving) (window e.receiving) (first e p) (length_of p)) (has_rst p) (has_syn p) (has_ack p) e.sending.syn_acked
+    ∙ all_same (goes_on e p) (has_rst p) (has_syn p) (has_ack p) e.sending.syn_acked
     (told (with_ack (at_ack e p) p)) (told (with_first_ack (at_ack e p) p)) (told e) (later_ack_part (at_ack e p) p) (first_ack_part (at_ack e p) p)
 
 -- a probe is due where the timer expires with all acknowledged

@@ -4,7 +4,7 @@ use Rattle.std.specs.Prelude.{ℤ, pos, ◌+ℤ◌, ◌==◌, ◌&&◌, ◌||◌
 use Rattle.std.specs.Bool.{MatchBool}
 use Rattle.std.proofs.lemmas.Bool.{false≢true}
 use Rattle.std.proofs.lemmas.Int.{ints}
-use Rattle.seq_arith.specs.Arrival.{int_eq, is_acceptable}
+use Rattle.seq_arith.specs.Arrival.{int_eq}
 use Rattle.seq_arith.specs.Offset.{fin_of, length_of, one_if}
 use Rattle.seq_arith.specs.Packet.{Segment, has_fin, has_syn, has_rst, has_ack}
 use Rattle.ft_model.specs.News.{News}
@@ -13,7 +13,7 @@ use Rattle.tcp_buffers.specs.Near.{is_ahead}
 use Rattle.tcp_endpoint.specs.declared.states.StateName.{StateName}
 use Rattle.tcp_endpoint.specs.declared.states.StateName.TheVariants.{Closed, Listen, SynSent, SynReceived, Established, FinWait1, FinWait2, CloseWait, Closing, LastAck, TimeWait}
 use Rattle.tcp_endpoint.specs.States.{after_syn_acked, after_close, after_fin, after_fin_acked, is_time_wait, has_begun}
-use Rattle.tcp_endpoint.specs.Receiving.{Receiving, next, taken, window, with_segment}
+use Rattle.tcp_endpoint.specs.Receiving.{next, taken, with_segment}
 use Rattle.tcp_endpoint.specs.Sending.{Sending, with_syn_acked, acknowledged, fin_acked, expires, ticked, timed}
 use Rattle.tcp_endpoint.specs.Tcb.{Tcb}
 use Rattle.tcp_endpoint.specs.Arrival.{first, ack_at, owing_if, killed, entering, refusing, with_text_and_fin, with_fin_acked, with_first_ack, with_ack, check_ack, check_syn, check_rst, repeats_fin, waiting_again, check_place, in_others, received}
@@ -23,10 +23,10 @@ use Rattle.endpoint_laws.specs.Turn.{Call, Events, IsBetweenTurns, arrived, call
 use Rattle.endpoint_laws.specs.Turn.Call.{Reads, Writes, Closes}
 use Rattle.endpoint_laws.specs.Ending.{IsNamedRightly, resets}
 use Rattle.endpoint_laws.specs.Waiting.{time_wait_ticks, brings_fin_again, ticks_after, WaitsOut}
-use Rattle.endpoint_laws.proofs.TakenLaw.{begun_is}
+use Rattle.endpoint_laws.proofs.TakenLaw.{begun_is, goes_on}
 use Rattle.endpoint_laws.proofs.TurnLaw.{after_steps}
 use Rattle.endpoint_laws.proofs.SegmentsLaw.{kept}
-use Rattle.endpoint_laws.proofs.EndingLaw.{IsPlaced, FollowsAt, flushed_name, reset_closed, unreset_follows}
+use Rattle.endpoint_laws.proofs.EndingLaw.{IsPlaced, FollowsAt, stays_taken, flushed_name, reset_closed, unreset_follows}
 use Rattle.ft_io.proofs.Choices.{by_cases, holds_if}
 use Rattle.endpoint_laws.proofs.Listening.{closed_by_calls}
 
@@ -105,7 +105,7 @@ unfolding in_others check_place waiting_again
 enters_others e p out =
     let m : Tcb = waiting_again e p in
     let h : Enters m = outside m out in
-    holds_if Enters (is_acceptable (next e.receiving) (window e.receiving) (first e p) (length_of p)) (check_rst m p) (owing_if (not (has_rst p)) m)
+    holds_if Enters (goes_on m p) (check_rst m p) (owing_if (not (has_rst p)) m)
     (λ b. enters_rst m p h) (λ b. h)
 
 ticked_outside : (e : Tcb) → is_time_wait e.name ≡ false → Enters (after_tick e)
@@ -147,14 +147,6 @@ record Waits (wait : ℕ) (t : Tcb) : Type 0 where
   syn_acked_is : t.sending.syn_acked ≡ true
   fin : t.receiving.fin ≡ true
 
-first_if : (a b : Bool) (x y : Receiving) → a ≡ true → (if a || b then x else y) ≡ x
-first_if true b x y h = refl
-first_if false b x y h = absurd (false≢true h)
-
-taken_already : (r : Receiving) (first : ℤ) (text : List ℕ) (fin : Bool) → r.fin ≡ true → with_segment r first text fin ≡ r
-unfolding with_segment
-taken_already r first text fin h = first_if r.fin (int_lt (pos (taken r)) first) r _ h
-
 not_anew : (a b : Bool) → b ≡ true → (a && not b) ≡ false
 not_anew true true h = refl
 not_anew true false h = absurd (false≢true h)
@@ -167,10 +159,9 @@ waits_text wait e p w =
       receiving = with_segment e.receiving (first e p) p.payload (has_fin p);
       owed = e.owed || int_lt (pos (next e.receiving)) (first e p);
     } in
-    let same : taking.receiving ≡ e.receiving = taken_already e.receiving (first e p) p.payload (has_fin p) w.fin in
     holds_if (Waits wait) (taking.receiving.fin && not e.receiving.fin) (entering (after_fin e.name) taking) taking
     (λ b. absurd (false≢true (sym (not_anew taking.receiving.fin e.receiving.fin w.fin) ∙ b)))
-    (λ b. record { name = w.name; wait_is = w.wait_is; syn_acked_is = w.syn_acked_is; fin = ap (λ (r : Receiving). r.fin) same ∙ w.fin })
+    (λ b. record { name = w.name; wait_is = w.wait_is; syn_acked_is = w.syn_acked_is; fin = stays_taken e.receiving (first e p) p.payload (has_fin p) w.fin })
 
 still_there : (e : Tcb) (name : StateName) → e.name ≡ TimeWait → name ≡ TimeWait → (if is_time_wait name && not (is_time_wait e.name) then 4 else e.wait) ≡ e.wait
 still_there e name here there = λ i. if is_time_wait (there i) && not (is_time_wait (here i)) then 4 else e.wait
@@ -222,7 +213,7 @@ waits_others : (wait : ℕ) (e : Tcb) (p : Segment) → (has_rst p && int_eq (fi
 unfolding in_others check_place waiting_again
 waits_others wait e p unreset w =
     let m : Tcb = waiting_again e p in
-    holds_if (Waits wait) (is_acceptable (next e.receiving) (window e.receiving) (first e p) (length_of p)) (check_rst m p) (owing_if (not (has_rst p)) m)
+    holds_if (Waits wait) (goes_on m p) (check_rst m p) (owing_if (not (has_rst p)) m)
     (λ b. waits_rst wait m p unreset w) (λ b. owing_waits wait m (m.owed || not (has_rst p)) w)
 
 -- the peer's FIN is the unit before RCV.NXT

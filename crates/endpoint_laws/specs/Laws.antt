@@ -2,7 +2,7 @@
 -- `Arrival` and `Leaving`: Taken and Sending, when a segment without data is owed, and the timer. `Standing` leads from here to the model's own
 -- definitions, for passive opens; these hold of active ones too. The receive edge keeps to the endpoint's limit in place of 2^24, and the target
 -- is the bytes written, and one more once the user has closed.
-use Rattle.std.specs.Prelude.{◌≡◌, ℕ, Bool, true, false, pos, ◌+◌, ◌-◌, ◌*◌, ◌^◌, ◌<◌, ◌≤◌, ◌+ℤ◌, ◌-ℤ◌, ◌≤ℤ◌, ◌==◌, ◌&&◌, ◌||◌, not, nat_lt, int_lt, int_le, max, min, nat_abs, List, ◌++◌, length, take, drop, if◌then◌else◌}
+use Rattle.std.specs.Prelude.{◌≡◌, ℕ, Bool, true, false, pos, ◌+◌, ◌-◌, ◌*◌, ◌^◌, ◌<◌, ◌≤◌, ◌-ℤ◌, ◌≤ℤ◌, ◌==◌, ◌&&◌, ◌||◌, not, nat_lt, int_lt, int_le, max, min, nat_abs, length, if◌then◌else◌}
 use Rattle.seq_arith.specs.Number.{offset_of}
 use Rattle.seq_arith.specs.Arrival.{int_eq, is_acceptable_or_at_edge, is_usable, una_after, updates_window}
 use Rattle.seq_arith.specs.Packet.{Segment, has_syn, has_rst, has_ack}

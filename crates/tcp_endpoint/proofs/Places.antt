@@ -3,10 +3,12 @@ use Rattle.std.proofs.Common.{◌≡◌, ℕ, ◌<◌, ◌≤◌, ◌+◌, ◌%�
 use Rattle.std.specs.Prelude.{ℤ, pos, ◌+ℤ◌, ◌≤ℤ◌, nat_eq, int_lt}
 use Rattle.std.proofs.lemmas.Int.{ints}
 use Rattle.seq_arith.specs.Number.{distance, number_at, offset_of, precedes, is_in_window}
-use Rattle.seq_arith.specs.Arrival.{int_eq, lies_in, is_acceptable, below}
+use Rattle.seq_arith.specs.Arrival.{int_eq, lies_in, is_acceptable, is_at_right_edge, is_acceptable_or_at_edge, is_allowed_at_zero, is_usable, below}
 use Rattle.seq_arith.proofs.Gaps.{offset_leads}
 use Rattle.tcp_buffers.specs.Near.{IsNearFirst}
 use Rattle.seq_arith.proofs.Shifts.{below_low}
+use Rattle.ft_io.proofs.Booleans.{or_other}
+use Rattle.ft_io.proofs.Choices.{by_cases}
 
 pub lies_in_window : (irs number next len : ℕ) → number < 2 ^ 32 → next ≤ 2 ^ 30 + 1 → len ≤ 2 ^ 17
     → is_in_window number (number_at irs next) len ≡ lies_in next len (offset_of irs number)
@@ -35,11 +37,6 @@ skipped irs number next small near first no_gap =
     let low : offset_of irs number ≤ℤ pos next = grind (arith, ints)
     in omega (arith, ints, offset_leads irs number small, below_low next (offset_of irs number) low)
 
-pub ends_at : (irs number n : ℕ) → number < 2 ^ 32 → n ≤ 2 ^ 17 → IsNearFirst (offset_of irs number)
-    → offset_of irs ((number + n) % 2 ^ 32) ≡ (offset_of irs number +ℤ pos n)
-ends_at irs number n small few first =
-    omega (arith, ints, offset_leads irs number small, offset_leads irs ((number + n) % 2 ^ 32) (omega arith))
-
 -- an acceptable segment begins near to the window
 pub near_of_acceptable : (next window : ℕ) (first : ℤ) (len : ℕ) → next ≤ 2 ^ 30 + 1 → window ≤ 2 ^ 16 → len ≤ 2 ^ 16
     → is_acceptable next window first len ≡ true → IsNearFirst first
@@ -48,3 +45,24 @@ near_of_acceptable next window first len near small short h = (grind (arith, int
 -- .. and so does one at a place of the receiver's
 pub near_of_place : (place : ℕ) (first : ℤ) → place ≤ 2 ^ 30 + 1 → int_eq first (pos place) ≡ true → IsNearFirst first
 near_of_place place first near h = (grind (arith, ints), grind (arith, ints))
+
+-- .. and so does one whose acknowledgement is used
+near_at_edge : (next window : ℕ) (first : ℤ) (len : ℕ) → next ≤ 2 ^ 30 + 1 → window ≤ 2 ^ 16 → is_at_right_edge next window first len ≡ true → IsNearFirst first
+unfolding is_at_right_edge
+near_at_edge next window first len near small h = (grind (arith, ints), grind (arith, ints))
+
+near_at_zero : (next window : ℕ) (first : ℤ) → next ≤ 2 ^ 30 + 1 → is_allowed_at_zero next window first ≡ true → IsNearFirst first
+unfolding is_allowed_at_zero
+near_at_zero next window first near h = (grind (arith, ints), grind (arith, ints))
+
+pub near_of_accepted : (next window : ℕ) (first : ℤ) (len : ℕ) → next ≤ 2 ^ 30 + 1 → window ≤ 2 ^ 16 → len ≤ 2 ^ 16
+    → is_acceptable_or_at_edge next window first len ≡ true → IsNearFirst first
+near_of_accepted next window first len near small short h =
+    by_cases (is_acceptable next window first len) (near_of_acceptable next window first len near small short)
+    (λ no. near_at_edge next window first len near small (or_other (is_acceptable next window first len) (is_at_right_edge next window first len) no h))
+
+pub near_of_usable : (next window : ℕ) (first : ℤ) (len : ℕ) → next ≤ 2 ^ 30 + 1 → window ≤ 2 ^ 16 → len ≤ 2 ^ 16
+    → is_usable next window first len ≡ true → IsNearFirst first
+near_of_usable next window first len near small short h =
+    by_cases (is_acceptable_or_at_edge next window first len) (near_of_accepted next window first len near small short)
+    (λ no. near_at_zero next window first near (or_other (is_acceptable_or_at_edge next window first len) (is_allowed_at_zero next window first) no h))

@@ -77,6 +77,8 @@ impl Receiver {
         ensures number { number.0 < 2 ^ 32 }
         ensures next { next self.now ≤ 2 ^ 30 + 1 }
         ensures within { taken self.now ≤ receive_edge self.now }
+        ensures edge { next self.now + window self.now ≡ announced_edge self.now }
+        ensures far { announced_edge self.now ≤ 2 ^ 30 + 1 }
         ensures room { window self.now ≤ 65535 }
     {
         let _number = number.0;
@@ -170,15 +172,24 @@ impl Receiver {
         }
     }
 
+    /// Whether this is the number of the announced edge.
+    #[tactic(auto, using(crate::proofs::Places::is_next))]
+    fn is_edge(&self, seq: Seq) -> bool
+        ensures { result ≡ int_eq (offset_of self.now.irs seq.0) (pos (announced_edge self.now)) }
+    {
+        self.ranges(seq);
+        seq == self.irs.add(1).add(self.announced_edge())
+    }
+
     /// Whether a segment of length 0 stands at exactly the right edge of an open window. A sender whose window is full, and who has lost a
     /// segment, numbers its acknowledgements so.
-    #[tactic(auto, using(crate::proofs::Places::is_next, crate::proofs::Places::near_of_place), unfolding(seq_arith::specs::Arrival::is_at_right_edge))]
+    #[tactic(auto, using(crate::proofs::Places::near_of_place), unfolding(seq_arith::specs::Arrival::is_at_right_edge))]
     fn is_at_right_edge(&self, seq: Seq, len: u32) -> bool
         ensures edge { result ≡ is_at_right_edge (next self.now) (window self.now) (offset_of self.now.irs seq.0) len }
         ensures near { OnTrue result (IsNearFirst (offset_of self.now.irs seq.0)) }
     {
         self.ranges(seq);
-        len == 0 && self.window() > 0 && seq == self.irs.add(1).add(self.announced_edge())
+        len == 0 && self.window() > 0 && self.is_edge(seq)
     }
 
     /// Whether a segment is acceptable, or without length at the right edge.
@@ -252,15 +263,13 @@ impl Receiver {
     }
 
     /// Takes the text and the FIN of a segment whose acknowledgement is used (RFC 9293, 3.10.7.4, seventh and eighth check).
-    #[tactic(auto, using(crate::proofs::Places::ends_at), unfolding(crate::specs::Receiving::with_came, seq_arith::specs::Coming::comes))]
     pub(crate) fn take(&mut self, seq: Seq, text: &[u8], fin: bool)
         requires near { IsNearFirst (offset_of self.old.irs seq.0) }
         requires short { length text.now ≤ 2 ^ 16 }
         ensures { self.new ≡ with_segment self.old (offset_of self.old.irs seq.0) text.now fin }
     {
-        self.ranges(seq);
         self.take_text(seq, text);
-        self.take_fin(seq.add(text.len() as u32), fin);
+        self.take_fin(seq, text.len() as u32, fin);
     }
 
     /// Takes the part of a text from the bytes taken on, up to the receive edge: none of a text that begins past them, and none once the
@@ -281,16 +290,15 @@ impl Receiver {
         append(&mut self.unread, part(text, known, room));
     }
 
-    /// Takes a FIN at this number, where all bytes end that are taken, below the receive edge.
-    #[tactic(auto, using(crate::proofs::Places::is_next), unfolding(seq_arith::specs::Coming::is_fin_at))]
-    fn take_fin(&mut self, place: Seq, fin: bool)
+    /// Takes a FIN behind a text of this length, where all bytes end that are taken, below the receive edge.
+    #[tactic(auto, unfolding(seq_arith::specs::Coming::is_fin_at))]
+    fn take_fin(&mut self, seq: Seq, len: u32, fin: bool)
+        requires { len ≤ 2 ^ 16 }
         ensures { self.new ≡ record self.old {
-          fin = self.old.fin || (fin && is_fin_at (taken self.old) (receive_edge self.old) (offset_of self.old.irs place.0));
+          fin = self.old.fin || (fin && is_fin_at (taken self.old) (receive_edge self.old) (offset_of self.old.irs seq.0 +ℤ pos len));
         } }
     {
-        self.ranges(place);
-        self.fin = self.fin
-            || (fin && place == self.taken_number() && self.taken() < self.receive_edge());
+        self.fin = self.fin || (fin && self.ends(seq, len) && self.taken() < self.receive_edge());
     }
 
     /// How many bytes are taken and not read.
