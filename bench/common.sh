@@ -28,4 +28,36 @@ spent_in_user() {
     echo $((10#$user))
 }
 
+# older CRATE PATH WORD..: prints where an older program is: at PATH, or where that is a checkout, in its crate, built by running it once with these words.
+older() {
+    local crate=$1 path=$2
+    shift 2
+    if [ -d "$path" ]; then
+        cd "$path"
+        build "$crate" "$@"
+        path=$path/crates/$crate/out/$crate
+    fi
+    [ -x "$path" ] || { echo "$(basename "$0"): there is no program $path" >&2; exit 1; }
+    echo "$path"
+}
+
+# compare_least MEASURE CHECK OLDER NEWER WORD..: runs both programs with these words, 21 times in turn, and prints the least time of each. MEASURE is one of
+# the two functions above, CHECK a function that looks at $out after each run. It fails where the newer program takes over 5 % longer.
+compare_least() {
+    local measure=$1 check=$2 older=$3 newer=$4 least_older=999999999 least_newer=999999999 a b _
+    shift 4
+    for _ in {1..21}; do
+        a=$($measure "$older" "$@")
+        $check
+        b=$($measure "$newer" "$@")
+        $check
+        ((a < least_older)) && least_older=$a
+        ((b < least_newer)) && least_newer=$b
+    done
+    awk -v a="$least_older" -v b="$least_newer" 'BEGIN {
+        printf "older %d ms, newer %d ms, least of 21 each: %+.1f %%\n", a, b, 100 * (b - a) / a
+        exit (100 * b > 105 * a)
+    }'
+}
+
 machine() { printf '%s processors, %s, load %s\n' "$(nproc)" "$(lscpu | sed -n 's/^Model name: *//p')" "$(cut -d' ' -f1 /proc/loadavg)"; }

@@ -2,10 +2,24 @@
 # Segments a second of endpoint_echo, which echoes 64 MiB between two endpoints in memory, beside packets a second of a plain C loop of a
 # packet's checks (gcc -O2), in one run: segments of 1,460 bytes beside packets of 1,500 bytes, and of 64 beside 40. Of each the least
 # processor time of 7 turns, taken in turn. A segment counts once: it is written, handed over, read, and its text echoed or compared.
+#     bench/endpoint.sh [OLDER]
+# With OLDER, an older endpoint_echo or a checkout that has one, that one and this one echo 1 GiB (one byte less, in segments of 1,460 bytes) 21 times in turn,
+# and the least times are compared. Status 1 where this one takes over 5 % longer.
 set -eu
+before=${1:+$(realpath "$1")}
 . "$(dirname "$0")/common.sh"
 build endpoint_echo 1460 1460
 echo_program="$PWD/crates/endpoint_echo/out/endpoint_echo"
+is_echoed() { grep -q "^echoed $all bytes\$" "$work/out" || { echo "not echoed"; exit 1; }; }
+
+if [ -n "$before" ]; then
+    all=1073741823
+    before=$(older endpoint_echo "$before" 1460 1460)
+    machine
+    compare_least spent_in_user is_echoed "$before" "$echo_program" "$all" 1460
+    exit
+fi
+all=67108864
 gcc -O2 -Wall -o "$work/packets" bench/packets.c
 
 machine
@@ -13,9 +27,9 @@ for row in "1460 1500 6000" "64 40 120000"; do
     read -r text bytes rounds <<<"$row"
     least_echo=999999 least_c=999999
     for _ in 1 2 3 4 5 6 7; do
-        a=$(spent_in_user "$echo_program" 67108864 "$text")
+        a=$(spent_in_user "$echo_program" "$all" "$text")
         segments=$(awk '/segments/ { n += $2 } END { print n }' "$work/out")
-        grep -q '^echoed 67108864 bytes$' "$work/out" || { echo "not echoed"; exit 1; }
+        is_echoed
         b=$(spent_in_user "$work/packets" "$bytes" "$rounds")
         ((a < least_echo)) && least_echo=$a
         ((b < least_c)) && least_c=$b

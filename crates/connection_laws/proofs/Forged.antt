@@ -1,20 +1,21 @@
 -- A forged segment at the next number, without text and with window 0, changes what it is to change, and nothing else.
 use Rattle.std.proofs.Common.{◌≡◌, ℕ, zero, suc, ◌<◌, ◌+◌, ◌-◌, ◌^◌, Bool, true, false, not, List, [], ◌++◌, length, take, drop, sum, min, max, refl, sym, ap, subst, arith, append-nil, ◌∙◌}
-use Rattle.std.specs.Prelude.{ℤ, pos, ◌+ℤ◌, ◌==◌, ◌&&◌, ◌||◌, nat_abs, nat_lt, int_le, if◌then◌else◌}
+use Rattle.std.specs.Prelude.{ℤ, pos, ◌+ℤ◌, ◌==◌, ◌&&◌, ◌||◌, nat_abs, nat_lt, int_lt, int_le, if◌then◌else◌}
 use Rattle.std.proofs.lemmas.Int.{ints}
 use Rattle.std.proofs.lemmas.Bool.{false≢true}
-use Rattle.seq_arith.specs.Arrival.{int_eq, is_acceptable, below, una_after, updates_window}
+use Rattle.seq_arith.specs.Arrival.{int_eq, is_acceptable, is_at_right_edge, is_allowed_at_zero, is_usable, una_after, updates_window}
+use Rattle.seq_arith.specs.Coming.{Came, nothing_came, comes, new_text, is_fin_at}
 use Rattle.seq_arith.specs.Packet.{Segment, has_fin, has_syn, has_rst, has_ack}
 use Rattle.server_trait.specs.Service.{Machine, reference}
-use Rattle.ft_model.specs.Offset.{one_if, first_of, ack_of, text_of, length_of}
+use Rattle.ft_model.specs.Offset.{one_if, first_of, ack_of, text_of, fin_of, length_of}
 use Rattle.ft_model.specs.Point.{Point, taken_units, receive_edge, room, target}
 use Rattle.ft_model.specs.News.News.{Comes}
-use Rattle.ft_model.specs.Taken.{accepts, counts, continues, taken_after, fin_after, end_of}
+use Rattle.ft_model.specs.Taken.{uses, counts, came, taken_after, fin_after}
 use Rattle.ft_model.specs.Sending.{syn_acked_after, acknowledged_after, edge_after, wl1_after, wl2_after, sent_at_once, sent_after, acknowledged_by}
 use Rattle.ft_model.specs.Timer.{must_run, interval_after, rest_after}
 use Rattle.endpoint_laws.specs.Standing.{MeetsLaws}
 use Rattle.connection_laws.proofs.Swallowed.{drop_none}
-use Rattle.ft_io.proofs.Booleans.{or_true}
+use Rattle.ft_io.proofs.Booleans.{or_true, and_true}
 use Rattle.endpoint_laws.proofs.Beginning.{none_more}
 
 -- a service that writes nothing
@@ -68,7 +69,7 @@ at_start true = refl
 at_start false = grind (arith, ints)
 
 forged_counts : (p : Point) (segment : Segment) (fin : Bool) → IsFresh p → IsForged p segment fin → (fin ≡ true → length p.taken < 2 ^ 24) → counts p segment ≡ true
-unfolding counts accepts
+unfolding counts uses
 forged_counts p segment fin f s few =
     let n : ℕ = length p.taken in
     let some : fin ≡ true → 0 < room p =
@@ -78,50 +79,50 @@ forged_counts p segment fin f s few =
     let accepted : is_acceptable (taken_units p) (room p) (first_of p.cisn segment) (length_of segment) ≡ true =
     (λ j. is_acceptable (n + (if f.fin j then 1 else 0)) (room p) (s.first j) (len j)) ∙ ap (λ m. is_acceptable m (room p) (pos n) (if fin then 1 else 0)) (plus_none n)
     ∙ acceptable_if fin n (room p) some in
+    let used : is_usable (taken_units p) (room p) (first_of p.cisn segment) (length_of segment) ≡ true =
+    λ j. (accepted j || is_at_right_edge (taken_units p) (room p) (first_of p.cisn segment) (length_of segment)) || is_allowed_at_zero (taken_units p) (room p) (first_of p.cisn segment) in
     let low : (p.syn_acked || int_le (pos 0) (ack_of p.sisn segment)) ≡ true = ap (λ z. p.syn_acked || int_le (pos 0) z) s.back ∙ at_start p.syn_acked in
-    λ j. s.ack j && not (s.syn j) && not (s.rst j) && accepted j && low j
+    λ j. s.ack j && not (s.syn j) && not (s.rst j) && used j && low j
 
-either : {A : Type 0} (b : Bool) (x y : A) → x ≡ y → (if b then x else y) ≡ y
+pub either : {A : Type 0} (b : Bool) (x y : A) → x ≡ y → (if b then x else y) ≡ y
 either true x y h = h
 either false x y h = refl
 
-nothing_added : (taken text : List ℕ) (k m : ℕ) → text ≡ [] → taken ++ take k (drop m text) ≡ taken
-nothing_added taken text k m none = (λ j. taken ++ take k (drop m (none j))) ∙ ap (λ xs. taken ++ take k xs) (drop_none m) ∙ ap (λ xs. taken ++ xs) (take_none k) ∙ append-nil taken
+no_text : (b : Bool) (k m : ℕ) → (if b then [] else take {A = ℕ} k (drop m [])) ≡ []
+no_text true k m = refl
+no_text false k m = ap (take k) (drop_none m) ∙ take_none k
 
-forged_taken : (p : Point) (segment : Segment) (fin : Bool) → IsForged p segment fin → taken_after (Comes segment) p ≡ p.taken
-unfolding taken_after
-forged_taken p segment fin s =
-    let none : text_of segment ≡ [] = λ j. if s.syn j || s.rst j then [] else s.text j in
-    either (continues p segment) _ p.taken
-    (nothing_added p.taken (text_of segment) (receive_edge p - length p.taken) (below (length p.taken) (first_of p.cisn segment)) none)
-
-same_place : (n : ℕ) → int_eq (pos n +ℤ pos 0) (pos n) ≡ true
+same_place : (n : ℕ) → int_eq (pos n +ℤ pos 0) (pos (n + 0)) ≡ true
 same_place n = grind (arith, ints)
-
-here : (n : ℕ) → int_le (pos n) (pos n) ≡ true
-here n = grind (arith, ints)
 
 below_edge : (n f : ℕ) → n < 2 ^ 24 → f ≡ n → nat_lt n (min (max f 0 + 65535) (2 ^ 24)) ≡ true
 below_edge n f h e = grind (arith, h, e)
 
-fin_off : (a c d : Bool) → (a && false && c && d) ≡ false
-fin_off true c d = refl
-fin_off false c d = refl
+-- at the next number, without text: its FIN is taken, where that is below the edge
+fin_comes : (n edge : ℕ) (fin : Bool) → (fin ≡ true → nat_lt n edge ≡ true) → (fin && (int_eq (pos n +ℤ pos 0) (pos (n + 0)) && nat_lt (n + 0) edge)) ≡ fin
+fin_comes n edge true below = λ j. same_place n j && ((λ i. nat_lt (plus_none n i) edge) ∙ below refl) j
+fin_comes n edge false below = refl
 
-forged_fin_is : (p : Point) (segment : Segment) (fin : Bool) → IsFresh p → IsForged p segment fin → (fin ≡ true → length p.taken < 2 ^ 24) → fin_after (Comes segment) p ≡ fin
-unfolding fin_after
-forged_fin_is p segment true f s few =
+bare_comes : (n edge : ℕ) (fin : Bool) → (fin ≡ true → nat_lt n edge ≡ true) → comes n edge false (pos n) [] fin ≡ record { added = []; fin = fin }
+unfolding comes new_text is_fin_at
+bare_comes n edge fin below =
+    let none : new_text n edge false (pos n) [] ≡ [] = no_text (int_lt (pos n) (pos n)) (edge - n) (n - n) in
+    λ j. record {
+      added = none j;
+      fin = ((λ i. fin && is_fin_at (n + length (none i)) edge (pos n +ℤ pos 0)) ∙ fin_comes n edge fin below) j;
+    }
+
+forged_came : (p : Point) (segment : Segment) (fin : Bool) → IsFresh p → IsForged p segment fin → (fin ≡ true → length p.taken < 2 ^ 24)
+    → came p segment ≡ record { added = []; fin = fin }
+unfolding came
+forged_came p segment fin f s few =
     let n : ℕ = length p.taken in
-    let c : counts p segment ≡ true = forged_counts p segment true f s few in
-    let t : taken_after (Comes segment) p ≡ p.taken = forged_taken p segment true s in
+    let c : counts p segment ≡ true = forged_counts p segment fin f s few in
+    let text : text_of segment ≡ [] = λ j. if s.syn j || s.rst j then [] else s.text j in
+    let fin_is : fin_of segment ≡ fin = (λ j. s.fin_is j && not (s.syn j || s.rst j)) ∙ and_true fin in
     let edge : receive_edge p ≡ min (max p.fetched 0 + 65535) (2 ^ 24) = λ j. min (max p.fetched (sum (f.lengths j)) + 65535) (2 ^ 24) in
-    (λ j. f.fin j || (c j && not (f.fin j) && int_le (s.first j) (pos n) && (s.fin_is j && not (s.syn j || s.rst j))
-    && int_eq (s.first j +ℤ pos (length (if s.syn j || s.rst j then [] else s.text j))) (pos (length (t j))) && nat_lt (length (t j)) (edge j)))
-    ∙ (λ j. here n j && true && same_place n j && below_edge n p.fetched (few refl) f.fetched j)
-forged_fin_is p segment false f s few =
-    (λ j. f.fin j || (continues p segment && (s.fin_is j && not (has_syn segment || has_rst segment))
-    && int_eq (end_of p segment) (pos (length (taken_after (Comes segment) p))) && nat_lt (length (taken_after (Comes segment) p)) (receive_edge p)))
-    ∙ fin_off (continues p segment) _ _
+    (λ j. if c j then comes n (receive_edge p) (f.fin j) (s.first j) (text j) (fin_is j) else nothing_came p.fin)
+    ∙ bare_comes n (receive_edge p) fin (λ h. ap (nat_lt n) edge ∙ below_edge n p.fetched (few h) f.fetched)
 
 -- the point after it
 abbrev pub after_forged : Bool → Point → Point
@@ -157,8 +158,9 @@ wl2_none false = refl
 
 pub forged_laws : (p : Point) (segment : Segment) (fin : Bool) → IsFresh p → IsForged p segment fin → (fin ≡ true → length p.taken < 2 ^ 24)
     → MeetsLaws silent (Comes segment) p (after_forged fin p)
-unfolding syn_acked_after acknowledged_after edge_after wl1_after wl2_after sent_after sent_at_once interval_after rest_after must_run
+unfolding taken_after fin_after syn_acked_after acknowledged_after edge_after wl1_after wl2_after sent_after sent_at_once interval_after rest_after must_run
 forged_laws p segment fin f s few =
+    let k : came p segment ≡ record { added = []; fin = fin } = forged_came p segment fin f s few in
     let c : counts p segment ≡ true = forged_counts p segment fin f s few in
     let start : int_le (pos 0) (pos 0) ≡ true = at_start false in
     let m : (counts p segment && int_le (pos 0) (ack_of p.sisn segment)) ≡ true = (λ j. c j && int_le (pos 0) (s.back j)) ∙ start in
@@ -167,8 +169,8 @@ forged_laws p segment fin f s few =
     let anew : true ≡ (p.rest == 0 || (nat_lt p.una p.una || (true && not p.syn_acked))) = starts_by p.syn_acked p.rest p.una (λ h. (f.timer.0 h).0) in
     record {
       same = record { key = refl; cisn = refl; sisn = refl; mss = refl; fetched = refl };
-      taken = sym (forged_taken p segment fin s);
-      fin = sym (forged_fin_is p segment fin f s few);
+      taken = sym (ap (λ x. p.taken ++ x.added) k ∙ append-nil p.taken);
+      fin = sym (ap (λ x. x.fin) k);
       syn_acked = or_true p.syn_acked ∙ sym (ap (λ b. p.syn_acked || b) c);
       una = f.una ∙ sym ((λ j. if counts p segment && int_le (pos 0) (ack_of p.sisn segment) then una_after (f.una j) (min (nat_abs (s.back j)) (f.sent j)) else f.una j)
           ∙ acknowledged_none (counts p segment && int_le (pos 0) (ack_of p.sisn segment)));

@@ -1,9 +1,10 @@
 -- A turn of a wrapped connection is, for the point inside, a turn by the laws of TCP.
-use Rattle.std.proofs.Common.{◌≡◌, ℕ, ◌≤◌, ◌+◌, ◌-◌, ◌*◌, Bool, true, false, not, List, ◌++◌, length, take, drop, min, max, refl, sym, ap, arith, ◌∙◌}
+use Rattle.std.proofs.Common.{◌≡◌, ℕ, ◌≤◌, ◌+◌, ◌-◌, ◌*◌, Bool, true, false, not, List, ◌++◌, length, min, max, refl, sym, ap, arith, append-nil, ◌∙◌}
 use Rattle.std.specs.Prelude.{ℤ, pos, ◌==◌, ◌&&◌, ◌||◌, nat_abs, nat_lt, int_le, if◌then◌else◌}
 use Rattle.std.proofs.lemmas.Bool.{false≢true}
 use Rattle.ft_io.specs.declared.Addr.{Addr}
-use Rattle.seq_arith.specs.Arrival.{int_eq, below, una_after}
+use Rattle.seq_arith.specs.Arrival.{una_after}
+use Rattle.seq_arith.specs.Coming.{nothing_came, comes}
 use Rattle.seq_arith.specs.Packet.{Segment, has_syn, has_rst, has_ack}
 use Rattle.server_trait.specs.Service.{Machine}
 use Rattle.ft_model.specs.Offset.{first_of, ack_of, text_of, fin_of}
@@ -11,7 +12,7 @@ use Rattle.ft_model.specs.Point.{Point, taken_units, receive_edge, released, tar
 use Rattle.ft_model.specs.News.{News}
 use Rattle.ft_model.specs.News.News.{Comes, Logged, Ticks, Begins}
 use Rattle.ft_model.specs.Network.{Packet}
-use Rattle.ft_model.specs.Taken.{accepts, counts, taken_after, fin_after, end_of}
+use Rattle.ft_model.specs.Taken.{uses, counts, came, taken_after, fin_after}
 use Rattle.ft_model.specs.Sending.{syn_acked_after, acknowledged_after, edge_after, wl1_after, wl2_after, sent_at_once, sent_after, acknowledged_by, window_by}
 use Rattle.ft_model.specs.Timer.{must_run, interval_after, rest_after, is_tick, expires, probes, is_set_anew}
 use Rattle.ft_model.specs.Segments.{repeats_syn}
@@ -41,19 +42,18 @@ pub record Moves (news : News) (p : Point) (u i : ℕ) (inner : News) : Type 0 w
 -- a segment that goes inside
 counts_is : (u i delta : ℕ) (p : Point) (segment : Segment) → GoesOn u i delta p
     → Lowers u p.sent (ack_of p.sisn segment) (ack_of i (inward (south_at delta p) segment)) → counts (inside u i p) (inward (south_at delta p) segment) ≡ counts p segment
-unfolding counts accepts
+unfolding counts uses
 counts_is u i delta p segment g l =
-    ap (λ b. has_ack segment && not (has_syn segment) && not (has_rst segment) && accepts p segment && b)
+    ap (λ b. has_ack segment && not (has_syn segment) && not (has_rst segment) && uses p segment && b)
     (counts_inside u p.sent p.syn_acked (ack_of p.sisn segment) (ack_of i (inward (south_at delta p) segment)) (λ h. (g.syn_unacked h).0) l)
 
-taken_is : (p q : Point) (segment inner : Segment) (c d : Bool) → c ≡ d
-    → (if c && not p.fin && int_le (first_of p.cisn segment) (pos (length p.taken))
-    then p.taken ++ take (receive_edge p - length p.taken) (drop (below (length p.taken) (first_of p.cisn segment)) (text_of segment)) else p.taken)
-    ≡ (if d && not p.fin && int_le (first_of p.cisn segment) (pos (length p.taken))
-    then p.taken ++ take (receive_edge p - length p.taken) (drop (below (length p.taken) (first_of p.cisn segment)) (text_of segment)) else p.taken)
-taken_is p q segment inner c d same = ap (λ (b : Bool).
-    if b && not p.fin && int_le (first_of p.cisn segment) (pos (length p.taken))
-    then p.taken ++ take (receive_edge p - length p.taken) (drop (below (length p.taken) (first_of p.cisn segment)) (text_of segment)) else p.taken) same
+-- .. so its text and FIN add the same
+came_is : (u i delta : ℕ) (p : Point) (segment : Segment) → GoesOn u i delta p
+    → Lowers u p.sent (ack_of p.sisn segment) (ack_of i (inward (south_at delta p) segment)) → came (inside u i p) (inward (south_at delta p) segment) ≡ came p segment
+unfolding came
+came_is u i delta p segment g l =
+    ap (λ b. if b then comes (length p.taken) (receive_edge p) p.fin (first_of p.cisn segment) (text_of segment) (fin_of segment) else nothing_came p.fin)
+    (counts_is u i delta p segment g l)
 
 comes_inside : (u i delta : ℕ) (p : Point) (segment : Segment) → GoesOn u i delta p
     → Lowers u p.sent (ack_of p.sisn segment) (ack_of i (inward (south_at delta p) segment)) → Moves (Comes segment) p u i (Comes (inward (south_at delta p) segment))
@@ -64,14 +64,14 @@ comes_inside u i delta p segment g l =
     let first : ℤ = first_of p.cisn segment in
     let c : counts (inside u i p) inner ≡ counts p segment = counts_is u i delta p segment g l in
     let o : p.syn_acked ≡ false → u ≡ 0 = λ h. (g.syn_unacked h).0 in
-    let t : taken_after (Comes inner) (inside u i p) ≡ taken_after (Comes segment) p = taken_is p p segment segment (counts (inside u i p) inner) (counts p segment) c in
+    let k : came (inside u i p) inner ≡ came p segment = came_is u i delta p segment g l in
     let m : moves (counts (inside u i p) inner) p.syn_acked (p.una - u) p.wl1 (p.wl2 - u) first (ack_of i inner) (p.sent - u)
     ≡ moves (counts p segment) p.syn_acked p.una p.wl1 p.wl2 first ack p.sent =
     (λ j. moves (c j) p.syn_acked (p.una - u) p.wl1 (p.wl2 - u) first (ack_of i inner) (p.sent - u))
     ∙ moves_inside u p.una p.sent (counts p segment) p.syn_acked p.wl1 p.wl2 first ack (ack_of i inner) g.una g.order g.wl2 o l in
     record {
-      taken = t;
-      fin = λ j. p.fin || (c j && not p.fin && int_le first (pos (length p.taken)) && fin_of segment && int_eq (end_of p segment) (pos (length (t j))) && nat_lt (length (t j)) (receive_edge p));
+      taken = ap (λ x. p.taken ++ x.added) k;
+      fin = ap (λ x. x.fin) k;
       syn_acked = λ j. p.syn_acked || c j;
       una = (λ j. if c j && int_le (pos 0) (ack_of i inner) then una_after (p.una - u) (min (nat_abs (ack_of i inner)) (p.sent - u)) else p.una - u)
           ∙ una_inside u p.una p.sent (counts p segment) ack (ack_of i inner) g.una g.order l;
@@ -92,17 +92,22 @@ none_of false r c d = refl
 pub nothing_counts : (p : Point) (segment : Segment) → has_syn segment ≡ true → counts p segment ≡ false
 unfolding counts
 nothing_counts p segment h =
-    ap (λ b. has_ack segment && not b && not (has_rst segment) && accepts p segment && (p.syn_acked || int_le (pos 0) (ack_of p.sisn segment))) h
-    ∙ none_of (has_ack segment) (not (has_rst segment)) (accepts p segment) (p.syn_acked || int_le (pos 0) (ack_of p.sisn segment))
+    ap (λ b. has_ack segment && not b && not (has_rst segment) && uses p segment && (p.syn_acked || int_le (pos 0) (ack_of p.sisn segment))) h
+    ∙ none_of (has_ack segment) (not (has_rst segment)) (uses p segment) (p.syn_acked || int_le (pos 0) (ack_of p.sisn segment))
+
+nothing_comes : (p : Point) (segment : Segment) → counts p segment ≡ false → came p segment ≡ nothing_came p.fin
+unfolding came
+nothing_comes p segment c =
+    ap (λ b. if b then comes (length p.taken) (receive_edge p) p.fin (first_of p.cisn segment) (text_of segment) (fin_of segment) else nothing_came p.fin) c
 
 pub stays_inside : (u i : ℕ) (p : Point) (segment : Segment) → counts p segment ≡ false → Moves (Comes segment) p u i Begins
 unfolding taken_after fin_after syn_acked_after acknowledged_after edge_after wl1_after wl2_after
 stays_inside u i p segment c =
     let none : ℤ = first_of p.cisn segment in
-    let t : p.taken ≡ taken_after (Comes segment) p = sym (taken_is p p segment segment (counts p segment) false c) in
+    let k : came p segment ≡ nothing_came p.fin = nothing_comes p segment c in
     record {
-      taken = t;
-      fin = or_false p.fin ∙ sym (λ j. p.fin || (c j && not p.fin && int_le none (pos (length p.taken)) && fin_of segment && int_eq (end_of p segment) (pos (length (sym t j))) && nat_lt (length (sym t j)) (receive_edge p)));
+      taken = sym (ap (λ x. p.taken ++ x.added) k ∙ append-nil p.taken);
+      fin = sym (ap (λ x. x.fin) k);
       syn_acked = or_false p.syn_acked ∙ sym (λ j. p.syn_acked || c j);
       una = sym (λ j. (if c j && int_le (pos 0) (ack_of p.sisn segment) then una_after p.una (acknowledged_by p segment) else p.una) - u);
       edge = sym (λ j. (if moves (c j) p.syn_acked p.una p.wl1 p.wl2 none (ack_of p.sisn segment) p.sent then acknowledged_by p segment + window_by p segment else p.edge) - u);
@@ -124,7 +129,7 @@ none_ack false r c d e h = refl
 pub unacknowledged : (p : Point) (segment : Segment) → has_ack segment ≡ false → counts p segment ≡ false
 unfolding counts
 unacknowledged p segment h =
-    none_ack (has_ack segment) (not (has_syn segment)) (not (has_rst segment)) (accepts p segment) (p.syn_acked || int_le (pos 0) (ack_of p.sisn segment)) h
+    none_ack (has_ack segment) (not (has_syn segment)) (not (has_rst segment)) (uses p segment) (p.syn_acked || int_le (pos 0) (ack_of p.sisn segment)) h
 
 pub minus_none : (a b : ℕ) → a - 0 ≡ b - 0 → a ≡ b
 minus_none a b h = omega (arith, h)

@@ -1,19 +1,21 @@
 -- A connection goes on without its TCP, once that is CLOSED.
-use Rattle.std.proofs.Common.{◌≡◌, ℕ, zero, suc, ◌≤◌, ◌+◌, ◌-◌, ◌%◌, ◌^◌, ◌*◌, Bool, true, false, not, List, [], ◌∷◌, ◌++◌, length, take, drop, map, min, max, refl, sym, ap, subst, arith, ◌∙◌, ◌<◌}
-use Rattle.std.specs.Prelude.{pos, ◌==◌, ◌&&◌, ◌||◌, nat_abs, nat_lt, int_le, if◌then◌else◌}
+use Rattle.std.proofs.Common.{◌≡◌, ℕ, zero, suc, ◌≤◌, ◌+◌, ◌-◌, ◌%◌, ◌^◌, ◌*◌, Bool, true, false, not, List, [], ◌∷◌, ◌++◌, length, take, drop, map, min, max, refl, sym, ap, subst, arith, append-nil, ◌∙◌, ◌<◌}
+use Rattle.std.specs.Prelude.{pos, ◌==◌, ◌&&◌, ◌||◌, nat_abs, nat_lt, if◌then◌else◌}
 use Rattle.std.proofs.lemmas.Bool.{false≢true, and_parts}
 use Rattle.ft_io.specs.declared.Addr.{Addr}
-use Rattle.seq_arith.specs.Arrival.{una_after, below}
+use Rattle.seq_arith.specs.Arrival.{una_after}
+use Rattle.seq_arith.specs.Coming.{nothing_came, comes}
+use Rattle.seq_arith.proofs.Coming.{comes_ended}
 use Rattle.seq_arith.specs.Packet.{Segment, has_rst, has_ack}
 use Rattle.server_trait.specs.Service.{Machine, reference}
 use Rattle.ft_model.specs.Growth.{IsPrefix}
-use Rattle.ft_model.specs.Offset.{one_if, first_of, ack_of, text_of}
+use Rattle.ft_model.specs.Offset.{one_if, first_of, ack_of, text_of, fin_of}
 use Rattle.ft_model.specs.Point.{Point, answered_run, released, target, receive_edge}
 use Rattle.ft_model.specs.Network.{Packet}
 use Rattle.ft_model.specs.News.{News}
 use Rattle.ft_model.specs.News.News.{Comes, Logged, Ticks, Begins}
 use Rattle.ft_model.specs.Answered.{reads_answered_after}
-use Rattle.ft_model.specs.Taken.{counts, takes_fin, taken_after, fin_after}
+use Rattle.ft_model.specs.Taken.{counts, came, taken_after, fin_after}
 use Rattle.ft_model.specs.Sending.{syn_acked_after, acknowledges, acknowledged_after, sent_at_once, sent_after}
 use Rattle.ft_model.specs.Timer.{is_tick, must_run, expires, rest_after, interval_after, is_set_anew}
 use Rattle.ft_model.specs.Segments.{opens_with}
@@ -48,7 +50,7 @@ use Rattle.endpoint_laws.proofs.Calls.{FinIsLast, IsUsed, used_is, bounded_used,
 use Rattle.connection_laws.specs.Closing.{StandsClosed, ReadsOn, GoesOnClosed}
 use Rattle.connection_laws.proofs.Keeping.{Keeps, kept_same, kept_ticked}
 use Rattle.connection_laws.proofs.Quiet.{quiet_sends}
-use Rattle.connection_laws.proofs.Forged.{plus_none}
+use Rattle.connection_laws.proofs.Forged.{plus_none, either}
 
 -- a front goes on where the list does
 pub front_goes_on : (a b : ℕ) (xs ys : List ℕ) → a ≤ b → IsPrefix (take a xs) (take b (xs ++ ys))
@@ -65,22 +67,23 @@ reads_rise Ticks p = omega arith
 reads_rise Begins p = omega arith
 
 -- where a FIN is taken nothing more is
-off_second : (a b c : Bool) → b ≡ true → (a && not b && c) ≡ false
-off_second true true c h = refl
-off_second true false c h = absurd (false≢true h)
-off_second false b c h = refl
+came_stays : (p : Point) (segment : Segment) → p.fin ≡ true → came p segment ≡ nothing_came true
+unfolding came
+came_stays p segment h =
+    (λ j. if counts p segment then comes (length p.taken) (receive_edge p) (h j) (first_of p.cisn segment) (text_of segment) (fin_of segment) else nothing_came (h j))
+    ∙ either (counts p segment) (comes (length p.taken) (receive_edge p) true (first_of p.cisn segment) (text_of segment) (fin_of segment)) (nothing_came true)
+    (comes_ended (length p.taken) (receive_edge p) (first_of p.cisn segment) (text_of segment) (fin_of segment))
 
 pub taken_stays : (news : News) (p : Point) → p.fin ≡ true → taken_after news p ≡ p.taken
 unfolding taken_after
-taken_stays (Comes segment) p h =
-    ap (λ b. if b then p.taken ++ take (receive_edge p - length p.taken) (drop (below (length p.taken) (first_of p.cisn segment)) (text_of segment)) else p.taken) (off_second (counts p segment) p.fin (int_le (first_of p.cisn segment) (pos (length p.taken))) h)
+taken_stays (Comes segment) p h = ap (λ c. p.taken ++ c.added) (came_stays p segment h) ∙ append-nil p.taken
 taken_stays (Logged kept) p h = refl
 taken_stays Ticks p h = refl
 taken_stays Begins p h = refl
 
 pub fin_stays : (news : News) (p : Point) → p.fin ≡ true → fin_after news p ≡ true
 unfolding fin_after
-fin_stays (Comes segment) p h = ap (λ b. b || takes_fin p segment) h
+fin_stays (Comes segment) p h = ap (λ c. c.fin) (came_stays p segment h)
 fin_stays (Logged kept) p h = h
 fin_stays Ticks p h = h
 fin_stays Begins p h = h

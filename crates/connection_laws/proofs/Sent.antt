@@ -15,7 +15,7 @@ use Rattle.ft_model.specs.News.{News}
 use Rattle.ft_model.specs.News.News.{Comes, Logged, Ticks, Begins}
 use Rattle.ft_model.specs.Network.{Packet}
 use Rattle.ft_model.specs.Answered.{answered_after}
-use Rattle.ft_model.specs.Taken.{accepts, counts, taken_after, fin_after}
+use Rattle.ft_model.specs.Taken.{accepts, uses, counts, taken_after, fin_after}
 use Rattle.ft_model.specs.Owed.{is_refused, owes, asks}
 use Rattle.ft_model.specs.Owed as outer
 use Rattle.ft_model.specs.Reads.{Makes, MakesReads, next_read, next_length, may_read}
@@ -225,7 +225,7 @@ refused_turn service server boot segment p q sent u i delta g r l =
     let o = g.syn_unacked k.0 in
     let low : int_le (pos 0) (ack_of p.sisn segment) ≡ false = not_true (int_le (pos 0) (ack_of p.sisn segment)) (sym (less_is (ack_of p.sisn segment)) ∙ k.1) in
     let none : counts p segment ≡ false =
-    off_last (has_ack segment) (not (has_syn segment)) (not (has_rst segment)) (accepts p segment) (p.syn_acked || int_le (pos 0) (ack_of p.sisn segment))
+    off_last (has_ack segment) (not (has_syn segment)) (not (has_rst segment)) (uses p segment) (p.syn_acked || int_le (pos 0) (ack_of p.sisn segment))
     ((λ j. k.0 j || int_le (pos 0) (ack_of p.sisn segment)) ∙ low) in
     let m : Moves (Comes segment) p 0 i Begins = stays_inside 0 i p segment none in
     let taken : q.taken ≡ p.taken = l.taken ∙ sym m.taken in

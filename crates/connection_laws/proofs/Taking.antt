@@ -2,7 +2,7 @@
 use Rattle.std.proofs.Common.{◌≡◌, List, Bool, true, false, not, refl, sym, subst, ◌∙◌}
 use Rattle.std.specs.Prelude.{pos, ◌&&◌, ◌||◌, nat_lt, int_lt, if◌then◌else◌}
 use Rattle.std.proofs.lemmas.Bool.{false≢true}
-use Rattle.seq_arith.specs.Arrival.{int_eq, is_acceptable}
+use Rattle.seq_arith.specs.Arrival.{int_eq}
 use Rattle.seq_arith.specs.Offset.{length_of}
 use Rattle.seq_arith.specs.Packet.{Segment, has_fin, has_syn, has_rst, has_ack}
 use Rattle.ft_model.specs.News.{News}
@@ -11,10 +11,10 @@ use Rattle.tcp_buffers.specs.Near.{is_ahead}
 use Rattle.tcp_endpoint.specs.declared.states.StateName.{StateName}
 use Rattle.tcp_endpoint.specs.declared.states.StateName.TheVariants.{Closed, Listen, SynSent, SynReceived, Established, FinWait1, FinWait2, CloseWait, Closing, LastAck, TimeWait}
 use Rattle.tcp_endpoint.specs.States.{after_syn_acked, after_fin, after_fin_acked, has_begun}
-use Rattle.tcp_endpoint.specs.Receiving.{next, window, with_segment}
+use Rattle.tcp_endpoint.specs.Receiving.{next, with_segment}
 use Rattle.tcp_endpoint.specs.Sending.{acknowledged, with_syn_acked, fin_acked}
 use Rattle.tcp_endpoint.specs.Tcb.{Tcb}
-use Rattle.tcp_endpoint.specs.Arrival.{first, ack_at, owing_if, killed, entering, refusing, with_text_and_fin, with_fin_acked, with_first_ack, with_ack, check_ack, check_syn, check_rst, waiting_again, check_place, in_others, received}
+use Rattle.tcp_endpoint.specs.Arrival.{first, ack_at, owing_if, killed, entering, refusing, with_text_and_fin, with_fin_acked, with_first_ack, with_ack, check_ack, check_syn, check_rst, waiting_again, accepts, is_allowed, check_place, in_others, received}
 use Rattle.tcp_endpoint.specs.Turning.{after_tick, timer_ticked, waited}
 use Rattle.endpoint_laws.specs.Turn.{Call, MayUse, arrived, used}
 use Rattle.endpoint_laws.specs.Ending.{IsNamed, IsNamedRightly}
@@ -111,7 +111,7 @@ segment_opens : (e : Tcb) (p : Segment) → has_begun e.name ≡ true → has_be
 unfolding in_others check_place waiting_again
 segment_opens e p begun acked off =
     let m : Tcb = waiting_again e p in
-    holds_if IsOpenWith (is_acceptable (next e.receiving) (window e.receiving) (first e p) (length_of p)) (check_rst m p) (owing_if (not (has_rst p)) m)
+    holds_if IsOpenWith (accepts m p || is_allowed m p) (check_rst m p) (owing_if (not (has_rst p)) m)
     (λ is. rst_opens m p begun acked off) (λ none. not_taken (owing_if (not (has_rst p)) m) off)
 
 opens_with_news : (news : News) (e : Tcb) → has_begun e.name ≡ true → IsNamedRightly e → e.receiving.fin ≡ false → IsOpenWith (arrived news e)

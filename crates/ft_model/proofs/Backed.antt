@@ -1,6 +1,6 @@
 -- No client acknowledges more than the output of the logged reads, and one more where that has closed; so neither does a point, a Data or the
 -- log. Of the laws of sending this needs only that SND.UNA never passes what was acknowledged.
-use Rattle.std.proofs.Common.{◌≡◌, ℕ, ◌+◌, ◌≤◌, ℤ, pos, negsuc, ◌≤ℤ◌, true, ◌&&◌, ◌||◌, not, nat_lt, nat_le, int_le, nat_abs, max, le_trans, sym, ap, ◌∙◌, subst, true≢false, Some, List, [], ◌∷◌, ◌++◌, map, length, drop, arith, if◌then◌else◌}
+use Rattle.std.proofs.Common.{◌≡◌, ℕ, ◌+◌, ◌≤◌, ℤ, pos, negsuc, ◌≤ℤ◌, true, ◌&&◌, ◌||◌, not, nat_lt, nat_le, int_le, nat_abs, max, le_trans, sym, ap, ◌∙◌, subst, true≢false, Some, List, [], ◌∷◌, ◌++◌, map, length, drop, arith}
 use Rattle.std.specs.List.{AllByRecursion, list_any}
 use Rattle.std.proofs.lemmas.Int.{ints}
 use Rattle.std.proofs.lemmas.Bool.{and_parts}
@@ -22,7 +22,7 @@ use Rattle.ft_model.specs.News.News.{Comes, Logged, Ticks, Begins}
 use Rattle.ft_model.specs.Taken.{uses, counts}
 use Rattle.ft_model.specs.Sending.{acknowledges, acknowledged_by, acknowledged_after}
 use Rattle.ft_model.specs.Segments.{segments_of}
-use Rattle.ft_model.specs.Copy.{copies, copied_text, copies_fin, copied_part, una_part}
+use Rattle.ft_model.specs.Copy.{copies}
 use Rattle.ft_model.specs.Reads.{reads_told, read_messages, first_told}
 use Rattle.ft_model.specs.Ending.{dones, tells_done}
 use Rattle.ft_model.specs.Connection.{ConnectionTurn, told_by}
@@ -41,6 +41,7 @@ use Rattle.ft_model.proofs.Services.{reads_go_on, units_go_on}
 use Rattle.ft_model.proofs.Faithful.{IsKnown}
 use Rattle.ft_model.proofs.Authored.{logged_run}
 use Rattle.ft_model.proofs.AuthorKept.{change_all}
+use Rattle.ft_model.proofs.Copied.{all_copies}
 use Rattle.ft_io.proofs.Choices.{holds_if}
 
 -- the units of the run over a client's logged reads: its output, and one more where it has closed
@@ -168,14 +169,9 @@ una_backed service script log Begins p n h = h
 -- every Data carries SND.UNA
 copies_backed : {State : Type 0} (service : Machine State) (script : Key → List ℕ) (log : Log) (news : News) (p q : Point) → q.una ≤ logged_output service script log q.key
     → AllByRecursion (BodyBacked service script log) (copies news p q)
-unfolding copies
-copies_backed service script log (Comes segment) p q h =
-    holds_if (AllByRecursion (BodyBacked service script log)) (nat_lt 0 (length (copied_text q segment)) || copies_fin q segment) (DataMsg (copied_part q segment) ∷ [])
-    (if nat_lt p.una q.una then DataMsg (una_part q) ∷ [] else []) (λ t. (h, tt))
-    (λ t. holds_if (AllByRecursion (BodyBacked service script log)) (nat_lt p.una q.una) (DataMsg (una_part q) ∷ []) [] (λ x. (h, tt)) (λ x. tt))
-copies_backed service script log (Logged kept) p q h = tt
-copies_backed service script log Ticks p q h = tt
-copies_backed service script log Begins p q h = tt
+copies_backed service script log news p q h =
+    all_copies (BodyBacked service script log) news p q
+    (λ part c. subst (λ k. part.acked ≤ logged_output service script log k) (sym c.key) (subst (λ n. n ≤ logged_output service script log q.key) (sym c.acked) h))
 
 messages_backed : {State : Type 0} (service : Machine State) (script : Key → List ℕ) (log : Log) (key : Key) (index : ℕ) (lengths : List ℕ) → AllByRecursion (BodyBacked service script log) (read_messages key index lengths)
 messages_backed service script log key index [] = tt

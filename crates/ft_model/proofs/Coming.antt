@@ -1,7 +1,7 @@
 -- What a segment adds to a stream goes on with it, where the segment says only what the whole stream has.
-use Rattle.std.proofs.Common.{◌≡◌, ℕ, ◌+◌, ◌-◌, ◌≤◌, ℤ, pos, ◌+ℤ◌, int_le, int_lt, Bool, true, false, ◌||◌, refl, sym, ap, ◌∙◌, subst, true≢false, ◌⊎◌, ⊎_elim, List, [], ◌++◌, length, take, drop, arith, length-append, append-nil, leb-true, ltb-false, if◌then◌else◌}
+use Rattle.std.proofs.Common.{◌≡◌, ℕ, ◌+◌, ◌-◌, ◌≤◌, ℤ, pos, int_le, int_lt, Bool, true, false, ◌||◌, sym, ◌∙◌, subst, ◌⊎◌, ⊎_elim, List, [], ◌++◌, length, take, drop, arith, length-append, append-nil, leb-true, ltb-false}
 use Rattle.std.proofs.lemmas.Bool.{and_parts, or_parts}
-use Rattle.seq_arith.specs.Arrival.{int_eq, below}
+use Rattle.seq_arith.specs.Arrival.{int_eq}
 use Rattle.seq_arith.specs.Coming.{new_text, comes}
 use Rattle.seq_arith.proofs.Coming.{fin_comes, bare_comes, comes_ended}
 use Rattle.ft_model.specs.Growth.{IsPrefix}

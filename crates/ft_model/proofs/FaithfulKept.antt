@@ -1,5 +1,5 @@
 -- .. in every joint trace: so all that a client is told to be received is logged, and what is logged is its script's front.
-use Rattle.std.proofs.Common.{◌≡◌, ℕ, ◌-◌, ◌≤◌, ◌^◌, ℤ, pos, ◌+ℤ◌, int_lt, Bool, true, ◌==◌, ◌&&◌, ◌||◌, not, nat_lt, nat_le, refl, sym, ap, ◌∙◌, subst, true≢false, ⊎_elim, Option, Some, None, List, [], ◌∷◌, ◌++◌, map, length, take, drop, arith, if◌then◌else◌}
+use Rattle.std.proofs.Common.{◌≡◌, ℕ, ◌≤◌, ◌^◌, pos, int_lt, true, ◌==◌, ◌&&◌, ◌||◌, not, nat_lt, nat_le, refl, sym, ap, ◌∙◌, subst, true≢false, ⊎_elim, Option, Some, None, List, [], ◌∷◌, ◌++◌, map, length, arith, if◌then◌else◌}
 use Rattle.std.specs.List.{AllByRecursion, list_any}
 use Rattle.std.proofs.lemmas.Bool.{and_parts}
 use Rattle.ft_io.specs.declared.Addr.{Addr}
@@ -11,8 +11,8 @@ use Rattle.seq_arith.specs.Packet.{Segment, has_syn, has_rst, has_ack}
 use Rattle.seq_arith.specs.Message.{Numbers, Body, Message}
 use Rattle.seq_arith.specs.Message.Body.{OpenMsg, DataMsg, ReadMsg, DoneMsg}
 use Rattle.server_trait.specs.Service.{Machine}
-use Rattle.ft_model.specs.Offset.{first_of, ack_of, text_of, fin_of, length_of}
-use Rattle.ft_model.specs.Client.{Client, received, opened_by, arrived, used, may_use, with_ack, with_added, came, is_opening, is_open, is_ended, next_of, room_of}
+use Rattle.ft_model.specs.Offset.{first_of, ack_of}
+use Rattle.ft_model.specs.Client.{Client, received, opened_by, arrived, used, may_use, with_ack, with_added, came, is_opening, is_open, next_of}
 use Rattle.ft_model.specs.declared.phase.Phase.TheVariants as phases
 use Rattle.ft_model.specs.Log.{Log, Entry, new_entry, opened, with_part, with_read, is_next_read, with_body, log_after}
 use Rattle.ft_model.specs.Network.{Packet, source_of}

@@ -1,14 +1,14 @@
 -- A client keeps the server's address, and the packet of its move is well formed.
-use Rattle.std.proofs.Common.{◌≡◌, ℕ, ◌+◌, ◌-◌, ◌<◌, ◌≤◌, ◌^◌, ◌==◌, ℤ, pos, ◌+ℤ◌, int_lt, Bool, true, ◌&&◌, ◌||◌, not, nat_lt, nat_le, refl, sym, ap, ◌∙◌, subst, eqb-true, Option, Some, None, IfSome, List, ◌++◌, length, take, drop, arith, leb-true, length-take, if◌then◌else◌}
+use Rattle.std.proofs.Common.{◌≡◌, ℕ, ◌+◌, ◌<◌, ◌≤◌, ◌^◌, ◌==◌, pos, int_lt, true, ◌&&◌, ◌||◌, not, nat_lt, nat_le, refl, sym, ap, ◌∙◌, subst, eqb-true, Option, Some, None, IfSome, length, drop, arith, leb-true, length-take, if◌then◌else◌}
 use Rattle.std.proofs.lemmas.Bool.{ltb-true, and_parts}
 use Rattle.seq_arith.specs.Number.{number_at}
 use Rattle.seq_arith.specs.Arrival.{int_eq}
 use Rattle.seq_arith.specs.Packet.{Segment, has_syn, has_rst, has_ack}
 use Rattle.seq_arith.specs.PacketGrammar.{mss_option, packet_length}
 use Rattle.server_trait.specs.Service.{AreBytes}
-use Rattle.ft_model.specs.Offset.{first_of, ack_of, text_of, fin_of, length_of}
+use Rattle.ft_model.specs.Offset.{first_of, ack_of}
 use Rattle.ft_model.specs.declared.phase.Phase.TheVariants as phases
-use Rattle.ft_model.specs.Client.{Client, ClientKind, Move, IsMove, seq_of, ack_number_of, flags_of, mss_of, payload_of, is_acknowledging, accepted_units, segment_of, may_announce, is_live, may_offer, suits_kind, suits_phase, suits_range, received, opened_by, arrived, used, may_use, with_ack, with_added, came, is_opening, is_open, is_ended, next_of, room_of}
+use Rattle.ft_model.specs.Client.{Client, ClientKind, Move, IsMove, seq_of, ack_number_of, flags_of, mss_of, payload_of, is_acknowledging, accepted_units, segment_of, may_announce, is_live, may_offer, suits_kind, suits_phase, suits_range, received, opened_by, arrived, used, may_use, with_ack, with_added, came, is_opening, is_open, next_of}
 use Rattle.ft_model.specs.Client.Move.{Syn, Text, Fin, Acknowledge, Rst, Refuse}
 use Rattle.ft_model.specs.Network.Packet.{To_server}
 use Rattle.ft_model.specs.World.{World}

@@ -1,16 +1,15 @@
 -- A server that hears what is well formed sends nothing else.
-use Rattle.std.proofs.Common.{◌≡◌, ℕ, ◌+◌, ◌-◌, ◌<◌, ◌≤◌, ◌^◌, ◌==◌, ℤ, pos, negsuc, ◌+ℤ◌, true, ◌&&◌, ◌||◌, not, nat_lt, nat_le, max, min, sym, ap, subst, inl, inr, ◌⊎◌, ⊎_elim, Option, Some, None, List, [], ◌∷◌, ◌++◌, map, length, take, drop, sum, arith, append-nil, append_assoc, length-append, length-drop, length-take, ltb-true, leb-true}
+use Rattle.std.proofs.Common.{◌≡◌, ℕ, ◌+◌, ◌-◌, ◌<◌, ◌≤◌, ◌^◌, ◌==◌, ◌&&◌, ◌||◌, not, nat_lt, min, sym, ap, subst, inl, inr, ◌⊎◌, ⊎_elim, Option, Some, None, List, [], ◌∷◌, ◌++◌, map, length, take, drop, sum, arith, append-nil, append_assoc, length-append, length-drop, length-take, ltb-true}
 use Rattle.std.specs.List.{AllByRecursion, list_any}
 use Rattle.std.proofs.lemmas.Bool.{and_parts}
 use Rattle.ft_io.specs.declared.Addr.{Addr}
 use Rattle.ft_io.specs.declared.Key.{Key}
-use Rattle.seq_arith.specs.Arrival.{int_eq, below}
 use Rattle.seq_arith.specs.Packet.{Segment, has_syn, has_rst, has_ack}
 use Rattle.seq_arith.specs.PacketGrammar.{packet_length}
 use Rattle.seq_arith.specs.Message.{Numbers, Body}
-use Rattle.seq_arith.specs.Message.Body.{DataMsg, DoneMsg}
+use Rattle.seq_arith.specs.Message.Body.{DoneMsg}
 use Rattle.server_trait.specs.Service.{Machine, AreBytes, WritesBytes}
-use Rattle.ft_model.specs.Offset.{first_of, text_of, fin_of}
+use Rattle.ft_model.specs.Offset.{text_of}
 use Rattle.ft_model.specs.Log.{Log}
 use Rattle.ft_model.specs.Network.{Packet}
 use Rattle.ft_model.specs.Network.Packet.{To_server, To_client, From_logger}
@@ -18,7 +17,7 @@ use Rattle.ft_model.specs.Point.{Point, answered_run}
 use Rattle.ft_model.specs.News.{News}
 use Rattle.ft_model.specs.News.News.{Comes, Logged, Ticks, Begins}
 use Rattle.ft_model.specs.Reads.{next_length, may_read, next_read, with_read, Makes, read_messages, first_told, reads_told}
-use Rattle.ft_model.specs.Copy.{from_start, copy_start, copied_text, copies_fin, una_part, copied_part, copies}
+use Rattle.ft_model.specs.Copy.{copies}
 use Rattle.ft_model.specs.Ending.{dones, tells_done}
 use Rattle.ft_model.specs.Segments.{segments_of}
 use Rattle.ft_model.specs.Opening.{is_syn, numbers_for, segment_size, point_opened}
@@ -29,9 +28,9 @@ use Rattle.ft_model.specs.Node.Place.{Opens, Lives}
 use Rattle.ft_model.specs.Node.Input.{Packet_comes, Message_comes, Noise_comes, Tick_comes}
 use Rattle.ft_model.specs.Serving.{newcomers, refusals, is_strange}
 use Rattle.ft_model.specs.World.{World}
-use Rattle.ft_model.proofs.Lists.{or_cases, all_weaker, all_map, all_append, none_is_some, some_is}
+use Rattle.ft_model.proofs.Lists.{all_weaker, all_map, all_append, none_is_some, some_is}
 use Rattle.ft_model.proofs.Services.{sum_append, prefix_length}
-use Rattle.ft_model.specs.Taken.{end_of, taken_after}
+use Rattle.ft_model.specs.Taken.{taken_after}
 use Rattle.ft_model.proofs.Running.{next_within, taken_grows}
 use Rattle.ft_model.proofs.Spoken.{Spoken, segments_spoken}
 use Rattle.ft_model.proofs.Spoken.Spoken.{spoken_syn, spoken_text, spoken_fin, spoken_bare}
@@ -39,13 +38,13 @@ use Rattle.ft_model.proofs.StageTurns.{either_turn}
 use Rattle.ft_model.proofs.PlaceTurns.{PlaceWent, IsNews}
 use Rattle.ft_model.proofs.PlaceTurns.PlaceWent.{stayed, went_on, began, dropped, ended, refused}
 use Rattle.ft_model.proofs.Scripts.{NewsFits}
-use Rattle.ft_model.proofs.Coming.{int_same}
 use Rattle.ft_model.proofs.Faithful.{AnswerFits, PlaceFits, EntriesFit, NewsKnown, connection_fits}
 use Rattle.ft_model.proofs.FaithfulKept.{InputFits, news_fit, opened_point}
 use Rattle.ft_model.proofs.FaithfulOver.{script_of, isn_of}
 use Rattle.ft_model.proofs.Formed.{bytes_take, bytes_drop, bytes_front, bytes_output, HasClient, IsSize, AreLengths, IsBoot, NumbersFormed, BodyFormed, SegmentFormed, PacketFormed, StartFormed, PointFormed, PlaceFormed}
 use Rattle.ft_model.proofs.FormedLog.{no_zero, lengths_drop}
 use Rattle.ft_io.proofs.Booleans.{not_true}
+use Rattle.ft_model.proofs.Copied.{text_in, all_copies, cut_short}
 use Rattle.ft_io.proofs.Choices.{holds_if}
 
 -- the reads of a turn: each has a byte, or is the only one of length 0
@@ -144,48 +143,28 @@ text_short : (segment : Segment) → packet_length segment ≤ 1500 → length (
 text_short segment h =
     holds_if (λ t. length t ≤ 1460) (has_syn segment || has_rst segment) [] segment.payload (λ t. omega arith) (λ t. omega (arith, h))
 
--- the part that is copied begins within what is taken, where its FIN alone is copied
-pub begins_within : (answered : ℕ) (first : ℤ) (text taken : ℕ) → int_eq (first +ℤ pos text) (pos taken) ≡ true → answered ≤ taken
-    → max answered (from_start first) ≤ taken
-begins_within answered (pos n) text taken e h = let same = int_same (n + text) taken e in omega (arith, same, h)
-begins_within answered (negsuc n) text taken e h = omega (arith, h)
+news_bytes : (news : News) → NewsFormed news → AreBytes (text_in news)
+news_bytes (Comes segment) n = text_bytes segment n.5
+news_bytes (Logged kept) n = tt
+news_bytes Ticks n = tt
+news_bytes Begins n = tt
 
-pub copied_within : (q : Point) (segment : Segment) → (nat_lt 0 (length (copied_text q segment)) || copies_fin q segment) ≡ true
-    → copy_start q segment + length (copied_text q segment) ≤ length q.taken
-copied_within q segment e =
-    let size = length-take (length q.taken - copy_start q segment) (drop (below q.answered (first_of q.cisn segment)) (text_of segment)) in
-    ⊎_elim
-    (λ t. let some : 0 < length (copied_text q segment) = ltb-true _ _ t in omega (arith, size, some))
-    (λ t. let one = and_parts (fin_of segment && q.fin && int_eq (end_of q segment) (pos (length q.taken))) (nat_le q.answered (length q.taken)) t in
-    let two = and_parts (fin_of segment && q.fin) (int_eq (end_of q segment) (pos (length q.taken))) one.0 in
-    let low : q.answered ≤ length q.taken = leb-true _ _ one.1 in
-    let at = begins_within q.answered (first_of q.cisn segment) (length (text_of segment)) (length q.taken) two.1 low in
-    omega (arith, size, at))
-    (or_cases _ _ e)
+news_short : (news : News) → NewsFormed news → length (text_in news) ≤ 1460
+news_short (Comes segment) n = text_short segment n.6
+news_short (Logged kept) n = omega arith
+news_short Ticks n = omega arith
+news_short Begins n = omega arith
 
 copies_formed : (start : World) (boot : ℕ) (news : News) (p q : Point) → NewsFormed news → HasClient start q.key → Stands start q
     → AllByRecursion (BodyFormed start boot) (copies news p q)
-unfolding copies
-copies_formed start boot (Comes segment) p q n key s =
-    let text = text_of segment in
-    let cut = length-take (length q.taken - copy_start q segment) (drop (below q.answered (first_of q.cisn segment)) text) in
-    let behind = length-drop (below q.answered (first_of q.cisn segment)) text in
-    let short = text_short segment n.6 in
-    holds_if (AllByRecursion (BodyFormed start boot)) (nat_lt 0 (length (copied_text q segment)) || copies_fin q segment) (DataMsg (copied_part q segment) ∷ []) _
-    (λ t. let within = copied_within q segment t in (
-      (
-        key,
-        omega (arith, within, s.short),
-        bytes_take (length q.taken - copy_start q segment) _ (bytes_drop _ (text_of segment) (text_bytes segment n.5)),
-        omega (arith, cut, behind, short),
-      ),
-      tt,
+copies_formed start boot news p q n key s =
+    all_copies (BodyFormed start boot) news p q
+    (λ part c. (
+      subst (HasClient start) (sym c.key) key,
+      omega (arith, c.within, s.short),
+      subst AreBytes (sym c.text.2) (bytes_take c.text.1 (drop c.text.0 (text_in news)) (bytes_drop c.text.0 (text_in news) (news_bytes news n))),
+      cut_short part.bytes (text_in news) 1460 c.text (news_short news n),
     ))
-    (λ t. holds_if (AllByRecursion (BodyFormed start boot)) (nat_lt p.una q.una) (DataMsg (una_part q) ∷ []) []
-    (λ x. ((key, omega (arith, s.short), tt, omega arith), tt)) (λ x. tt))
-copies_formed start boot (Logged kept) p q n key s = tt
-copies_formed start boot Ticks p q n key s = tt
-copies_formed start boot Begins p q n key s = tt
 
 messages_formed : (start : World) (boot : ℕ) (key : Key) (index : ℕ) (lengths : List ℕ) → HasClient start key → AreLengths lengths
     → (0 < length lengths → index + length lengths ≤ 2 ^ 24 + 1) → AllByRecursion (BodyFormed start boot) (read_messages key index lengths)

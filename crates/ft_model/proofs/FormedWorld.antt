@@ -1,5 +1,5 @@
 -- All that is sent in a joint trace is well formed, and so has a wire.
-use Rattle.std.proofs.Common.{◌≡◌, ℕ, zero, suc, ◌+◌, ◌<◌, ◌≤◌, ◌^◌, Bool, true, false, not, nat_lt, refl, sym, ap, ◌∙◌, subst, true≢false, ⊎_elim, find, Option, Some, None, List, [], ◌∷◌, ◌++◌, length, slice_get, arith, ltb-false, if◌then◌else◌}
+use Rattle.std.proofs.Common.{◌≡◌, ℕ, zero, suc, ◌+◌, ◌<◌, ◌≤◌, ◌^◌, Bool, true, not, nat_lt, refl, sym, ap, ◌∙◌, subst, true≢false, ⊎_elim, find, Option, Some, None, List, [], ◌∷◌, ◌++◌, length, slice_get, arith, ltb-false, if◌then◌else◌}
 use Rattle.std.specs.List.{AllByRecursion, position_or_len}
 use Rattle.std.specs.Option.{option_map_or}
 use Rattle.ft_io.specs.declared.Addr.{Addr}

@@ -1,6 +1,6 @@
 -- A server that serves knows each key that the log has, and each for which an Open of its own is under way, unless the log is full. So what it
 -- sends in a turn resets no client that the log keeps.
-use Rattle.std.proofs.Common.{◌≡◌, ℕ, ◌+◌, Bool, true, false, ◌&&◌, ◌||◌, not, nat_lt, refl, sym, ap, ◌∙◌, subst, true≢false, inl, inr, ◌⊎◌, ⊎_elim, eq-eqb, Some, List, [], ◌∷◌, ◌++◌, map, length, drop, arith, if◌then◌else◌}
+use Rattle.std.proofs.Common.{◌≡◌, ℕ, ◌+◌, Bool, true, false, ◌&&◌, ◌||◌, not, nat_lt, refl, sym, ap, ◌∙◌, subst, true≢false, inl, inr, ◌⊎◌, ⊎_elim, eq-eqb, Some, List, [], ◌∷◌, ◌++◌, map, drop, arith, if◌then◌else◌}
 use Rattle.std.specs.List.{AllByRecursion}
 use Rattle.std.proofs.lemmas.List.Folds.{list_any-append}
 use Rattle.std.proofs.lemmas.Bool.{and_parts, or_right}
@@ -9,15 +9,14 @@ use Rattle.ft_io.specs.declared.Key.{Key}
 use Rattle.ft_io.specs.Key.{key_eq}
 use Rattle.seq_arith.specs.Packet.{Segment, has_rst, has_ack}
 use Rattle.seq_arith.specs.Message.{Numbers, Body, Message}
-use Rattle.seq_arith.specs.Message.Body.{OpenMsg, DataMsg, DoneMsg}
+use Rattle.seq_arith.specs.Message.Body.{OpenMsg, DoneMsg}
 use Rattle.server_trait.specs.Service.{Machine}
 use Rattle.ft_model.specs.Log.{Log, log_after}
 use Rattle.ft_model.specs.Network.{Packet, source_of, destination_of}
 use Rattle.ft_model.specs.Network.Packet.{To_server, To_client, To_logger, From_logger}
 use Rattle.ft_model.specs.Point.{Point}
 use Rattle.ft_model.specs.News.{News}
-use Rattle.ft_model.specs.News.News.{Comes, Logged, Ticks, Begins}
-use Rattle.ft_model.specs.Copy.{copies, copied_text, copies_fin, copied_part, una_part}
+use Rattle.ft_model.specs.Copy.{copies}
 use Rattle.ft_model.specs.Reads.{reads_told, read_messages, first_told}
 use Rattle.ft_model.specs.Ending.{dones, tells_done}
 use Rattle.ft_model.specs.Segments.{segments_of}
@@ -48,6 +47,7 @@ use Rattle.ft_model.proofs.FaithfulKept.{InputFits}
 use Rattle.ft_model.proofs.Distinct.{stays_or_drops}
 use Rattle.ft_model.proofs.Refused.{ResetsEnded, HasCaller, IsDone, IsShut, BodySays, Says, KeysGo, keys_go, done_later, shut_later}
 use Rattle.ft_io.proofs.Booleans.{not_true}
+use Rattle.ft_model.proofs.Copied.{all_copies}
 use Rattle.ft_io.proofs.Choices.{holds_if}
 
 -- the key has a place
@@ -182,13 +182,7 @@ bodies_plain log boot [] a = tt
 bodies_plain log boot (body ∷ bodies) a = ((tt, a.0), bodies_plain log boot bodies a.1)
 
 copies_plain : (news : News) (p q : Point) → AllByRecursion NoOpen (copies news p q)
-unfolding copies
-copies_plain (Comes segment) p q =
-    holds_if (AllByRecursion NoOpen) (nat_lt 0 (length (copied_text q segment)) || copies_fin q segment) (DataMsg (copied_part q segment) ∷ []) _ (λ t. (refl, tt))
-    (λ t. holds_if (AllByRecursion NoOpen) (nat_lt p.una q.una) (DataMsg (una_part q) ∷ []) [] (λ u. (refl, tt)) (λ u. tt))
-copies_plain (Logged kept) p q = tt
-copies_plain Ticks p q = tt
-copies_plain Begins p q = tt
+copies_plain news p q = all_copies NoOpen news p q (λ part c. refl)
 
 messages_plain : (key : Key) (index : ℕ) (lengths : List ℕ) → AllByRecursion NoOpen (read_messages key index lengths)
 messages_plain key index [] = tt

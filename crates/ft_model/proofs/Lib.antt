@@ -43,6 +43,9 @@ pub mod Resumed
 pub mod Exact
 pub mod Stands
 pub mod Coming
+pub mod Copied
+pub mod RightEdge
+pub mod ShutWindow
 pub mod Scripts
 pub mod Spoken
 pub mod FinsClosed

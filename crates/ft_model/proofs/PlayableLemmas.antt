@@ -8,13 +8,11 @@ use Rattle.std.proofs.lemmas.List.Elements.{recursion_from_All, All-from_recursi
 use Rattle.ft_io.specs.declared.Addr.{Addr}
 use Rattle.ft_io.specs.declared.Key.{Key}
 use Rattle.ft_io.specs.Key.{key_eq}
-use Rattle.ft_model.specs.Client.{Client}
 use Rattle.ft_model.specs.Grammar.{read_text, with_line, no_objection, is_taken, is_too_much}
 use Rattle.ft_model.specs.Legal.{start_of}
 use Rattle.ft_model.specs.Playable.{IsPlayable}
 use Rattle.ft_model.specs.Schedule.{bytes_of, clients_of}
 use Rattle.ft_model.specs.World.{is_apart, are_apart, IsNewClient, IsStart}
-use Rattle.ft_model.specs.declared.event.Event.{Event}
 use Rattle.ft_model.specs.declared.line.Draft.{Draft}
 use Rattle.ft_model.specs.declared.line.Draft.TheVariants.{Empty, Named, Begun}
 use Rattle.ft_model.specs.declared.line.Line.{Line}

@@ -1,5 +1,5 @@
 -- Every byte of a client that is under way, logged or taken is its script's at that offset, and a FIN stands only at the script's end.
-use Rattle.std.proofs.Common.{ap₂, ◌≡◌, ℕ, ◌+◌, ◌-◌, ◌≤◌, ◌^◌, pos, ◌+ℤ◌, int_le, Bool, true, false, ◌==◌, ◌&&◌, ◌||◌, not, nat_lt, nat_le, min, refl, sym, ap, ◌∙◌, subst, true≢false, inl, inr, ◌⊎◌, ⊎_elim, List, [], ◌∷◌, ◌++◌, length, take, drop, arith, append-nil, length-take, length-drop, leb-true, ltb-false, eqb-true, if◌then◌else◌}
+use Rattle.std.proofs.Common.{ap₂, ◌≡◌, ℕ, ◌+◌, ◌-◌, ◌≤◌, ◌^◌, pos, ◌+ℤ◌, true, false, ◌==◌, ◌&&◌, ◌||◌, nat_lt, nat_le, min, refl, sym, ap, ◌∙◌, subst, true≢false, inl, inr, ◌⊎◌, ⊎_elim, List, [], ◌++◌, length, take, drop, arith, length-take, length-drop, leb-true, ltb-false, eqb-true}
 use Rattle.std.specs.List.{AllByRecursion}
 use Rattle.std.proofs.lemmas.Bool.{and_parts, or_parts}
 use Rattle.ft_io.specs.declared.Key.{Key}
@@ -17,13 +17,13 @@ use Rattle.ft_model.specs.Point.{Point, receive_edge}
 use Rattle.ft_model.specs.News.{News}
 use Rattle.ft_model.specs.News.News.{Comes, Logged, Ticks, Begins}
 use Rattle.ft_model.specs.Taken.{counts, end_of, came, taken_after, fin_after}
-use Rattle.ft_model.specs.Copy.{from_start, copy_start, copied_text, copies_fin, una_part, copied_part, copies}
+use Rattle.ft_model.specs.Copy.{from_start, copy_start, copied_text, una_part, copied_part, copies}
 use Rattle.ft_model.specs.Growth.{IsPrefix}
-use Rattle.ft_model.proofs.Lists.{take_first, or_cases}
+use Rattle.ft_model.proofs.Lists.{take_first}
 use Rattle.ft_model.proofs.Stands.{nothing_first, part_stands, goes_on_all, take_nothing}
+use Rattle.ft_model.proofs.Copied.{HasForm, all_copies}
 use Rattle.ft_model.proofs.Coming.{Fronts, Says, int_same, unchanged, comes_fits}
 use Rattle.ft_io.proofs.Choices.{holds_if}
-use Rattle.ft_io.proofs.Booleans.{middle_false}
 
 -- a segment carries a part of its client's script, or nothing
 abbrev pub Carries : List ℕ → ℕ → Segment → Type 0
@@ -124,18 +124,20 @@ copied_fits script isn segment p f h =
       fin = λ k. absurd (true≢false (sym (and_parts (fin_of segment) p.fin (and_parts (fin_of segment && p.fin) (int_eq (end_of p segment) (pos (length p.taken))) (and_parts (fin_of segment && p.fin && int_eq (end_of p segment) (pos (length p.taken))) (nat_le p.answered (length p.taken)) k).0).0).0 ∙ c.1));
     }) f.text
 
+part_fits : (script : List ℕ) (isn : ℕ) (news : News) (p : Point) (part : Part) → NewsFits script isn news → HasTaken script isn p → HasForm news p part → PartFits script part
+part_fits script isn (Comes segment) p part f h form =
+    ⊎_elim (λ e. subst (PartFits script) (sym e) (copied_fits script isn segment p f h))
+    (λ e. subst (PartFits script) (sym e) (record { stands = nothing_first (drop (una_part p).offset script); fin = λ k. absurd (true≢false (sym k)) })) form
+part_fits script isn (Logged kept) p part f h form = absurd form
+part_fits script isn Ticks p part f h form = absurd form
+part_fits script isn Begins p part f h form = absurd form
+
 -- the law Copy: a Data carries the script's bytes at its offset, and a FIN only at the script's end
 pub copies_fit : (script : Key → List ℕ) (isn : ℕ) (news : News) (before p : Point) → NewsFits (script p.key) isn news → HasTaken (script p.key) isn p
     → AllByRecursion (DataFits script) (copies news before p)
-unfolding copies
-copies_fit script isn (Comes segment) before p f h =
-    holds_if (AllByRecursion (DataFits script)) (nat_lt 0 (length (copied_text p segment)) || copies_fin p segment) (DataMsg (copied_part p segment) ∷ []) _
-    (λ t. (copied_fits (script p.key) isn segment p f h, tt))
-    (λ t. holds_if (AllByRecursion (DataFits script)) (nat_lt before.una p.una) (DataMsg (una_part p) ∷ []) []
-    (λ s. (record { stands = nothing_first (drop (una_part p).offset (script p.key)); fin = λ k. absurd (true≢false (sym k)) }, tt)) (λ s. tt))
-copies_fit script isn (Logged kept) before p f h = tt
-copies_fit script isn Ticks before p f h = tt
-copies_fit script isn Begins before p f h = tt
+copies_fit script isn news before p f h =
+    all_copies (DataFits script) news before p
+    (λ part c. subst (λ k. PartFits (script k) part) (sym c.key) (part_fits (script p.key) isn news p part f h c.form))
 
 by_move : (c : Client) (move : Move) (window : ℕ) → length c.script ≤ 2 ^ 24 → may_move c move ≡ true → FitsScript c.script c.isn (segment_of c move window)
 by_move c (Syn mss) window short may = record { syn = λ e. refl; text = inr (refl, refl) }

@@ -1,13 +1,12 @@
 -- What a client has accepted is the front of the uncrashed server's output on its script, read as the log says.
-use Rattle.std.proofs.Common.{◌≡◌, ℕ, ◌+◌, ◌-◌, ◌≤◌, ℤ, pos, ◌+ℤ◌, int_lt, Bool, true, false, ◌==◌, ◌&&◌, ◌||◌, not, nat_lt, refl, sym, ap, ap₂, ◌∙◌, subst, true≢false, inl, inr, ◌⊎◌, ⊎_elim, Some, List, [], ◌++◌, length, take, drop, arith, append-nil, ltb-false, if◌then◌else◌}
-use Rattle.std.proofs.lemmas.Bool.{and_parts, or_parts}
+use Rattle.std.proofs.Common.{◌≡◌, ℕ, ℤ, pos, int_lt, Bool, true, false, ◌==◌, ◌&&◌, ◌||◌, not, refl, sym, ap, ◌∙◌, true≢false, inl, inr, ◌⊎◌, ⊎_elim, Some, List, [], ◌++◌, length, arith, if◌then◌else◌}
 use Rattle.ft_io.specs.declared.Key.{Key}
 use Rattle.seq_arith.specs.Number.{number_at}
 use Rattle.seq_arith.specs.Arrival.{int_eq}
 use Rattle.seq_arith.specs.Packet.{Segment, has_syn, has_rst, has_ack}
 use Rattle.server_trait.specs.Service.{Machine, Run}
-use Rattle.ft_model.specs.Offset.{first_of, ack_of, text_of, fin_of, length_of}
-use Rattle.ft_model.specs.Client.{Client, Move, moved, received, opened_by, arrived, used, may_use, with_ack, with_added, came, is_opening, is_open, is_ended, next_of, room_of}
+use Rattle.ft_model.specs.Offset.{first_of, ack_of, text_of, fin_of}
+use Rattle.ft_model.specs.Client.{Client, Move, moved, received, opened_by, arrived, used, may_use, with_ack, with_added, came, is_opening, is_open, is_ended, next_of}
 use Rattle.ft_model.specs.Client.Move.{Syn, Text, Fin, Acknowledge, Rst, Refuse}
 use Rattle.ft_model.specs.declared.phase.Phase.{Phase}
 use Rattle.ft_model.specs.declared.phase.Phase.TheVariants as phases
@@ -74,9 +73,10 @@ added_seen run sisn c ack segment s open_ t =
       front = after.front;
       ended = λ e.
           let fin : (came c segment).fin ≡ true = ended_by was (came c segment).fin c.phase refl (fin_stays n c.edge was first (text_of segment) (fin_of segment)) e in
-          let size = after.fin fin in
-          (⊎_elim (λ y. (s.ended y).0) (λ y. closes run sisn segment y.own t) (was_or_comes n c.edge was first (text_of segment) (fin_of segment) fin),
-          full_front (c.accepted ++ (came c segment).added) run.output after.front (omega (arith, size)));
+          let size = after.fin fin in (
+            ⊎_elim (λ y. (s.ended y).0) (λ y. closes run sisn segment y.own t) (was_or_comes n c.edge was first (text_of segment) (fin_of segment) fin),
+            full_front (c.accepted ++ (came c segment).added) run.output after.front (omega (arith, size)),
+          );
       sisn_is = λ o. s.sisn_is open_;
     }
 

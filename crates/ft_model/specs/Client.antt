@@ -1,5 +1,5 @@
 -- The client: what it may send, and what it does with what comes (RFC 9293, 3.10). Its offsets are units: bytes, and one more for a FIN.
-use Rattle.std.specs.Prelude.{◌≡◌, ℕ, ℤ, Bool, true, false, pos, ◌+◌, ◌-◌, ◌+ℤ◌, ◌^◌, ◌==◌, ◌&&◌, ◌||◌, not, nat_lt, nat_le, int_lt, max, min, Option, Some, None, option_map, List, [], ◌++◌, length, take, drop, nat_abs, if◌then◌else◌}
+use Rattle.std.specs.Prelude.{◌≡◌, ℕ, ℤ, Bool, true, false, pos, ◌+◌, ◌-◌, ◌^◌, ◌==◌, ◌&&◌, ◌||◌, not, nat_lt, nat_le, int_lt, max, min, Option, Some, None, option_map, List, [], ◌++◌, length, take, drop, nat_abs, if◌then◌else◌}
 use Rattle.ft_io.specs.declared.Addr.{Addr}
 use Rattle.ft_io.specs.declared.Key.{Key}
 use Rattle.seq_arith.specs.Number.{number_at}

@@ -26,7 +26,6 @@ use Rattle.ft_model.specs.declared.schedule.Limit.TheVariants as limit
 use Rattle.ft_model.specs.declared.schedule.LineWhy.{LineWhy}
 use Rattle.ft_model.specs.declared.schedule.LineWhy.TheVariants as why
 use Rattle.ft_model.specs.declared.schedule.Schedule.{Schedule}
-use Rattle.ft_model.specs.declared.schedule.Script.{Script}
 use Rattle.ft_model.specs.declared.schedule.ServiceKind.{ServiceKind}
 
 -- why a text spells no schedule: a line, counted from 1, or a limit

@@ -6,6 +6,7 @@ pub mod ChangedBit
 pub mod CrashAfterLogged
 pub mod Closing
 pub mod ZeroWindow
+pub mod RightEdge
 pub mod SegmentWhileRestarting
 pub mod RestartInTurns
 pub mod ClientKnowsMore

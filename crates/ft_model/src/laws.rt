@@ -1,16 +1,20 @@
 //! Laws over the definitions. Nothing here runs; each function is a theorem.
 
-ghost use Rattle.std.specs.Prelude.{◌≡◌, ℕ, true, false, None, List, [], ◌∷◌, if◌then◌else◌};
+ghost use Rattle.std.specs.Prelude.{◌≡◌, ℕ, ◌<◌, ◌+◌, pos, true, false, None, List, [], ◌∷◌, if◌then◌else◌};
 ghost use Rattle.std.specs.List.{AllByRecursion, list_any};
 ghost use Rattle.ft_io.specs.declared.Addr.{Addr};
 ghost use Rattle.server_trait.specs.Service.{machine};
 ghost use Rattle.ft_model.specs.Network.{Packet};
 ghost use Rattle.ft_model.specs.News.{News};
-ghost use Rattle.ft_model.specs.News.News.{Begins};
+ghost use Rattle.ft_model.specs.News.News.{Comes, Begins};
 ghost use Rattle.ft_model.specs.Reads.{next_read};
 ghost use Rattle.ft_model.specs.Segments.{fin_segment, sends_fin, new_fin};
 ghost use Rattle.ft_model.specs.Told.{is_segment, IsTold};
-ghost use Rattle.ft_model.specs.Point.{Point};
+ghost use Rattle.ft_model.specs.Point.{Point, taken_units, room};
+ghost use Rattle.ft_model.specs.Offset.{first_of, length_of};
+ghost use Rattle.ft_model.specs.Taken.{accepts, uses, taken_after, fin_after};
+ghost use Rattle.ft_model.specs.Owed.{owes};
+ghost use Rattle.seq_arith.specs.Packet.{Segment, has_rst};
 ghost use Rattle.ft_model.specs.Connection.{LiveTurn};
 ghost use Rattle.ft_model.specs.Node.{Node, Input, AllCount};
 ghost use Rattle.ft_model.specs.Lawful.{LawfulTurn, is_fenced};
@@ -65,6 +69,20 @@ pub fn new_fins_are_closed<S: Service>()
     ensures { (kind : ℕ) (server : Addr) (before after : Point)
         → new_fin (machine (S.started kind) S.after) server before after
         ≡ (if sends_fin (machine (S.started kind) S.after) before after then fin_segment (machine (S.started kind) S.after) server after ∷ [] else []) }
+{}
+
+/// At a receive window of zero the acknowledgement of a segment at the next number is used, whatever it brings; nothing of it is taken, and it is
+/// owed an answer. Without this rule neither side of a connection whose windows are both full could go on.
+pub fn shut_windows_pass_acknowledgements()
+    ensures used { (p : Point) (segment : Segment) → room p ≡ 0 → first_of p.cisn segment ≡ pos (taken_units p) → uses p segment ≡ true }
+    ensures not_taken { (p : Point) (segment : Segment) → room p ≡ 0 → (taken_after (Comes segment) p ≡ p.taken) × (fin_after (Comes segment) p ≡ p.fin) }
+    ensures owed { (p : Point) (segment : Segment) → room p ≡ 0 → 0 < length_of segment → has_rst segment ≡ false → owes p segment ≡ true }
+{}
+
+/// At the right edge of an open window a segment of length 0 is acceptable.
+pub fn right_edges_accept()
+    ensures { (p : Point) (segment : Segment) → 0 < room p → length_of segment ≡ 0 → first_of p.cisn segment ≡ pos (taken_units p + room p)
+        → accepts p segment ≡ true }
 {}
 
 /// A schedule has at most one legal trace: its events, the scripted clients and the laws of the server leave nothing open.

@@ -16,6 +16,7 @@ ghost use Rattle.ft_model.specs.WorkedRuns.CrashAfterLogged;
 ghost use Rattle.ft_model.specs.WorkedRuns.Closing;
 ghost use Rattle.ft_model.specs.WorkedRuns.ZeroWindow;
 ghost use Rattle.ft_model.specs.WorkedRuns.ZeroWindowTrace;
+ghost use Rattle.ft_model.specs.WorkedRuns.RightEdge;
 ghost use Rattle.ft_model.specs.WorkedRuns.CrashBeforeSynAck;
 ghost use Rattle.ft_model.specs.WorkedRuns.ClientKnowsMore;
 ghost use Rattle.ft_model.specs.WorkedRuns.SegmentWhileRestarting;
@@ -40,6 +41,12 @@ pub fn closing_is_lawful()
 /// A client without room is probed, and sent again what it doesn't acknowledge.
 pub fn zero_window_is_lawful()
     ensures { Lawful echo server 1 5000 (hello (booted server 1 5000)) ZeroWindow.probe_turns }
+{}
+
+/// The acknowledgement and the window of a bare segment at the right edge are used, and a RST there is challenged. Past the edge nothing is used.
+pub fn right_edge_is_lawful()
+    ensures at_it { Lawful echo server 1 5000 (hello (booted server 1 5000)) RightEdge.edge_turns }
+    ensures past_it { Lawful echo server 1 5000 (hello (booted server 1 5000)) RightEdge.beyond_turns }
 {}
 
 /// A segment that comes during a restart is held off with window 0, and taken afterwards.

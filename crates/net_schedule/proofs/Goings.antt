@@ -50,7 +50,7 @@ module _ {State : Type 0} (service : Machine State) where
   -- a lawful turn of the server
   pub server_goes : (w w' : Kept State) (v : Seen) (input : Input) (s s' : Server State) (sent : List Wire) → WorldStands service w v → Premises service v → MayCome v input → w.node ≡ Some s
       → s'.who ≡ s.who
-      → ((standing : Stage) → IsNearInput input standing → IsSoundInput service (node_of s.who standing) input standing → StageStands service (node_of s.who standing) s.stage
+      → ((standing : Stage) → IsNearInput s.who.local input standing → IsSoundInput service (node_of s.who standing) input standing → StageStands service (node_of s.who standing) s.stage
       → NodeGoes service (node_of s.who standing) input s.who s'.stage sent)
       → w' ≡ record w { packets = with_wires w.keys w.packets sent; node = Some s' } → GoesOn service (ServerMoves service input v) v w'
   server_goes w w' v input s s' sent st p comes is_up same turn e' =
@@ -159,7 +159,7 @@ module _ {State : Type 0} (service : Machine State) where
 -- so it is where the turn is by the service of the server's own kind, which is the world's
 pub server_goes_at : {State : Type 0} (services : ℕ → Machine State) (w w' : Kept State) (v : Seen) (input : Input) (s s' : Server State) (sent : List Wire)
     → WorldStands (services w.kind) w v → Premises (services w.kind) v → MayCome v input → w.node ≡ Some s → s'.who ≡ s.who
-    → ((standing : Stage) → IsNearInput input standing → IsSoundInput (services s.who.kind) (node_of s.who standing) input standing → StageStands (services s.who.kind) (node_of s.who standing) s.stage
+    → ((standing : Stage) → IsNearInput s.who.local input standing → IsSoundInput (services s.who.kind) (node_of s.who standing) input standing → StageStands (services s.who.kind) (node_of s.who standing) s.stage
     → NodeGoes (services s.who.kind) (node_of s.who standing) input s.who s'.stage sent)
     → w' ≡ record w { packets = with_wires w.keys w.packets sent; node = Some s' } → GoesOn (services w.kind) (ServerMoves (services w.kind) input v) v w'
 server_goes_at services w w' v input s s' sent st p comes is_up same turn e' =

@@ -46,7 +46,7 @@ keys_after service start trace j = holds_after service (λ w. keys_in w.clients 
 -- the laws of every legal trace, for the services of these numbers
 pub record AreLaws {State : Type 0} (services : ℕ → Machine State) : Type 0 where
   pub near : (schedule : Schedule) (trace : List Moment) (node : Node) (input : Input) → Legal services schedule trace
-      → (world_after (start_of schedule) trace).node ≡ Some node → MayCome (world_after (start_of schedule) trace) input → IsNearInput input node.stage
+      → (world_after (start_of schedule) trace).node ≡ Some node → MayCome (world_after (start_of schedule) trace) input → IsNearInput node.server input node.stage
   pub sound : (schedule : Schedule) (trace : List Moment) (node : Node) (input : Input) → Legal services schedule trace
       → (world_after (start_of schedule) trace).node ≡ Some node → MayCome (world_after (start_of schedule) trace) input → IsSoundInput (services (kind_of schedule.service)) node input node.stage
   pub unfenced : (schedule : Schedule) (trace : List Moment) (node : Node) (input : Input) → Legal services schedule trace

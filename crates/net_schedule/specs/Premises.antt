@@ -16,7 +16,7 @@ use Rattle.ft_model.specs.World.{World as Seen, MayCome, IsStart, segment_or_noi
 pub record Premises {State : Type 0} (service : Machine State) (v : Seen) : Type 0 where
   pub wires : AllByRecursion HasWire v.packets
   pub keys : (start : Seen) × IsStart start × (map (λ c. c.key) v.clients ≡ map (λ c. c.key) start.clients)
-  pub near : (node : Node) (input : Input) → v.node ≡ Some node → MayCome v input → IsNearInput input node.stage
+  pub near : (node : Node) (input : Input) → v.node ≡ Some node → MayCome v input → IsNearInput node.server input node.stage
   pub sound : (node : Node) (input : Input) → v.node ≡ Some node → MayCome v input → IsSoundInput service node input node.stage
   pub unfenced : (node : Node) (input : Input) → v.node ≡ Some node → MayCome v input → fence node input ≡ None
 

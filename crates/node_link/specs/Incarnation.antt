@@ -40,7 +40,7 @@ pub record IsIncarnation (role : ServerRole) (turns : List ServerTurn) (law : Li
 
 -- The premises: what comes is near to the live connections, and the entries that it completes are sound, wherever a lawful server may stand then
 pub record IsFairAt (role : ServerRole) (received : Received) (node : Node) : Type 0 where
-  pub near : IsNearInput (input_in role received) node.stage
+  pub near : IsNearInput role.local (input_in role received) node.stage
   pub sound : IsSoundInput (service_of role) node (input_in role received) node.stage
 
 abbrev pub AreFair : ServerRole → List ServerTurn → Type 0

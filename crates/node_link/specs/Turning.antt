@@ -53,7 +53,7 @@ pub record HasBooted (role : ServerRole) (s : Standing) (old new : Option (List 
   pub stands : StageStands (service_of role) (first_of role) s.stage
 
 abbrev pub Goes : Standing → law.Input → Standing → List Wire → Type 0
-Goes before input after wires = (standing : law.Stage) → IsNearInput input standing
+Goes before input after wires = (standing : law.Stage) → IsNearInput before.who.local input standing
     → IsSoundInput (any_machine before.who.kind) (node_of before.who standing) input standing
     → StageStands (any_machine before.who.kind) (node_of before.who standing) before.stage
     → NodeGoes (any_machine before.who.kind) (node_of before.who standing) input before.who after.stage wires

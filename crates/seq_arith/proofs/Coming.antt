@@ -1,13 +1,13 @@
 -- What a segment adds to the peer's stream keeps to the receive edge, and is nothing at that edge, once the FIN is taken, and behind a gap.
 use Rattle.std.proofs.Common.{◌≡◌, ℕ, ◌+◌, ◌-◌, ◌<◌, ◌≤◌, max, Bool, true, false, refl, sym, ap, ap₂, ◌∙◌, true≢false, inl, inr, ◌⊎◌, List, [], length, take, drop, arith, length-take}
 use Rattle.std.proofs.Math.Seq.{take-nil, drop-nil}
-use Rattle.std.specs.Prelude.{ℤ, pos, ◌+ℤ◌, ◌&&◌, ◌||◌, ◌==◌, nat_lt, int_lt, int_le, if◌then◌else◌}
+use Rattle.std.specs.Prelude.{ℤ, pos, ◌+ℤ◌, ◌&&◌, ◌||◌, ◌==◌, nat_lt, int_lt, if◌then◌else◌}
 use Rattle.std.proofs.lemmas.Bool.{and_parts, ltb-true}
 use Rattle.std.proofs.lemmas.Int.{ints}
-use Rattle.seq_arith.specs.Arrival.{int_eq, below, is_acceptable, is_at_right_edge, is_allowed_at_zero, is_acceptable_or_at_edge, is_usable}
+use Rattle.seq_arith.specs.Arrival.{int_eq, below, is_at_right_edge, is_allowed_at_zero, is_acceptable_or_at_edge, is_usable}
 use Rattle.seq_arith.specs.Coming.{Came, nothing_came, new_text, is_fin_at, comes}
 use Rattle.seq_arith.proofs.Shifts.{below_shift, above_shift, is_acceptable_shift, point_shift}
-use Rattle.ft_io.proofs.Choices.{holds_if, holds_either_way}
+use Rattle.ft_io.proofs.Choices.{holds_either_way}
 use Rattle.ft_io.proofs.Booleans.{or_false, or_true}
 
 came_of : List ℕ → Bool → Came

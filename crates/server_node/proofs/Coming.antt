@@ -38,11 +38,11 @@ module _ {S : Type 0} (service : Machine S) (node : Node) (segment : Segment) (m
   concerned k same = rw (mine, itself k same) refl
 
   -- a live connection's turn is its slot's
-  pub live_comes : (place : Place) (c now : ConnState S) (old new : List Wire) → IsNearTo segment place → SlotStands service node (source_of segment) (slot.Live c) place
+  pub live_comes : (place : Place) (c now : ConnState S) (old new : List Wire) → IsNearTo node.server segment place → SlotStands service node (source_of segment) (slot.Live c) place
       → ((p : Point) → IsNear p.cisn p.sisn segment → p.key ≡ source_of segment → Stands service node.server node.boot c p → ConnGoes service node.server node.boot (Comes segment) p now old new)
       → SlotGoes service node (Packet_comes segment) (source_of segment) place (slot.Live now) old new
   live_comes (Lives p) c now old new near st h =
-      let g = h p (near (itself p.key st.0)) st.0 st.1 in record {
+      let g = h p (near mine (itself p.key st.0)) st.0 st.1 in record {
         after = Lives g.after;
         packets = g.packets;
         stands = (g.key ∙ st.0, g.stands);

@@ -30,7 +30,7 @@ use Rattle.ft_model.proofs.Spoken.Spoken.{spoken_syn, spoken_text, spoken_fin, s
 use Rattle.wrapped_conn.proofs.Sendable.{FitsKey, done_sendable, read_sendable}
 use Rattle.ft_io.proofs.Choices.{holds_if}
 use Rattle.ft_model.proofs.Wires.{flag_low}
-use Rattle.ft_model.proofs.FormedTurns.{copied_within}
+use Rattle.ft_model.proofs.Copied.{text_in, all_copies, cut_short}
 
 -- the numbers of a point are within their ranges
 pub record IsInRange (q : Point) : Type 0 where
@@ -102,19 +102,17 @@ IsShort _ = Unit {0}
 text_short : (segment : Segment) → length segment.payload ≤ 1460 → length (text_of segment) ≤ 1460
 text_short segment h = holds_if (λ t. length t ≤ 1460) (has_syn segment || has_rst segment) [] segment.payload (λ t. omega arith) (λ t. h)
 
+news_short : (news : News) → IsShort news → length (text_in news) ≤ 1460
+news_short (Comes segment) h = text_short segment h
+news_short (Logged kept) h = omega arith
+news_short Ticks h = omega arith
+news_short Begins h = omega arith
+
 copies_told : (boot : ℕ) (news : News) (p q : Point) → IsBoot boot → IsShort news → IsInRange q → AllByRecursion (IsTold boot) (copies news p q)
-unfolding copies
-copies_told boot (Comes segment) p q b short r =
-    let cut = length-take (length q.taken - copy_start q segment) (drop (below q.answered (first_of q.cisn segment)) (text_of segment)) in
-    let behind = length-drop (below q.answered (first_of q.cisn segment)) (text_of segment) in
-    let few = text_short segment short in
-    holds_if (AllByRecursion (IsTold boot)) (nat_lt 0 (length (copied_text q segment)) || copies_fin q segment) (DataMsg (copied_part q segment) ∷ []) _
-    (λ t. let within = copied_within q segment t in (data_told boot (copied_part q segment) b r.key (omega (arith, within, r.taken)) r.una (omega (arith, cut, behind, few)), tt))
-    (λ t. holds_if (AllByRecursion (IsTold boot)) (nat_lt p.una q.una) (DataMsg (una_part q) ∷ []) []
-    (λ x. (data_told boot (una_part q) b r.key (omega (arith, r.taken)) r.una (omega arith), tt)) (λ x. tt))
-copies_told boot (Logged kept) p q b short r = tt
-copies_told boot Ticks p q b short r = tt
-copies_told boot Begins p q b short r = tt
+copies_told boot news p q b short r =
+    all_copies (IsTold boot) news p q
+    (λ part c. data_told boot part b (subst FitsKey (sym c.key) r.key) (omega (arith, c.within, r.taken)) (subst (λ n. n ≤ 2 ^ 24 + 1) (sym c.acked) r.una)
+    (cut_short part.bytes (text_in news) 1460 c.text (news_short news short)))
 
 abbrev pub AreLow : List ℕ → Type 0
 AreLow lengths = AllByRecursion (λ n. n ≤ 2048) lengths

@@ -89,7 +89,7 @@ impl<S: Service> Node<S> {
 
     /// One turn. A packet to a live connection is taken to be near (as a premise of the law), and a fetched entry to be sound.
     fn advance(&mut self, alloc: Global, input: Input<'_>) -> Result<(), TurnEnd>
-        ensures turn { OnOk result ((standing : Standing) → IsNearInput (input_of input.entry) standing
+        ensures turn { OnOk result ((standing : Standing) → IsNearInput self.old.who.local (input_of input.entry) standing
             → IsSoundInput (machine (S.started self.old.who.kind) S.after) (node_of self.old.who standing) (input_of input.entry) standing
             → StageStands (machine (S.started self.old.who.kind) S.after) (node_of self.old.who standing) self.old.stage
             → NodeGoes (machine (S.started self.old.who.kind) S.after) (node_of self.old.who standing)
@@ -111,7 +111,7 @@ impl<S: Service> Node<S> {
     pub fn turn(&mut self, alloc: Global, input: Input<'_>) -> Result<&[OutPacket], TurnEnd>
         ensures* after { sem 𝓛 (follows_so (the_row S.row S.Service) (the_row S.row S.Service) self.entry.ghost_name none (λ _ _. ⊤)
             (λ node. IfOk result (λ sent. (node.who ≡ self.old.who) × (node.sent.items ≡ sent.now) × ((standing : Standing)
-            → IsNearInput (input_of input.entry) standing
+            → IsNearInput self.old.who.local (input_of input.entry) standing
             → IsSoundInput (machine (S.started self.old.who.kind) S.after) (node_of self.old.who standing) (input_of input.entry) standing
             → StageStands (machine (S.started self.old.who.kind) S.after) (node_of self.old.who standing) self.old.stage
             → NodeGoes (machine (S.started self.old.who.kind) S.after) (node_of self.old.who standing)

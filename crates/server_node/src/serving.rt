@@ -101,7 +101,7 @@ pub(crate) fn serve_packet<S: Service>(
     requires accepted { IsOk (reading packet.old) }
     requires sound { AllSound serving.old.slots.entries }
     ensures turn { OnOk result ((stage : Stage) (opened : ℕ) (places : List Place) (segment : Segment) → reading packet.old ≡ Ok segment
-        → AllByRecursion (IsNearTo segment) places
+        → AllByRecursion (IsNearTo who.local segment) places
         → ServingStands (machine (S.started who.kind) S.after) (node_of who stage) opened places serving.old
         → ServingGoes (machine (S.started who.kind) S.after) (node_of who stage)
         (Packet_comes segment) opened places serving.new sent.old.items sent.new.items) }
@@ -136,7 +136,7 @@ fn serve_known<S: Service>(
     requires known { IsSome (lookup (key_eq key) serving.old.slots.entries) }
     ensures turn { OnOk result ((stage : Stage) (opened : ℕ) (places : List Place) (segment : Segment) → reading packet.old ≡ Ok segment
         → segment.head ≡ said head.now
-        → source_of segment ≡ key → is_for who.local segment ≡ true → AllByRecursion (IsNearTo segment) places
+        → source_of segment ≡ key → is_for who.local segment ≡ true → AllByRecursion (IsNearTo who.local segment) places
         → ServingStands (machine (S.started who.kind) S.after) (node_of who stage) opened places serving.old
         → ServingGoes (machine (S.started who.kind) S.after) (node_of who stage)
         (Packet_comes segment) opened places serving.new sent.old.items sent.new.items) }

@@ -75,7 +75,7 @@ pub(crate) fn give_slot<S: Service>(
     requires sound { IsSoundSlot slot.old }
     requires accepted { IsOk (reading packet.old) }
     ensures turn { OnOk result ((stage : Stage) (place : Place) (segment : Segment) → reading packet.old ≡ Ok segment → source_of segment ≡ key
-        → is_for who.local segment ≡ true → IsNearTo segment place → SlotStands (machine (S.started who.kind) S.after) (node_of who stage) key slot.old place
+        → is_for who.local segment ≡ true → IsNearTo who.local segment place → SlotStands (machine (S.started who.kind) S.after) (node_of who stage) key slot.old place
         → SlotGoes (machine (S.started who.kind) S.after) (node_of who stage) (Packet_comes segment) key place slot.new sent.old.items sent.new.items) }
     ensures sound { OnOk result (IsSoundSlot slot.new) }
 {

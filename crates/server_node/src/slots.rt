@@ -68,7 +68,7 @@ pub(crate) fn give_known<S: Service>(
     requires sound { AllSound slots.old.entries }
     requires accepted { IsOk (reading packet.old) }
     ensures turn { OnOk result ((stage : Stage) (places : List Place) (segment : Segment) → reading packet.old ≡ Ok segment → source_of segment ≡ key
-        → is_for who.local segment ≡ true → AllByRecursion (IsNearTo segment) places
+        → is_for who.local segment ≡ true → AllByRecursion (IsNearTo who.local segment) places
         → AllStand (machine (S.started who.kind) S.after) (node_of who stage) slots.old.entries places
         → AllSlotsGo (machine (S.started who.kind) S.after) (node_of who stage) (Packet_comes segment) places slots.new.entries sent.old.items sent.new.items) }
     ensures sound { OnOk result (AllSound slots.new.entries) }

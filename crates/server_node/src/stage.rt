@@ -220,7 +220,7 @@ fn on_packet<S: Service>(
     requires sound { IsSoundStage who stage }
     requires empty { sent.old.items ≡ [] }
     ensures turn { IfOk result (λ after. (standing : Standing) (segment : Segment) → reading packet.now ≡ Ok segment
-        → IsNearInput (Packet_comes segment) standing
+        → IsNearInput who.local (Packet_comes segment) standing
         → StageStands (machine (S.started who.kind) S.after) (node_of who standing) stage
         → NodeGoes (machine (S.started who.kind) S.after) (node_of who standing) (Packet_comes segment) who after sent.new.items) }
     ensures sound { IfOk result (λ after. IsSoundStage who after) }
@@ -252,7 +252,7 @@ fn serve_bytes<S: Service>(
     requires accepted { IsOk (reading packet.now) }
     requires sound { AllSound serving.old.slots.entries }
     ensures turn { OnOk result ((stage : Standing) (opened : ℕ) (places : List Place) (segment : Segment) → reading packet.now ≡ Ok segment
-        → AllByRecursion (IsNearTo segment) places
+        → AllByRecursion (IsNearTo who.local segment) places
         → ServingStands (machine (S.started who.kind) S.after) (node_of who stage) opened places serving.old
         → ServingGoes (machine (S.started who.kind) S.after) (node_of who stage)
         (Packet_comes segment) opened places serving.new sent.old.items sent.new.items) }
@@ -298,7 +298,7 @@ pub(crate) fn go<S: Service>(
     requires boot { 1 ≤ who.boot }
     requires sound { IsSoundStage who stage }
     requires empty { sent.old.items ≡ [] }
-    ensures turn { IfOk result (λ after. (standing : Standing) → IsNearInput (input_of input.entry) standing
+    ensures turn { IfOk result (λ after. (standing : Standing) → IsNearInput who.local (input_of input.entry) standing
         → IsSoundInput (machine (S.started who.kind) S.after) (node_of who standing) (input_of input.entry) standing
         → StageStands (machine (S.started who.kind) S.after) (node_of who standing) stage
         → NodeGoes (machine (S.started who.kind) S.after) (node_of who standing) (input_of input.entry) who after sent.new.items) }

@@ -172,13 +172,20 @@ impl Receiver {
         }
     }
 
-    /// Whether this is the number of the announced edge.
+    /// The number of the announced edge.
+    fn edge_number(&self) -> Seq
+        ensures { result.0 ≡ number_at self.now.irs (announced_edge self.now) }
+    {
+        self.irs.add(1).add(self.announced_edge())
+    }
+
+    /// Whether this is that number.
     #[tactic(auto, using(crate::proofs::Places::is_next))]
     fn is_edge(&self, seq: Seq) -> bool
         ensures { result ≡ int_eq (offset_of self.now.irs seq.0) (pos (announced_edge self.now)) }
     {
         self.ranges(seq);
-        seq == self.irs.add(1).add(self.announced_edge())
+        seq == self.edge_number()
     }
 
     /// Whether a segment of length 0 stands at exactly the right edge of an open window. A sender whose window is full, and who has lost a

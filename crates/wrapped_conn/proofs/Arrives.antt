@@ -2,7 +2,7 @@
 use Rattle.std.proofs.Common.{◌≡◌, ◌<◌, ◌≤◌, ◌^◌, Bool, true, false, not, length, refl, sym, subst, arith, ◌∙◌}
 use Rattle.std.specs.Prelude.{pos, ◌&&◌, ◌||◌, nat_lt, int_lt}
 use Rattle.std.proofs.lemmas.Bool.{false≢true}
-use Rattle.seq_arith.specs.Arrival.{int_eq, is_acceptable}
+use Rattle.seq_arith.specs.Arrival.{int_eq, is_acceptable_or_at_edge, is_allowed_at_zero}
 use Rattle.seq_arith.specs.Offset.{one_if, length_of}
 use Rattle.seq_arith.specs.Packet.{Segment, has_syn, has_rst, has_ack, has_fin}
 use Rattle.tcp_buffers.specs.Near.{IsNearFirst, is_ahead}
@@ -12,8 +12,8 @@ use Rattle.tcp_endpoint.specs.States.{after_syn_acked, after_fin, after_fin_acke
 use Rattle.tcp_endpoint.specs.Receiving.{Receiving, next, window, with_segment}
 use Rattle.tcp_endpoint.specs.Sending.{with_syn_acked, acknowledged, fin_acked}
 use Rattle.tcp_endpoint.specs.Tcb.{Tcb}
-use Rattle.tcp_endpoint.specs.Arrival.{first, ack_at, received, received_in, in_closed, in_others, waiting_again, check_place, check_rst, check_syn, check_ack, with_ack, with_first_ack, with_fin_acked, with_text_and_fin, entering, owing_if, killed, refusing, refusing_without_ack}
-use Rattle.tcp_endpoint.proofs.Places.{near_of_acceptable}
+use Rattle.tcp_endpoint.specs.Arrival.{first, ack_at, received, received_in, in_closed, in_others, waiting_again, accepts, is_allowed, check_place, check_rst, check_syn, check_ack, with_ack, with_first_ack, with_fin_acked, with_text_and_fin, entering, owing_if, killed, refusing, refusing_without_ack}
+use Rattle.tcp_endpoint.proofs.Places.{near_of_usable}
 use Rattle.endpoint_laws.proofs.SendingLaw.{next_near, window_short, length_short}
 use Rattle.endpoint_laws.proofs.TakenLaw.{window_is}
 use Rattle.wrapped_conn.specs.Sound.{has_peer, IsSoundTcp}
@@ -134,7 +134,21 @@ first_goes e p s fits near syn_unacked =
 from_owing : (e : Tcb) (b : Bool) (t : Tcb) → GoesOnFrom (owing_if b e) t → GoesOnFrom e t
 from_owing e b t g = record { sound = g.sound; read = g.read; limit = g.limit; more = g.more; iss = g.iss; closed = g.closed; sent = g.sent; held = g.held }
 
--- the checks in their order, of a segment that is acceptable, and so near
+-- a segment that is looked at further begins near to the window
+one_of : (a z b : Bool) → (a || (z && b)) ≡ true → (a || z) ≡ true
+one_of true z b h = refl
+one_of false true b h = refl
+one_of false false b h = h
+
+near_of_looked : (e : Tcb) (p : Segment) → IsSoundTcp e → Fits p → (accepts e p || is_allowed e p) ≡ true → IsNearFirst (first e p)
+unfolding accepts is_allowed
+near_of_looked e p s fits h =
+    near_of_usable (next e.receiving) (window e.receiving) (first e p) (length_of p) (next_near e.receiving s.bounds.limit s.bounds.taken)
+    (subst (λ w. w ≤ 2 ^ 16) (window_is e.receiving) (window_short e.receiving)) (length_short p fits.text)
+    (one_of (is_acceptable_or_at_edge (next e.receiving) (window e.receiving) (first e p) (length_of p)) (is_allowed_at_zero (next e.receiving) (window e.receiving) (first e p))
+    (e.sending.syn_acked || int_eq (ack_at e p) (pos 0)) h)
+
+-- the checks in their order, of such a segment
 checked : (e : Tcb) (p : Segment) → IsSoundTcp e → Fits p → IsNearFirst (first e p) → GoesOnFrom e (check_rst e p)
 unfolding check_rst check_syn check_ack
 checked e p s fits near =
@@ -160,10 +174,7 @@ unfolding in_others check_place waiting_again
 others_go e p s fits =
     let x : Tcb = waiting_again e p in
     let sound : IsSoundTcp x = record { bounds = s.bounds; buffered = s.buffered; begun = s.begun; fin_last = s.fin_last } in
-    goes_when (is_acceptable (next e.receiving) (window e.receiving) (first e p) (length_of p)) e _ _
-    (λ h. from_waiting e p _ (checked x p sound fits
-    (near_of_acceptable (next e.receiving) (window e.receiving) (first e p) (length_of p) (next_near e.receiving s.bounds.limit s.bounds.taken)
-    (subst (λ w. w ≤ 2 ^ 16) (window_is e.receiving) (window_short e.receiving)) (length_short p fits.text) h)))
+    goes_when (accepts x p || is_allowed x p) e _ _ (λ h. from_waiting e p _ (checked x p sound fits (near_of_looked x p sound fits h)))
     (λ h. from_waiting e p _ (owes x x (not (has_rst p)) (stays x sound)))
 
 closed_goes : (e : Tcb) (p : Segment) → IsSoundTcp e → GoesOnFrom e (in_closed e p)

@@ -2,10 +2,11 @@
 use Rattle.std.proofs.Common.{◌≡◌, ℕ, Bool, true, false, [], ◌∷◌, length, min, refl, ◌∙◌}
 use Rattle.std.specs.Prelude.{◌&&◌, nat_lt, nat_le, pos, if◌then◌else◌}
 use Rattle.seq_arith.specs.Arrival.{int_eq}
+use Rattle.seq_arith.specs.Message.{Kept}
 use Rattle.seq_arith.specs.Message.Body.{DataMsg}
 use Rattle.seq_arith.specs.Packet.{Segment}
 use Rattle.ft_model.specs.Copy.{copy_start, copied_text, copies_fin, copies as copies_by_law}
-use Rattle.ft_model.specs.News.News.{Comes}
+use Rattle.ft_model.specs.News.News.{Comes, Logged, Ticks, Begins}
 use Rattle.ft_model.specs.Offset.{fin_of}
 use Rattle.ft_model.specs.Point.{Point}
 use Rattle.ft_model.specs.Taken.{end_of}
@@ -44,3 +45,16 @@ copies_is una segment p q c cisn answered taken fin key before after logged byte
     λ j. if is_some_copied (part j)
     then DataMsg (record { key = key j; offset = (part j).offset; acked = after j; fin = (part j).fin; bytes = (part j).text }) ∷ []
     else (if nat_lt (before j) (after j) then DataMsg (record { key = key j; offset = min (logged j) (bytes j); acked = after j; fin = false; bytes = [] }) ∷ [] else [])
+
+-- only of a segment is anything copied
+pub none_of_logged : (kept : Kept) (p q : Point) → copies_by_law (Logged kept) p q ≡ []
+unfolding copies_by_law
+none_of_logged kept p q = refl
+
+pub none_of_ticks : (p q : Point) → copies_by_law Ticks p q ≡ []
+unfolding copies_by_law
+none_of_ticks p q = refl
+
+pub none_of_begins : (p q : Point) → copies_by_law Begins p q ≡ []
+unfolding copies_by_law
+none_of_begins p q = refl

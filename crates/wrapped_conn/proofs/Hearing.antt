@@ -7,7 +7,6 @@ use Rattle.seq_arith.specs.Message.Body.{DoneMsg}
 use Rattle.seq_arith.specs.Offset.{one_if}
 use Rattle.server_trait.specs.Service.{Machine}
 use Rattle.ft_model.specs.Answered.{answered_after}
-use Rattle.ft_model.specs.Copy.{copies as copies_by_law}
 use Rattle.ft_model.specs.Ending.{reset_after, dones as dones_by_law}
 use Rattle.ft_model.specs.News.{News}
 use Rattle.ft_model.specs.News.News.{Logged, Begins}
@@ -37,6 +36,7 @@ use Rattle.wrapped_conn.specs.Sound.{IsSound}
 use Rattle.wrapped_conn.specs.Standing.{Keeps, TcpTells, StandsLive, StandsReset, Stands, StandsBefore, Leads}
 use Rattle.wrapped_conn.proofs.Ended.{HasNews, carries_on}
 use Rattle.wrapped_conn.proofs.NumbersAt.{NumbersAt, numbers_at, una_is}
+use Rattle.wrapped_conn.proofs.Copies.{none_of_logged, none_of_begins}
 use Rattle.wrapped_conn.proofs.Receiving.{off_differs, parts_live, parts_reset}
 use Rattle.wrapped_conn.proofs.Resetting.{reset_point, resets_on}
 use Rattle.ft_io.proofs.Choices.{by_cases}
@@ -78,7 +78,7 @@ has_heard service p c kept keeps local unreset = record {
 live_turn : {S : Type 0} (service : Machine S) (p : Point) (c new : ConnState S) (kept : Kept) (out messages : List (List ℕ)) → IsSound c → IsSound new → Keeps p c → StandsLive service p c
     → p.reset ≡ false → GoesOn service.after (before_other (is_news kept.length kept.fin c) (told kept c)) false [] (told kept c) new out messages
     → Leads service c.local c.boot (Logged kept) p new out messages
-unfolding answered_after acknowledged_after reset_after copies_by_law
+unfolding answered_after acknowledged_after reset_after
 live_turn service p c new kept out messages sound sound_new keeps live unreset k =
     let news : News = Logged kept in
     let there : ConnState _ = told kept c in
@@ -101,7 +101,7 @@ live_turn service p c new kept out messages sound sound_new keeps live unreset k
     let goes_out = subst (λ (n : ConnState _). out ≡ packets (leaves (before_other (is_news kept.length kept.fin c) there) false n (leaving t))) k.state k.goes_out in
     let leads : Leads service c.local c.boot news p (turn_ended (served new.north reads there)) out messages =
     carries_on service live.u live.i news p there new.north reads (before_other (is_news kept.length kept.fin c) there) false [] out messages (has_heard service p c kept keeps live.local unreset) refl unreset
-    sound_new.parts.made here there.north.reads k.north.told owed refl refl goes_out k.told in
+    sound_new.parts.made here there.north.reads k.north.told owed refl (sym (none_of_logged kept p q)) goes_out k.told in
     subst (λ n. Leads service c.local c.boot news p n out messages) (sym k.state) leads
 
 rests_turn : {S : Type 0} (service : Machine S) (p : Point) (c new : ConnState S) (kept : Kept) (out messages : List (List ℕ)) → Keeps p c → StandsReset service p c → p.reset ≡ true
@@ -152,13 +152,13 @@ pub begins_with : {S : Type 0} (service : Machine S) (u i : ℕ) (p : Point) (c 
     → new.north.run.made ≤ 2 ^ 24
     → PartsTurn service c.local c.boot u i c.south.delta Begins p (lengths_of (new_reads c new)) new.north (tcp_used c (new_reads c new))
     → GoesOn service.after (before_other true c) false [] c new out messages → Leads service c.local c.boot Begins p new out messages
-unfolding reset_after copies_by_law
+unfolding reset_after
 begins_with service u i p c new out messages keeps local unreset made here k =
     let reads : List ReadRecord = new_reads c new in
     let t : Tcb = tcp_used c reads in
     let goes_out = subst (λ (n : ConnState _). out ≡ packets (leaves (before_other true c) false n (leaving t))) k.state k.goes_out in
     let leads : Leads service c.local c.boot Begins p (turn_ended (served new.north reads c)) out messages =
-    carries_on service u i Begins p c new.north reads (before_other true c) false [] out messages (has_begun p c keeps local unreset) refl unreset made here c.north.reads k.north.told (λ tell. refl) refl refl
+    carries_on service u i Begins p c new.north reads (before_other true c) false [] out messages (has_begun p c keeps local unreset) refl unreset made here c.north.reads k.north.told (λ tell. refl) refl (sym (none_of_begins p here.after))
     goes_out k.told in
     subst (λ n. Leads service c.local c.boot Begins p n out messages) (sym k.state) leads
 

@@ -5,11 +5,13 @@ use Rattle.std.proofs.lemmas.List.{length-take}
 use Rattle.std.proofs.lemmas.Bool.{false≢true}
 use Rattle.seq_arith.specs.Number.{offset_of}
 use Rattle.seq_arith.specs.Arrival.{is_new_ack}
+use Rattle.seq_arith.specs.Coming.{Came}
+use Rattle.seq_arith.proofs.Coming.{comes_within}
 use Rattle.tcp_buffers.specs.Near.{IsNearFirst}
 use Rattle.tcp_endpoint.specs.declared.states.StateName.{StateName}
 use Rattle.tcp_endpoint.specs.declared.states.StateName.TheVariants.{Closed, Listen, SynSent, SynReceived, Established, FinWait1, FinWait2, CloseWait, Closing, LastAck, TimeWait}
 use Rattle.tcp_endpoint.specs.States.{is_listen, after_syn_acked, after_fin, after_fin_acked}
-use Rattle.tcp_endpoint.specs.Receiving.{Receiving, taken, window, with_text, with_fin, with_segment}
+use Rattle.tcp_endpoint.specs.Receiving.{Receiving, taken, receive_edge, came, with_came, with_segment}
 use Rattle.tcp_endpoint.specs.Sending.{Sending, with_syn_acked, acknowledged, moves_edge}
 use Rattle.tcp_endpoint.specs.Tcb.{Tcb}
 use Rattle.endpoint_laws.specs.Laws.{Bounds}
@@ -92,38 +94,24 @@ pub record TakesOn (r t : Receiving) : Type 0 where
   pub within : taken r ≤ r.limit → taken t ≤ t.limit
   pub buffered : length r.unread ≤ 65535 → length t.unread ≤ 65535
 
-takes_if : (b : Bool) (r x y : Receiving) → TakesOn r x → TakesOn r y → TakesOn r (if b then x else y)
-takes_if true r x y p q = p
-takes_if false r x y p q = q
-
 longer : (unread more : List ℕ) → length unread ≤ length (unread ++ more)
 longer unread more = omega (arith, length-append {A = ℕ} unread more)
 
-taken_within : (read limit : ℕ) (unread text : List ℕ) → read + length unread ≤ limit
-    → read + length (unread ++ take (min (read + 65535) limit - (read + length unread)) text) ≤ limit
-taken_within read limit unread text h = omega (arith, length-append {A = ℕ}, length-take {A = ℕ})
-
-buffered_within : (read limit : ℕ) (unread text : List ℕ) → length unread ≤ 65535
-    → length (unread ++ take (min (read + 65535) limit - (read + length unread)) text) ≤ 65535
-buffered_within read limit unread text h = omega (arith, length-append {A = ℕ}, length-take {A = ℕ})
-
-takes_text : (r : Receiving) (first : ℤ) (text : List ℕ) (place : ℤ) (fin : Bool) → TakesOn r (with_fin (with_text r first text) place fin)
-unfolding with_fin with_text
-takes_text r first text place fin = record {
-  irs = refl;
-  read = refl;
-  limit = refl;
-  more = longer r.unread _;
-  within = λ h. taken_within r.read r.limit r.unread _ h;
-  buffered = λ h. buffered_within r.read r.limit r.unread _ h;
-}
+takes_came : (r : Receiving) (c : Came) → taken r + length c.added ≤ max (taken r) (receive_edge r) → TakesOn r (with_came r c)
+unfolding with_came
+takes_came r c few =
+    let size : length (r.unread ++ c.added) ≡ length r.unread + length c.added = length-append r.unread c.added in
+    record {
+      irs = refl;
+      read = refl;
+      limit = refl;
+      more = longer r.unread c.added;
+      within = λ h. omega (arith, size, few, h);
+      buffered = λ h. omega (arith, size, few, h);
+    }
 
 pub takes_segment : (r : Receiving) (first : ℤ) (text : List ℕ) (fin : Bool) → TakesOn r (with_segment r first text fin)
-unfolding with_segment
-takes_segment r first text fin =
-    takes_if (r.fin || int_lt (pos (taken r)) first) r _ _
-    (record { irs = refl; read = refl; limit = refl; more = omega arith; within = λ h. h; buffered = λ h. h })
-    (takes_text r first text _ fin)
+takes_segment r first text fin = takes_came r (came r first text fin) (comes_within (taken r) (receive_edge r) r.fin first text fin)
 
 -- a later acknowledgement
 pub later_bounds : (r : Receiving) (s : Sending) (seq window : ℕ) (z : ℤ) → Bounds r s → IsNearFirst (offset_of r.irs seq) → seq < 2 ^ 32 → window ≤ 65535 → s.syn_acked ≡ true

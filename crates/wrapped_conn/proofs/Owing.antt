@@ -2,7 +2,7 @@
 use Rattle.std.proofs.Common.{◌≡◌, ℕ, ℤ, ◌-◌, Bool, true, false, not, refl, sym, ◌∙◌}
 use Rattle.std.specs.Prelude.{◌&&◌, ◌||◌, nat_lt, int_lt, pos, if◌then◌else◌}
 use Rattle.std.proofs.lemmas.Bool.{false≢true}
-use Rattle.seq_arith.specs.Arrival.{int_eq, is_acceptable}
+use Rattle.seq_arith.specs.Arrival.{int_eq, is_acceptable_or_at_edge}
 use Rattle.seq_arith.specs.Offset.{first_of, ack_of, length_of}
 use Rattle.seq_arith.specs.Packet.{Segment, has_rst, has_syn, has_ack}
 use Rattle.server_trait.specs.Service.{Machine}
@@ -34,7 +34,7 @@ acceptable false false text ack false place h = refl
 -- the answer that a connection owes by its numbers
 abbrev owes_at : (units edge : ℕ) → (first : ℤ) → Segment → Bool
 owes_at units edge first segment =
-    if is_acceptable units (edge - units) first (length_of segment)
+    if is_acceptable_or_at_edge units (edge - units) first (length_of segment)
     then (if has_rst segment then not (int_eq first (pos units))
     else ((has_syn segment || nat_lt 0 (length_of segment)) || (has_ack segment && int_lt (pos units) first)))
     else not (has_rst segment)
@@ -43,7 +43,7 @@ by_law : (p : Point) (segment : Segment) → p.syn_acked ≡ true → owes_at (t
 unfolding owes_by_law accepts_by_law
 by_law p segment syn_acked =
     let off : is_refused p segment ≡ false = λ j. not (syn_acked j) && has_ack segment && int_lt (ack_of p.sisn segment) (pos 0) in
-    λ j. if is_acceptable (taken_units p) (announced_edge p - taken_units p) (first_of p.cisn segment) (length_of segment)
+    λ j. if is_acceptable_or_at_edge (taken_units p) (announced_edge p - taken_units p) (first_of p.cisn segment) (length_of segment)
     then acceptable (has_rst segment) (has_syn segment) (nat_lt 0 (length_of segment)) (has_ack segment && int_lt (pos (taken_units p)) (first_of p.cisn segment)) (is_refused p segment)
     (not (int_eq (first_of p.cisn segment) (pos (taken_units p)))) off j
     else not (has_rst segment)

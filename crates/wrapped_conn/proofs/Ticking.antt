@@ -37,6 +37,7 @@ use Rattle.wrapped_conn.specs.Standing.{Keeps, TcpTells, StandsLive, StandsReset
 use Rattle.wrapped_conn.proofs.Locals.{flushed_local}
 use Rattle.wrapped_conn.proofs.Ended.{units_of, few_units, spelled_by}
 use Rattle.wrapped_conn.proofs.NumbersAt.{NumbersAt, numbers_at, logged_is}
+use Rattle.wrapped_conn.proofs.Copies.{none_of_ticks}
 use Rattle.wrapped_conn.proofs.Receiving.{parts_live, parts_reset}
 use Rattle.wrapped_conn.proofs.Resetting.{reset_point, resets_on, dones_are, still_unanswered}
 use Rattle.ft_io.proofs.Choices.{by_cases}
@@ -139,7 +140,7 @@ tick_local e = refl
 
 live_turn : {S : Type 0} (service : Machine S) (p : Point) (c new : ConnState S) (out messages : List (List ℕ)) → IsSound c → Keeps p c → StandsLive service p c → p.reset ≡ false
     → TicksLive c new out messages → Leads service c.local c.boot Ticks p new out messages
-unfolding answered_after reset_after copies_by_law
+unfolding answered_after reset_after
 live_turn service p c new out messages sound keeps live unreset tick =
     let t : Tcb = after_tick c.endpoint in
     let turn : PartsTurn service c.endpoint.local c.boot live.u live.i c.south.delta Ticks p [] c.north t = ticks_together service c.boot live.u live.i c.south.delta live.given p c.north c.endpoint live.parts in
@@ -157,8 +158,8 @@ live_turn service p c new out messages sound keeps live unreset tick =
     let ends : y.end_ticks ≡ q.end_ticks = end_ticks_are service p q x numbers logged keeps.end_ticks keeps.four ∙ sym l.end_ticks in
     let none : adds service Ticks p q t ≡ false = ticks_add_nothing service c.local c.boot p q t _ l k.lengths in
     let leave : passed x.south (leaving t) ≡ segments_of service c.local Ticks p q = leaves_is service p q c south none ∙ k.segments in
-    let bodies : messages_of c.key c.north.reads ++ (if y.end_ticks == 4 then dones c else []) ≡ reads_told Ticks p q ++ dones_by_law Ticks p q =
-    λ j. reads_are service p q c k.given k.rest.stand.north key j ++ dones_told p q c y.end_ticks keeps.unanswered key l.reset ends j in
+    let bodies : messages_of c.key c.north.reads ++ (if y.end_ticks == 4 then dones c else []) ≡ copies_by_law Ticks p q ++ (reads_told Ticks p q ++ dones_by_law Ticks p q) =
+    λ j. sym (none_of_ticks p q) j ++ (reads_are service p q c k.given k.rest.stand.north key j ++ dones_told p q c y.end_ticks keeps.unanswered key l.reset ends j) in
     let keeps_on : Keeps q y = record {
       key = key;
       south = south;
@@ -178,7 +179,7 @@ live_turn service p c new out messages sound keeps live unreset tick =
         parts = subst (λ b. MatchBool b (StandsReset service q (if y.end_ticks == 4 then with_done y else y)) (StandsLive service q (if y.end_ticks == 4 then with_done y else y))) (sym l.reset)
             (live_ended service (y.end_ticks == 4) q y live_on);
       };
-      spelled = spelled_by c.boot (segments_of service c.local Ticks p q) (reads_told Ticks p q ++ dones_by_law Ticks p q) _ out messages refl (tick.goes_out ∙ ap packets leave) (tick.told ∙ ap (spelled c.boot) bodies);
+      spelled = spelled_by c.boot (segments_of service c.local Ticks p q) (copies_by_law Ticks p q ++ (reads_told Ticks p q ++ dones_by_law Ticks p q)) _ out messages refl (tick.goes_out ∙ ap packets leave) (tick.told ∙ ap (spelled c.boot) bodies);
     } in
     subst (λ n. Leads service c.local c.boot Ticks p n out messages) (sym tick.state) leads
 

@@ -1,7 +1,7 @@
 //! Where a connection stands in its two streams, as its parts tell it.
 
 ghost use Rattle.std.specs.Prelude.{◌≡◌, ◌≤◌, ◌+◌, ◌-◌, ◌^◌, ◌%◌, pos, nat_abs, length, max, min};
-ghost use Rattle.seq_arith.specs.Arrival.{is_acceptable, lies_in};
+ghost use Rattle.seq_arith.specs.Arrival.{is_acceptable, is_acceptable_or_at_edge, is_at_right_edge, lies_in};
 ghost use Rattle.seq_arith.specs.Number.{number_at, offset_of};
 ghost use Rattle.seq_arith.specs.Offset.{length_of as length_of_lem};
 ghost use Rattle.segment_codec.specs.Value.{segment_of, said};
@@ -165,8 +165,17 @@ fn units(offset: i64) -> u32
     offset.min(UNITS) as u32
 }
 
-/// Whether a segment is acceptable, which begins at this offset (RFC 9293, 3.10.7.4, first check).
+/// Whether a segment that begins at this offset is acceptable, or at the right edge (RFC 9293, 3.10.7.4, first check).
 fn accepts(next: u32, room: u32, first: i64, len: u32) -> bool
+    requires first { nat_abs first ≤ 2 ^ 31 }
+    requires len { len ≤ 2 ^ 16 }
+    ensures { result ≡ is_acceptable_or_at_edge next room first len }
+{
+    is_acceptable(next, room, first, len) || is_at_right_edge(next, room, first, len)
+}
+
+/// The four cases.
+fn is_acceptable(next: u32, room: u32, first: i64, len: u32) -> bool
     requires first { nat_abs first ≤ 2 ^ 31 }
     requires len { len ≤ 2 ^ 16 }
     ensures { result ≡ is_acceptable next room first len }
@@ -175,6 +184,14 @@ fn accepts(next: u32, room: u32, first: i64, len: u32) -> bool
         return len == 0 && first == i64::from(next);
     }
     lies_in(next, room, first) || (0 < len && lies_in(next, room, first + i64::from(len - 1)))
+}
+
+/// A sender whose window is full, and who has lost a segment, numbers its acknowledgements so.
+#[tactic(auto, unfolding(seq_arith::specs::Arrival::is_at_right_edge))]
+fn is_at_right_edge(next: u32, room: u32, first: i64, len: u32) -> bool
+    ensures { result ≡ is_at_right_edge next room first len }
+{
+    len == 0 && 0 < room && first == i64::from(next) + i64::from(room)
 }
 
 /// Whether an offset lies in a window.

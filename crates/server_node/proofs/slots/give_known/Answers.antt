@@ -22,7 +22,7 @@ returns-in_ok-give_slot-clause-turn g c = λ stage places segment reads from min
     let service = machine (g.S.Service.started c.args.who.kind) g.S.Service.after in
     let node = node_of c.args.who stage in
     let found : lookup (key_eq c.args.key) c.args.slots.now.entries ≡ Some c.in-Some.slot.now = search rules in
-    let goes = one_goes service node (Packet_comes segment) (source_of segment) (only_its_client node segment) (IsNearTo segment) c.args.slots.now.entries places c.in-Some.slot.now c.give_slot.new.slot c.args.sent.now.items c.give_slot.new.sent.items
+    let goes = one_goes service node (Packet_comes segment) (source_of segment) (only_its_client node segment) (IsNearTo node.server segment) c.args.slots.now.entries places c.in-Some.slot.now c.give_slot.new.slot c.args.sent.now.items c.give_slot.new.sent.items
     st c.get_mut.ensures.unique (subst (λ k. lookup (key_eq k) c.args.slots.now.entries ≡ Some c.in-Some.slot.now) (sym from) found) near
     (λ place close stands. subst (λ k. SlotGoes service node (Packet_comes segment) k place c.give_slot.new.slot c.args.sent.now.items c.give_slot.new.sent.items) (sym from)
     (c.in_ok-give_slot.ensures.turn stage place segment reads from mine close (subst (λ k. SlotStands service node k c.in-Some.slot.now place) from stands))) in

@@ -25,7 +25,7 @@ returns-in_ok-serve_bytes-in-Serving-clause-turn g c = λ standing segment reads
     serves_on service c.args.who standing (Packet_comes segment) c.in-Serving.serving c.serve_bytes.new.serving c.serve_bytes.new.sent.items refl
     (subst (λ s. StageStands service (node_of c.args.who standing) s) c.in-Serving.is st)
     (λ opened places is stands. subst (λ xs. ServingGoes service (node_of c.args.who standing) (Packet_comes segment) opened places c.serve_bytes.new.serving xs c.serve_bytes.new.sent.items) c.requires.empty
-    (told standing opened places segment reads (subst (AreNear segment) is near) stands))
+    (told standing opened places segment reads (subst (AreNear c.args.who.local segment) is near) stands))
 
 pub returns-in_ok-hold-in-Fetching-clause-turn : goal.returns-in_ok-hold-in-Fetching-clause-turn
 returns-in_ok-hold-in-Fetching-clause-turn g c = λ standing segment reads near st.

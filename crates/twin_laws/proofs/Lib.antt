@@ -1,0 +1,8 @@
+mod Elsewhere
+mod Flattening
+mod Folds
+mod Holding
+mod Noise
+mod Numbering
+mod Steps
+mod WorkedPair

@@ -1,0 +1,5 @@
+pub mod Twin
+pub mod Pair
+pub mod TwinWorld
+pub mod Flat
+pub mod WorkedPair

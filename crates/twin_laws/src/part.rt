@@ -1,0 +1,19 @@
+//! Which of two loggers is meant, and from where a datagram came to one of them.
+
+/// One of two loggers.
+#[derive(Clone, Copy, Debug, PartialEq, Eq)]
+pub enum Part {
+    /// The one that takes the server's messages, numbers them and forwards them.
+    Head,
+    /// The one that applies them in that order and answers.
+    Tail,
+}
+
+/// Whom a logger of two talks to.
+#[derive(Clone, Copy, Debug, PartialEq, Eq)]
+pub enum Side {
+    /// The server.
+    Server,
+    /// The other logger.
+    Other,
+}
