@@ -276,4 +276,4 @@ others_reset e c written p resets b =
     (λ q. record { name = refl; reset = refl; answer = refl; phase = refl; receiving = refl; accepted = refl })
     (λ q. absurd (false≢true (sym q ∙ at))))
     (λ k. absurd (false≢true (sym k ∙ rst))))
-    (λ k. absurd (false≢true (sym k ∙ used)))
+    (λ k. absurd (false≢true (sym k ∙ looks_further e0 p b.syn_acked ∙ used)))
