@@ -20,9 +20,8 @@ ghost use Rattle.twin_laws.specs.Twin.Comes.{Tells, Is_noise};
 ghost use Rattle.twin_laws.specs.TwinWorld.{TwinWorld, TwinMoment, TwinJoint, seen};
 ghost use Rattle.twin_laws.specs.WorkedPair.{at_first, worked, events_in, flat_events};
 
-use server_trait::Service;
-
 pub use part::{Part, Side};
+use server_trait::Service;
 
 mod part;
 
