@@ -54,7 +54,7 @@ head_short kinds.Stale = omega arith
 head_short kinds.Full = omega arith
 
 -- one message more, where there is room for it
-pub short_pushed : (b : Bool) (old new : List (List ℕ)) (x : List ℕ) (most : ℕ) → OnTrue b (new ≡ old ++ x ∷ []) → OnFalse b (new ≡ old) → length x ≤ most
-    → byte_count new ≤ byte_count old + most
-short_pushed true old new x most on off few = let e = on in omega (arith, ap byte_count e, byte_count_push old x, few)
-short_pushed false old new x most on off few = let e = off in omega (arith, ap byte_count e)
+pub short_pushed : (b : Bool) (old new : List (List ℕ)) (x : List ℕ) (text : ℕ) → OnTrue b (new ≡ old ++ x ∷ []) → OnFalse b (new ≡ old) → length x ≤ 64 + text
+    → byte_count new ≤ byte_count old + 64 + text
+short_pushed true old new x text on off few = let e = on in omega (arith, ap byte_count e, byte_count_push old x, few)
+short_pushed false old new x text on off few = let e = off in omega (arith, ap byte_count e)

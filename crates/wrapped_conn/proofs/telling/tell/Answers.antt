@@ -1,4 +1,4 @@
-use Rattle.std.proofs.Common.{◌≡◌, ◌+◌, arith, length, length-take, take}
+use Rattle.std.proofs.Common.{◌≡◌, arith, length, length-take, take}
 use Rattle.logger_wire.proofs.Assembled.{not_longer}
 use Rattle.logger_wire.specs.Value.{message_of}
 use Rattle.seq_arith.specs.MessageGrammar.{kind_of}
@@ -20,8 +20,7 @@ slice_bounds-push-end c =
 pub returns-clause-short : goal.returns-clause-short
 returns-clause-short c =
     let message = c.write_msg-len.new.out in
-    let whole : length message ≡ 2048 = c.write_msg-len.auto.out in
     let cut = length-take c.write_msg-len.result message in
     let head = head_short (kind_of (body_of c.args.body)) in
-    short_pushed c.push.result c.args.out.now c.push.new.self (take c.write_msg-len.result message) (64 + text_length c.args.body) c.push.ensures.pushed c.push.ensures.refused
+    short_pushed c.push.result c.args.out.now c.push.new.self (take c.write_msg-len.result message) (text_length c.args.body) c.push.ensures.pushed c.push.ensures.refused
     (omega (arith, cut, head, c.write_msg-len.ensures.length))
