@@ -83,9 +83,10 @@ one_on : (c d e : Client) → IsOne c d → IsOne d e → IsOne c e
 one_on c d e h k = record { key = k.key ∙ h.key; server = k.server ∙ h.server; isn = k.isn ∙ h.isn }
 
 move_stays : (c d : Client) (p : Segment) → IsMove c p d → IsOne c d × (d.accepted ≡ c.accepted)
-move_stays c d p m =
-    (record { key = ap (λ (x : Client). x.key) m.after_is; server = ap (λ (x : Client). x.server) m.after_is; isn = ap (λ (x : Client). x.isn) m.after_is },
-    ap (λ (x : Client). x.accepted) m.after_is)
+move_stays c d p m = (
+  record { key = ap (λ (x : Client). x.key) m.after_is; server = ap (λ (x : Client). x.server) m.after_is; isn = ap (λ (x : Client). x.isn) m.after_is },
+  ap (λ (x : Client). x.accepted) m.after_is,
+)
 
 moves_stay : (segments : List Segment) (c d : Client) → AreMoves c segments d → IsOne c d × (d.accepted ≡ c.accepted)
 moves_stay [] c d h =

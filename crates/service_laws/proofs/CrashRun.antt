@@ -1,5 +1,5 @@
 -- The run with a crash, whole: each moment happens and is allowed.
-use Rattle.std.proofs.Common.{◌≡◌, ℕ, zero, suc, ◌^◌, refl, Some, None, List, [], ◌∷◌}
+use Rattle.std.proofs.Common.{◌≡◌, ℕ, zero, suc, ◌^◌, refl, None, List, [], ◌∷◌}
 use native.Mathlib.Bridge.{le_by_compare, IsLe}
 use Rattle.server_trait.specs.Service.{Machine}
 use Rattle.sample_servers.specs.declared.any_service.AnyService.{AnyService}
@@ -193,42 +193,100 @@ allowed_29 : IsAllowed run.moment_28.world run.moment_29
 allowed_29 = record { allowed = refl; scripted = scripted run.moment_28.world run.moment_29.event run.echoed Acknowledge 1 run.moment_29.world refl refl refl }
 
 allowed_opening : AllAllowed first.start first.opening_trace
-allowed_opening =
-    ((((((((((tt,
-    still first.start first.moment_1 refl refl),
-    still first.moment_1.world first.moment_2 refl refl),
-    still first.moment_2.world first.moment_3 refl refl),
-    allowed_4),
-    still first.moment_4.world first.moment_5 refl refl),
-    still first.moment_5.world first.moment_6 refl refl),
-    still first.moment_6.world first.moment_7 refl refl),
-    still first.moment_7.world first.moment_8 refl refl),
-    allowed_9),
-    still first.moment_9.world first.moment_10 refl refl)
+allowed_opening = (
+  (
+    (
+      (
+        (
+          (
+            (
+              (
+                (
+                  (
+                    tt,
+                    still first.start first.moment_1 refl refl,
+                  ),
+                  still first.moment_1.world first.moment_2 refl refl,
+                ),
+                still first.moment_2.world first.moment_3 refl refl,
+              ),
+              allowed_4,
+            ),
+            still first.moment_4.world first.moment_5 refl refl,
+          ),
+          still first.moment_5.world first.moment_6 refl refl,
+        ),
+        still first.moment_6.world first.moment_7 refl refl,
+      ),
+      still first.moment_7.world first.moment_8 refl refl,
+    ),
+    allowed_9,
+  ),
+  still first.moment_9.world first.moment_10 refl refl,
+)
 
 all_allowed : AllAllowed first.start run.trace
-all_allowed =
-    ((((((((((((((((((((allowed_opening,
-    allowed_11),
-    still first.moment_11.world first.moment_12 refl refl),
-    still first.moment_12.world first.moment_13 refl refl),
-    still first.moment_13.world run.moment_14 refl refl),
-    still run.moment_14.world run.moment_15 refl refl),
-    still run.moment_15.world run.moment_16 refl refl),
-    still run.moment_16.world run.moment_17 refl refl),
-    still run.moment_17.world run.moment_18 refl refl),
-    still run.moment_18.world run.moment_19 refl refl),
-    still run.moment_19.world run.moment_20 refl refl),
-    still run.moment_20.world run.moment_21 refl refl),
-    still run.moment_21.world run.moment_22 refl refl),
-    still run.moment_22.world run.moment_23 refl refl),
-    still run.moment_23.world run.moment_24 refl refl),
-    still run.moment_24.world run.moment_25 refl refl),
-    allowed_26),
-    still run.moment_26.world run.moment_27 refl refl),
-    still run.moment_27.world run.moment_28 refl refl),
-    allowed_29),
-    still run.moment_29.world run.moment_30 refl refl)
+all_allowed = (
+  (
+    (
+      (
+        (
+          (
+            (
+              (
+                (
+                  (
+                    (
+                      (
+                        (
+                          (
+                            (
+                              (
+                                (
+                                  (
+                                    (
+                                      (
+                                        allowed_opening,
+                                        allowed_11,
+                                      ),
+                                      still first.moment_11.world first.moment_12 refl refl,
+                                    ),
+                                    still first.moment_12.world first.moment_13 refl refl,
+                                  ),
+                                  still first.moment_13.world run.moment_14 refl refl,
+                                ),
+                                still run.moment_14.world run.moment_15 refl refl,
+                              ),
+                              still run.moment_15.world run.moment_16 refl refl,
+                            ),
+                            still run.moment_16.world run.moment_17 refl refl,
+                          ),
+                          still run.moment_17.world run.moment_18 refl refl,
+                        ),
+                        still run.moment_18.world run.moment_19 refl refl,
+                      ),
+                      still run.moment_19.world run.moment_20 refl refl,
+                    ),
+                    still run.moment_20.world run.moment_21 refl refl,
+                  ),
+                  still run.moment_21.world run.moment_22 refl refl,
+                ),
+                still run.moment_22.world run.moment_23 refl refl,
+              ),
+              still run.moment_23.world run.moment_24 refl refl,
+            ),
+            still run.moment_24.world run.moment_25 refl refl,
+          ),
+          allowed_26,
+        ),
+        still run.moment_26.world run.moment_27 refl refl,
+      ),
+      still run.moment_27.world run.moment_28 refl refl,
+    ),
+    allowed_29,
+  ),
+  still run.moment_29.world run.moment_30 refl refl,
+)
 
 pub is_legal : Legal any_machine run.schedule run.trace
 is_legal = record { joint = is_joint; events_are = refl; allowed = all_allowed }
