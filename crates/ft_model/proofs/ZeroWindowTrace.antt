@@ -150,7 +150,7 @@ is_joint : Joint echo run.start run.trace
 is_joint = (((((((((((((((((((((((((starts, happens_1), happens_2), happens_3), happens_4), happens_5), happens_6), happens_7), happens_8), happens_9), happens_10), happens_11), happens_12), happens_13), happens_14), happens_15), happens_16), happens_17), happens_18), happens_19), happens_20), happens_21), happens_22), happens_23), happens_24), happens_25)
 
 -- what is no client's move is scripted as it is
-unmoved : (w : World) (event : Event) (sent : List Packet) (after : World) → move_asked event ≡ None → IsScripted w event sent after
+pub unmoved : (w : World) (event : Event) (sent : List Packet) (after : World) → move_asked event ≡ None → IsScripted w event sent after
 unmoved w event sent after none = λ number m c asks there. none_is_some (number, m) (sym none ∙ asks)
 
 -- a client's move is the one that is asked for
@@ -158,7 +158,7 @@ abbrev IsMovedBy : World → Event → List Packet → List Client → Client �
 IsMovedBy w event sent clients c m =
     (sent ≡ To_server (segment_of c m (window_of c event)) ∷ []) × (clients ≡ with_client c.key (λ _. moved c m (window_of c event)) w.clients)
 
-scripted : (w : World) (event : Event) (c : Client) (m : Move) (number : ℕ) (after : World) → move_asked event ≡ Some (number, m) → client_at w.clients number ≡ Some c
+pub scripted : (w : World) (event : Event) (c : Client) (m : Move) (number : ℕ) (after : World) → move_asked event ≡ Some (number, m) → client_at w.clients number ≡ Some c
     → after.clients ≡ with_client c.key (λ _. moved c m (window_of c event)) w.clients → IsScripted w event (To_server (segment_of c m (window_of c event)) ∷ []) after
 scripted w event c m number after asks there stands = λ i n d is found.
     let alike : (number, m) ≡ (i, n) = some_is (number, m) (i, n) (sym asks ∙ is) in

@@ -1,5 +1,5 @@
 -- In every run each client keeps its key and its script, and the server acknowledges no more than the client sent.
-use Rattle.std.proofs.Common.{◌≡◌, ℕ, zero, suc, ◌+◌, ◌-◌, ◌*◌, ◌≤◌, ℤ, pos, int_lt, nat_abs, Bool, true, false, ◌&&◌, ◌||◌, ◌==◌, not, nat_le, refl, sym, ap, ◌∙◌, subst, List, [], ◌∷◌, ◌++◌, map, length, arith, leb-true, if◌then◌else◌}
+use Rattle.std.proofs.Common.{◌≡◌, ℕ, zero, suc, ◌+◌, ◌-◌, ◌*◌, ◌≤◌, ℤ, pos, int_lt, nat_abs, true, false, ◌&&◌, ◌||◌, ◌==◌, not, nat_le, refl, sym, ap, ◌∙◌, subst, List, [], ◌∷◌, map, length, arith, leb-true, if◌then◌else◌}
 use Rattle.std.specs.List.{AllByRecursion}
 use Rattle.std.proofs.lemmas.Int.{ints}
 use Rattle.std.proofs.lemmas.Bool.{and_parts}

@@ -1,0 +1,9 @@
+-- The trace is legal moment by moment, and each line of its report computes.
+use Rattle.std.proofs.Common.{refl}
+use Rattle.ft_model.proofs.ReportOnLiterals.{report_on_literals}
+use Rattle.service_laws.proofs.CrashRun.{is_legal}
+use Rattle.service_laws.proofs.crash_run_is_legal.Goals as goal
+
+pub returns : goal.returns
+unfolding report_on_literals
+returns c = record { legal = is_legal; served = refl; told = refl }
