@@ -1,7 +1,7 @@
 #!/usr/bin/env bash
 # When the server of ftnode sends a SYN-ACK again that isn't acknowledged, with ftnode's logger beside it: in silence, and among stray datagrams that
 # another port sends it, one each 10 ms, one each millisecond, and 20,000 a second. Printed are the milliseconds from the first SYN-ACK to each of the next five,
-# of three runs the least. Each has to come within twice its time in silence.
+# of three runs the least. Each has to come within twice its time in silence; the first comes with the next tick, so less than a tick counts as one, 24 ms.
 #     bench/ticks.sh [PORT] [PROGRAM]       three ports from PORT (7300) on; a PROGRAM that is given isn't built
 set -eu
 . "$(dirname "$0")/common.sh"
@@ -37,7 +37,7 @@ run() {
 # the least of three runs, place by place
 least() {
     for _ in 1 2 3; do run "$1"; done | awk '{ for (i = 1; i <= NF; i++) if (NR == 1 || $i < low[i]) low[i] = $i; n = NF }
-        END { for (i = 1; i <= n; i++) printf "%s%d", i > 1 ? " " : "", low[i]; print "" }'
+        END { for (i = 1; i <= n; i++) printf "%s%d", (i > 1 ? " " : ""), low[i]; print "" }'
 }
 
 machine
@@ -47,7 +47,7 @@ echo "in silence: $silence ms"
 status=0
 for rate in 100 1000 20000; do
     seen=$(least "$rate")
-    late=$(awk -v a="$silence" -v b="$seen" 'BEGIN { n = split(a, x, " "); split(b, y, " "); for (i = 1; i <= n; i++) if (y[i] == "" || y[i] > 2 * x[i]) late++; print late + 0 }')
+    late=$(awk -v a="$silence" -v b="$seen" 'BEGIN { n = split(a, x, " "); split(b, y, " "); for (i = 1; i <= n; i++) if (y[i] == "" || y[i] > 2 * (x[i] < 24 ? 24 : x[i])) late++; print late + 0 }')
     echo "among $rate stray datagrams a second: $seen ms, $late of $count later than twice the time in silence"
     [ "$late" = 0 ] || status=1
 done

@@ -29,16 +29,11 @@ fn come(bytes: Vec<u8>) -> Arrival {
     }
 }
 
-/// Says what a receive answered: the length of a datagram and its first bytes, `silent`, `failed`, or `elsewhere` for one that
-/// came from there.
-fn say_heard(
-    heard: Result<Heard, Failed>,
-    buf: &[u8],
-    from_where: Addr,
-    said: &mut Said,
-) -> Result<(), NoMemory> {
+/// Says what a receive answered: the length of a datagram and its first five bytes, `silent` or `failed`; `elsewhere` where the
+/// datagram isn't from the peer.
+fn say_heard(heard: Result<Heard, Failed>, buf: &[u8], said: &mut Said) -> Result<(), NoMemory> {
     match heard {
-        Ok(Heard::Got { len, from }) if from == from_where => {
+        Ok(Heard::Got { len, from }) if from == PEER => {
             said.count(len as u64)?;
             said.word(&buf[..len.min(5).min(buf.len())])
         }
@@ -55,7 +50,7 @@ pub fn receive_five(alloc: Global, fails: Vec<u32>, said: &mut Said) -> Result<(
     for _ in 0..5 {
         let mut buf = [1u8; 2048];
         let heard = link.recv(&mut buf);
-        say_heard(heard, &buf, PEER, said)?;
+        say_heard(heard, &buf, said)?;
     }
     say_counts(&link, said)
 }
@@ -74,7 +69,7 @@ pub fn send_two(
     say_counts(&link, said)
 }
 
-/// Three binds, some of which are listed to fail, and a send and a receive: what each answered, and the counts.
+/// Three binds, some of which are listed to fail: what each answered, and the counts.
 pub fn bind_three(alloc: Global, fails: Vec<u32>, said: &mut Said) -> Result<(), NoMemory> {
     let arrivals = four_arrivals(alloc)?;
     let none = Vec::new(alloc);

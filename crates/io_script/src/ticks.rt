@@ -80,7 +80,7 @@ fn silent_millis<C: Clock, L: Link>(clock: &C, link: &mut L) -> io::Result<Optio
 }
 
 /// What came among datagrams without a pause.
-#[derive(Clone, Copy, Debug)]
+#[derive(Clone, Copy)]
 struct Came {
     datagrams: u64,
     ticks: u64,
