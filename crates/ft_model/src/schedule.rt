@@ -1,7 +1,7 @@
 //! A schedule as a value, and why a text spells none.
 
 ghost use Rattle.std.specs.Prelude.{◌≡◌, List, [], ◌∷◌, ◌++◌, length, IfOk, OnOk, OnErr};
-ghost use Rattle.ft_model.specs.Schedule.{letters as letters_lem, bytes_of};
+ghost use Rattle.ft_model.specs.Schedule.{kind_of, letters as letters_lem, bytes_of};
 
 use crate::event::Event;
 use ft_io::{Addr, Key, NoMemory, Octets};
@@ -15,6 +15,20 @@ pub enum ServiceKind {
     Line,
     Transfer,
     Meter,
+}
+
+impl ServiceKind {
+    /// The number by which a service that offers kinds knows it.
+    pub fn number(self) -> u8
+        ensures { result ≡ kind_of self }
+    {
+        match self {
+            ServiceKind::Echo => 1,
+            ServiceKind::Line => 2,
+            ServiceKind::Transfer => 3,
+            ServiceKind::Meter => 4,
+        }
+    }
 }
 
 /// What a client has to say.

@@ -2,25 +2,13 @@
 
 ghost use Rattle.std.specs.Prelude.{◌≡◌, ◌≤◌, ◌+◌, ◌%◌, ◌^◌, map, length, All, IfOk, IfSome, position};
 ghost use Rattle.ft_io.specs.Key.{key_eq};
-ghost use Rattle.ft_model.specs.Schedule.{kind_of as kind_lem, bytes_of as bytes_lem, client_of as client_lem, clients_of};
+ghost use Rattle.ft_model.specs.Schedule.{bytes_of as bytes_lem, client_of as client_lem, clients_of};
 ghost use Rattle.net_schedule.specs.Carried.{number_in as number_lem};
 
 use ft_io::{Addr, Key, NoMemory};
-use ft_model::{ClientLine, ServiceKind};
+use ft_model::ClientLine;
 use peer_client::Client;
 use std::alloc::Global;
-
-/// The number of a service.
-pub fn kind_of(service: ServiceKind) -> u8
-    ensures { result ≡ kind_lem service }
-{
-    match service {
-        ServiceKind::Echo => 1,
-        ServiceKind::Line => 2,
-        ServiceKind::Transfer => 3,
-        ServiceKind::Meter => 4,
-    }
-}
 
 /// A client of a schedule, before anything was sent.
 fn new_client(alloc: Global, server: Addr, line: &ClientLine) -> Result<Client, NoMemory>

@@ -4,7 +4,7 @@
 ghost use Rattle.std.specs.Prelude.{◌≡◌, ◌≤◌, ◌<◌, ◌*◌, length, OnOk};
 ghost use Rattle.seq_arith.specs.Damage.{flipped};
 
-use crate::clients::{keys_of, kind_of, new_clients};
+use crate::clients::{keys_of, new_clients};
 use crate::end::StepEnd;
 use crate::packets::Packets;
 use crate::sending::{keep_answer, keep_sent};
@@ -92,7 +92,7 @@ impl<S: Service> World<S> {
         playable_schedules_start();
         let lines = schedule.clients.as_slice();
         Ok(World {
-            kind: kind_of(schedule.service),
+            kind: schedule.service.number(),
             server: schedule.server,
             keys: keys_of(alloc, lines)?,
             clients: new_clients(alloc, schedule.server, lines)?,
