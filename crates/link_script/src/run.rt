@@ -104,12 +104,7 @@ pub fn run(
 }
 
 /// Says how a run ended, and what was called and written.
-fn say_run(
-    alloc: Global,
-    ran: &Finished,
-    way: Way,
-    said: &mut Vec<u8>,
-) -> Result<(), NoMemory> {
+fn say_run(alloc: Global, ran: &Finished, way: Way, said: &mut Vec<u8>) -> Result<(), NoMemory> {
     let code = ran.code;
     let line = format!(in alloc; "status {code}")?;
     say(line.as_str(), said)?;
