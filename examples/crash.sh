@@ -2,10 +2,12 @@
 # A crash that nobody notices: logger, server and client on the loopback. The client asks the service Transfer REQUESTS times for 2,047 bytes. When a third of them
 # has come the server is killed with kill -9, and started again; what the client has in the end is compared with what a server that never failed sends.
 # It takes 2 to 25 seconds, and wants a built ftnode:
-#     examples/crash.sh [PROGRAM] [REQUESTS]        PROGRAM is crates/ftnode/out/ftnode, REQUESTS 250, at most 8,000, where nothing is said
+#     examples/crash.sh [PROGRAM] [REQUESTS] [STRAY]
+# PROGRAM is crates/ftnode/out/ftnode, REQUESTS 250, at most 8,000, and STRAY 0 where nothing is said: so many datagrams a second, which are no packets, come to
+# the server from another port meanwhile.
 set -u
 cd "$(dirname "$0")/.." || exit 2
-program=${1:-crates/ftnode/out/ftnode} requests=${2:-250}
+program=${1:-crates/ftnode/out/ftnode} requests=${2:-250} stray=${3:-0}
 bytes=$((requests * 2047)) server=127.0.0.1:7007 logger=127.0.0.1:7008 client=127.0.0.1:7009
 room=$(mktemp -d) started=()
 [ -x "$program" ] || { echo "crash: there is no program $program; build it: (cd crates/ftnode && rt run)" >&2; exit 2; }
@@ -27,6 +29,10 @@ python3 -c "import sys; sys.stdout.buffer.write(bytes(i % 251 for i in range($by
 start logger logger --local $logger --turns 1000000
 start server1 server --local $server --logger $logger --service transfer --boot 1 --isn 5000 --turns 1000000
 first=${started[-1]}
+if [ "$stray" != 0 ]; then
+    tools/stray.py $server "$stray" >"$room/stray.out" 2>"$room/stray.err" &
+    started+=("$!")
+fi
 # The client writes into a pipe: behind the third that is read from it only what the pipe holds can come, however fast the transfer is.
 mkfifo "$room/pipe"
 "$program" client --local $client --server $server --isn 1000 --turns 1000000 <"$room/asked" >"$room/pipe" 2>"$room/client.err" &

@@ -6,7 +6,7 @@ use Rattle.std.proofs.lemmas.Int.{ints}
 use Rattle.std.proofs.lemmas.List.{length-take}
 use Rattle.std.proofs.lemmas.Bool.{false≢true}
 use Rattle.ft_io.specs.declared.Addr.{Addr}
-use Rattle.seq_arith.specs.Arrival.{int_eq, is_new_ack, below}
+use Rattle.seq_arith.specs.Arrival.{int_eq, is_new_ack}
 use Rattle.seq_arith.specs.Offset.{one_if, length_of}
 use Rattle.seq_arith.specs.Packet.{Segment, has_fin, has_syn, has_rst, has_ack}
 use Rattle.seq_arith.specs.PacketGrammar.{reading}
@@ -14,7 +14,7 @@ use Rattle.seq_arith.specs.declared.BadPacket.{BadPacket}
 use Rattle.tcp_endpoint.specs.declared.states.StateName.{StateName}
 use Rattle.tcp_endpoint.specs.declared.states.StateName.TheVariants.{Closed, Listen, SynSent, SynReceived, Established, FinWait1, FinWait2, CloseWait, Closing, LastAck, TimeWait}
 use Rattle.tcp_endpoint.specs.States.{has_begun}
-use Rattle.tcp_endpoint.specs.Receiving.{Receiving, taken, next, with_text, with_fin, with_segment}
+use Rattle.tcp_endpoint.specs.Receiving.{Receiving, taken, next, receive_edge, came, with_came, with_segment}
 use Rattle.tcp_endpoint.specs.Sending.{Sending, IsShort, with_syn_acked, acknowledged, moves_edge, sendable, expires, timed, with_sent, with_fin_sent}
 use Rattle.tcp_endpoint.specs.Tcb.{Tcb, listening, connecting}
 use Rattle.tcp_endpoint.specs.Arrival.{ack_at, first, owing_if, killed, received, received_in, in_closed, in_listen, begun, refusing, refusing_without_ack, answered, in_syn_sent, in_others, check_place, waiting_again, check_rst, check_syn, check_ack, with_ack, with_first_ack, with_fin_acked, with_text_and_fin}
@@ -27,6 +27,7 @@ use Rattle.node_link.specs.Received.{Received, datagram, silence, failure}
 use Rattle.node_link.specs.ClientTurns.{ClientTurn, after_receive, emptied, due_at}
 use Rattle.node_link.specs.ClientParts.{HasLimits, IsWithin, IsLimited}
 use Rattle.ft_io.proofs.Booleans.{left_true, right_true}
+use Rattle.seq_arith.proofs.Coming.{comes_within}
 use Rattle.seq_arith.proofs.Units.{one_at_most}
 use Rattle.ft_io.proofs.Choices.{holds_if, holds_either_way}
 
@@ -75,16 +76,13 @@ module _ (isn written read : ℕ) where
     queued = few;
   }
 
-text_queued : (read limit : ℕ) (unread text : List ℕ) → length unread ≤ 65535 → length (unread ++ take (min (read + 65535) limit - (read + length unread)) text) ≤ 65535
-text_queued read limit unread text h = omega (arith, length-append {A = ℕ}, length-take {A = ℕ})
-
 segment_queued : (r : Receiving) (z : ℤ) (text : List ℕ) (fin : Bool) → length r.unread ≤ 65535
     → ((with_segment r z text fin).read ≡ r.read) × (length (with_segment r z text fin).unread ≤ 65535)
-unfolding with_segment with_fin with_text
+unfolding with_came
 segment_queued r z text fin h =
-    let few : Receiving → Type 0 = λ q. (q.read ≡ r.read) × (length q.unread ≤ 65535) in
-    holds_either_way few (r.fin || int_lt (pos (taken r)) z) r (with_fin (with_text r z text) (z +ℤ pos (length text)) fin) (refl, h)
-    (refl, text_queued r.read r.limit r.unread (drop (below (taken r) z) text) h)
+    let added : List ℕ = (came r z text fin).added in
+    let few : taken r + length added ≤ max (taken r) (receive_edge r) = comes_within (taken r) (receive_edge r) r.fin z text fin in
+    (refl, omega (arith, length-append r.unread added, few, h))
 
 -- a segment comes
 module _ (isn written read : ℕ) (p : Segment) where

@@ -152,7 +152,7 @@ runs_on isn start client after server i old mid new Writes More Both limited sam
       state = t.state ∙ ap (λ (x : LiveState). turned (emptied (after_receive x received))) r.state;
       open_before = open_now;
       beside = λ c begins near.
-          beside_on isn start c t.turn r.turns limited (begins.isn ∙ limited.tcb.isn_is) open_now
+          beside_on isn start c t.turn r.turns limited open_now
           (λ d standing undecided n. subst (λ (x : LiveState). IsBetween x d → x.outcome ≡ None → IsDue (after_receive x received) (machine_then x d received)) r.state
           (λ s u. t.beside d s u n) standing undecided)
           near.0 (r.beside c begins near.1);
@@ -224,23 +224,22 @@ fresh_client role script client short made = record {
 }
 
 -- the machine of the model that begins beside it
-begins_beside : (role : ClientRole) (script : List ℕ) (client : LiveState) → length script ≤ 2 ^ 24 → client ≡ first_state role script → IsDue client (first_machine role script)
+begins_beside : (role : ClientRole) (script : List ℕ) (client : LiveState) → client ≡ first_state role script → IsDue client (first_machine role script)
     → BeginsBeside client (first_machine role script)
-begins_beside role script client short made due = record {
+begins_beside role script client made due = record {
   due = due;
   nothing = refl;
-  isn = sym (fresh_client role script client short made).limited.tcb.isn_is;
   unseen = ap (λ (l : LiveState). l.seen) made;
 }
 
-module _ (role : ClientRole) (script : List ℕ) (client : LiveState) (before mid new : Option (List LinkCall)) (short : length script ≤ 2 ^ 24)
+module _ (role : ClientRole) (script : List ℕ) (client : LiveState) (before mid new : Option (List LinkCall))
     (made : client ≡ first_state role script) (due : IsDue client (first_machine role script)) (bound : Tells before mid (Bound role.local ∷ [])) where
   pub script_runs : (Writes : List ℕ → Type 0) (Ends : Option ClientEnd → ℕ → Type 0)
       → ((machine : Client) → BeginsBeside client machine → Runs client machine role.turns [] mid new Writes Ends) → IsClient role script before new Writes Ends
   script_runs Writes Ends runs =
       runs_behind (first_state role script) (first_machine role script) role.turns (Bound role.local ∷ []) before mid new Writes Ends bound
       (subst (λ (l : LiveState). Runs l (first_machine role script) role.turns [] mid new Writes Ends) made
-      (runs (first_machine role script) (begins_beside role script client short made due)))
+      (runs (first_machine role script) (begins_beside role script client made due)))
 
   pub script_stops : (out_old out_new : Option (List ℕ)) (end : NodeEnd)
       → ((machine : Client) → BeginsBeside client machine → RunStops client machine role.turns [] mid new out_old out_new end)
@@ -248,12 +247,12 @@ module _ (role : ClientRole) (script : List ℕ) (client : LiveState) (before mi
   script_stops out_old out_new ends.WriteFault runs = script_runs (AppendsFront out_old out_new) IsCutShort runs
   script_stops out_old out_new ends.Reset runs = script_runs (Appends out_old out_new) (IsEndedBy peer.Reset) runs
   script_stops out_old out_new ends.Spent runs = script_runs (Appends out_old out_new) (IsSpent role.turns) runs
-  script_stops out_old out_new ends.Usage runs = absurd (runs (first_machine role script) (begins_beside role script client short made due))
-  script_stops out_old out_new ends.NoMemory runs = absurd (runs (first_machine role script) (begins_beside role script client short made due))
-  script_stops out_old out_new ends.LinkFault runs = absurd (runs (first_machine role script) (begins_beside role script client short made due))
-  script_stops out_old out_new (ends.Fenced newer) runs = absurd (runs (first_machine role script) (begins_beside role script client short made due))
-  script_stops out_old out_new ends.ReadFault runs = absurd (runs (first_machine role script) (begins_beside role script client short made due))
-  script_stops out_old out_new ends.ChildFault runs = absurd (runs (first_machine role script) (begins_beside role script client short made due))
+  script_stops out_old out_new ends.Usage runs = absurd (runs (first_machine role script) (begins_beside role script client made due))
+  script_stops out_old out_new ends.NoMemory runs = absurd (runs (first_machine role script) (begins_beside role script client made due))
+  script_stops out_old out_new ends.LinkFault runs = absurd (runs (first_machine role script) (begins_beside role script client made due))
+  script_stops out_old out_new (ends.Fenced newer) runs = absurd (runs (first_machine role script) (begins_beside role script client made due))
+  script_stops out_old out_new ends.ReadFault runs = absurd (runs (first_machine role script) (begins_beside role script client made due))
+  script_stops out_old out_new ends.ChildFault runs = absurd (runs (first_machine role script) (begins_beside role script client made due))
 
 -- nothing was done
 pub does_nothing : (told : Option (List LinkCall)) (out : Option (List ℕ)) → DoesNothing told told out out

@@ -74,7 +74,6 @@ pub record IsFresh (role : ClientRole) (l : LiveState) : Type 0 where
 pub record BeginsBeside (l : LiveState) (c : Client) : Type 0 where
   pub due : IsDue l c
   pub nothing : c.accepted ≡ []
-  pub isn : c.isn ≡ l.tcb.sending.iss
   pub unseen : l.seen ≡ 0
 
 -- how a run stops without both ends closed

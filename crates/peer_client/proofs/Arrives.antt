@@ -1,8 +1,9 @@
 -- The checks on a segment, one by one, in an established connection: the client machine makes the same of it as TCP.
 use Rattle.std.proofs.Common.{◌≡◌, ℕ, ◌≤◌, ◌+◌, ◌-◌, ◌^◌, Bool, true, false, not, [], length, refl, sym, ap, subst, arith, ◌∙◌}
-use Rattle.std.specs.Prelude.{ℤ, pos, ◌+ℤ◌, ◌-ℤ◌, ◌≤ℤ◌, ◌&&◌, ◌||◌, nat_lt, int_lt, if◌then◌else◌}
+use Rattle.std.specs.Prelude.{ℤ, pos, ◌-ℤ◌, ◌≤ℤ◌, ◌&&◌, ◌||◌, nat_lt, int_lt, if◌then◌else◌}
 use Rattle.std.proofs.lemmas.Bool.{false≢true}
-use Rattle.seq_arith.specs.Arrival.{int_eq, is_acceptable}
+use Rattle.seq_arith.specs.Arrival.{int_eq, is_acceptable, is_at_right_edge, is_allowed_at_zero, is_usable}
+use Rattle.seq_arith.specs.Coming.{comes}
 use Rattle.seq_arith.specs.Offset.{length_of, first_of, ack_of, text_of, fin_of, one_if}
 use Rattle.seq_arith.specs.Packet.{Segment, has_fin, has_syn, has_rst, has_ack}
 use Rattle.tcp_buffers.specs.Near.{is_ahead}
@@ -12,9 +13,10 @@ use Rattle.tcp_endpoint.specs.States.{after_fin, after_fin_acked}
 use Rattle.tcp_endpoint.specs.Receiving.{Receiving, next, taken, window, receive_edge, with_segment}
 use Rattle.tcp_endpoint.specs.Sending.{Sending, acknowledged, fin_acked}
 use Rattle.tcp_endpoint.specs.Tcb.{Tcb}
-use Rattle.tcp_endpoint.specs.Arrival.{first, ack_at, owing_if, killed, entering, with_text_and_fin, with_fin_acked, with_first_ack, with_ack, check_ack, check_syn, check_rst, waiting_again, check_place, in_others}
+use Rattle.tcp_endpoint.specs.Arrival.{first, ack_at, owing_if, killed, entering, with_text_and_fin, with_fin_acked, with_first_ack, with_ack, check_ack, check_syn, check_rst, waiting_again, accepts, is_allowed, check_place, in_others}
 use Rattle.ft_model.specs.Client as machine
-use Rattle.ft_model.specs.Client.{Client, is_open, next_of, room_of}
+use Rattle.ft_model.specs.Client.{Client, is_live, is_open, is_ended, next_of, room_of}
+use Rattle.ft_model.specs.Client.ClientKind.{Live}
 use Rattle.ft_model.specs.declared.phase.Phase.TheVariants.{Reset}
 use Rattle.peer_client.specs.Standing.{Hears, Sends}
 use Rattle.peer_client.proofs.Comes.{both_if, Heard, segment_heard, ack_sends, ahead_is}
@@ -49,6 +51,7 @@ pub record Before (e : Tcb) (c : Client) (written : ℕ) : Type 0 where
   pub phase : is_open c.phase ≡ true
   pub edge : c.edge ≡ receive_edge e.receiving
   pub syn_acked : e.sending.syn_acked ≡ true
+  pub kind : c.kind ≡ Live
 
 kept : (e : Tcb) (c : Client) (written : ℕ) (name : StateName) (owed : Bool) (wait : ℕ) → Before e c written
     → Keeps e c written (record e { name = name; owed = owed; wait = wait }) c
@@ -145,17 +148,16 @@ heard_kept e c written x d d' r name owed wait k h = record {
 
 text_kept : (e : Tcb) (c : Client) (written : ℕ) (x : Tcb) (d : Client) (p : Segment) → has_syn p ≡ false → has_rst p ≡ false → d.edge ≡ receive_edge x.receiving
     → Keeps e c written x d
-    → Keeps e c written (with_text_and_fin x p)
-    (machine.with_fin (machine.with_text d (first_of d.sisn p) (text_of p)) (first_of d.sisn p +ℤ pos (length (text_of p))) (fin_of p))
+    → Keeps e c written (with_text_and_fin x p) (machine.with_added d (machine.came d p))
 unfolding with_text_and_fin
 text_kept e c written x d p syn rst edge k =
     let z : ℤ = first x p in
     let r : Receiving = with_segment x.receiving z p.payload (has_fin p) in
     let text : p.payload ≡ text_of p = λ i. if sym syn i || sym rst i then [] else p.payload in
     let fin : has_fin p ≡ fin_of p = sym (and_true (has_fin p)) ∙ (λ i. has_fin p && not (sym syn i || sym rst i)) in
-    let d' : Client = machine.with_fin (machine.with_text d (first_of d.sisn p) (text_of p)) (first_of d.sisn p +ℤ pos (length (text_of p))) (fin_of p) in
-    let args : machine.with_fin (machine.with_text d z p.payload) (z +ℤ pos (length p.payload)) (has_fin p) ≡ d' =
-    λ i. machine.with_fin (machine.with_text d (first_of (sym k.hears.sisn i) p) (text i)) (first_of (sym k.hears.sisn i) p +ℤ pos (length (text i))) (fin i) in
+    let d' : Client = machine.with_added d (machine.came d p) in
+    let args : machine.with_added d (comes (length d.accepted) d.edge (is_ended d.phase) z p.payload (has_fin p)) ≡ d' =
+    λ i. machine.with_added d (comes (length d.accepted) d.edge (is_ended d.phase) (first_of (sym k.hears.sisn i) p) (text i) (fin i)) in
     let h : Heard x.receiving d r d' =
     subst (λ (y : Client). Heard x.receiving d r y) args (segment_heard x.receiving d z p.payload (has_fin p) k.hears k.phase edge) in
     let taking : Tcb = record x { receiving = r; owed = x.owed || int_lt (pos (next x.receiving)) z } in
@@ -176,8 +178,7 @@ acked_kept e c written e1 owed wait p is syn rst near b =
     let e2 : Tcb = record e { owed = owed; wait = wait } in
     let m : Tcb = record e2 { sending = acknowledged e.sending p.head.seq (ack_at e p) p.head.window } in
     let few : e.sending.sent ≤ 2 ^ 24 + 1 = few_sent e.sending written c e.sending.fin_sent refl b.sends in
-    let later : ℕ → Client = λ n. machine.with_fin (machine.with_text (machine.with_ack c (ack_of n p)) (first_of c.sisn p) (text_of p))
-    (first_of c.sisn p +ℤ pos (length (text_of p))) (fin_of p) in
+    let later : ℕ → Client = λ n. machine.with_added (machine.with_ack c (ack_of n p)) (machine.came c p) in
     subst (λ (t : Tcb). Keeps e c written (with_ack t p) (machine.used c p)) (sym is)
     (both_if (λ (t : Tcb) (d : Client). Keeps e c written t d) (is_ahead e.sending.sent (ack_at e p)) (int_lt (pos c.sent) (ack_of c.isn p)) (owing_if true e2) _ c (later c.isn)
     (ahead_is e.sending.sent (ack_at e p) few near_at ∙ (λ i. int_lt (pos (sym b.sends.sent i)) (ack_of (b.iss i) p)))
@@ -198,10 +199,22 @@ syn_or_ack P true ack a x y c u h g k = h
 syn_or_ack P false true a x y c u h g k = k refl refl
 syn_or_ack P false false a x y c u h g k = g
 
-accept_alike : (e : Tcb) (c : Client) (written : ℕ) (p : Segment) → Before e c written
-    → is_acceptable (next e.receiving) (window e.receiving) (first e p) (length_of p) ≡ is_acceptable (next_of c) (room_of c) (first_of c.sisn p) (length_of p)
-accept_alike e c written p b = λ i.
-    is_acceptable (sym b.hears.count i + one_if (sym b.hears.fin i)) (sym b.edge i - sym b.hears.count i) (first_of (sym b.hears.sisn i) p) (length_of p)
+-- once the SYN is acknowledged TCP looks at a segment further where the machine may use it
+abbrev used_by : Tcb → Segment → Bool
+used_by e p = is_usable (next e.receiving) (window e.receiving) (first e p) (length_of p)
+
+looks_further : (e : Tcb) (p : Segment) → e.sending.syn_acked ≡ true → (accepts e p || is_allowed e p) ≡ used_by e p
+unfolding accepts is_allowed
+looks_further e p acked =
+    let zero : Bool = is_allowed_at_zero (next e.receiving) (window e.receiving) (first e p) in
+    ap (λ b. accepts e p || (zero && (b || int_eq (ack_at e p) (pos 0)))) acked ∙ ap (λ b. accepts e p || b) (and_true zero)
+
+used_alike : (e : Tcb) (c : Client) (written : ℕ) (p : Segment) → Before e c written → used_by e p ≡ machine.may_use c p
+used_alike e c written p b =
+    let usable : Bool = is_usable (next_of c) (room_of c) (first_of c.sisn p) (length_of p) in
+    let acceptable : Bool = is_acceptable (next_of c) (room_of c) (first_of c.sisn p) (length_of p) in
+    (λ i. is_usable (sym b.hears.count i + one_if (sym b.hears.fin i)) (sym b.edge i - sym b.hears.count i) (first_of (sym b.hears.sisn i) p) (length_of p))
+    ∙ (λ i. if is_live (sym b.kind i) then usable else acceptable)
 
 at_alike : (e : Tcb) (c : Client) (written : ℕ) (p : Segment) → Before e c written
     → int_eq (first e p) (pos (next e.receiving)) ≡ int_eq (first_of c.sisn p) (pos (next_of c))
@@ -214,9 +227,9 @@ others_kept e c written p unreset near b =
     let P : Tcb → Client → Type 0 = λ t d. Keeps e c written t d in
     let e0 : Tcb = waiting_again e p in
     let takes : Bool = nat_lt 0 (length_of p) in
-    both_if P (is_acceptable (next e.receiving) (window e.receiving) (first e p) (length_of p)) (is_acceptable (next_of c) (room_of c) (first_of c.sisn p) (length_of p))
-    (check_rst e0 p) (owing_if (not (has_rst p)) e0) _ c (accept_alike e c written p b)
-    (λ acceptable. both_if P (has_rst p) (has_rst p) _ (check_syn e0 p) _ _ refl
+    both_if P (accepts e0 p || is_allowed e0 p) (machine.may_use c p) (check_rst e0 p) (owing_if (not (has_rst p)) e0) _ c
+    (looks_further e0 p b.syn_acked ∙ used_alike e c written p b)
+    (λ used. both_if P (has_rst p) (has_rst p) _ (check_syn e0 p) _ _ refl
     (λ rst. both_if P (int_eq (first e p) (pos (next e.receiving))) (int_eq (first_of c.sisn p) (pos (next_of c))) (killed e0) (owing_if true e0) (record c { phase = Reset }) c
     (at_alike e c written p b)
     (λ k. absurd (false≢true (sym unreset ∙ (λ i. rst i && k i))))
@@ -227,7 +240,7 @@ others_kept e c written p unreset near b =
     (λ syn ack. holds_if (λ (t : Tcb). P t (machine.used c p)) e.sending.syn_acked (with_ack (owing_if takes e0) p) (with_first_ack (owing_if takes e0) p)
     (λ k. acked_kept e c written (owing_if takes e0) (e.owed || takes) e0.wait p refl syn rst (near ack) b)
     (λ k. absurd (false≢true (sym k ∙ b.syn_acked))))))
-    (λ unacceptable. kept e c written e.name (e.owed || not (has_rst p)) e0.wait b)
+    (λ unused. kept e c written e.name (e.owed || not (has_rst p)) e0.wait b)
 
 -- a RST at exactly the next number
 pub record Resets (e : Tcb) (c : Client) (t : Tcb) (d : Client) : Type 0 where
@@ -248,15 +261,19 @@ others_reset e c written p resets b =
     let P : Tcb → Client → Type 0 = λ t d. Resets e c t d in
     let rst : has_rst p ≡ true = left_true (has_rst p) (int_eq (first e p) (pos (next e.receiving))) resets in
     let at : int_eq (first e p) (pos (next e.receiving)) ≡ true = right_true (has_rst p) (int_eq (first e p) (pos (next e.receiving))) resets in
-    let in_window : is_acceptable (next e.receiving) (window e.receiving) (first e p) (length_of p) ≡ true =
-    ap (is_acceptable (next e.receiving) (window e.receiving) (first e p)) (rst_length p rst) ∙ acceptable_at (next e.receiving) (window e.receiving) (first e p) at in
     let e0 : Tcb = waiting_again e p in
-    both_if P (is_acceptable (next e.receiving) (window e.receiving) (first e p) (length_of p)) (is_acceptable (next_of c) (room_of c) (first_of c.sisn p) (length_of p))
-    (check_rst e0 p) (owing_if (not (has_rst p)) e0) _ c (accept_alike e c written p b)
-    (λ acceptable. both_if P (has_rst p) (has_rst p) _ (check_syn e0 p) _ _ refl
+    let n : ℕ = next e.receiving in
+    let w : ℕ = window e.receiving in
+    let z : ℤ = first e p in
+    let in_window : is_acceptable n w z (length_of p) ≡ true = ap (is_acceptable n w z) (rst_length p rst) ∙ acceptable_at n w z at in
+    let used : used_by e p ≡ true = λ i. (in_window i || is_at_right_edge n w z (length_of p)) || is_allowed_at_zero n w z in
+    let e0 : Tcb = waiting_again e p in
+    both_if P (accepts e0 p || is_allowed e0 p) (machine.may_use c p) (check_rst e0 p) (owing_if (not (has_rst p)) e0) _ c
+    (looks_further e0 p b.syn_acked ∙ used_alike e c written p b)
+    (λ used. both_if P (has_rst p) (has_rst p) _ (check_syn e0 p) _ _ refl
     (λ k. both_if P (int_eq (first e p) (pos (next e.receiving))) (int_eq (first_of c.sisn p) (pos (next_of c))) (killed e0) (owing_if true e0) (record c { phase = Reset }) c
     (at_alike e c written p b)
     (λ q. record { name = refl; reset = refl; answer = refl; phase = refl; receiving = refl; accepted = refl })
     (λ q. absurd (false≢true (sym q ∙ at))))
     (λ k. absurd (false≢true (sym k ∙ rst))))
-    (λ k. absurd (false≢true (sym k ∙ in_window)))
+    (λ k. absurd (false≢true (sym k ∙ looks_further e0 p b.syn_acked ∙ used)))

@@ -70,6 +70,7 @@ before_of l c h = record {
   phase = h.stands.phase;
   edge = h.edge;
   syn_acked = h.stands.syn_acked;
+  kind = h.stands.agrees.same.kind;
 }
 
 kept_stands : (l : LiveState) (c : Client) (t : Tcb) (d : Client) → IsStanding l c → l.outcome ≡ None → Keeps l.tcb c l.written t d → FollowsAt t

@@ -19,7 +19,7 @@ use Rattle.ft_model.specs.declared.phase.Phase.TheVariants as phases
 use Rattle.peer_client.specs.declared.live.ClientEnd.{ClientEnd}
 use Rattle.peer_client.specs.declared.live.ClientEnd.TheVariants as ends
 use Rattle.peer_client.specs.Live.{LiveState, is_of, met, hearing, ticked, unread, handed, given_up, supplied, closes, before_flush, sent_by, turned}
-use Rattle.peer_client.specs.Standing.{AreMoves, IsSame, AnswersBy, Waits, Stands, Hears, HasHeard, IsReset, IsBetween, IsDue, AcksNear, AckFits, Moves, outcome_of, is_reset, receiving, handed_out}
+use Rattle.peer_client.specs.Standing.{AreMoves, IsSame, AnswersBy, Waits, Stands, Hears, HasHeard, IsReset, IsBetween, IsDue, is_for_client, AcksNear, AckFits, Moves, outcome_of, is_reset, receiving, handed_out}
 use Rattle.peer_client.proofs.Named.{over_at, acked_at}
 use Rattle.peer_client.proofs.Arrives.{few_sent}
 use Rattle.peer_client.proofs.TurnEnds.{ready, turn_ends, closed_leaves, follows_before}
@@ -34,11 +34,14 @@ told_due : (l : LiveState) (c : Client) → IsBetween l c → IsDue l c
 told_due l c (inl h) = inl h.waits
 told_due l c (inr h) = inr (inl h.stands)
 
--- bytes come
+-- bytes come. A packet of the client's own connection is near
+is_for : (l : LiveState) (c : Client) (p : Segment) → IsSame l c → is_of l.local l.server p ≡ true → is_for_client c p ≡ true
+is_for l c p h from = (λ i. is_of (record { ip = h.ip i; port = h.port i }) (h.server i) p) ∙ from
+
 of_connection : (l : LiveState) (c : Client) (p : Segment) → IsBetween l c → l.outcome ≡ None → AcksNear c (Ok p) → p.head.ack < 2 ^ 32 → is_of l.local l.server p ≡ true
     → IsDue (met l p) (machine.received c p)
 of_connection l c p (inl h) none near fits from = answer_comes l c p h from fits
-of_connection l c p (inr h) none near fits from = inr (segment_comes l c p h none near)
+of_connection l c p (inr h) none near fits from = inr (segment_comes l c p h none (near (is_for l c p h.stands.agrees.same from)))
 
 pub heard_due : (l : LiveState) (c : Client) (r : Result Segment BadPacket) → IsBetween l c → l.outcome ≡ None → AcksNear c r → AckFits r
     → IsDue (hearing l r) (receiving l c r)

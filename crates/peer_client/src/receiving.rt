@@ -96,6 +96,7 @@ impl Client {
     }
 
     /// Accepts what a text that begins at `first`, and the FIN behind it, add to the server's stream.
+    #[tactic(auto, unfolding(seq_arith::specs::Coming::comes))]
     fn accept(&mut self, first: i64, text: &[u8], fin: bool) -> Result<(), NoMemory>
         ensures taken { OnOk result (self.new ≡ machine.with_added self.old (added self.old first text.now fin)) }
         ensures kept { OnErr result (self.new ≡ self.old) }

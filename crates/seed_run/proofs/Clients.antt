@@ -1,16 +1,16 @@
 -- In every run each client keeps its key and its script, and the server acknowledges no more than the client sent.
-use Rattle.std.proofs.Common.{◌≡◌, ℕ, zero, suc, ◌+◌, ◌-◌, ◌*◌, ◌≤◌, ℤ, pos, ◌+ℤ◌, int_lt, nat_abs, Bool, true, false, ◌&&◌, ◌||◌, ◌==◌, not, nat_lt, nat_le, refl, sym, ap, ◌∙◌, subst, List, [], ◌∷◌, ◌++◌, map, length, take, drop, arith, leb-true, if◌then◌else◌}
+use Rattle.std.proofs.Common.{◌≡◌, ℕ, zero, suc, ◌+◌, ◌-◌, ◌*◌, ◌≤◌, ℤ, pos, int_lt, nat_abs, Bool, true, false, ◌&&◌, ◌||◌, ◌==◌, not, nat_le, refl, sym, ap, ◌∙◌, subst, List, [], ◌∷◌, ◌++◌, map, length, arith, leb-true, if◌then◌else◌}
 use Rattle.std.specs.List.{AllByRecursion}
 use Rattle.std.proofs.lemmas.Int.{ints}
 use Rattle.std.proofs.lemmas.Bool.{and_parts}
 use Rattle.ft_io.specs.declared.Key.{Key}
 use Rattle.ft_io.specs.Key.{key_eq}
 use Rattle.seq_arith.specs.Number.{number_at}
-use Rattle.seq_arith.specs.Arrival.{int_eq, is_acceptable, below}
+use Rattle.seq_arith.specs.Arrival.{int_eq}
 use Rattle.seq_arith.specs.Packet.{Segment, has_syn, has_rst, has_ack}
 use Rattle.server_trait.specs.Service.{Machine}
-use Rattle.ft_model.specs.Offset.{first_of, ack_of, text_of, fin_of, length_of}
-use Rattle.ft_model.specs.Client.{Client, Move, received, opened_by, arrived, used, with_text, with_fin, with_ack, IsMove, moved, may_move, suits_kind, suits_phase, suits_range, is_opening, is_open, is_ended, next_of, room_of}
+use Rattle.ft_model.specs.Offset.{first_of, ack_of}
+use Rattle.ft_model.specs.Client.{Client, Move, received, opened_by, arrived, may_use, used, came, with_added, with_ack, IsMove, moved, may_move, suits_kind, suits_phase, suits_range, is_opening, is_open, next_of}
 use Rattle.ft_model.specs.Client.Move.{Syn, Text, Fin, Acknowledge, Rst, Refuse}
 use Rattle.ft_model.specs.declared.phase.Phase.TheVariants as phases
 use Rattle.ft_model.specs.Network.{Packet, destination_of}
@@ -29,34 +29,20 @@ use Rattle.ft_model.proofs.FaithfulOver.{client_there}
 abbrev pub IsWithin : Client → Type 0
 IsWithin c = (c.acknowledged ≤ c.sent) × (c.sent ≤ length c.script + 1)
 
-text_within : (c : Client) (first : ℤ) (text : List ℕ) → IsWithin c → IsWithin (with_text c first text)
-text_within c first text h =
-    holds_if IsWithin (is_ended c.phase || int_lt (pos (length c.accepted)) first) c
-    (record c { accepted = c.accepted ++ take (c.edge - length c.accepted) (drop (below (length c.accepted) first) text) }) (λ t. h) (λ t. h)
-
-fin_within : (c : Client) (behind : ℤ) (fin : Bool) → IsWithin c → IsWithin (with_fin c behind fin)
-fin_within c behind fin h =
-    holds_if IsWithin (fin && not (is_ended c.phase) && int_eq behind (pos (length c.accepted)) && nat_lt (length c.accepted) c.edge)
-    (record c { phase = phases.Ended }) c (λ t. h) (λ t. h)
-
 acked_within : (acked sent : ℕ) (ack : ℤ) → int_lt (pos sent) ack ≡ false → acked ≤ sent → (if int_lt (pos acked) ack then nat_abs ack else acked) ≤ sent
 acked_within acked sent ack sent_is h = grind (arith, ints, sent_is, h)
 
 used_within : (c : Client) (segment : Segment) → IsWithin c → IsWithin (used c segment)
 used_within c segment h =
-    let acked : Client = with_ack c (ack_of c.isn segment) in
-    let texted : Client = with_text acked (first_of c.sisn segment) (text_of segment) in
-    holds_if IsWithin (int_lt (pos c.sent) (ack_of c.isn segment)) c
-    (with_fin texted (first_of c.sisn segment +ℤ pos (length (text_of segment))) (fin_of segment)) (λ t. h)
-    (λ t. fin_within texted (first_of c.sisn segment +ℤ pos (length (text_of segment))) (fin_of segment)
-    (text_within acked (first_of c.sisn segment) (text_of segment) (acked_within c.acknowledged c.sent (ack_of c.isn segment) t h.0, h.1)))
+    holds_if IsWithin (int_lt (pos c.sent) (ack_of c.isn segment)) c (with_added (with_ack c (ack_of c.isn segment)) (came c segment)) (λ t. h)
+    (λ t. (acked_within c.acknowledged c.sent (ack_of c.isn segment) t h.0, h.1))
 
 arrived_within : (c : Client) (segment : Segment) → IsWithin c → IsWithin (arrived c segment)
 arrived_within c segment h =
     let gone : Client = record c { phase = phases.Reset } in
     let rst : Client = if int_eq (first_of c.sisn segment) (pos (next_of c)) then gone else c in
     let other : Client = if has_syn segment || not (has_ack segment) then c else used c segment in
-    holds_if IsWithin (is_acceptable (next_of c) (room_of c) (first_of c.sisn segment) (length_of segment)) (if has_rst segment then rst else other) c
+    holds_if IsWithin (may_use c segment) (if has_rst segment then rst else other) c
     (λ t. holds_if IsWithin (has_rst segment) rst other
     (λ r. holds_if IsWithin (int_eq (first_of c.sisn segment) (pos (next_of c))) gone c (λ x. h) (λ x. h))
     (λ r. holds_if IsWithin (has_syn segment || not (has_ack segment)) c (used c segment) (λ x. h) (λ x. used_within c segment h)))

@@ -1,3 +1,8 @@
 pub mod NumbersTell
 pub mod Places
 pub mod Outstanding
+pub mod Written
+pub mod Marked
+pub mod Covered
+pub mod Grown
+pub mod QueueFields

@@ -1,2 +1,4 @@
 pub mod SendNumbers
 pub mod Near
+pub mod Runs
+pub mod Queue

@@ -8,7 +8,9 @@ pub use send_queue::SendQueue;
 pub use send_state::{AckKind, SendState};
 
 mod copying;
+mod early_runs;
 pub mod laws;
+mod overwriting;
 mod receive_queue;
 mod send_queue;
 mod send_state;

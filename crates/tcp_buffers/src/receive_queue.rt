@@ -1,84 +1,174 @@
-//! The bytes that came in order and that the user hasn't read.
+//! The bytes that came in order and that the user hasn't read, and behind them those that came early.
 
-ghost use Rattle.std.specs.Prelude.{◌≡◌, ◌-◌, ◌≤◌, ◌==◌, List, [], ◌++◌, length, min, take, drop, IfOk};
+ghost use Rattle.std.specs.Prelude.{◌≡◌, ℕ, ◌+◌, ◌-◌, ◌<◌, ◌≤◌, ◌==◌, [], ◌++◌, length, min, take, drop, nat_le, nat_lt, IfOk};
+ghost use Rattle.seq_arith.specs.Early.{laid, run_count, front_run, holds_some};
+ghost use Rattle.tcp_buffers.specs.Queue.{empty_queue, pushed, added_by, held_with, most_runs};
 
 use crate::QUEUE_ROOM;
 use crate::copying::copy_behind;
+use crate::early_runs::EarlyRuns;
+use crate::overwriting::overwrite;
 use circular_buffer::HeapCircularBuffer;
 use ft_io::NoMemory;
 use std::alloc::Global;
 use std::marker::Model;
 
-/// A queue of received bytes, at most 65,535. Contracts see the bytes, the oldest first.
+/// A queue of received bytes, at most 65,535 with those that came early (RFC 9293, 3.10.7.4, seventh check). Contracts see the bytes in order,
+/// the oldest first, and behind them places that hold a byte or none.
 #[derive(Drop)]
 pub struct RecvQueue {
-    /// The bytes that are taken and not read, the oldest first, in room for 65,535.
+    /// The bytes that are in order and not read, the oldest first, and behind them the bytes that came early, with anything in the gaps: in
+    /// room for 65,535.
     bytes: HeapCircularBuffer<u8>,
+    /// How many are in order.
+    in_order: usize,
+    /// Which of the others are held.
+    early: EarlyRuns,
 }
 
 impl Model for RecvQueue {
-    ghost use Rattle.std.specs.Prelude.{◌≡◌, List, ℕ};
+    ghost use Rattle.std.specs.Prelude.{◌≡◌, take, drop};
+    ghost use Rattle.tcp_buffers.specs.Queue.{Queue};
+    ghost use Rattle.tcp_buffers.specs.Runs.{Keeps, marked};
 
-    ghost Value = { List ℕ };
+    ghost Value = { Queue };
 
-    ghost view = { λ q. q.bytes.items };
+    ghost view = { λ q. record { unread = take q.in_order q.bytes.items; early = marked 0 q.early (drop q.in_order q.bytes.items) } };
 
-    ghost invariant = { λ q. q.bytes.capacity ≡ 65535 };
+    ghost invariant = { λ q. (q.bytes.capacity ≡ 65535) × Keeps q.bytes.items q.in_order q.early };
 }
 
 impl RecvQueue {
     /// An empty queue with its whole room made.
     pub fn new(alloc: Global) -> Result<RecvQueue, NoMemory>
-        ensures { IfOk result (λ queue. queue ≡ []) }
+        ensures { IfOk result (λ queue. queue ≡ empty_queue) }
     {
         let bytes = HeapCircularBuffer::with_capacity(alloc, QUEUE_ROOM)?;
-        Ok(RecvQueue { bytes })
+        Ok(RecvQueue {
+            bytes,
+            in_order: 0,
+            early: EarlyRuns::new(),
+        })
     }
 
-    /// How many bytes are held.
+    /// How many bytes are in order.
     pub fn len(&self) -> usize
-        ensures count { result ≡ length self.now }
+        ensures count { result ≡ length self.now.unread }
         ensures most { result ≤ 65535 }
     {
-        self.bytes.len()
+        self.in_order
     }
 
+    /// Whether none is.
     pub fn is_empty(&self) -> bool
-        ensures { result ≡ (length self.now == 0) }
+        ensures { result ≡ (length self.now.unread == 0) }
     {
-        self.bytes.is_empty()
+        self.in_order == 0
     }
 
-    /// Appends the front of `bytes`, as much as fits, and answers how many bytes.
+    /// Appends the front of `bytes`, as much as fits, in place of what was held there, and then the held bytes that continue them. It answers
+    /// by how many bytes the queue has grown.
     pub fn push(&mut self, bytes: &[u8]) -> usize
-        ensures count { result ≡ min (length bytes.now) (65535 - length self.old) }
-        ensures state { self.new ≡ self.old ++ take result bytes.now }
+        ensures count { result ≡ length (added_by bytes.now self.old) }
+        ensures state { self.new ≡ pushed bytes.now self.old }
     {
-        self.bytes.fill_from_slice(bytes)
+        if self.early.is_empty() {
+            return self.append(bytes);
+        }
+        self.fill_gap(bytes)
+    }
+
+    /// The same where nothing is held.
+    fn append(&mut self, bytes: &[u8]) -> usize
+        requires { length self.old.early ≡ 0 }
+        ensures count { result ≡ length (added_by bytes.now self.old) }
+        ensures state { self.new ≡ pushed bytes.now self.old }
+    {
+        let count = self.bytes.fill_from_slice(bytes);
+        self.in_order += count;
+        count
+    }
+
+    /// The same where something is.
+    fn fill_gap(&mut self, bytes: &[u8]) -> usize
+        ensures count { result ≡ length (added_by bytes.now self.old) }
+        ensures state { self.new ≡ pushed bytes.now self.old }
+    {
+        let fitting = bytes.len().min(QUEUE_ROOM - self.in_order);
+        overwrite(&mut self.bytes, self.in_order, &bytes[..fitting]);
+        let grown = self.early.grow(fitting);
+        self.in_order += grown;
+        grown
+    }
+
+    /// Holds bytes that came early, `at` bytes behind the end of those in order. It answers false, and holds none of them, where the places held
+    /// would form more than sixteen runs.
+    pub fn hold(&mut self, at: usize, bytes: &[u8]) -> bool
+        requires ahead { 0 < at }
+        requires fits { length self.old.unread + at + length bytes.now ≤ 65535 }
+        ensures held { result ≡ nat_le (run_count (laid at bytes.now self.old.early)) most_runs }
+        ensures state { self.new ≡ record self.old { early = held_with at bytes.now self.old.early } }
+    {
+        if bytes.is_empty() {
+            self.few();
+            return true;
+        }
+        if !self.early.cover(at, at + bytes.len()) {
+            return false;
+        }
+        overwrite(&mut self.bytes, self.in_order + at, bytes);
+        true
+    }
+
+    /// How far behind the end of the bytes in order the last held byte ends. Nothing is held from there on.
+    pub fn held_to(&self) -> usize
+        ensures { (k : ℕ) → holds_some (drop k self.now.early) ≡ nat_lt k result }
+    {
+        self.bytes.len() - self.in_order
+    }
+
+    /// What a proof may know of what is held: no byte of it continues those in order.
+    pub fn has_gap(&self)
+        ensures { front_run self.now.early ≡ [] }
+    {
+        let _in_order = self.in_order;
+    }
+
+    /// What a proof may know of the runs that are held: there are at most sixteen.
+    fn few(&self)
+        ensures { run_count self.now.early ≤ most_runs }
+    {
+        let _none = self.early.is_empty();
     }
 
     /// Moves the oldest bytes to the front of `buf`, as many as fit, and answers how many. The rest of `buf` stays.
     pub fn read(&mut self, buf: &mut [u8]) -> usize
-        ensures count { result ≡ min (length self.old) (length buf.old) }
-        ensures bytes { buf.new ≡ take result self.old ++ drop result buf.old }
-        ensures state { self.new ≡ drop result self.old }
+        ensures count { result ≡ min (length self.old.unread) (length buf.old) }
+        ensures bytes { buf.new ≡ take result self.old.unread ++ drop result buf.old }
+        ensures state { self.new ≡ record self.old { unread = drop result self.old.unread } }
     {
-        self.bytes.read_into(buf)
+        let most = self.in_order.min(buf.len());
+        let count = self.bytes.read_into(&mut buf[..most]);
+        self.in_order -= count;
+        count
     }
 
-    /// Copies the bytes from place `from` on to the front of `out`, as many as are held and fit, and answers how many. None is taken, and
-    /// the rest of `out` stays.
+    /// Copies the bytes in order from place `from` on to the front of `out`, as many as there are and fit, and answers how many. None is taken,
+    /// and the rest of `out` stays.
     pub fn peek(&self, from: usize, out: &mut [u8]) -> usize
-        ensures count { result ≡ min (length self.now - from) (length out.old) }
-        ensures bytes { out.new ≡ take result (drop from self.now) ++ drop result out.old }
+        ensures count { result ≡ min (length self.now.unread - from) (length out.old) }
+        ensures bytes { out.new ≡ take result (drop from self.now.unread) ++ drop result out.old }
     {
-        copy_behind(&self.bytes, from, out)
+        let most = self.in_order.saturating_sub(from).min(out.len());
+        copy_behind(&self.bytes, from, &mut out[..most])
     }
 
     /// Forgets all bytes.
     pub fn clear(&mut self)
-        ensures { self.new ≡ [] }
+        ensures { self.new ≡ empty_queue }
     {
         self.bytes.clear();
+        self.in_order = 0;
+        self.early = EarlyRuns::new();
     }
 }

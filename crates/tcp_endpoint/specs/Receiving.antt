@@ -1,8 +1,9 @@
 -- The receiving half of a connection, in offsets of the peer's stream: byte k has the offset k, and a FIN that is taken counts as one more
 -- (RFC 9293, 3.3.1, receive sequence variables, and 3.10.7.4, first, seventh and eighth check).
-use Rattle.std.specs.Prelude.{ℕ, ℤ, Bool, false, ◌+◌, ◌-◌, ◌^◌, ◌≤◌, min, List, [], ◌++◌, length, drop}
+use Rattle.std.specs.Prelude.{◌≡◌, ℕ, ℤ, Bool, false, ◌+◌, ◌-◌, ◌^◌, ◌≤◌, min, List, [], ◌++◌, length, drop}
 use Rattle.seq_arith.specs.Coming.{Came, comes}
 use Rattle.seq_arith.specs.Offset.{one_if}
+use Rattle.tcp_buffers.specs.Queue.{Queue}
 
 pub record Receiving : Type 0 where
   pub irs : ℕ  -- IRS: the peer's initial number
@@ -50,8 +51,9 @@ with_segment r first text fin = with_came r (came r first text fin)
 abbrev pub read_out : Receiving → ℕ → Receiving
 read_out r n = record r { read = r.read + n; unread = drop n r.unread }
 
--- what stays true of a receiver's fields
-pub record Keeps (read : ℕ) (unread : List ℕ) (limit : ℕ) : Type 0 where
-  pub within : read + length unread ≤ limit
-  pub queued : length unread ≤ 65535
+-- what stays true of a receiver's fields: nothing is held that came early
+pub record Keeps (read : ℕ) (queue : Queue) (limit : ℕ) : Type 0 where
+  pub within : read + length queue.unread ≤ limit
+  pub queued : length queue.unread ≤ 65535
   pub near : limit ≤ 2 ^ 30
+  pub alone : queue.early ≡ []

@@ -74,14 +74,14 @@ impl Endpoint {
     pub fn listen(alloc: Global, local: Addr, isn: Seq, limit: u32) -> Result<Endpoint, NoMemory>
         ensures { IfOk result (λ e. e ≡ listening local isn.0 limit) }
     {
-        let unread = RecvQueue::new(alloc)?;
+        let queue = RecvQueue::new(alloc)?;
         let held = SendQueue::new(alloc)?;
         Ok(Endpoint {
             local,
             remote: Addr { ip: 0, port: 0 },
             name: StateName::Listen,
             reset: false,
-            receiver: Receiver::new(unread, limit),
+            receiver: Receiver::new(queue, limit),
             sender: Sender::new(isn, held),
             wait: 0,
             told_next: 0,

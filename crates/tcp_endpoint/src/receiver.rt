@@ -7,6 +7,7 @@ ghost use Rattle.seq_arith.specs.Number.{number_at, offset_of};
 ghost use Rattle.seq_arith.specs.Arrival.{int_eq, lies_in, is_acceptable, is_at_right_edge, is_acceptable_or_at_edge, is_allowed_at_zero, below};
 ghost use Rattle.seq_arith.specs.Coming.{new_text, is_fin_at};
 ghost use Rattle.tcp_buffers.specs.Near.{IsNearFirst};
+ghost use Rattle.tcp_buffers.specs.Queue.{empty_queue};
 ghost use Rattle.tcp_endpoint.specs.Receiving.{taken, next, receive_edge, announced_edge, window, receiving_up_to, with_segment, read_out};
 ghost use Rattle.tcp_endpoint.specs.Tcb.{kept_limit};
 
@@ -24,8 +25,8 @@ pub(crate) struct Receiver {
     irs: Seq,
     /// How many bytes of the peer's stream the user has read.
     read: u32,
-    /// The bytes that are taken and not read. Behind them is RCV.NXT.
-    unread: RecvQueue,
+    /// The bytes that are taken and not read. Behind them is RCV.NXT, and nothing is held.
+    queue: RecvQueue,
     /// Whether the peer's FIN is taken, which RCV.NXT counts as one more.
     fin: bool,
     /// The receive edge never passes this, in bytes of the peer's stream.
@@ -37,21 +38,21 @@ impl Model for Receiver {
 
     ghost Value = { Receiving };
 
-    ghost view = { λ r. record { irs = r.irs.0; read = r.read; unread = r.unread; fin = r.fin; limit = r.limit } };
+    ghost view = { λ r. record { irs = r.irs.0; read = r.read; unread = r.queue.unread; fin = r.fin; limit = r.limit } };
 
-    ghost invariant = { λ r. Keeps r.read r.unread r.limit };
+    ghost invariant = { λ r. Keeps r.read r.queue r.limit };
 }
 
 impl Receiver {
     /// Nothing is received yet.
-    pub(crate) fn new(unread: RecvQueue, limit: u32) -> Receiver
-        requires { unread ≡ [] }
+    pub(crate) fn new(queue: RecvQueue, limit: u32) -> Receiver
+        requires { queue ≡ empty_queue }
         ensures { result ≡ receiving_up_to (kept_limit limit) }
     {
         Receiver {
             irs: Seq(0),
             read: 0,
-            unread,
+            queue,
             fin: false,
             limit: limit.min(MOST),
         }
@@ -69,7 +70,7 @@ impl Receiver {
         ensures count { result ≡ taken self.now }
         ensures most { result ≤ 2 ^ 30 }
     {
-        self.read + self.unread.len() as u32
+        self.read + self.queue.len() as u32
     }
 
     /// What a proof may know of a number and of the fields: their ranges, and that all offsets are near to one another.
@@ -172,13 +173,20 @@ impl Receiver {
         }
     }
 
-    /// Whether this is the number of the announced edge.
+    /// The number of the announced edge.
+    fn edge_number(&self) -> Seq
+        ensures { result.0 ≡ number_at self.now.irs (announced_edge self.now) }
+    {
+        self.irs.add(1).add(self.announced_edge())
+    }
+
+    /// Whether this is that number.
     #[tactic(auto, using(crate::proofs::Places::is_next))]
     fn is_edge(&self, seq: Seq) -> bool
         ensures { result ≡ int_eq (offset_of self.now.irs seq.0) (pos (announced_edge self.now)) }
     {
         self.ranges(seq);
-        seq == self.irs.add(1).add(self.announced_edge())
+        seq == self.edge_number()
     }
 
     /// Whether a segment of length 0 stands at exactly the right edge of an open window. A sender whose window is full, and who has lost a
@@ -287,7 +295,7 @@ impl Receiver {
         self.ranges(seq);
         let known = self.known(seq) as usize;
         let room = usize::from(self.window());
-        append(&mut self.unread, part(text, known, room));
+        append(&mut self.queue, part(text, known, room));
     }
 
     /// Takes a FIN behind a text of this length, where all bytes end that are taken, below the receive edge.
@@ -305,7 +313,7 @@ impl Receiver {
     pub(crate) fn readable(&self) -> usize
         ensures { result ≡ length self.now.unread }
     {
-        self.unread.len()
+        self.queue.len()
     }
 
     pub(crate) fn has_fin(&self) -> bool
@@ -320,7 +328,7 @@ impl Receiver {
         ensures bytes { buf.new ≡ take result self.old.unread ++ drop result buf.old }
         ensures state { self.new ≡ read_out self.old result }
     {
-        let count = self.unread.read(buf);
+        let count = self.queue.read(buf);
         self.read += count as u32;
         count
     }
@@ -330,7 +338,7 @@ impl Receiver {
         ensures count { result ≡ min (length self.now.unread - from) (length out.old) }
         ensures bytes { out.new ≡ take result (drop from self.now.unread) ++ drop result out.old }
     {
-        self.unread.peek(from, out)
+        self.queue.peek(from, out)
     }
 }
 
@@ -343,11 +351,12 @@ fn part(text: &[u8], known: usize, room: usize) -> &[u8]
     &rest[..room.min(rest.len())]
 }
 
-/// Puts bytes that fit into the queue.
-#[tactic(auto, using(std::proofs::lemmas::List::take_all))]
+/// Puts bytes that fit into a queue in which nothing is held.
+#[tactic(auto, using(tcp_buffers::proofs::QueueFields::pushed_alone))]
 fn append(queue: &mut RecvQueue, bytes: &[u8])
-    requires { length queue.old + length bytes.now ≤ 65535 }
-    ensures { queue.new ≡ queue.old ++ bytes.now }
+    requires fits { length queue.old.unread + length bytes.now ≤ 65535 }
+    requires alone { queue.old.early ≡ [] }
+    ensures { queue.new ≡ record queue.old { unread = queue.old.unread ++ bytes.now } }
 {
     let _kept = queue.push(bytes);
 }

@@ -1,5 +1,5 @@
 -- Near: what a client sends stands near the start of both streams, as the server of that moment and every later one counts them.
-use Rattle.std.proofs.Common.{◌≡◌, ℕ, ◌+◌, ◌-◌, ◌≤◌, ◌^◌, ◌%◌, ◌==◌, ◌&&◌, ◌||◌, pos, negsuc, ℤ, ◌+ℤ◌, int_lt, nat_lt, nat_le, Bool, true, false, not, le_refl, refl, sym, ap, ◌∙◌, subst, true≢false, leb-true, Some, List, ◌++◌, length, take, drop, arith, if◌then◌else◌}
+use Rattle.std.proofs.Common.{◌≡◌, ℕ, ◌+◌, ◌-◌, ◌≤◌, ◌^◌, ◌%◌, ◌==◌, ◌&&◌, ◌||◌, pos, negsuc, ℤ, int_lt, nat_lt, nat_le, Bool, true, false, not, le_refl, refl, sym, ap, ◌∙◌, subst, true≢false, leb-true, Some, List, ◌++◌, length, arith, if◌then◌else◌}
 use Rattle.std.specs.List.{AllByRecursion}
 use Rattle.std.proofs.lemmas.Int.{ints}
 use Rattle.std.proofs.lemmas.Bool.{and_parts}
@@ -10,8 +10,8 @@ use Rattle.seq_arith.specs.Arrival.{int_eq}
 use Rattle.seq_arith.specs.Packet.{Segment, has_rst, has_syn, has_ack}
 use Rattle.seq_arith.proofs.Shifts.{offset_of_number}
 use Rattle.server_trait.specs.Service.{Machine}
-use Rattle.ft_model.specs.Offset.{first_of, ack_of, text_of, fin_of, length_of, one_if, IsNearOffset}
-use Rattle.ft_model.specs.Client.{Client, Move, received, opened_by, arrived, used, may_use, with_ack, with_added, came, is_opening, is_open, is_ended, next_of, room_of, accepted_units, may_move, suits_phase, suits_range, segment_of, seq_of, moved}
+use Rattle.ft_model.specs.Offset.{first_of, ack_of, one_if, IsNearOffset}
+use Rattle.ft_model.specs.Client.{Client, Move, received, opened_by, arrived, used, may_use, with_ack, with_added, came, is_opening, is_open, is_ended, next_of, accepted_units, may_move, suits_phase, suits_range, segment_of, seq_of, moved}
 use Rattle.ft_model.specs.Client.Move.{Syn, Text, Fin, Acknowledge, Rst, Refuse}
 use Rattle.ft_model.specs.declared.phase.Phase.TheVariants as phases
 use Rattle.ft_model.specs.Log.{Log, Entry, entry_of, log_after}

@@ -63,8 +63,8 @@ stay service first before after name event sent f s h stands parcels taken are =
   world = refl;
   pair = stands;
   named = subst (λ ps. Named (f.packets ++ outside sent) ps (f.numbers ++ numbers_of (length f.packets) sent)) (sym parcels)
-  (named_append (f.packets ++ outside sent) before.parcels sent f.numbers (numbers_of (length f.packets) sent)
-  (named_more f.packets (outside sent) before.parcels f.numbers s.named) (numbered_anew f.packets sent));
+      (named_append (f.packets ++ outside sent) before.parcels sent f.numbers (numbers_of (length f.packets) sent)
+      (named_more f.packets (outside sent) before.parcels f.numbers s.named) (numbered_anew f.packets sent));
   taken = subst (TakenBy (f.packets ++ outside sent) f.origins) (sym taken) (taken_more f.packets (outside sent) f.origins before.pair.head.taken s.taken);
   parcels = subst (AllByRecursion (IsTrueOf after.pair)) (sym parcels) are;
 }
@@ -82,7 +82,7 @@ leave service first before pair name sent f origins s same none stands taken are
   world = s.world ∙ ap (λ l. record (seen before f.packets) { log = l }) (sym same);
   pair = stands;
   named = named_append f.packets before.parcels sent f.numbers (numbers_of (length f.packets) sent) s.named
-  (subst (λ ps. Named ps sent (numbers_of (length f.packets) sent)) (ap (λ ps. f.packets ++ ps) none ∙ append-nil f.packets) (numbered_anew f.packets sent));
+      (subst (λ ps. Named ps sent (numbers_of (length f.packets) sent)) (ap (λ ps. f.packets ++ ps) none ∙ append-nil f.packets) (numbered_anew f.packets sent));
   taken = taken;
   parcels = are;
 }
@@ -131,9 +131,11 @@ pub comes : {State : Type 0} (service : Machine State) (first before after : Twi
 comes service first before after number packet sent f moves at s e =
     let same : outside sent ≡ e.0 = ap outside e.1 ∙ outside_of e.0 in
     let d : Delivered service (seen before f.packets) packet e.0 (seen after (f.packets ++ e.0)) = moves (seen before []) f.packets e.0 (seen after e.0) e.2 in
-    stay service first before after (Usual (Deliver number)) (Deliver (new_number f number)) sent f s
-    (packet, named_at f.packets before.parcels f.numbers number packet s.named at,
-    subst (λ ps. Delivered service (seen before f.packets) packet ps (seen after (f.packets ++ ps))) (sym same) d)
+    stay service first before after (Usual (Deliver number)) (Deliver (new_number f number)) sent f s (
+      packet,
+      named_at f.packets before.parcels f.numbers number packet s.named at,
+      subst (λ ps. Delivered service (seen before f.packets) packet ps (seen after (f.packets ++ ps))) (sym same) d,
+    )
     (subst Stands (sym e.3) s.pair) e.4 (ap (λ p. p.head.taken) e.3)
     (subst (λ p. AllByRecursion (IsTrueOf p) (before.parcels ++ sent)) (sym e.3)
     (all_append (IsTrueOf before.pair) before.parcels sent s.parcels (subst (AllByRecursion (IsTrueOf before.pair)) (sym e.1) (outside_true before.pair e.0))))
@@ -413,8 +415,8 @@ stops_flat service first before false false head tail fh ft answers given parts.
       world = r.world ∙ ap (λ l. record (seen w g.packets) { log = l }) caught_up;
       pair = stops false false head tail fh ft answers given parts.Tail s.pair;
       named = subst (λ qs. Named g.packets (before.parcels ++ []) qs) (sym r.numbers)
-      (subst (λ ps. Named ps (before.parcels ++ []) f.numbers) (sym r.packets)
-      (named_more f.packets r.more (before.parcels ++ []) f.numbers (subst (λ xs. Named f.packets xs f.numbers) (sym (append-nil before.parcels)) s.named)));
+          (subst (λ ps. Named ps (before.parcels ++ []) f.numbers) (sym r.packets)
+          (named_more f.packets r.more (before.parcels ++ []) f.numbers (subst (λ xs. Named f.packets xs f.numbers) (sym (append-nil before.parcels)) s.named)));
       taken = subst (λ qs. TakenBy g.packets qs head.taken) (sym r.origins) (subst (λ ps. TakenBy ps f.origins head.taken) (sym r.packets) (taken_more f.packets r.more f.origins head.taken s.taken));
       parcels = subst (AllByRecursion (IsTrueOf now)) (sym (append-nil before.parcels)) (old_parcels p now before.parcels (λ b u. true_with p now b refl refl u) s.parcels);
     }
@@ -451,9 +453,11 @@ flips : {State : Type 0} (service : Machine State) (first before after : TwinWor
 flips service first before after number bit packet sent f moves at s e =
     let same : outside sent ≡ e.0 = ap outside e.1 ∙ outside_of e.0 in
     let d : Flipped service (seen before f.packets) packet bit e.0 (seen after (f.packets ++ e.0)) = moves (seen before []) f.packets e.0 (seen after e.0) e.2 in
-    stay service first before after (Usual (Flip number bit)) (Flip (new_number f number) bit) sent f s
-    (packet, named_at f.packets before.parcels f.numbers number packet s.named at,
-    subst (λ ps. Flipped service (seen before f.packets) packet bit ps (seen after (f.packets ++ ps))) (sym same) d)
+    stay service first before after (Usual (Flip number bit)) (Flip (new_number f number) bit) sent f s (
+      packet,
+      named_at f.packets before.parcels f.numbers number packet s.named at,
+      subst (λ ps. Flipped service (seen before f.packets) packet bit ps (seen after (f.packets ++ ps))) (sym same) d,
+    )
     (subst Stands (sym e.3) s.pair) e.4 (ap (λ p. p.head.taken) e.3)
     (subst (λ p. AllByRecursion (IsTrueOf p) (before.parcels ++ sent)) (sym e.3)
     (all_append (IsTrueOf before.pair) before.parcels sent s.parcels (subst (AllByRecursion (IsTrueOf before.pair)) (sym e.1) (outside_true before.pair e.0))))

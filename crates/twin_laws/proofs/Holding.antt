@@ -75,7 +75,7 @@ applies taken c n head tail answers r at h =
       tail_is = ap (λ l. log_after l r.message) h.tail_is ∙ (sym (log_more empty_log (take n taken) r) ∙ ap (log_over empty_log) (sym more));
       head_is = h.head_is;
       answers_are = ap₂ (λ ans l. ans ++ option_to_list (answer_to l r.message)) h.answers_are h.tail_is
-      ∙ (sym (answers_more empty_log (take n taken) r) ∙ ap (answers_over empty_log) (sym more));
+          ∙ (sym (answers_more empty_log (take n taken) r) ∙ ap (answers_over empty_log) (sym more));
     }
 
 pub confirms : (taken : List Request) (c n k : ℕ) (head tail : Log) (answers : List Message) → k ≤ n → Paired taken c n head tail answers → Paired taken k n head tail answers
@@ -97,8 +97,8 @@ tail_given taken c n head tail answers given r h =
       tail_is = ap (λ l. log_after l r.message) h.tail_is ∙ (sym (log_more empty_log whole r) ∙ ap (log_over empty_log) (append_assoc (take n taken) given (r ∷ [])));
       head_is = h.head_is;
       answers_are = ap₂ (λ ans l. ans ++ option_to_list (answer_to l r.message)) answered tail_at
-      ∙ (append_assoc (answers_over empty_log (take n taken)) (answers_over (front n taken) given) (option_to_list (answer_to (log_over (front n taken) given) r.message))
-      ∙ ap (λ ans. answers_over empty_log (take n taken) ++ ans) (sym (answers_more (front n taken) given r) ∙ sym (append-nil (answers_over (front n taken) (given ++ r ∷ [])))));
+          ∙ (append_assoc (answers_over empty_log (take n taken)) (answers_over (front n taken) given) (option_to_list (answer_to (log_over (front n taken) given) r.message))
+          ∙ ap (λ ans. answers_over empty_log (take n taken) ++ ans) (sym (answers_more (front n taken) given r) ∙ sym (append-nil (answers_over (front n taken) (given ++ r ∷ [])))));
     }
 
 -- .. and so is the head
@@ -114,8 +114,8 @@ head_given taken c n head tail answers given r h =
       tail_is = h.tail_is;
       head_is = ap (λ l. log_after l r.message) h.head_is ∙ (sym (log_more empty_log (taken ++ given) r) ∙ ap (log_over empty_log) (append_assoc taken given (r ∷ [])));
       answers_are = ap₂ (λ ans l. ans ++ option_to_list (answer_to l r.message)) h.answers_are head_at
-      ∙ (append_assoc (answers_over empty_log (take n taken)) (answers_over all given) (option_to_list (answer_to (log_over all given) r.message))
-      ∙ ap (λ ans. answers_over empty_log (take n taken) ++ ans) (sym (answers_more all given r)));
+          ∙ (append_assoc (answers_over empty_log (take n taken)) (answers_over all given) (option_to_list (answer_to (log_over all given) r.message))
+          ∙ ap (λ ans. answers_over empty_log (take n taken) ++ ans) (sym (answers_more all given r)));
     }
 
 -- one of them stops, when nothing was given yet

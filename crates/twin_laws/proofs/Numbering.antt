@@ -53,9 +53,11 @@ numbered_anew packets (Outside p ∷ sent) =
     let long : length (packets ++ p ∷ []) ≡ length packets + 1 = length-append packets (p ∷ []) in
     let here : packet_at (packets ++ p ∷ outside sent) (length packets + 1) ≡ Some p =
     ap (packet_at (packets ++ p ∷ outside sent)) next ∙ get_at_end packets p (outside sent) in
-    let others : Named ((packets ++ p ∷ []) ++ outside sent) sent (numbers_of (length (packets ++ p ∷ [])) sent) = numbered_anew (packets ++ p ∷ []) sent in
-    (here, subst (λ k. Named (packets ++ p ∷ outside sent) sent (numbers_of k sent)) long
-    (subst (λ ps. Named ps sent (numbers_of (length (packets ++ p ∷ [])) sent)) (append_assoc packets (p ∷ []) (outside sent)) others))
+    let others : Named ((packets ++ p ∷ []) ++ outside sent) sent (numbers_of (length (packets ++ p ∷ [])) sent) = numbered_anew (packets ++ p ∷ []) sent in (
+      here,
+      subst (λ k. Named (packets ++ p ∷ outside sent) sent (numbers_of k sent)) long
+          (subst (λ ps. Named ps sent (numbers_of (length (packets ++ p ∷ [])) sent)) (append_assoc packets (p ∷ []) (outside sent)) others),
+    )
 
 outside_is : (r p : Packet) → Outside r ≡ Outside p → r ≡ p
 outside_is r p e = cc

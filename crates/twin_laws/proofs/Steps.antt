@@ -98,7 +98,7 @@ takes p r hs ts s =
     holds_from _ _ _ _ _ _ p.given (took _ _ _ _ _ _ r paired) in
     record {
       holds = subst (λ b. Holds b p.tail_stopped (p.head.taken ++ r ∷ []) p.head.confirmed p.tail.applied (log_after p.head.log r.message) p.tail.log p.answers p.given) (sym hs)
-      (subst (λ b. Holds false b (p.head.taken ++ r ∷ []) p.head.confirmed p.tail.applied (log_after p.head.log r.message) p.tail.log p.answers p.given) (sym ts) now);
+          (subst (λ b. Holds false b (p.head.taken ++ r ∷ []) p.head.confirmed p.tail.applied (log_after p.head.log r.message) p.tail.log p.answers p.given) (sym ts) now);
       forwards = all_weaker (IsForwarded p.head.taken) (IsForwarded (p.head.taken ++ r ∷ [])) p.from_head (still_forwarded p.head.taken r) s.forwards;
       gots = s.gots;
       head_alone = s.head_alone;
@@ -234,10 +234,10 @@ next_applied p k r hs ts e f s =
     holds_from _ _ _ _ _ _ p.given (applies _ _ _ _ _ _ r there paired) in
     record {
       holds = subst (λ b. Holds b p.tail_stopped p.head.taken p.head.confirmed (p.tail.applied + 1) p.head.log (log_after p.tail.log r.message) (p.answers ++ option_to_list (answer_to p.tail.log r.message)) p.given) (sym hs)
-      (subst (λ b. Holds false b p.head.taken p.head.confirmed (p.tail.applied + 1) p.head.log (log_after p.tail.log r.message) (p.answers ++ option_to_list (answer_to p.tail.log r.message)) p.given) (sym ts) now);
+          (subst (λ b. Holds false b p.head.taken p.head.confirmed (p.tail.applied + 1) p.head.log (log_after p.tail.log r.message) (p.answers ++ option_to_list (answer_to p.tail.log r.message)) p.given) (sym ts) now);
       forwards = s.forwards;
       gots = all_append (IsGotten (p.tail.applied + 1)) p.from_tail (Got (p.tail.applied + 1) ∷ [])
-      (all_weaker (IsGotten p.tail.applied) (IsGotten (p.tail.applied + 1)) p.from_tail (λ b g. still_gotten p.tail.applied b g) s.gots) (le_refl (p.tail.applied + 1), tt);
+          (all_weaker (IsGotten p.tail.applied) (IsGotten (p.tail.applied + 1)) p.from_tail (λ b g. still_gotten p.tail.applied b g) s.gots) (le_refl (p.tail.applied + 1), tt);
       head_alone = s.head_alone;
       tail_alone = s.tail_alone;
       one = s.one;

@@ -1,4 +1,5 @@
 pub mod Twin
+pub mod Kept
 pub mod Pair
 pub mod TwinWorld
 pub mod Flat

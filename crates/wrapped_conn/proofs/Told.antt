@@ -3,7 +3,9 @@ use Rattle.std.proofs.Common.{◌≡◌, ℕ, zero, suc, ◌<◌, ◌≤◌, ◌
 use Rattle.std.specs.Prelude.{slice_get, IfSome}
 use Rattle.std.specs.Bool.{OnTrue, OnFalse}
 use Rattle.seq_arith.specs.Message.Body.{ReadMsg}
-use Rattle.seq_arith.specs.MessageGrammar.{spelling}
+use Rattle.seq_arith.specs.declared.kinds.Kind.{Kind}
+use Rattle.seq_arith.specs.declared.kinds.Kind.TheVariants as kinds
+use Rattle.seq_arith.specs.MessageGrammar.{spelling, behind_at}
 use Rattle.ft_io.specs.declared.Key.{Key}
 use Rattle.north_wrap.specs.declared.read_record.ReadRecord.{ReadRecord}
 use Rattle.north_wrap.specs.Standing.{messages_of}
@@ -30,8 +32,29 @@ read_fits (r ∷ reads) (suc i) index count low is all = read_fits reads i index
 pub one_told : (out rest : List (List ℕ)) (x : List ℕ) (all : List (List ℕ)) → out ++ (x ∷ rest) ≡ all → (out ++ x ∷ []) ++ rest ≡ all
 one_told out rest x all e = append_assoc out (x ∷ []) rest ∙ e
 
--- a message has at most 2,048 bytes
-pub short_pushed : (b : Bool) (old new : List (List ℕ)) (x : List ℕ) → OnTrue b (new ≡ old ++ x ∷ []) → OnFalse b (new ≡ old) → length x ≤ 2048 → byte_count old ≤ 2048 * length old
-    → byte_count new ≤ 2048 * length new
-short_pushed true old new x on off few short = let e = on in omega (arith, ap byte_count e, ap length e, byte_count_push old x, length-append old (x ∷ []), few, short)
-short_pushed false old new x on off few short = let e = off in omega (arith, ap byte_count e, ap length e, short)
+-- the bytes of a message before its text
+pub head_short : (kind : Kind) → behind_at kind ≤ 64
+head_short kinds.Hello = omega arith
+head_short kinds.Summary = omega arith
+head_short kinds.List = omega arith
+head_short kinds.Entry = omega arith
+head_short kinds.Bytes = omega arith
+head_short kinds.Part = omega arith
+head_short kinds.Cuts = omega arith
+head_short kinds.Lens = omega arith
+head_short kinds.Open = omega arith
+head_short kinds.Opened = omega arith
+head_short kinds.Data = omega arith
+head_short kinds.Stable = omega arith
+head_short kinds.Read = omega arith
+head_short kinds.Reads = omega arith
+head_short kinds.Done = omega arith
+head_short kinds.Ended = omega arith
+head_short kinds.Stale = omega arith
+head_short kinds.Full = omega arith
+
+-- one message more, where there is room for it
+pub short_pushed : (b : Bool) (old new : List (List ℕ)) (x : List ℕ) (most : ℕ) → OnTrue b (new ≡ old ++ x ∷ []) → OnFalse b (new ≡ old) → length x ≤ most
+    → byte_count new ≤ byte_count old + most
+short_pushed true old new x most on off few = let e = on in omega (arith, ap byte_count e, byte_count_push old x, few)
+short_pushed false old new x most on off few = let e = off in omega (arith, ap byte_count e)

@@ -1,11 +1,14 @@
 -- What a connection tells the logger in a turn.
-use Rattle.std.specs.Prelude.{ℕ, Bool, true, false, ◌≤◌, ◌+◌, ◌^◌, min, nat_lt, List, [], ◌∷◌, map, if◌then◌else◌}
+use Rattle.std.specs.Prelude.{ℕ, Bool, true, false, ◌≤◌, ◌+◌, ◌*◌, ◌^◌, min, nat_lt, List, [], ◌∷◌, map, length, if◌then◌else◌}
 use Rattle.std.specs.List.{AllByRecursion}
 use Rattle.seq_arith.specs.Packet.{Segment}
 use Rattle.seq_arith.specs.Message.{Part, Body}
 use Rattle.seq_arith.specs.Message.Body.{DataMsg, DoneMsg}
-use Rattle.seq_arith.specs.MessageGrammar.{spelling}
+use Rattle.seq_arith.specs.MessageGrammar.{spelling, behind_of}
+use Rattle.logger_wire.specs.declared.Body.{Body as Said}
+use Rattle.logger_wire.specs.Value.{body_of}
 use Rattle.south_wrap.specs.Patching.{Copied, copied, is_some_copied}
+use Rattle.tcp_endpoint.specs.Packets.{byte_count}
 use Rattle.north_wrap.specs.declared.read_record.ReadRecord.{ReadRecord}
 use Rattle.wrapped_conn.specs.declared.stage.ConnStage.{ConnStage}
 use Rattle.wrapped_conn.specs.declared.stage.ConnStage.TheVariants.{Done, Ending}
@@ -47,3 +50,15 @@ dones c = if is_done c.stage then [] else DoneMsg c.key ∷ []
 
 abbrev pub with_done : {S : Type 0} → ConnState S → ConnState S
 with_done c = record c { stage = if is_done c.stage then Done else Ending }
+
+-- the text that a message carries behind its numbers
+abbrev pub text_length : Said → ℕ
+text_length body = length (behind_of (body_of body))
+
+-- the messages of a turn have no more text than one segment has ..
+abbrev pub most_text : ℕ
+most_text = 1460
+
+-- .. and heads of at most 64 bytes
+abbrev pub AreShort : List (List ℕ) → Type 0
+AreShort messages = byte_count messages ≤ 64 * length messages + most_text

@@ -8,7 +8,7 @@ ghost use Rattle.logger_wire.specs.Value.{message_of, IsSendable};
 ghost use Rattle.north_wrap.specs.Standing.{messages_of};
 ghost use Rattle.tcp_endpoint.specs.Packets.{byte_count};
 ghost use Rattle.wrapped_conn.specs.Numbers.{logged_units, bytes_taken};
-ghost use Rattle.wrapped_conn.specs.Telling.{spelled, copies, dones, AreTellable, with_done};
+ghost use Rattle.wrapped_conn.specs.Telling.{spelled, copies, dones, text_length, most_text, AreShort, AreTellable, with_done};
 ghost use Rattle.wrapped_conn.specs.Sound.{IsSound};
 
 use crate::conn::Conn;
@@ -31,7 +31,7 @@ impl<S: Service> Conn<S> {
         requires empty { out.old ≡ [] }
         ensures told { IfOk (reading packet.now) (λ segment. out.new ≡ spelled self.now.boot (copies una_before segment self.now)) }
         ensures few { length out.new ≤ 1 }
-        ensures short { byte_count out.new ≤ 2048 * length out.new }
+        ensures short { AreShort out.new }
     {
         let acked = self.una();
         match self.south.copy_of(packet) {
@@ -52,8 +52,8 @@ impl<S: Service> Conn<S> {
         requires within { offset + length bytes.now ≤ 2 ^ 24 }
         requires acked { acked ≤ 2 ^ 24 + 1 }
         requires most { length bytes.now ≤ 1460 }
-        requires few { length out.old ≤ 40 }
-        requires short { byte_count out.old ≤ 2048 * length out.old }
+        requires few { length out.old ≤ 80 }
+        requires short { byte_count out.old + length bytes.now ≤ 64 * length out.old + most_text }
         ensures told { out.new ≡ out.old ++ spelled self.now.boot (DataMsg (record {
           key = self.now.key;
           offset = offset;
@@ -62,7 +62,7 @@ impl<S: Service> Conn<S> {
           bytes = bytes.now;
         }) ∷ []) }
         ensures few { length out.new ≡ length out.old + 1 }
-        ensures short { byte_count out.new ≤ 2048 * length out.new }
+        ensures short { byte_count out.new ≤ byte_count out.old + 64 + length bytes.now }
     {
         fit(self.key, self.boot);
         let body = Body::DataMsg {
@@ -89,10 +89,10 @@ impl<S: Service> Conn<S> {
         requires boot { 1 ≤ self.now.boot }
         requires tellable { AreTellable reads.now }
         requires few { length out.old ≤ 1 }
-        requires short { byte_count out.old ≤ 2048 * length out.old }
+        requires short { AreShort out.old }
         ensures told { out.new ≡ out.old ++ spelled self.now.boot (messages_of self.now.key reads.now) }
         ensures few { length out.new ≤ 33 }
-        ensures short { byte_count out.new ≤ 2048 * length out.new }
+        ensures short { AreShort out.new }
     {
         tell_reads(self.boot, self.key, reads, out);
     }
@@ -101,7 +101,7 @@ impl<S: Service> Conn<S> {
     pub(crate) fn tell_done(&mut self, out: &mut Outbox)
         requires boot { 1 ≤ self.old.boot }
         requires few { length out.old ≤ 33 }
-        requires short { byte_count out.old ≤ 2048 * length out.old }
+        requires short { AreShort out.old }
         ensures state { self.new ≡ with_done self.old }
         ensures told { out.new ≡ out.old ++ spelled self.old.boot (dones self.old) }
     {
@@ -117,11 +117,11 @@ impl<S: Service> Conn<S> {
 /// One message.
 fn tell(boot: u64, body: Body<'_>, out: &mut Outbox)
     requires sendable { IsSendable (record { boot = boot; body = body }) }
-    requires few { length out.old ≤ 40 }
-    requires short { byte_count out.old ≤ 2048 * length out.old }
+    requires few { length out.old ≤ 80 }
+    requires short { byte_count out.old + text_length body ≤ 64 * length out.old + most_text }
     ensures told { out.new ≡ out.old ++ spelling (message_of (record { boot = boot; body = body.entry })) ∷ [] }
     ensures few { length out.new ≡ length out.old + 1 }
-    ensures short { byte_count out.new ≤ 2048 * length out.new }
+    ensures short { byte_count out.new ≤ byte_count out.old + 64 + text_length body.entry }
 {
     let mut message = [0u8; MESSAGE];
     let len = write_msg(&Msg { boot, body }, &mut message);
@@ -133,10 +133,10 @@ fn tell_reads(boot: u64, key: Key, reads: &ReadRecords, out: &mut Outbox)
     requires boot { 1 ≤ boot }
     requires tellable { AreTellable reads.now }
     requires few { length out.old ≤ 1 }
-    requires short { byte_count out.old ≤ 2048 * length out.old }
+    requires short { AreShort out.old }
     ensures told { out.new ≡ out.old ++ spelled boot (messages_of key reads.now) }
     ensures few { length out.new ≤ 33 }
-    ensures short { byte_count out.new ≤ 2048 * length out.new }
+    ensures short { AreShort out.new }
 {
     fit(key, boot);
     for i in 0..reads.len() {

@@ -8,7 +8,6 @@ ghost use Rattle.segment_codec.specs.Change.{changed};
 ghost use Rattle.logger_wire.specs.Value.{IsSendable};
 ghost use Rattle.south_wrap.specs.Patching.{answer_in, repeats_syn, passed_in};
 ghost use Rattle.north_wrap.specs.NorthState.{Turns};
-ghost use Rattle.tcp_endpoint.specs.Packets.{byte_count};
 ghost use Rattle.tcp_endpoint.specs.Leaving.{leaving, packets};
 ghost use Rattle.tcp_endpoint.specs.Turning.{after_tick};
 ghost use Rattle.north_wrap.specs.Standing.{messages_of};
@@ -17,7 +16,7 @@ ghost use Rattle.wrapped_conn.specs.Numbers.{una_units};
 ghost use Rattle.connection_laws.specs.Feeding.{tcp_reader, tcp_writer};
 ghost use Rattle.wrapped_conn.specs.Arriving.{arrived, reached, noted, before_segment, before_other};
 ghost use Rattle.wrapped_conn.specs.Turning.{served, tcp_used, GoesOn, Starts, Receives, Hears, heard, is_news, IsTold, Ticks, ticked, counted};
-ghost use Rattle.wrapped_conn.specs.Telling.{spelled, copies, AreTellable};
+ghost use Rattle.wrapped_conn.specs.Telling.{spelled, copies, AreShort, AreTellable};
 ghost use Rattle.wrapped_conn.specs.Sound.{IsSound};
 
 use crate::conn::Conn;
@@ -130,7 +129,7 @@ impl<S: Service> Conn<S> {
         ensures state { IfOk (reading packet.old) (λ segment. self.new ≡ arrived segment self.old) }
         ensures told { IfOk (reading packet.old) (λ segment. messages.new ≡ spelled self.old.boot (copies una_before segment (arrived segment self.old))) }
         ensures few { length messages.new ≤ 1 }
-        ensures short { byte_count messages.new ≤ 2048 * length messages.new }
+        ensures short { AreShort messages.new }
         ensures sound { IsSound self.new }
     {
         let repeats = self.reach_tcp(packet);
@@ -199,7 +198,7 @@ impl<S: Service> Conn<S> {
         requires sound { IsSound self.old }
         requires no_segment { out.old.segments ≡ [] }
         requires few { length out.old.messages ≤ 1 }
-        requires short { byte_count out.old.messages ≤ 2048 * length out.old.messages }
+        requires short { AreShort out.old.messages }
         ensures turn { (copied : List Told) → out.old.messages ≡ spelled self.old.boot copied
             → OnOk result (GoesOn S.after before repeats copied self.old self.new out.new.segments out.new.messages) }
         ensures sound { OnOk result (IsSound self.new) }
@@ -316,7 +315,7 @@ impl<S: Service> Conn<S> {
         ensures sent { out.new.segments ≡ packets (passed (ticked self.old).south (leaving (after_tick self.old.endpoint))) }
         ensures told { out.new.messages ≡ spelled self.old.boot (messages_of self.old.key self.old.north.reads) }
         ensures few { length out.new.messages ≤ 33 }
-        ensures short { byte_count out.new.messages ≤ 2048 * length out.new.messages }
+        ensures short { AreShort out.new.messages }
         ensures sound { IsSound self.new }
     {
         self.tick_tcp();

@@ -1,7 +1,10 @@
-use Rattle.std.proofs.Common.{◌≡◌, arith, length, length-take, take}
+use Rattle.std.proofs.Common.{◌≡◌, ◌+◌, arith, length, length-take, take}
 use Rattle.logger_wire.proofs.Assembled.{not_longer}
 use Rattle.logger_wire.specs.Value.{message_of}
-use Rattle.wrapped_conn.proofs.Told.{short_pushed}
+use Rattle.seq_arith.specs.MessageGrammar.{kind_of}
+use Rattle.logger_wire.specs.Value.{body_of}
+use Rattle.wrapped_conn.specs.Telling.{text_length}
+use Rattle.wrapped_conn.proofs.Told.{head_short, short_pushed}
 use Rattle.wrapped_conn.proofs.telling.tell.Goals as goal
 
 pub slice_bounds-message-end : goal.slice_bounds-message-end
@@ -18,5 +21,7 @@ pub returns-clause-short : goal.returns-clause-short
 returns-clause-short c =
     let message = c.write_msg-len.new.out in
     let whole : length message ≡ 2048 = c.write_msg-len.auto.out in
-    short_pushed c.push.result c.args.out.now c.push.new.self (take c.write_msg-len.result message) c.push.ensures.pushed c.push.ensures.refused
-    (omega (arith, whole, length-take c.write_msg-len.result message)) c.requires.short
+    let cut = length-take c.write_msg-len.result message in
+    let head = head_short (kind_of (body_of c.args.body)) in
+    short_pushed c.push.result c.args.out.now c.push.new.self (take c.write_msg-len.result message) (64 + text_length c.args.body) c.push.ensures.pushed c.push.ensures.refused
+    (omega (arith, cut, head, c.write_msg-len.ensures.length))

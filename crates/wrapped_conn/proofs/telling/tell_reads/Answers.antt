@@ -15,6 +15,6 @@ loop-i-preserved c =
     let next = read_next c.args.boot c.args.key c.args.reads.now c.loop-i.i c.get-index.result.0 c.get-index.result.1 (omega (arith, c.loop-i-test.true, c.len-i-end.ensures.count)) c.get-index.ensures in
     record {
       count = omega (arith, c.tell.ensures.few, c.loop-i.invariant.count);
-      short = c.tell.ensures.short;
+      short = omega (arith, c.tell.ensures.short, c.tell.ensures.few, c.loop-i.invariant.short);
       told = rw add-one (ap (λ x. x ++ spelled c.args.boot (messages_of c.args.key (drop (suc c.loop-i.i) c.args.reads.now))) c.tell.ensures.told ∙ one_told c.loop-i.out _ _ _ (ap (λ x. c.loop-i.out ++ x) (sym next) ∙ c.loop-i.invariant.told));
     }

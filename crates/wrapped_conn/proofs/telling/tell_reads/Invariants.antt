@@ -1,12 +1,11 @@
-use Rattle.std.proofs.Common.{◌≡◌, ◌+◌, ◌*◌, ◌≤◌, ◌++◌, drop, length}
+use Rattle.std.proofs.Common.{◌≡◌, ◌+◌, ◌++◌, drop, length}
 use Rattle.north_wrap.specs.Standing.{messages_of}
-use Rattle.tcp_endpoint.specs.Packets.{byte_count}
-use Rattle.wrapped_conn.specs.Telling.{spelled}
+use Rattle.wrapped_conn.specs.Telling.{spelled, AreShort}
 use Rattle.wrapped_conn.proofs.telling.tell_reads.Given as goal
 
 abbrev pub invariant-loop-i : goal.invariant-loop-i
 invariant-loop-i l = record {
   count : length l.out ≡ length l.initial.out + l.i;
-  short : byte_count l.out ≤ 2048 * length l.out;
+  short : AreShort l.out;
   told : l.out ++ spelled l.boot (messages_of l.key (drop l.i l.reads)) ≡ l.initial.out ++ spelled l.boot (messages_of l.key l.reads);
 }

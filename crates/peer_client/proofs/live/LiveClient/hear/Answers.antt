@@ -1,6 +1,6 @@
 use Rattle.std.proofs.Common.{sym, ap, ◌∙◌}
 use Rattle.segment_codec.specs.Value.{segment_of, seen}
-use Rattle.peer_client.proofs.Order.{payload_is_short}
+use Rattle.peer_client.proofs.Payload.{payload_is_short}
 use Rattle.peer_client.proofs.live.LiveClient.hear.Goals as goal
 
 pub meet-requires : goal.meet-requires

@@ -1,0 +1,93 @@
+//! A link in memory.
+
+use crate::said::Said;
+use ft_io::{Addr, Arrival, Failed, Heard, Link, MemLink, NoMemory, Octets};
+use std::alloc::Global;
+
+const HOME: Addr = Addr {
+    ip: 0x7F00_0001,
+    port: 7007,
+};
+
+const PEER: Addr = Addr {
+    ip: 0x7F00_0001,
+    port: 7008,
+};
+
+/// A short datagram, silence, one longer than the buffer, and one of length 0.
+fn four_arrivals(alloc: Global) -> Result<Vec<Arrival>, NoMemory> {
+    let short = b"hello".to_vec(alloc)?;
+    let long = vec![in alloc; b'x'; 3000]?;
+    let empty = Vec::new(alloc);
+    Ok(vec![in alloc; come(short), Arrival::Nothing, come(long), come(empty)]?)
+}
+
+fn come(bytes: Vec<u8>) -> Arrival {
+    Arrival::Datagram {
+        from: PEER,
+        bytes: Octets::new(bytes),
+    }
+}
+
+/// Says what a receive answered: the length of a datagram and its first bytes, `silent`, `failed`, or `elsewhere` for one that
+/// came from there.
+fn say_heard(
+    heard: Result<Heard, Failed>,
+    buf: &[u8],
+    from_where: Addr,
+    said: &mut Said,
+) -> Result<(), NoMemory> {
+    match heard {
+        Ok(Heard::Got { len, from }) if from == from_where => {
+            said.count(len as u64)?;
+            said.word(&buf[..len.min(5).min(buf.len())])
+        }
+        Ok(Heard::Got { .. }) => said.word(b"elsewhere"),
+        Ok(Heard::Nothing) => said.word(b"silent"),
+        Err(Failed) => said.word(b"failed"),
+    }
+}
+
+/// Five receives: what each answered, and the counts of faults and of calls that are told.
+pub fn receive_five(alloc: Global, fails: Vec<u32>, said: &mut Said) -> Result<(), NoMemory> {
+    let arrivals = four_arrivals(alloc)?;
+    let mut link = MemLink::new(alloc, arrivals, Vec::new(alloc), fails, false);
+    for _ in 0..5 {
+        let mut buf = [1u8; 2048];
+        let heard = link.recv(&mut buf);
+        say_heard(heard, &buf, PEER, said)?;
+    }
+    say_counts(&link, said)
+}
+
+/// A bind, which fails where all do, and two sends: what each answered, and the counts.
+pub fn send_two(
+    alloc: Global,
+    fails: Vec<u32>,
+    bind_fails: bool,
+    said: &mut Said,
+) -> Result<(), NoMemory> {
+    let mut link = MemLink::new(alloc, Vec::new(alloc), fails, Vec::new(alloc), bind_fails);
+    said.outcome(link.bind(HOME))?;
+    said.outcome(link.send(PEER, b"abc"))?;
+    said.outcome(link.send(PEER, b""))?;
+    say_counts(&link, said)
+}
+
+/// Three binds, some of which are listed to fail, and a send and a receive: what each answered, and the counts.
+pub fn bind_three(alloc: Global, fails: Vec<u32>, said: &mut Said) -> Result<(), NoMemory> {
+    let arrivals = four_arrivals(alloc)?;
+    let none = Vec::new(alloc);
+    let mut link = MemLink::with_bind_fails(alloc, arrivals, none, Vec::new(alloc), fails);
+    for _ in 0..3 {
+        said.outcome(link.bind(HOME))?;
+    }
+    say_counts(&link, said)
+}
+
+/// Says the counts of faults, of failed binds, and of calls that are told.
+fn say_counts(link: &MemLink, said: &mut Said) -> Result<(), NoMemory> {
+    said.count(link.faults())?;
+    said.count(link.bind_faults())?;
+    said.count(link.told().map_or(0, |calls| calls.len() as u64))
+}

@@ -1,0 +1,64 @@
+//! A source, a sink and a spawner in memory.
+
+use crate::said::Said;
+use ft_io::{Failed, MemSink, MemSource, MemSpawner, NoMemory, Sink, Source, Spawner};
+use std::alloc::Global;
+
+/// Five reads of `hello` of at most two bytes: what they gave, `!` for each that failed, and the count of faults.
+pub fn read_five(alloc: Global, fails: Vec<u32>, said: &mut Said) -> Result<(), NoMemory> {
+    let mut source = MemSource::new(b"hello".to_vec(alloc)?, fails);
+    let mut given = Vec::new(alloc);
+    for _ in 0..5 {
+        let mut buf = [0u8; 2];
+        match source.read(&mut buf) {
+            Ok(n) => given.extend_from_slice(&buf[..n])?,
+            Err(Failed) => given.push(b'!')?,
+        }
+    }
+    said.word(given.as_slice())?;
+    said.count(source.faults())
+}
+
+/// What is left of `hello`, what one read of three bytes gives, and what is left then.
+pub fn read_once(alloc: Global, said: &mut Said) -> Result<(), NoMemory> {
+    let mut source = MemSource::new(b"hello".to_vec(alloc)?, Vec::new(alloc));
+    said.word(source.rest())?;
+    let mut buf = [b'.'; 3];
+    let read = source.read(&mut buf);
+    said.answer(read.map(|n| n as i64))?;
+    said.word(&buf)?;
+    said.word(source.rest())
+}
+
+/// Writes of `ab`, `cd` and `ef`: what the sink took, the count of faults, and how many wanted memory.
+pub fn write_three(alloc: Global, fails: Vec<u32>, said: &mut Said) -> Result<(), NoMemory> {
+    let mut sink = MemSink::new(alloc, fails);
+    for piece in [b"ab", b"cd", b"ef"] {
+        // What fails is counted, and said below.
+        let _ = sink.write(piece);
+    }
+    said.word(sink.written())?;
+    said.count(sink.faults())?;
+    said.count(sink.starved())
+}
+
+/// A start with the word `echo`, one without words, and a wait for each child that was started, the first of which ends with 7:
+/// what they answered, the count of faults, and how many calls are told.
+pub fn start_two(alloc: Global, fails: Vec<u32>, said: &mut Said) -> Result<(), NoMemory> {
+    let mut spawner = MemSpawner::new(alloc, vec![in alloc; 7]?, fails);
+    let words = vec![in alloc; String::from_str(alloc, "echo")?]?;
+    let first = spawner.start(&words);
+    let second = spawner.start(&[]);
+    said.answer(first.map(i64::from))?;
+    said.answer(second.map(i64::from))?;
+    if let Ok(child) = first {
+        let status = spawner.wait(child);
+        said.answer(status.map(i64::from))?;
+    }
+    if let Ok(child) = second {
+        let status = spawner.wait(child);
+        said.answer(status.map(i64::from))?;
+    }
+    said.count(spawner.faults())?;
+    said.count(spawner.told().map_or(0, |calls| calls.len() as u64))
+}

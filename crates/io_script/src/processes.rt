@@ -1,0 +1,35 @@
+//! Std's processes as a spawner.
+
+use crate::said::Said;
+use ft_io::{NoMemory, ProcessSpawner, Spawner};
+use std::alloc::Global;
+use std::process::Processes;
+
+/// The words that run this script by a program.
+fn words_of(alloc: Global, program: &str, script: &str) -> Result<Vec<String>, NoMemory> {
+    let mut words = Vec::new(alloc);
+    for word in [program, "-c", script] {
+        words.push(String::from_str(alloc, word)?)?;
+    }
+    Ok(words)
+}
+
+/// Starts without a word and with a program that isn't there, and a start and a wait of one that ends with 7 and of one that is
+/// killed: what each answered, and the count of faults.
+pub fn run_three<R: Processes>(system: &R, alloc: Global, said: &mut Said) -> Result<(), NoMemory> {
+    let missing = words_of(alloc, "/no/such/program", "")?;
+    let ends = words_of(alloc, "/bin/sh", "cat; echo seen; exit 7")?;
+    let killed = words_of(alloc, "/bin/sh", "kill -9 $$")?;
+    let mut spawner = ProcessSpawner::new(system, alloc);
+    said.answer(spawner.start(&[]).map(i64::from))?;
+    said.answer(spawner.start(&missing).map(i64::from))?;
+    for words in [&ends, &killed] {
+        let child = spawner.start(words);
+        said.answer(child.map(i64::from))?;
+        if let Ok(child) = child {
+            let status = spawner.wait(child);
+            said.answer(status.map(i64::from))?;
+        }
+    }
+    said.count(spawner.faults())
+}

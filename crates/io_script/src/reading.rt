@@ -1,0 +1,70 @@
+//! Reading to a limit, and writing whole.
+
+use crate::said::Said;
+use ft_io::{Failed, MemSink, MemSource, NoMemory, ReadEnd, Sink, read_to_limit, write_all};
+use std::alloc::Global;
+
+/// Reads TEXT, `-` for none, under LIMIT; the read with number FAILS fails. Says how many bytes came or why not, and what is left.
+pub fn read_text(alloc: Global, words: &str, said: &mut Said) -> Result<(), NoMemory> {
+    let (text, rest) = words.split_once(' ').unwrap_or((words, ""));
+    let (limit, fails) = rest.split_once(' ').unwrap_or((rest, "0"));
+    let text = if text == "-" { "" } else { text };
+    let limit = limit.parse::<usize>().unwrap_or(0);
+    let fails = fails.parse::<u32>().unwrap_or(0);
+    let mut source = MemSource::new(text.as_bytes().to_vec(alloc)?, vec![in alloc; fails]?);
+    match read_to_limit(alloc, &mut source, limit) {
+        Ok(bytes) => said.count(bytes.len() as u64)?,
+        Err(end) => said.word(name_of(end))?,
+    }
+    said.word(source.rest())
+}
+
+fn name_of(end: ReadEnd) -> &'static [u8] {
+    match end {
+        ReadEnd::NoMemory => b"no memory",
+        ReadEnd::Fault => b"fault",
+        ReadEnd::TooLong => b"too long",
+    }
+}
+
+/// Reads 10,000 bytes, which takes three reads and one at the end.
+pub fn read_long(alloc: Global, fails: Vec<u32>, said: &mut Said) -> Result<(), NoMemory> {
+    let mut text = Vec::new(alloc);
+    for n in 0..10_000u32 {
+        text.push((n % 251) as u8)?;
+    }
+    let mut source = MemSource::new(text.clone()?, fails);
+    match read_to_limit(alloc, &mut source, 10_000) {
+        Ok(bytes) if bytes.as_slice() == text.as_slice() => said.word(b"the same"),
+        Ok(_) => said.word(b"other bytes"),
+        Err(end) => said.word(name_of(end)),
+    }
+}
+
+/// Takes at most three bytes in a call.
+#[derive(Drop)]
+struct Narrow<S> {
+    inner: S,
+}
+
+impl<S: Sink> Sink for Narrow<S> {
+    ghost taken = { λ s. S.taken s.inner };
+
+    ghost fault_count = { λ s. S.fault_count s.inner };
+
+    fn faults(&self) -> u64 {
+        self.inner.faults()
+    }
+
+    fn write(&mut self, buf: &[u8]) -> Result<usize, Failed> {
+        self.inner.write(&buf[..buf.len().min(3)])
+    }
+}
+
+/// Writes `abcdefgh` whole to a sink that takes three bytes a call: whether that succeeded, and what the sink has.
+pub fn write_text(alloc: Global, fails: Vec<u32>, said: &mut Said) -> Result<(), NoMemory> {
+    let inner = MemSink::new(alloc, fails);
+    let mut sink = Narrow { inner };
+    said.outcome(write_all(&mut sink, b"abcdefgh"))?;
+    said.word(sink.inner.written())
+}

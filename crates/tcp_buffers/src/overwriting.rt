@@ -1,0 +1,78 @@
+//! Writing over a queue's bytes and past its end.
+
+ghost use Rattle.std.specs.Prelude.{◌≡◌, ℕ, ◌+◌, ◌<◌, ◌≤◌, List, ◌++◌, length, max, slice_set};
+ghost use Rattle.tcp_buffers.specs.Runs.{written};
+
+use circular_buffer::HeapCircularBuffer;
+
+/// Writes bytes over those of a queue from place `from` on, and past its end, with zeros in a gap before them.
+#[tactic(auto, using(crate::proofs::Written::length_written))]
+pub(crate) fn overwrite(queue: &mut HeapCircularBuffer<u8>, from: usize, bytes: &[u8])
+    requires fits { from + length bytes.now ≤ 65535 }
+    requires room { queue.old.capacity ≡ 65535 }
+    ensures items { queue.new.items ≡ written from bytes.now queue.old.items }
+    ensures room { queue.new.capacity ≡ 65535 }
+{
+    if bytes.is_empty() {
+        return;
+    }
+    pad(queue, from);
+    let over = bytes.len().min(queue.len() - from);
+    set_all(queue, from, &bytes[..over]);
+    append(queue, &bytes[over..]);
+}
+
+/// Fills a queue with zeros up to place `to`.
+#[tactic(auto, using(crate::proofs::Written::pad_one))]
+fn pad(queue: &mut HeapCircularBuffer<u8>, to: usize)
+    requires fits { to ≤ 65535 }
+    requires room { queue.old.capacity ≡ 65535 }
+    ensures items { (bytes : List ℕ) → 0 < length bytes → written to bytes queue.new.items ≡ written to bytes queue.old.items }
+    ensures long { to ≤ length queue.new.items }
+    ensures longer { length queue.new.items ≡ max (length queue.old.items) to }
+    ensures room { queue.new.capacity ≡ 65535 }
+{
+    while queue.len() < to {
+        append(queue, &[0]);
+    }
+}
+
+/// Appends bytes that fit.
+#[tactic(auto, using(std::proofs::lemmas::List::take_all))]
+fn append(queue: &mut HeapCircularBuffer<u8>, bytes: &[u8])
+    requires fits { length queue.old.items + length bytes.now ≤ 65535 }
+    requires room { queue.old.capacity ≡ 65535 }
+    ensures items { queue.new.items ≡ queue.old.items ++ bytes.now }
+    ensures room { queue.new.capacity ≡ 65535 }
+{
+    queue.fill_from_slice(bytes);
+}
+
+/// Writes bytes over those of a queue from place `from` on.
+#[tactic(auto, using(crate::proofs::Written::set_one, crate::proofs::Written::length_set), unfolding(crate::specs::Runs::written))]
+fn set_all(queue: &mut HeapCircularBuffer<u8>, from: usize, bytes: &[u8])
+    requires within { from + length bytes.now ≤ length queue.old.items }
+    requires fits { from + length bytes.now ≤ 65535 }
+    ensures items { queue.new.items ≡ written from bytes.now queue.old.items }
+    ensures long { length queue.new.items ≡ length queue.old.items }
+    ensures room { queue.new.capacity ≡ queue.old.capacity }
+{
+    let mut place = from;
+    let mut rest = bytes;
+    while let Some((byte, behind)) = rest.split_first() {
+        set(queue, place, *byte);
+        place += 1;
+        rest = behind;
+    }
+}
+
+/// Writes one byte over another.
+fn set(queue: &mut HeapCircularBuffer<u8>, place: usize, byte: u8)
+    requires { place < length queue.old.items }
+    ensures items { queue.new.items ≡ slice_set queue.old.items place byte }
+    ensures room { queue.new.capacity ≡ queue.old.capacity }
+{
+    if let Some(old) = queue.get_mut(place) {
+        *old = byte;
+    }
+}

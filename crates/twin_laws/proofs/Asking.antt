@@ -1,0 +1,82 @@
+-- What a server may send to a logger has 16 to 1,491 bytes, and what goes between the loggers is read as what was sent.
+use Rattle.std.proofs.Common.{◌≡◌, ℕ, ◌+◌, ◌^◌, ◌<◌, ◌≤◌, Bool, true, false, not, List, [], length, refl, sym, ap, ◌∙◌, arith, true≢false}
+use Rattle.std.specs.Prelude.{Option, None, Some, Result, Ok, Err, IsOk, nat_eq, nat_lt, nat_le, ◌||◌, ◌&&◌, slice_index, if◌then◌else◌}
+use Rattle.std.proofs.lemmas.Bool.{ltb-false, not-false, le-leb, and_from}
+use Rattle.ft_io.proofs.Booleans.{right_false}
+use Rattle.seq_arith.specs.declared.kinds.BadMsg.{BadMsg}
+use Rattle.seq_arith.specs.declared.kinds.BadMsg.TheVariants as bad
+use Rattle.seq_arith.specs.declared.kinds.Kind.{Kind}
+use Rattle.seq_arith.specs.Bytes.{word_at}
+use Rattle.seq_arith.specs.Checksum.{checksum}
+use Rattle.seq_arith.specs.Message.{Message, is_answer}
+use Rattle.seq_arith.specs.MessageGrammar as messages
+use Rattle.seq_arith.specs.TwinGrammar as twins
+use Rattle.seq_arith.proofs.MessageSpelling.{bounded, room}
+use Rattle.seq_arith.proofs.Refused.{goes_on}
+use Rattle.seq_arith.proofs.TwinSpelling.{twin_is_read}
+use Rattle.twin_laws.specs.Twin.{Request, Comes, told, asked, forwarded_as, datagram_of, bytes_of}
+use Rattle.twin_laws.specs.Twin.Between.{Forward, Got}
+use Rattle.twin_laws.specs.Twin.Comes.{Asks, Tells}
+
+length_of : (kind : Option Kind) (bytes : List ℕ) → IsOk (messages.reading_if kind bytes) → length bytes ≤ 1491
+unfolding messages.reading_of
+length_of None bytes ok = absurd (cc)
+length_of (Some kind) bytes ok =
+    let other : Bool = not (nat_eq (word_at bytes 4) (length bytes))
+    in let last : Result Message BadMsg = if not (messages.is_sound_in kind bytes) then Err bad.Field else Ok (messages.message_in kind bytes)
+    in let rest : Result Message BadMsg = if not (nat_eq (checksum bytes) 0) then Err bad.Sum else last
+    in let sized : other || not (messages.has_length kind (length bytes)) ≡ false = (goes_on (other || not (messages.has_length kind (length bytes))) bad.Length rest ok).0
+    in let has : messages.has_length kind (length bytes) ≡ true = not-false _ (right_false other (not (messages.has_length kind (length bytes))) sized)
+    in omega (arith, (bounded kind (length bytes) has).1, room kind)
+
+read_fits : (bytes : List ℕ) → IsOk (messages.reading bytes) → (16 ≤ length bytes) × (length bytes ≤ 1491)
+unfolding messages.reading
+read_fits bytes ok =
+    let short : Bool = nat_lt (length bytes) 16
+    in let magic : Bool = not (nat_eq (word_at bytes 0) 18004)
+    in let version : Bool = not (nat_eq (slice_index bytes 2) 1)
+    in let last : Result Message BadMsg = messages.reading_if (messages.kind_numbered (slice_index bytes 3)) bytes
+    in let third : Result Message BadMsg = if version then Err bad.Version else last
+    in let second : Result Message BadMsg = if magic then Err bad.Magic else third
+    in let long : (short ≡ false) × IsOk second = goes_on short bad.Short second ok
+    in (ltb-false (length bytes) 16 long.0, length_of (messages.kind_numbered (slice_index bytes 3)) bytes (goes_on version bad.Version last (goes_on magic bad.Magic third long.1).1).1)
+
+asking_is_read : (r : Result Message BadMsg) → twins.says_asking r ≡ true → IsOk r
+asking_is_read (Ok message) is = refl
+asking_is_read (Err why) is = absurd (true≢false (sym is))
+
+pub asking_fits : (bytes : List ℕ) → twins.is_asking bytes ≡ true → (16 ≤ length bytes) × (length bytes ≤ 1491)
+unfolding twins.is_asking
+asking_fits bytes is = read_fits bytes (asking_is_read (messages.reading bytes) is)
+
+-- a forwarded message has a spelling
+pub forward_spells : (number : ℕ) (r : Request) → 1 ≤ number → number < 2 ^ 64 → twins.is_asking r.bytes ≡ true → twins.IsSpellable (datagram_of (Forward number r))
+unfolding twins.is_sound twins.has_length
+forward_spells number r some few is =
+    let long : (16 ≤ length r.bytes) × (length r.bytes ≤ 1491) = asking_fits r.bytes is
+    in record {
+      number = few;
+      sound = and_from (nat_le 1 number) (twins.is_asking r.bytes) (le-leb 1 number some) is;
+      size = and_from (nat_le 32 (16 + length r.bytes)) (nat_le (16 + length r.bytes) 1507) (le-leb 32 (16 + length r.bytes) (omega (arith, long.0))) (le-leb (16 + length r.bytes) 1507 (omega (arith, long.1)));
+    }
+
+pub got_spells : (number : ℕ) → 1 ≤ number → number < 2 ^ 64 → twins.IsSpellable (datagram_of (Got number))
+unfolding twins.is_sound twins.has_length
+got_spells number some few = record { number = few; sound = le-leb 1 number some; size = refl }
+
+says : (number : ℕ) (r : Request) → messages.reading r.bytes ≡ Ok r.message → forwarded_as number (asked r.bytes (messages.reading r.bytes)) ≡ Tells (Forward number r)
+says number r is = ap (λ x. forwarded_as number (asked r.bytes x)) is
+
+asks_so : (r : Request) → messages.reading r.bytes ≡ Ok r.message → is_answer r.message.body ≡ false → twins.is_asking r.bytes ≡ true
+unfolding twins.is_asking
+asks_so r is asking = ap twins.says_asking is ∙ ap not asking
+
+pub forward_is_read : (number : ℕ) (r : Request) → messages.reading r.bytes ≡ Ok r.message → is_answer r.message.body ≡ false → 1 ≤ number → number < 2 ^ 64
+    → told (twins.reading (bytes_of (Forward number r))) ≡ Tells (Forward number r)
+unfolding bytes_of
+forward_is_read number r is asking some few =
+    ap told (twin_is_read (datagram_of (Forward number r)) (forward_spells number r some few (asks_so r is asking))) ∙ says number r is
+
+pub got_is_read : (number : ℕ) → 1 ≤ number → number < 2 ^ 64 → told (twins.reading (bytes_of (Got number))) ≡ Tells (Got number)
+unfolding bytes_of
+got_is_read number some few = ap told (twin_is_read (datagram_of (Got number)) (got_spells number some few))

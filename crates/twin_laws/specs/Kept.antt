@@ -1,0 +1,130 @@
+-- What a logger of two keeps of its history, and what it does with bytes: the same as its definition, told of what a program holds. A head keeps a count of what it
+-- took and the bytes of what is unconfirmed; a tail keeps a count of what it applied.
+use Rattle.std.specs.Prelude.{ℕ, Bool, true, false, ◌+◌, ◌-◌, ◌==◌, ◌&&◌, nat_lt, nat_le, map, Option, List, [], ◌∷◌, ◌++◌, length, drop, if◌then◌else◌}
+use Rattle.std.specs.Option.{option_to_list}
+use Rattle.seq_arith.specs.Message.{Message, is_answer}
+use Rattle.seq_arith.specs.MessageGrammar as messages
+use Rattle.seq_arith.specs.TwinDatagram.{TwinDatagram as datagrams}
+use Rattle.seq_arith.specs.TwinGrammar as twins
+use Rattle.ft_model.specs.Log.{Log, empty_log, log_after, answer_to}
+use Rattle.twin_laws.specs.declared.part.Part.{Part}
+use Rattle.twin_laws.specs.declared.part.Part.TheVariants as parts
+use Rattle.twin_laws.specs.declared.part.Side.{Side}
+use Rattle.twin_laws.specs.declared.part.Side.TheVariants as sides
+use Rattle.twin_laws.specs.Twin.{Request, Between, Comes, Head, Tail, Does, may_take, asked, told, bytes_of}
+use Rattle.twin_laws.specs.Twin.Between.{Forward, Got}
+use Rattle.twin_laws.specs.Twin.Comes.{Asks, Tells, Is_noise}
+
+pub record Kept : Type 0 where
+  pub part : Part
+  pub alone : Bool
+  pub log : Log
+  pub number : ℕ  -- a head: how many requests it took; a tail: how many it applied
+  pub waiting : List (List ℕ)  -- a head's unconfirmed requests, in order; none of a tail
+
+abbrev pub new_kept : Part → Kept
+new_kept part = record { part = part; alone = false; log = empty_log; number = 0; waiting = [] }
+
+-- it is alone from now on
+abbrev pub left_alone : Kept → Kept
+left_alone kept = record kept { alone = true }
+
+-- what is kept of a head, and of a tail
+abbrev pub kept_head : Head → Kept
+kept_head head =
+    record { part = parts.Head; alone = head.alone; log = head.log; number = length head.taken; waiting = map (λ r. r.bytes) (drop head.confirmed head.taken) }
+
+abbrev pub kept_tail : Tail → Kept
+kept_tail tail = record { part = parts.Tail; alone = tail.alone; log = tail.log; number = tail.applied; waiting = [] }
+
+-- what comes as bytes from a side
+abbrev pub comes_from : Side → List ℕ → Comes
+comes_from sides.Server bytes = asked bytes (messages.reading bytes)
+comes_from sides.Other bytes = told (twins.reading bytes)
+
+-- a state afterwards, and the datagrams that go out, in order, each with its side
+pub record KeptDoes : Type 0 where
+  pub next : Kept
+  pub sent : List (Side × List ℕ)
+
+abbrev pub sends_nothing : Kept → KeptDoes
+sends_nothing kept = record { next = kept; sent = [] }
+
+abbrev pub answers_sent : Option Message → List (Side × List ℕ)
+answers_sent answer = map (λ m. (sides.Server, messages.spelling m)) (option_to_list answer)
+
+abbrev pub sent_to_other : List Between → List (Side × List ℕ)
+sent_to_other betweens = map (λ b. (sides.Other, bytes_of b)) betweens
+
+-- the log takes a message, and what it answers goes out
+abbrev pub serves_alone : Message → Kept → KeptDoes
+serves_alone message kept = record { next = record kept { log = log_after kept.log message }; sent = answers_sent (answer_to kept.log message) }
+
+-- Forwards of these bytes, the first with the number after this
+abbrev pub forwards_sent : ℕ → List (List ℕ) → List (Side × List ℕ)
+forwards_sent n [] = []
+forwards_sent n (bytes ∷ rest) = (sides.Other, twins.spelling (datagrams.Forward (n + 1) bytes)) ∷ forwards_sent (n + 1) rest
+
+-- how many requests of a head are confirmed
+abbrev pub confirmed_of : Kept → ℕ
+confirmed_of kept = kept.number - length kept.waiting
+
+abbrev pub sends_kept : Kept → KeptDoes
+sends_kept kept = record { next = kept; sent = forwards_sent (confirmed_of kept) kept.waiting }
+
+abbrev pub has_kept_room : Kept → Bool
+has_kept_room kept = may_take (length kept.waiting) kept.number
+
+abbrev pub keeps_too : Request → Kept → Kept
+keeps_too request kept =
+    record kept { log = log_after kept.log request.message; number = kept.number + 1; waiting = kept.waiting ++ request.bytes ∷ [] }
+
+abbrev pub keeps_request : Request → Kept → Kept
+keeps_request request kept = if has_kept_room kept then keeps_too request kept else kept
+
+abbrev pub kept_head_asked : Request → Kept → KeptDoes
+kept_head_asked request kept = if is_answer request.message.body then sends_nothing kept else sends_kept (keeps_request request kept)
+
+-- a Got takes what it confirms away
+abbrev pub kept_confirmed : ℕ → Kept → Kept
+kept_confirmed number kept =
+    if nat_lt (confirmed_of kept) number && nat_le number kept.number then record kept { waiting = drop (number - confirmed_of kept) kept.waiting } else kept
+
+abbrev pub applies_kept : Message → Kept → KeptDoes
+applies_kept message kept = record {
+  next = record kept { log = log_after kept.log message; number = kept.number + 1 };
+  sent = answers_sent (answer_to kept.log message) ++ sent_to_other (Got (kept.number + 1) ∷ []);
+}
+
+abbrev pub kept_tail_told : ℕ → Message → Kept → KeptDoes
+kept_tail_told number message kept =
+    if number == kept.number + 1 then applies_kept message kept
+    else (if nat_le number kept.number then record { next = kept; sent = sent_to_other (Got kept.number ∷ []) } else sends_nothing kept)
+
+-- what a logger does that is alone, a head of a pair, and a tail of one
+abbrev pub kept_alone_does : Comes → Kept → KeptDoes
+kept_alone_does (Asks request) kept = serves_alone request.message kept
+kept_alone_does _ kept = sends_nothing kept
+
+abbrev pub kept_head_does : Comes → Kept → KeptDoes
+kept_head_does (Asks request) kept = kept_head_asked request kept
+kept_head_does (Tells (Got number)) kept = sends_nothing (kept_confirmed number kept)
+kept_head_does _ kept = sends_nothing kept
+
+abbrev pub kept_tail_does : Comes → Kept → KeptDoes
+kept_tail_does (Tells (Forward number request)) kept = kept_tail_told number request.message kept
+kept_tail_does _ kept = sends_nothing kept
+
+abbrev pub paired_does : Part → Comes → Kept → KeptDoes
+paired_does parts.Head comes kept = kept_head_does comes kept
+paired_does parts.Tail comes kept = kept_tail_does comes kept
+
+abbrev pub does_of : Comes → Kept → KeptDoes
+does_of comes kept = if kept.alone then kept_alone_does comes kept else paired_does kept.part comes kept
+
+unfoldable pub kept_does : Side → List ℕ → Kept → KeptDoes
+kept_does side bytes kept = does_of (comes_from side bytes) kept
+
+-- what a logger does by its definition, in the same terms
+abbrev pub in_bytes : {State : Type 0} → (State → Kept) → Does State → KeptDoes
+in_bytes keep d = record { next = keep d.next; sent = map (λ m. (sides.Server, messages.spelling m)) d.to_server ++ sent_to_other d.to_other }

@@ -1,0 +1,151 @@
+#!/usr/bin/env python3
+"""Asks a logger what it holds, and prints a line for each connection.
+
+    tools/log_status.py --logger 10.77.0.3:7008 [--warn PLACES] [--wait SECONDS] [--watch]
+
+    boot 7: 3 of 64 places
+    192.0.2.1:40000 bytes 1024 fin 0 reads 3 acknowledged 800 done 0
+    ..
+
+`bytes`, `reads` and `fin` are what is logged of the client's stream, `acknowledged` what the client has acknowledged of the output, and `done` is 1 once the
+connection has ended. An ended connection keeps its place. --watch prints all of it again each 60 seconds.
+
+It changes nothing: it sends List alone, with a boot number that the logger already has (a smaller one is answered by Stale, which names the present one), and
+never Hello. Each index is asked for at most three times; the first that isn't answered is taken for the end. A logger to which no server has spoken
+answers nothing, and neither does one of boot 1 without connections.
+
+Never ask a logger that runs with --part: it would take these questions for its server's, and answer the server no more.
+
+Exit status, as a monitor wants it: 0, all is well; 1, at least --warn places are used (56 of the 64, unless said otherwise); 2, wrong words; 3, no answer.
+
+Whoever can reach the logger's port can ask. It is outside the proofs, and needs Python's standard library alone.
+"""
+import argparse
+import socket
+import struct
+import sys
+import time
+
+from internet import checksum
+
+LIST, ENTRY, STALE = 3, 4, 17
+HEADER = struct.Struct("!2sBBHHQ")
+FIELDS = struct.Struct("!H4sHIIHIBBII")
+PLACES = 64
+TRIES = 3
+
+
+def address(text):
+    """An address and a port: `10.77.0.3:7008`."""
+    host, colon, port = text.rpartition(":")
+    try:
+        if not colon or not 0 < int(port) < 65536:
+            raise ValueError
+        return socket.inet_ntoa(socket.inet_aton(host)), int(port)
+    except (OSError, ValueError):
+        raise argparse.ArgumentTypeError(f"{text} is no address with a port") from None
+
+
+def places(text):
+    count = int(text)
+    if not 1 <= count <= PLACES:
+        raise argparse.ArgumentTypeError(f"a logger has {PLACES} places")
+    return count
+
+
+def message(boot, kind, fields):
+    """The bytes of a message: its header with the checksum, then its fields."""
+    blank = HEADER.pack(b"FT", 1, kind, HEADER.size + len(fields), 0, boot) + fields
+    return blank[:6] + struct.pack("!H", checksum(blank)) + blank[8:]
+
+
+def read(data):
+    """The boot, the kind and the fields of a message, or None."""
+    if len(data) < HEADER.size:
+        return None
+    magic, version, kind, length, _, boot = HEADER.unpack_from(data)
+    if magic != b"FT" or version != 1 or length != len(data) or checksum(data) != 0:
+        return None
+    return boot, kind, data[HEADER.size :]
+
+
+class Logger:
+    """A logger that is asked over UDP."""
+
+    def __init__(self, where, wait):
+        self.where, self.wait, self.boot = where, wait, 1
+        self.socket = socket.socket(socket.AF_INET, socket.SOCK_DGRAM)
+
+    def answer(self, index):
+        """The kind and the fields of what answers the question for an index, with the boot that is asked with; None where nothing does."""
+        question = message(self.boot, LIST, struct.pack("!H", index))
+        for _ in range(TRIES):
+            self.socket.sendto(question, self.where)
+            until = time.monotonic() + self.wait
+            while (left := until - time.monotonic()) > 0:
+                self.socket.settimeout(left)
+                try:
+                    data, source = self.socket.recvfrom(2048)
+                except socket.timeout:
+                    break
+                found = read(data)
+                if source != self.where or found is None or found[0] != self.boot:
+                    continue
+                if found[1] == STALE or found[1] == ENTRY and found[2][:2] == question[HEADER.size :]:
+                    return found[1:]
+        return None
+
+    def entries(self):
+        """All entries in the logger's order, asked with its present boot; None where it doesn't answer at all."""
+        found = []
+        while len(found) < PLACES:
+            answer = self.answer(len(found))
+            if answer is None:
+                return found if found or self.boot > 1 else None
+            kind, fields = answer
+            if kind == STALE:
+                (self.boot,) = struct.unpack("!Q", fields)
+                found = []
+            else:
+                found.append(FIELDS.unpack(fields))
+        return found
+
+
+def line(entry):
+    _, ip, port, _, _, _, length, fin, done, reads, acknowledged = entry
+    return f"{socket.inet_ntoa(ip)}:{port} bytes {length} fin {fin} reads {reads} acknowledged {acknowledged} done {done}"
+
+
+def report(logger, warn):
+    """Prints what the logger holds, and gives the exit status."""
+    entries = logger.entries()
+    if entries is None:
+        print("no answer: there is no logger, no server has spoken to it, or it has boot 1 and no connection", file=sys.stderr)
+        return 3
+    print(f"boot {logger.boot}: {len(entries)} of {PLACES} places")
+    for entry in entries:
+        print(line(entry))
+    sys.stdout.flush()
+    return 1 if len(entries) >= warn else 0
+
+
+def main():
+    words = argparse.ArgumentParser(description=__doc__, formatter_class=argparse.RawDescriptionHelpFormatter)
+    words.add_argument("--logger", type=address, required=True, help="the logger's address and port")
+    words.add_argument("--warn", type=places, default=56, help="status 1 from so many used places on")
+    words.add_argument("--wait", type=float, default=0.5, help="seconds to wait for each answer")
+    words.add_argument("--watch", action="store_true", help="print it again each 60 seconds")
+    given = words.parse_args()
+    logger = Logger(given.logger, given.wait)
+    status = report(logger, given.warn)
+    while given.watch:
+        time.sleep(60)
+        status = report(logger, given.warn)
+    return status
+
+
+if __name__ == "__main__":
+    try:
+        sys.exit(main())
+    except KeyboardInterrupt:
+        sys.exit(0)
