@@ -1,16 +1,18 @@
 #!/usr/bin/env bash
-# Real processes over UDP on this machine's loopback, as LLVM builds them: a client that sends `fill:SIZE` (15,000,000 bytes unless one is given) and reads
-# its echo, through `server` and `logger`. Printed are the bytes a second, and of server and logger the counts of their calls, the processor time a datagram
-# that came, and the most memory held; the processor time of a C loop that sends and receives datagrams of 1,400 bytes (bench/link.c); and the server's
+# Real processes over UDP on this machine's loopback, as LLVM builds them: a client that sends SIZE bytes (15,000,000 unless one is given) in lines of 64 and
+# reads what comes back, through a server and a logger: with Echo of ftnode, and then with Counter of own_node. Printed are of both the bytes a second, and of server and logger the counts of their calls, the processor time a datagram
+# that came, and the most memory held; of the first run also the processor time of a C loop that sends and receives datagrams of 1,400 bytes (bench/link.c); and the server's
 # datagrams a second beside those of a C process that echoes (bench/echo.c). Then a transfer of 1,000,000 bytes whose server is killed (kill -9) when a quarter,
 # a half and three quarters of them have come back, and started again with the next boot number.
 # Each time the client has to end with 0 and its bytes to be the script's.
-#     bench/ftnode.sh [SIZE] [PORT]        seven ports from PORT (7200) on, and three from ten above
+#     bench/ftnode.sh [SIZE] [PORT]        seven ports from PORT (7200) on, and three each from ten and from twenty above
 set -eu
 . "$(dirname "$0")/common.sh"
 size=${1:-15000000} base=${2:-7200}
 build ftnode logger --local 127.0.0.1:7040 --turns 1
-ours=$PWD/crates/ftnode/out/ftnode
+build own_node logger --local 127.0.0.1:7041 --turns 1
+ours=$PWD/crates/ftnode/out/ftnode own=$PWD/crates/own_node/out/own_node
+program=$ours service=(--service echo)
 pids=()
 clean_up() {
     for pid in "${pids[@]}"; do pkill -9 -P "$pid" || true; done
@@ -20,22 +22,24 @@ trap clean_up EXIT
 at=127.0.0.1
 
 # starts a role in the background, with its times and its memory in a file of its name; its process number is in `last`
-start() {
+start() { # NAME PROGRAM WORD..
     local name=$1
     shift
-    command time -o "$work/$name.time" -f '%U %S %M' "$ours" "$@" >"$work/$name.out" 2>"$work/$name.err" &
+    command time -o "$work/$name.time" -f '%U %S %M' "$@" <"$work/script" >"$work/$name.out" 2>"$work/$name.err" &
     last=$!
     pids+=("$last")
 }
 
-logger() { start "logger$1" logger --local "$at:$((base + 1))" --turns "$2"; }
-server() { start "server$1" server --local "$at:$base" --logger "$at:$((base + 1))" --service echo --boot "$2" --isn $((1000 * $2 + 7)) --turns "$3"; }
-client() { start "client$1" client --local "$at:$((base + 2))" --server "$at:$base" --isn 1000 --turns 1000000 --script "fill:$size"; }
+logger() { start "logger$1" "$program" logger --local "$at:$((base + 1))" --turns "$2"; }
+server() {
+    start "server$1" "$program" server --local "$at:$base" --logger "$at:$((base + 1))" "${service[@]}" --boot "$2" --isn $((1000 * $2 + 7)) --turns "$3"
+}
+client() { start "client$1" "$ours" client --local "$at:$((base + 2))" --server "$at:$base" --isn 1000 --turns 1000000; }
 
-letters() { awk -v n="$1" 'BEGIN { for (i = 0; i < n; i++) printf "%c", 97 + i % 26 }' >"$work/script"; }
+lines() { awk -v n="$1" 'BEGIN { for (i = 1; i <= n; i++) printf "%c", i % 64 ? 97 + i % 26 : 10 }' >"$work/script"; }
 
-same() {
-    cmp -s "$work/script" "$work/client$1.out" && echo "the client ended with $2, and its bytes are the script's" || { echo "the client ended with $2, and its bytes differ"; exit 1; }
+same() { # NAME STATUS WANTED
+    cmp -s "$3" "$work/client$1.out" && echo "the client ended with $2, and what came is what was wanted" || { echo "the client ended with $2, and other bytes came"; exit 1; }
 }
 
 told() {
@@ -81,30 +85,41 @@ beside_echo() {
 server_turns=$((size / 1460 * 54 / 10 + 300))
 logger_turns=$((size / 1460 * 34 / 10 + 300))
 machine
-letters "$size"
+lines "$size"
 
-logger A "$logger_turns"
-logger_pid=$last
-sleep 0.2
-server A 1 "$server_turns"
-server_pid=$last
-begun=$(date +%s%N)
-client A
-status=0
-wait "$last" || status=$?
-ended=$(date +%s%N)
-same A "$status"
-awk -v n="$size" -v ns=$((ended - begun)) 'BEGIN { printf "%d bytes each way in %.2f s: %.2f MB a second\n", n, ns / 1e9, n * 1e3 / ns }'
-wait "$server_pid" "$logger_pid" || true
-told A
+# a run whose client sends the script, and to whom the bytes of a file have to come
+transfer() { # NAME WANTED
+    local logger_pid server_pid begun status=0
+    logger "$1" "$logger_turns"
+    logger_pid=$last
+    sleep 0.2
+    server "$1" 1 "$server_turns"
+    server_pid=$last
+    begun=$(date +%s%N)
+    client "$1"
+    wait "$last" || status=$?
+    taken=$(($(date +%s%N) - begun))
+    same "$1" "$status" "$2"
+    awk -v n="$size" -v ns="$taken" 'BEGIN { printf "%d bytes sent and answered in %.2f s: %.2f MB a second\n", n, ns / 1e9, n * 1e3 / ns }'
+    wait "$server_pid" "$logger_pid" || true
+    told "$1"
+}
+echo "Echo:"
+transfer A "$work/script"
+echo_taken=$taken
+echo "Counter:"
+head -n $((size / 64)) "$work/script" | awk '{ count += length($0) + 1; print count }' >"$work/counts"
+base=$((base + 20)) program=$own service=()
+transfer C "$work/counts"
+base=$((base - 20)) program=$ours service=(--service echo)
 
 gcc -O2 -Wall -o "$work/link" bench/link.c
 awk -v ms="$(spent "$work/link" 1400 200000)" 'BEGIN { printf "the C loop: %.1f us of processor for a datagram of 1,400 bytes sent and received\n", ms / 200 }'
-beside_echo "$((ended - begun))"
+beside_echo "$echo_taken"
 
 # killed and started again
 base=$((base + 10)) size=1000000
-letters "$size"
+lines "$size"
 logger B 1000000
 sleep 0.2
 server B1 1 1000000
@@ -129,4 +144,4 @@ wait "$client_pid" || status=$?
 mv "$work/back" "$work/clientB.out"
 ended=$(date +%s%N)
 awk -v n="$size" -v ns=$((ended - begun)) 'BEGIN { printf "%d bytes each way with three kills: %.1f s\n", n, ns / 1e9 }'
-same B "$status"
+same B "$status" "$work/script"

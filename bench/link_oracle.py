@@ -2,7 +2,8 @@
 """Writes link_script's script and what it has to print: link_oracle.py SCRIPT PRINTED.
 
 The expected lines follow the written rules alone: which command lines are allowed stands in a table made by hand, and the logger, the server before it has a
-connection, and the pair are played by the short models below, with the messages' bytes made here."""
+connection, and the pair are played by the short models below, with the messages' bytes made here. What a server with Counter does to one client, and how it
+starts again from the log, is written down step by step."""
 import random
 import sys
 
@@ -177,14 +178,14 @@ KNOWN.update({stale(1, 2): (2, 1), stale(1, 18446744073709551615): (184467440737
 AT = {"logger": "127.0.0.1:7040", "server": "127.0.0.1:7007"}
 
 
-def run(words, come, bind=0, send=0, receive=0, write=0, error=0):
+def run(words, come, bind=0, send=0, receive=0, write=0, error=0, way="run"):
     role, turns = words.split(" ")[0], int(words.split(" ")[-1])
     for came in come:
         script.append("nothing" if came is None else f"come {came[0]} {came[1]}".rstrip())
     for call, number in (("bind", bind), ("send", send), ("receive", receive), ("write", write), ("error", error)):
         if number:
             script.append(f"fail {call} {number}")
-    script.append("run " + words)
+    script.append(f"{way} {words}")
     net = Net(come, send, receive)
     if bind:
         status, said = 4, "ftnode: link fault"
@@ -359,6 +360,123 @@ pair(*given, [], child=1, error=1)
 pair(*given, [], error=1)
 script.extend(["fail child 1", "run pair"])
 printed.extend(["status 2", "ftnode: usage"])
+
+
+# A program with a service of its own: the words of a server have no service, and those of the logger are the same
+OWN = without(SERVER, "service")
+
+
+def asked_of_own(words):
+    return [w for w in words if not w.startswith(("server", "client", "pair"))]
+
+
+line("# words that a program with a service of its own refuses", "# words that a program with a service of its own refuses")
+own_refused = asked_of_own(refused) + [SERVER, SERVER.replace("--service echo", "--service=echo"), OWN + " --service counter", OWN + " --service"]
+own_refused += ["server", without(OWN, "turns") + " --turns=0", OWN + " --boot 2", OWN + " --script -", OWN + " --", OWN + " -"]
+own_refused += [without(OWN, name) for name in ("local", "logger", "boot", "isn", "turns")]
+own_refused += [without(OWN, name) + f" --{name} {value}" for name, value in (("boot", "0"), ("boot", "18446744073709551616"), ("isn", "4294967296"), ("turns", "1000001"))]
+own_refused += [without(OWN, name) + f" --{name} 127.0.0.1:0" for name in ("local", "logger")]
+own_refused += [CLIENT, CLIENT + " --script -", PAIR, "pair --turns=600 --second=500 --first=40 --base=7007 --program=ftnode"]
+for words in own_refused:
+    line("own " + words, "status 2", "ftnode: usage")
+line("# Counter in place of the four: a server before it has a connection, and a logger", "# Counter in place of the four: a server before it has a connection, and a logger")
+run(OWN, six, way="own")
+run("server --isn=5000 --boot=1 --logger=127.0.0.1:7008 --local=127.0.0.1:7007 --turns 6", six, way="own")
+for n in range(1, 5):
+    run(OWN, six, send=n, way="own")
+for n in range(1, 7):
+    run(OWN, six, receive=n, way="own")
+run(OWN, [("127.0.0.1:7008", stale(1, 2))], way="own")
+run(OWN, [("127.0.0.1:7008", stale(1, 2))], error=1, way="own")
+run(OWN, [], bind=1, way="own")
+run(OWN, [], write=1, way="own")
+run(SIX, peers, way="own")
+run(LOGGER, [], bind=1, way="own")
+
+# One client of Counter, at 192.0.2.1:40000, whose number is 1000, and the server at 127.0.0.1:7007, which gives it 5000. A key is an address and a port
+PEER, LOG, KEY = "192.0.2.1:40000", "127.0.0.1:7008", bytes([192, 0, 2, 1]) + (40000).to_bytes(2, "big")
+OPENING = KEY + (1000).to_bytes(4, "big") + (5000).to_bytes(4, "big") + (536).to_bytes(2, "big")
+
+
+def long(n):
+    return n.to_bytes(4, "big")
+
+
+def spelled(at, to, flags, seq, ack, text=b"", options=b""):
+    """A packet between two addresses with ports, whose window is 65,535."""
+    (at_ip, at_port), (to_ip, to_port) = [(bytes(map(int, a.split(":")[0].split("."))), int(a.split(":")[1]).to_bytes(2, "big")) for a in (at, to)]
+    size = 20 + len(options) + len(text)
+
+    def head(check):
+        return bytes.fromhex("4500") + (20 + size).to_bytes(2, "big") + bytes.fromhex("000040004006") + check.to_bytes(2, "big") + at_ip + to_ip
+
+    def body(check):
+        front = at_port + to_port + long(seq) + long(ack) + bytes([(5 + len(options) // 4) << 4, flags])
+        return front + b"\xff\xff" + check.to_bytes(2, "big") + b"\0\0" + options + text
+
+    pseudo = at_ip + to_ip + b"\0\x06" + size.to_bytes(2, "big")
+    return (head(checksum(head(0))) + body(checksum(pseudo + body(0)))).hex()
+
+
+assert spelled("192.0.2.100:7", "192.0.2.1:40000", ACK, 5001, 1002, b"hello") == packet(ACK, 5001, 1002, b"hello")
+
+
+def says(flags, seq, ack, text=b""):
+    """What the client says to the server."""
+    return PEER, spelled(PEER, "127.0.0.1:7007", flags, seq, ack, text)
+
+
+def hears(flags, seq, ack, text=b"", options=b""):
+    """What the server sends the client."""
+    return PEER, spelled("127.0.0.1:7007", PEER, flags, seq, ack, text, options)
+
+
+def logs(kind, boot, body):
+    return LOG, message(kind, boot, body)
+
+
+LIST, ENTRY, BYTES, PART, CUTS, LENS, OPEN, OPENED, DATA, STABLE, READ, READS = range(3, 15)
+MSS = bytes([2, 4]) + (1460).to_bytes(2, "big")
+
+
+def kept(length, reads):
+    return KEY + long(length) + b"\0" + long(reads)
+
+
+def played(words, steps):
+    """A server with these words: each step is what comes, and what the server then hands to send."""
+    for came, sends in steps:
+        if came:
+            script.append(f"come {came[0]} {came[1]}")
+    script.append("own " + words)
+    calls = [call for came, sends in steps for call in ([f"came {came[0]} {came[1]}"] if came else []) + [f"sent {to} {data}" for to, data in sends]]
+    turns = sum(1 for came, sends in steps if came)
+    printed.extend(["status 0", f"turns {turns} datagrams {turns} sent {sum(len(s) for c, s in steps)} lost 0 failed 0", "bound 127.0.0.1:7007 -", *calls])
+
+
+line("# Counter says 6 behind the first line, and, started again from the log, 12 behind the second", "# Counter says 6 behind the first line, and, started again from the log, 12 behind the second")
+first, second = b"hello\n", b"world\n"
+played(without(OWN, "turns") + " --turns 7", [
+    (None, [(LOG, hello(1))]),
+    ((LOG, summary(1, 0)), []),
+    (says(SYN, 1000, 0), [logs(OPEN, 1, OPENING)]),
+    (logs(OPENED, 1, OPENING), [hears(SYN | ACK, 5000, 1001, options=MSS)]),
+    (says(ACK, 1001, 5001), []),
+    (says(ACK, 1001, 5001, first), [hears(ACK, 5001, 1001), logs(DATA, 1, KEY + long(0) + long(0) + b"\0" + first), logs(READ, 1, KEY + long(0) + b"\0\x06")]),
+    (logs(STABLE, 1, kept(6, 0)), [hears(ACK, 5001, 1007)]),
+    (logs(READS, 1, kept(6, 1)), [hears(ACK, 5001, 1007, b"6\n")]),
+])
+played(OWN.replace("--boot 1 --isn 5000 --turns 6", "--boot 2 --isn 900000 --turns 7"), [
+    # the client has the 6 already, and says so; the second server hasn't said it yet, and does
+    (None, [(LOG, hello(2))]),
+    ((LOG, summary(2, 1)), [logs(LIST, 2, b"\0\0")]),
+    (logs(ENTRY, 2, b"\0\0" + OPENING + long(6) + b"\0\0" + long(1) + long(0)), [logs(CUTS, 2, KEY + long(0))]),
+    (logs(LENS, 2, KEY + long(0) + b"\0\x06"), [logs(BYTES, 2, KEY + long(0))]),
+    (logs(PART, 2, KEY + long(0) + first), [hears(ACK, 5001, 1007)]),
+    (says(ACK, 1007, 5003, second), [hears(ACK, 5001, 1007, b"6\n"), logs(DATA, 2, KEY + long(6) + long(0) + b"\0" + second), logs(READ, 2, KEY + long(1) + b"\0\x06")]),
+    (logs(STABLE, 2, kept(12, 1)), [hears(ACK, 5003, 1013)]),
+    (logs(READS, 2, kept(12, 2)), [hears(ACK, 5003, 1013, b"12\n")]),
+])
 
 if len(sys.argv) != 3:
     sys.exit("link_oracle.py SCRIPT PRINTED")

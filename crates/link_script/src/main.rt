@@ -9,14 +9,15 @@
 //! - `fail CALL N` makes the call with number N, from 1, of the next run fail: CALL is `bind`, `send`, `receive`, `read`, `write`, `error` or `child`: the
 //!   writes are on out and err, and starts of children and waits for them have one numbering;
 //! - `run WORDS` runs `node`, and prints its status, what it wrote to out and to err, and the calls that the link and the spawner tell; `brief WORDS` prints of
-//!   the link's calls only how many were receives and how many sends.
+//!   the link's calls only how many were receives and how many sends;
+//! - `own WORDS` is the same as `run`, for `node_of` with the service Counter.
 #![tactic(auto)]
 
 use faults::Faults;
 use ft_io::{Addr, Arrival, NoMemory, Octets, WriteSink, write_all};
 use hex::FromHexError;
 use node_link::{Role, read_role};
-use run::Setting;
+use run::{Setting, Way};
 use schedule_text::read_addr;
 use std::alloc::Global;
 use std::{io, mem};
@@ -73,21 +74,22 @@ impl Script {
                 Ok(())
             }
             b"input" => self.give(alloc, rest),
-            b"run" => self.run(alloc, rest, false),
-            b"brief" => self.run(alloc, rest, true),
+            b"run" => self.run(alloc, rest, Way::Node),
+            b"brief" => self.run(alloc, rest, Way::Brief),
+            b"own" => self.run(alloc, rest, Way::Own),
             _ => say("no such line", &mut self.said),
         }
     }
 
-    /// Runs `node` with these words.
-    fn run(&mut self, alloc: Global, rest: &str, is_brief: bool) -> Result<(), NoMemory> {
+    /// Runs it with these words.
+    fn run(&mut self, alloc: Global, rest: &str, way: Way) -> Result<(), NoMemory> {
         let words = words_of(alloc, rest)?;
         let setting = Setting {
             arrivals: mem::replace(&mut self.arrivals, Vec::new(alloc)),
             input: mem::replace(&mut self.input, Vec::new(alloc)),
             statuses: mem::replace(&mut self.statuses, Vec::new(alloc)),
             faults: mem::replace(&mut self.faults, Faults::none()),
-            is_brief,
+            way,
         };
         run::run(alloc, words.as_slice(), setting, &mut self.said)
     }

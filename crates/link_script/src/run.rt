@@ -1,20 +1,32 @@
-//! One run of `node` over a link and a spawner in memory.
+//! One run of `node` over a link and a spawner in memory, or of `node_of` over a link.
 
 use crate::children::say_children;
 use crate::faults::Faults;
 use crate::say;
+use counter_service::Counter;
 use ft_io::{Addr, Arrival, LinkCall, MemLink, MemSink, MemSource, MemSpawner, NoMemory};
-use node_link::node;
+use node_link::{node, node_of};
 use std::alloc::Global;
 
-/// What a run meets, and whether its calls are only counted.
+/// What is run, and how its calls on the link are told.
+#[derive(Clone, Copy, Debug, PartialEq, Eq)]
+pub enum Way {
+    /// `node`, each call.
+    Node,
+    /// `node`, how many calls there were.
+    Brief,
+    /// `node_of` with Counter, each call.
+    Own,
+}
+
+/// What a run meets.
 #[derive(Drop)]
 pub struct Setting {
     pub arrivals: Vec<Arrival>,
     pub input: Vec<u8>,
     pub statuses: Vec<i32>,
     pub faults: Faults,
-    pub is_brief: bool,
+    pub way: Way,
 }
 
 /// A run that is over.
@@ -38,19 +50,23 @@ fn link_of(alloc: Global, arrivals: Vec<Arrival>, faults: Faults) -> Result<MemL
     Ok(MemLink::new(alloc, arrivals, sends, receives, faults.bind != 0))
 }
 
-/// Runs `node` between these.
+/// Runs it between these.
 fn run_between(
     alloc: Global,
     words: &[String],
+    way: Way,
     mut link: MemLink,
     mut input: MemSource,
     mut out: MemSink,
     mut err: MemSink,
     mut kids: MemSpawner,
 ) -> Finished {
-    let status = node(
-        alloc, words, &mut link, &mut input, &mut out, &mut err, &mut kids,
-    );
+    let status = match way {
+        Way::Node | Way::Brief => node(
+            alloc, words, &mut link, &mut input, &mut out, &mut err, &mut kids,
+        ),
+        Way::Own => node_of::<Counter, _, _, _>(alloc, words, &mut link, &mut out, &mut err),
+    };
     Finished {
         code: status.code,
         link,
@@ -60,7 +76,7 @@ fn run_between(
     }
 }
 
-/// Runs `node`, and says how that ended.
+/// Runs it, and says how that ended.
 pub fn run(
     alloc: Global,
     words: &[String],
@@ -72,7 +88,7 @@ pub fn run(
         input,
         statuses,
         faults,
-        is_brief,
+        way,
     } = setting;
     let input = MemSource::new(input, only(alloc, faults.read)?);
     let out = MemSink::new(alloc, only(alloc, faults.write)?);
@@ -81,19 +97,14 @@ pub fn run(
     let link = link_of(alloc, arrivals, faults)?;
     say_run(
         alloc,
-        &run_between(alloc, words, link, input, out, err, kids),
-        is_brief,
+        &run_between(alloc, words, way, link, input, out, err, kids),
+        way,
         said,
     )
 }
 
 /// Says how a run ended, and what was called and written.
-fn say_run(
-    alloc: Global,
-    ran: &Finished,
-    is_brief: bool,
-    said: &mut Vec<u8>,
-) -> Result<(), NoMemory> {
+fn say_run(alloc: Global, ran: &Finished, way: Way, said: &mut Vec<u8>) -> Result<(), NoMemory> {
     let code = ran.code;
     let line = format!(in alloc; "status {code}")?;
     say(line.as_str(), said)?;
@@ -102,10 +113,9 @@ fn say_run(
     let (Some(calls), Some(children)) = (ran.link.told(), ran.kids.told()) else {
         return say("nothing told", said);
     };
-    if is_brief {
-        say_counts(alloc, calls, said)?;
-    } else {
-        say_calls(alloc, calls, said)?;
+    match way {
+        Way::Brief => say_counts(alloc, calls, said)?,
+        Way::Node | Way::Own => say_calls(alloc, calls, said)?,
     }
     say_children(alloc, children, said)
 }

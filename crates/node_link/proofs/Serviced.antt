@@ -13,6 +13,7 @@ use Rattle.seq_arith.specs.PacketGrammar as packets
 use Rattle.seq_arith.specs.MessageGrammar as messages
 use Rattle.ft_model.specs.Node as law
 use Rattle.ft_model.specs.Lawful.{LawfulTurn, node_after, fence, hello}
+use Rattle.server_trait.specs.Service.{Machine}
 use Rattle.ft_model.specs.World.{segment_or_noise, message_or_noise}
 use Rattle.ft_model.specs.Wire.{Wire, wire_of}
 use Rattle.server_node.specs.declared.input.TurnEnd.{TurnEnd}
@@ -75,24 +76,8 @@ sent_on logger wires i wire old mid new c c' c'' r lt at h t k =
 length_sent : (logger : Addr) (wires : List Wire) (old new : Option (List LinkCall)) (c counts : Counts) (h : HasSent logger wires old new c counts) → length h.sent ≡ length wires
 length_sent logger wires old new c counts h = sym (length-map h.sent (λ (x : Sent). x.wire)) ∙ ap length h.wires_are
 
--- a turn, from its parts
-pub turned : (logger : Addr) (before after : Standing) (old mid new : Option (List LinkCall)) (c between counts : Counts) (r : Received) (input : law.Input) (wires : List Wire)
-    → Tells old mid (received_as r ∷ []) → between ≡ with_calls c (received_as r ∷ []) → input ≡ input_from logger r → length wires ≤ 2 ^ 64 → HasSent logger wires mid new between counts
-    → after.who ≡ before.who → Goes before input after wires → ((standing : law.Stage) → fence (node_of before.who standing) input ≡ None)
-    → HasTurned logger before after old new c counts
-turned logger before after old mid new c between counts r input wires t k is few sent who goes unfenced =
-    record {
-      turn = record { received = r; sent = sent.sent };
-      few = subst (λ n. n ≤ 2 ^ 64) (sym (length_sent logger wires mid new between counts sent)) few;
-      tells = tells_on old mid new (received_as r ∷ []) (sending logger sent.sent) t sent.tells;
-      counts_are = sent.counts_are ∙ (ap (λ x. with_calls x (sending logger sent.sent)) k ∙ with_both c (received_as r ∷ []) (sending logger sent.sent));
-      who = who;
-      goes = subst (λ i. Goes before i after (wires_in sent.sent)) is (subst (Goes before input after) (sym sent.wires_are) goes);
-      unfenced = subst (λ i. (standing : law.Stage) → fence (node_of before.who standing) i ≡ None) is unfenced;
-    }
-
 -- a turn that ended the node
-pub turn_stops : (logger : Addr) (before : Standing) (old new : Option (List LinkCall)) (r : Received) (input : law.Input) (e : TurnEnd) → Tells old new (received_as r ∷ [])
+pub turn_stops : {State : Type 0} → (logger : Addr) (before : Standing State) (old new : Option (List LinkCall)) (r : Received) (input : law.Input) (e : TurnEnd) → Tells old new (received_as r ∷ [])
     → input ≡ input_from logger r → IsFence e (λ newer. (standing : law.Stage) → fence (node_of before.who standing) input ≡ Some newer)
     → (e ≡ end.NoMemory → (standing : law.Stage) → fence (node_of before.who standing) input ≡ None) → TurnStops logger before old new e
 turn_stops logger before old new r input end.NoMemory t is f none =
@@ -100,67 +85,7 @@ turn_stops logger before old new r input end.NoMemory t is f none =
 turn_stops logger before old new r input (end.Fenced newer) t is f none =
     record { received = r; tells = t; ends = subst (λ i. (standing : law.Stage) → fence (node_of before.who standing) i ≡ Some newer) is f }
 
--- a boot, from its parts
-pub booted : (role : ServerRole) (s : Standing) (old new : Option (List LinkCall)) (c counts : Counts) (wires : List Wire) → HasSent role.logger wires old new c counts
-    → wires ≡ map wire_of (hello (first_of role)) → s.who ≡ identity_of role → StageStands (service_of role) (first_of role) s.stage → HasBooted role s old new c counts
-booted role s old new c counts wires h is who stands =
-    record {
-      at_boot = h.sent;
-      wires_are = h.wires_are ∙ is;
-      few = subst (λ n. n ≤ 2 ^ 64) (sym (length_sent role.logger wires old new c counts h ∙ ap length is)) (omega arith);
-      tells = h.tells;
-      counts_are = h.counts_are;
-      who = who;
-      stands = stands;
-    }
-
--- the turns so far: none, ..
-pub serving_none : (role : ServerRole) (s : Standing) (old new : Option (List LinkCall)) (c counts : Counts) → c ≡ counts_of [] → HasBooted role s old new c counts → IsServing role 0 s old new counts
-serving_none role s old new c counts none b =
-    record {
-      at_boot = b.at_boot;
-      turns = [];
-      count_is = refl;
-      tells = b.tells;
-      serves = record { boots = b.wires_are; lawful = tt; unfenced = tt };
-      counts_are = b.counts_are ∙ (ap (λ x. with_calls x (sending role.logger b.at_boot)) none ∙ sym (counts_on [] (sending role.logger b.at_boot)));
-      total = subst (λ n. n ≤ (0 + 1) * (2 ^ 64 + 1)) (sym (length-map b.at_boot (sent_as role.logger))) (omega (arith, b.few));
-      who = b.who;
-      stands = λ fair. record { turns_by_law = []; standing = law.Stage.Asking; incarnation = record { turns_are = tt; lawful = tt }; node = refl; stands = b.stands };
-    }
-
--- .. and one more
-goes_by : (role : ServerRole) (s : Standing) (input : law.Input) (s' : Standing) (wires : List Wire) → s.who ≡ identity_of role → Goes s input s' wires
-    → Goes (record { who = identity_of role; stage = s.stage }) input s' wires
-goes_by role s input s' wires who goes = subst (λ w. Goes (record { who = w; stage = s.stage }) input s' wires) who goes
-
-stands_on : (role : ServerRole) (turns : List ServerTurn) (turn : ServerTurn) (s s' : Standing) → s.who ≡ identity_of role → Goes s (input_in role turn.received) s' (wires_in turn.sent)
-    → (st : Stands role turns s) → IsFairAt role turn.received (node_after (first_of role) st.turns_by_law) → Stands role (turn ∷ turns) s'
-stands_on role turns turn s s' who goes st fair =
-    let here : law.Node = node_of (identity_of role) st.standing in
-    let fair_here : IsFairAt role turn.received (node_of (identity_of role) st.standing) = subst (IsFairAt role turn.received) st.node fair in
-    let g : NodeGoes (service_of role) (node_of (identity_of role) st.standing) (input_in role turn.received) (identity_of role) s'.stage (wires_in turn.sent) =
-    goes_by role s (input_in role turn.received) s' (wires_in turn.sent) who goes st.standing fair_here.near fair_here.sound st.stands in
-    let after : law.Node = node_of (identity_of role) g.after in
-    let lawful : LawfulTurn (service_of role) (node_after (first_of role) st.turns_by_law) (input_in role turn.received) g.packets (node_of (identity_of role) g.after) =
-    subst (λ n. LawfulTurn (service_of role) n (input_in role turn.received) g.packets (node_of (identity_of role) g.after)) (sym st.node) g.turn in
-    record {
-      turns_by_law = record { input = input_in role turn.received; sent = g.packets; node = node_of (identity_of role) g.after } ∷ st.turns_by_law;
-      standing = g.after;
-      incarnation = record {
-        turns_are = (st.incarnation.turns_are, record { input = refl; wires = g.wires; spelled = g.spelled });
-        lawful = (st.incarnation.lawful, lawful);
-      };
-      node = refl;
-      stands = g.stands;
-    }
-
-lawful_on : (role : ServerRole) (turns : List ServerTurn) (turn : ServerTurn) (s s' : Standing) → s.who ≡ identity_of role → Goes s (input_in role turn.received) s' (wires_in turn.sent)
-    → (AreFair role turns → Stands role turns s) → AreFair role (turn ∷ turns) → Stands role (turn ∷ turns) s'
-lawful_on role turns turn s s' who goes stands fair =
-    let st : Stands role turns s = stands fair.0 in
-    stands_on role turns turn s s' who goes st (fair.1 st.turns_by_law st.incarnation)
-
+-- the calls are no longer than this
 longer : (role : ServerRole) (at_boot : List Sent) (turns : List ServerTurn) (turn : ServerTurn) (count : ℕ) → length (server_calls role.logger at_boot turns) ≤ (count + 1) * (2 ^ 64 + 1)
     → length turn.sent ≤ 2 ^ 64 → length (server_calls role.logger at_boot (turn ∷ turns)) ≤ (count + 1 + 1) * (2 ^ 64 + 1)
 longer role at_boot turns turn count le few =
@@ -169,133 +94,211 @@ longer role at_boot turns turn count le few =
     let one : length (turn_calls role.logger turn) ≡ suc (length turn.sent) = ap suc (length-map turn.sent (sent_as role.logger)) in
     omega (arith, sum, one, le, few)
 
-pub serving_on : (role : ServerRole) (i : ℕ) (s s' : Standing) (old mid new : Option (List LinkCall)) (c counts : Counts) → IsServing role i s old mid c
-    → HasTurned role.logger s s' mid new c counts → IsServing role (i + 1) s' old new counts
-serving_on role i s s' old mid new c counts h t =
-    let calls : List LinkCall = server_calls role.logger h.at_boot h.turns in
-    let stands : AreFair role (t.turn ∷ h.turns) → Stands role (t.turn ∷ h.turns) s' = lawful_on role h.turns t.turn s s' h.who t.goes h.stands in
-    let none : fence_in role t.turn.received ≡ None =
-    subst (λ w. fence (node_of w law.Stage.Asking) (input_in role t.turn.received) ≡ None) h.who (t.unfenced law.Stage.Asking) in
-    record {
-      at_boot = h.at_boot;
-      turns = t.turn ∷ h.turns;
-      count_is = ap suc h.count_is ∙ sym (add-one i);
-      tells = tells_on old mid new (server_calls role.logger h.at_boot h.turns) (turn_calls role.logger t.turn) h.tells t.tells;
-      serves = record {
-        boots = h.serves.boots;
-        lawful = (h.serves.lawful, λ fair. ((stands fair).turns_by_law, (stands fair).incarnation));
-        unfenced = (none, h.serves.unfenced);
-      };
-      counts_are = t.counts_are ∙ (ap (λ x. with_calls x (turn_calls role.logger t.turn)) h.counts_are ∙ sym (counts_on (server_calls role.logger h.at_boot h.turns) (turn_calls role.logger t.turn)));
-      total = longer role h.at_boot h.turns t.turn i h.total t.few;
-      who = t.who ∙ h.who;
-      stands = stands;
-    }
+module _ {State : Type 0} (services : ℕ → Machine State) where
+  -- a turn, from its parts
+  pub turned : (logger : Addr) (before after : Standing State) (old mid new : Option (List LinkCall)) (c between counts : Counts) (r : Received) (input : law.Input) (wires : List Wire)
+      → Tells old mid (received_as r ∷ []) → between ≡ with_calls c (received_as r ∷ []) → input ≡ input_from logger r → length wires ≤ 2 ^ 64 → HasSent logger wires mid new between counts
+      → after.who ≡ before.who → Goes services before input after wires → ((standing : law.Stage) → fence (node_of before.who standing) input ≡ None)
+      → HasTurned services logger before after old new c counts
+  turned logger before after old mid new c between counts r input wires t k is few sent who goes unfenced =
+      record {
+        turn = record { received = r; sent = sent.sent };
+        few = subst (λ n. n ≤ 2 ^ 64) (sym (length_sent logger wires mid new between counts sent)) few;
+        tells = tells_on old mid new (received_as r ∷ []) (sending logger sent.sent) t sent.tells;
+        counts_are = sent.counts_are ∙ (ap (λ x. with_calls x (sending logger sent.sent)) k ∙ with_both c (received_as r ∷ []) (sending logger sent.sent));
+        who = who;
+        goes = subst (λ i. Goes services before i after (wires_in sent.sent)) is (subst (Goes services before input after) (sym sent.wires_are) goes);
+        unfenced = subst (λ i. (standing : law.Stage) → fence (node_of before.who standing) i ≡ None) is unfenced;
+      }
 
-pub room_for_turn : (role : ServerRole) (i most : ℕ) (s : Standing) (old new : Option (List LinkCall)) (counts : Counts) → i < most → most ≤ 1000000 → IsServing role i s old new counts
-    → HasRoom (2 ^ 64) counts
-room_for_turn role i most s old new counts lt le h =
-    let few : IsFew (length (server_calls role.logger h.at_boot h.turns)) (counts_of (server_calls role.logger h.at_boot h.turns)) = few_calls (server_calls role.logger h.at_boot h.turns) in
-    subst (HasRoom (2 ^ 64)) (sym h.counts_are) (record {
-      turns = omega (arith, h.total, few.turns);
-      datagrams = omega (arith, h.total, few.datagrams);
-      sent = omega (arith, h.total, few.sent);
-      lost = omega (arith, h.total, few.lost);
-      failed = omega (arith, h.total, few.failed);
-    })
+  -- a boot, from its parts
+  pub booted : (role : ServerRole) (s : Standing State) (old new : Option (List LinkCall)) (c counts : Counts) (wires : List Wire) → HasSent role.logger wires old new c counts
+      → wires ≡ map wire_of (hello (first_of role)) → s.who ≡ identity_of role → StageStands (service_of services role) (first_of role) s.stage → HasBooted services role s old new c counts
+  booted role s old new c counts wires h is who stands =
+      record {
+        at_boot = h.sent;
+        wires_are = h.wires_are ∙ is;
+        few = subst (λ n. n ≤ 2 ^ 64) (sym (length_sent role.logger wires old new c counts h ∙ ap length is)) (omega arith);
+        tells = h.tells;
+        counts_are = h.counts_are;
+        who = who;
+        stands = stands;
+      }
 
-pub served_all : (role : ServerRole) (i : ℕ) (s : Standing) (old new : Option (List LinkCall)) (counts : Counts) → i ≡ role.turns → IsServing role i s old new counts → HasServed role old new counts
-served_all role i s old new counts e h =
-    record { at_boot = h.at_boot; turns = h.turns; count_is = h.count_is ∙ e; tells = h.tells; serves = h.serves; counts_are = h.counts_are }
+  -- the turns so far: none, ..
+  pub serving_none : (role : ServerRole) (s : Standing State) (old new : Option (List LinkCall)) (c counts : Counts) → c ≡ counts_of [] → HasBooted services role s old new c counts → IsServing services role 0 s old new counts
+  serving_none role s old new c counts none b =
+      record {
+        at_boot = b.at_boot;
+        turns = [];
+        count_is = refl;
+        tells = b.tells;
+        serves = record { boots = b.wires_are; lawful = tt; unfenced = tt };
+        counts_are = b.counts_are ∙ (ap (λ x. with_calls x (sending role.logger b.at_boot)) none ∙ sym (counts_on [] (sending role.logger b.at_boot)));
+        total = subst (λ n. n ≤ (0 + 1) * (2 ^ 64 + 1)) (sym (length-map b.at_boot (sent_as role.logger))) (omega (arith, b.few));
+        who = b.who;
+        stands = λ fair. record { turns_by_law = []; standing = law.Stage.Asking; incarnation = record { turns_are = tt; lawful = tt }; node = refl; stands = b.stands };
+      }
 
-cut_by : (role : ServerRole) (i : ℕ) (s : Standing) (old mid new : Option (List LinkCall)) (counts : Counts) (Ends : Received → Type 0) (Why : law.Input → Type 0) → i < role.turns
-    → IsServing role i s old mid counts → (t : EndsTurn role.logger mid new Why) → ((r : Received) → Why (input_in role r) → Ends r) → IsCutServing role old new Ends
-cut_by role i s old mid new counts Ends Why lt h t f =
-    record {
-      at_boot = h.at_boot;
-      turns = h.turns;
-      last = t.received;
-      within = omega (arith, h.count_is, lt);
-      tells = tells_on old mid new (server_calls role.logger h.at_boot h.turns) (received_as t.received ∷ []) h.tells t.tells;
-      serves = h.serves;
-      ends = f t.received t.ends;
-    }
+  -- .. and one more
+  goes_by : (role : ServerRole) (s : Standing State) (input : law.Input) (s' : Standing State) (wires : List Wire) → s.who ≡ identity_of role → Goes services s input s' wires
+      → Goes services (record { who = identity_of role; stage = s.stage }) input s' wires
+  goes_by role s input s' wires who goes = subst (λ w. Goes services (record { who = w; stage = s.stage }) input s' wires) who goes
 
-pub serving_stops : (role : ServerRole) (i : ℕ) (s : Standing) (old mid new : Option (List LinkCall)) (counts : Counts) (e : TurnEnd) → i < role.turns → IsServing role i s old mid counts
-    → TurnStops role.logger s mid new e → ServeStops role old new e
-serving_stops role i s old mid new counts end.NoMemory lt h t =
-    inr (cut_by role i s old mid new counts (λ last. fence_in role last ≡ None) (λ input. (standing : law.Stage) → fence (node_of s.who standing) input ≡ None) lt h t
-    (λ r f. subst (λ w. fence (node_of w law.Stage.Asking) (input_in role r) ≡ None) h.who (f law.Stage.Asking)))
-serving_stops role i s old mid new counts (end.Fenced newer) lt h t =
-    cut_by role i s old mid new counts (λ last. fence_in role last ≡ Some newer) (λ input. (standing : law.Stage) → fence (node_of s.who standing) input ≡ Some newer) lt h t
-    (λ r f. subst (λ w. fence (node_of w law.Stage.Asking) (input_in role r) ≡ Some newer) h.who (f law.Stage.Asking))
+  stands_on : (role : ServerRole) (turns : List ServerTurn) (turn : ServerTurn) (s s' : Standing State) → s.who ≡ identity_of role → Goes services s (input_in role turn.received) s' (wires_in turn.sent)
+      → (st : Stands services role turns s) → IsFairAt services role turn.received (node_after (first_of role) st.turns_by_law) → Stands services role (turn ∷ turns) s'
+  stands_on role turns turn s s' who goes st fair =
+      let here : law.Node = node_of (identity_of role) st.standing in
+      let fair_here : IsFairAt services role turn.received (node_of (identity_of role) st.standing) = subst (IsFairAt services role turn.received) st.node fair in
+      let g : NodeGoes (service_of services role) (node_of (identity_of role) st.standing) (input_in role turn.received) (identity_of role) s'.stage (wires_in turn.sent) =
+      goes_by role s (input_in role turn.received) s' (wires_in turn.sent) who goes st.standing fair_here.near fair_here.sound st.stands in
+      let after : law.Node = node_of (identity_of role) g.after in
+      let lawful : LawfulTurn (service_of services role) (node_after (first_of role) st.turns_by_law) (input_in role turn.received) g.packets (node_of (identity_of role) g.after) =
+      subst (λ n. LawfulTurn (service_of services role) n (input_in role turn.received) g.packets (node_of (identity_of role) g.after)) (sym st.node) g.turn in
+      record {
+        turns_by_law = record { input = input_in role turn.received; sent = g.packets; node = node_of (identity_of role) g.after } ∷ st.turns_by_law;
+        standing = g.after;
+        incarnation = record {
+          turns_are = (st.incarnation.turns_are, record { input = refl; wires = g.wires; spelled = g.spelled });
+          lawful = (st.incarnation.lawful, lawful);
+        };
+        node = refl;
+        stands = g.stands;
+      }
 
--- a whole life
-pub server_done : (role : ServerRole) (before mid new : Option (List LinkCall)) (counts : Counts) (Writes : List ℕ → Type 0) → Tells before mid (Bound role.local ∷ [])
-    → HasServed role mid new counts → Writes (count_line counts) → IsServer role before new Writes
-server_done role before mid new counts Writes b s w = record {
-  at_boot = s.at_boot;
-  turns = s.turns;
-  count_is = s.count_is;
-  tells = tells_on before mid new (Bound role.local ∷ []) (server_calls role.logger s.at_boot s.turns) b s.tells;
-  serves = s.serves;
-  written = subst (λ c. Writes (count_line c)) s.counts_are w;
-}
+  lawful_on : (role : ServerRole) (turns : List ServerTurn) (turn : ServerTurn) (s s' : Standing State) → s.who ≡ identity_of role → Goes services s (input_in role turn.received) s' (wires_in turn.sent)
+      → (AreFair services role turns → Stands services role turns s) → AreFair services role (turn ∷ turns) → Stands services role (turn ∷ turns) s'
+  lawful_on role turns turn s s' who goes stands fair =
+      let st : Stands services role turns s = stands fair.0 in
+      stands_on role turns turn s s' who goes st (fair.1 st.turns_by_law st.incarnation)
 
--- .. whose line wants memory
-untold : (role : ServerRole) (before mid new : Option (List LinkCall)) (counts : Counts) → Tells before mid (Bound role.local ∷ []) → HasServed role mid new counts → IsCutServer role before new
-untold role before mid new counts b s =
-    let calls : List LinkCall = server_calls role.logger s.at_boot s.turns in
+  pub serving_on : (role : ServerRole) (i : ℕ) (s s' : Standing State) (old mid new : Option (List LinkCall)) (c counts : Counts) → IsServing services role i s old mid c
+      → HasTurned services role.logger s s' mid new c counts → IsServing services role (i + 1) s' old new counts
+  serving_on role i s s' old mid new c counts h t =
+      let calls : List LinkCall = server_calls role.logger h.at_boot h.turns in
+      let stands : AreFair services role (t.turn ∷ h.turns) → Stands services role (t.turn ∷ h.turns) s' = lawful_on role h.turns t.turn s s' h.who t.goes h.stands in
+      let none : fence_in role t.turn.received ≡ None =
+      subst (λ w. fence (node_of w law.Stage.Asking) (input_in role t.turn.received) ≡ None) h.who (t.unfenced law.Stage.Asking) in
+      record {
+        at_boot = h.at_boot;
+        turns = t.turn ∷ h.turns;
+        count_is = ap suc h.count_is ∙ sym (add-one i);
+        tells = tells_on old mid new (server_calls role.logger h.at_boot h.turns) (turn_calls role.logger t.turn) h.tells t.tells;
+        serves = record {
+          boots = h.serves.boots;
+          lawful = (h.serves.lawful, λ fair. ((stands fair).turns_by_law, (stands fair).incarnation));
+          unfenced = (none, h.serves.unfenced);
+        };
+        counts_are = t.counts_are ∙ (ap (λ x. with_calls x (turn_calls role.logger t.turn)) h.counts_are ∙ sym (counts_on (server_calls role.logger h.at_boot h.turns) (turn_calls role.logger t.turn)));
+        total = longer role h.at_boot h.turns t.turn i h.total t.few;
+        who = t.who ∙ h.who;
+        stands = stands;
+      }
+
+  pub room_for_turn : (role : ServerRole) (i most : ℕ) (s : Standing State) (old new : Option (List LinkCall)) (counts : Counts) → i < most → most ≤ 1000000 → IsServing services role i s old new counts
+      → HasRoom (2 ^ 64) counts
+  room_for_turn role i most s old new counts lt le h =
+      let few : IsFew (length (server_calls role.logger h.at_boot h.turns)) (counts_of (server_calls role.logger h.at_boot h.turns)) = few_calls (server_calls role.logger h.at_boot h.turns) in
+      subst (HasRoom (2 ^ 64)) (sym h.counts_are) (record {
+        turns = omega (arith, h.total, few.turns);
+        datagrams = omega (arith, h.total, few.datagrams);
+        sent = omega (arith, h.total, few.sent);
+        lost = omega (arith, h.total, few.lost);
+        failed = omega (arith, h.total, few.failed);
+      })
+
+  pub served_all : (role : ServerRole) (i : ℕ) (s : Standing State) (old new : Option (List LinkCall)) (counts : Counts) → i ≡ role.turns → IsServing services role i s old new counts → HasServed services role old new counts
+  served_all role i s old new counts e h =
+      record { at_boot = h.at_boot; turns = h.turns; count_is = h.count_is ∙ e; tells = h.tells; serves = h.serves; counts_are = h.counts_are }
+
+  cut_by : (role : ServerRole) (i : ℕ) (s : Standing State) (old mid new : Option (List LinkCall)) (counts : Counts) (Ends : Received → Type 0) (Why : law.Input → Type 0) → i < role.turns
+      → IsServing services role i s old mid counts → (t : EndsTurn role.logger mid new Why) → ((r : Received) → Why (input_in role r) → Ends r) → IsCutServing services role old new Ends
+  cut_by role i s old mid new counts Ends Why lt h t f =
+      record {
+        at_boot = h.at_boot;
+        turns = h.turns;
+        last = t.received;
+        within = omega (arith, h.count_is, lt);
+        tells = tells_on old mid new (server_calls role.logger h.at_boot h.turns) (received_as t.received ∷ []) h.tells t.tells;
+        serves = h.serves;
+        ends = f t.received t.ends;
+      }
+
+  pub serving_stops : (role : ServerRole) (i : ℕ) (s : Standing State) (old mid new : Option (List LinkCall)) (counts : Counts) (e : TurnEnd) → i < role.turns → IsServing services role i s old mid counts
+      → TurnStops role.logger s mid new e → ServeStops services role old new e
+  serving_stops role i s old mid new counts end.NoMemory lt h t =
+      inr (cut_by role i s old mid new counts (λ last. fence_in role last ≡ None) (λ input. (standing : law.Stage) → fence (node_of s.who standing) input ≡ None) lt h t
+      (λ r f. subst (λ w. fence (node_of w law.Stage.Asking) (input_in role r) ≡ None) h.who (f law.Stage.Asking)))
+  serving_stops role i s old mid new counts (end.Fenced newer) lt h t =
+      cut_by role i s old mid new counts (λ last. fence_in role last ≡ Some newer) (λ input. (standing : law.Stage) → fence (node_of s.who standing) input ≡ Some newer) lt h t
+      (λ r f. subst (λ w. fence (node_of w law.Stage.Asking) (input_in role r) ≡ Some newer) h.who (f law.Stage.Asking))
+
+  -- a whole life
+  pub server_done : (role : ServerRole) (before mid new : Option (List LinkCall)) (counts : Counts) (Writes : List ℕ → Type 0) → Tells before mid (Bound role.local ∷ [])
+      → HasServed services role mid new counts → Writes (count_line counts) → IsServer services role before new Writes
+  server_done role before mid new counts Writes b s w = record {
+    at_boot = s.at_boot;
+    turns = s.turns;
+    count_is = s.count_is;
+    tells = tells_on before mid new (Bound role.local ∷ []) (server_calls role.logger s.at_boot s.turns) b s.tells;
+    serves = s.serves;
+    written = subst (λ c. Writes (count_line c)) s.counts_are w;
+  }
+
+  -- .. whose line wants memory
+  untold : (role : ServerRole) (before mid new : Option (List LinkCall)) (counts : Counts) → Tells before mid (Bound role.local ∷ []) → HasServed services role mid new counts → IsCutServer services role before new
+  untold role before mid new counts b s =
+      let calls : List LinkCall = server_calls role.logger s.at_boot s.turns in
+      record {
+        at_boot = s.at_boot;
+        turns = s.turns;
+        last = None;
+        within = omega (arith, s.count_is);
+        tells = tells_on before mid new (Bound role.local ∷ []) (server_calls role.logger s.at_boot s.turns ++ []) b (subst (Tells mid new) (sym (append-nil (server_calls role.logger s.at_boot s.turns))) s.tells);
+        serves = s.serves;
+        unfenced = tt;
+      }
+
+  pub server_stops : (role : ServerRole) (before mid new : Option (List LinkCall)) (counts : Counts) (out_old out_new : Option (List ℕ)) (e : NodeEnd) → Tells before mid (Bound role.local ∷ [])
+      → HasServed services role mid new counts → TellStops (count_line counts) out_old out_new e → ServerStops services role before new out_old out_new e
+  server_stops role before mid new counts out_old out_new ends.NoMemory b s t = (inr (untold role before mid new counts b s), t)
+  server_stops role before mid new counts out_old out_new ends.WriteFault b s t = server_done role before mid new counts (AppendsFront out_old out_new) b s t
+  server_stops role before mid new counts out_old out_new ends.LinkFault b s t = absurd t
+  server_stops role before mid new counts out_old out_new ends.Usage b s t = absurd t
+  server_stops role before mid new counts out_old out_new (ends.Fenced newer) b s t = absurd t
+  server_stops role before mid new counts out_old out_new ends.Reset b s t = absurd t
+  server_stops role before mid new counts out_old out_new ends.Spent b s t = absurd t
+  server_stops role before mid new counts out_old out_new ends.ReadFault b s t = absurd t
+  server_stops role before mid new counts out_old out_new ends.ChildFault b s t = absurd t
+
+  -- one that its turns ended
+  pub server_lost : (role : ServerRole) (before mid new : Option (List LinkCall)) (out : Option (List ℕ)) → Tells before mid (Bound role.local ∷ []) → ServeStops services role mid new end.NoMemory
+      → ServerStops services role before new out out ends.NoMemory
+  server_lost role before mid new out b (inl same) = (inl (subst (λ t. Tells before t (Bound role.local ∷ [])) (sym same) b), refl)
+  server_lost role before mid new out b (inr s) = (
+    inr (record {
+      at_boot = s.at_boot;
+      turns = s.turns;
+      last = Some s.last;
+      within = omega (arith, s.within);
+      tells = tells_on before mid new (Bound role.local ∷ []) (server_calls role.logger s.at_boot s.turns ++ received_as s.last ∷ []) b s.tells;
+      serves = s.serves;
+      unfenced = s.ends;
+    }),
+    refl,
+  )
+
+  pub server_fenced : (role : ServerRole) (newer : ℕ) (before mid new : Option (List LinkCall)) (out : Option (List ℕ)) → Tells before mid (Bound role.local ∷ [])
+      → ServeStops services role mid new (end.Fenced newer) → ServerStops services role before new out out (ends.Fenced newer)
+  server_fenced role newer before mid new out b s = (
     record {
       at_boot = s.at_boot;
       turns = s.turns;
-      last = None;
-      within = omega (arith, s.count_is);
-      tells = tells_on before mid new (Bound role.local ∷ []) (server_calls role.logger s.at_boot s.turns ++ []) b (subst (Tells mid new) (sym (append-nil (server_calls role.logger s.at_boot s.turns))) s.tells);
+      last = s.last;
+      within = s.within;
+      tells = tells_on before mid new (Bound role.local ∷ []) (server_calls role.logger s.at_boot s.turns ++ received_as s.last ∷ []) b s.tells;
       serves = s.serves;
-      unfenced = tt;
-    }
-
-pub server_stops : (role : ServerRole) (before mid new : Option (List LinkCall)) (counts : Counts) (out_old out_new : Option (List ℕ)) (e : NodeEnd) → Tells before mid (Bound role.local ∷ [])
-    → HasServed role mid new counts → TellStops (count_line counts) out_old out_new e → ServerStops role before new out_old out_new e
-server_stops role before mid new counts out_old out_new ends.NoMemory b s t = (inr (untold role before mid new counts b s), t)
-server_stops role before mid new counts out_old out_new ends.WriteFault b s t = server_done role before mid new counts (AppendsFront out_old out_new) b s t
-server_stops role before mid new counts out_old out_new ends.LinkFault b s t = absurd t
-server_stops role before mid new counts out_old out_new ends.Usage b s t = absurd t
-server_stops role before mid new counts out_old out_new (ends.Fenced newer) b s t = absurd t
-server_stops role before mid new counts out_old out_new ends.Reset b s t = absurd t
-server_stops role before mid new counts out_old out_new ends.Spent b s t = absurd t
-server_stops role before mid new counts out_old out_new ends.ReadFault b s t = absurd t
-server_stops role before mid new counts out_old out_new ends.ChildFault b s t = absurd t
-
--- one that its turns ended
-pub server_lost : (role : ServerRole) (before mid new : Option (List LinkCall)) (out : Option (List ℕ)) → Tells before mid (Bound role.local ∷ []) → ServeStops role mid new end.NoMemory
-    → ServerStops role before new out out ends.NoMemory
-server_lost role before mid new out b (inl same) = (inl (subst (λ t. Tells before t (Bound role.local ∷ [])) (sym same) b), refl)
-server_lost role before mid new out b (inr s) = (
-  inr (record {
-    at_boot = s.at_boot;
-    turns = s.turns;
-    last = Some s.last;
-    within = omega (arith, s.within);
-    tells = tells_on before mid new (Bound role.local ∷ []) (server_calls role.logger s.at_boot s.turns ++ received_as s.last ∷ []) b s.tells;
-    serves = s.serves;
-    unfenced = s.ends;
-  }),
-  refl,
-)
-
-pub server_fenced : (role : ServerRole) (newer : ℕ) (before mid new : Option (List LinkCall)) (out : Option (List ℕ)) → Tells before mid (Bound role.local ∷ [])
-    → ServeStops role mid new (end.Fenced newer) → ServerStops role before new out out (ends.Fenced newer)
-server_fenced role newer before mid new out b s = (
-  record {
-    at_boot = s.at_boot;
-    turns = s.turns;
-    last = s.last;
-    within = s.within;
-    tells = tells_on before mid new (Bound role.local ∷ []) (server_calls role.logger s.at_boot s.turns ++ received_as s.last ∷ []) b s.tells;
-    serves = s.serves;
-    fenced = s.ends;
-  },
-  refl,
-)
+      fenced = s.ends;
+    },
+    refl,
+  )

@@ -1,19 +1,20 @@
--- The turns of a server's process as those of a lawful incarnation.
-use Rattle.std.specs.Prelude.{◌≡◌, ℕ, Option, None, map, List, [], ◌∷◌}
+-- The turns of a server's process as those of a lawful incarnation, for the services that its program offers, each by its kind.
+use Rattle.std.specs.Prelude.{◌≡◌, ℕ, Option, None, Some, map, List, [], ◌∷◌}
 use Rattle.std.specs.List.{AllByRecursion}
 use Rattle.server_trait.specs.Service.{Machine}
 use Rattle.ft_model.specs.Node.{Node, Input, booted}
 use Rattle.ft_model.specs.Lawful.{Turn, IsLawful, node_after, hello, fence, IsNearInput, IsSoundInput}
 use Rattle.ft_model.specs.Schedule.{kind_of}
+use Rattle.ft_model.specs.declared.schedule.ServiceKind.{ServiceKind}
 use Rattle.ft_model.specs.Wire.{wire_of, HasWire}
-use Rattle.sample_servers.specs.AnyService.{any_machine}
-use Rattle.sample_servers.specs.declared.any_service.AnyService.{AnyService}
 use Rattle.node_link.specs.declared.role.ServerRole.{ServerRole}
 use Rattle.node_link.specs.Received.{Received}
 use Rattle.node_link.specs.ServerTurns.{Sent, wires_in, ServerTurn, input_from}
 
-abbrev pub service_of : ServerRole → Machine AnyService
-service_of role = any_machine (kind_of role.service)
+-- the number of the service that the words name; 0 where they name none
+abbrev pub kind_in : Option ServiceKind → ℕ
+kind_in None = 0
+kind_in (Some service) = kind_of service
 
 -- the incarnation of these words, as it boots
 abbrev pub first_of : ServerRole → Node
@@ -33,32 +34,37 @@ AreTurns role [] [] = Unit {0}
 AreTurns role (turn ∷ earlier) (law ∷ laws) = AreTurns role earlier laws × IsTurn role turn law
 AreTurns role _ _ = ⊥
 
--- the turns are those of a lawful incarnation
-pub record IsIncarnation (role : ServerRole) (turns : List ServerTurn) (law : List Turn) : Type 0 where
-  pub turns_are : AreTurns role turns law
-  pub lawful : IsLawful (service_of role) (first_of role) law
-
--- The premises: what comes is near to the live connections, and the entries that it completes are sound, wherever a lawful server may stand then
-pub record IsFairAt (role : ServerRole) (received : Received) (node : Node) : Type 0 where
-  pub near : IsNearInput role.local (input_in role received) node.stage
-  pub sound : IsSoundInput (service_of role) node (input_in role received) node.stage
-
-abbrev pub AreFair : ServerRole → List ServerTurn → Type 0
-AreFair role [] = Unit {0}
-AreFair role (turn ∷ earlier) =
-    AreFair role earlier × ((law : List Turn) → IsIncarnation role earlier law → IsFairAt role turn.received (node_after (first_of role) law))
-
--- as long as the premises hold, the turns are lawful
-abbrev pub AreLawful : ServerRole → List ServerTurn → Type 0
-AreLawful role [] = Unit {0}
-AreLawful role (turn ∷ earlier) = AreLawful role earlier × (AreFair role (turn ∷ earlier) → (law : List Turn) × IsIncarnation role (turn ∷ earlier) law)
-
 -- the larger boot number with which what was received ends the server: a Stale of its own boot names it
 abbrev pub fence_in : ServerRole → Received → Option ℕ
 fence_in role received = fence (first_of role) (input_in role received)
 
--- a server from its boot on: it says Hello, its turns are lawful, and nothing that it received fences it
-pub record Serves (role : ServerRole) (at_boot : List Sent) (turns : List ServerTurn) : Type 0 where
-  pub boots : wires_in at_boot ≡ map wire_of (hello (first_of role))
-  pub lawful : AreLawful role turns
-  pub unfenced : AllByRecursion (λ turn. fence_in role turn.received ≡ None) turns
+module _ {State : Type 0} (services : ℕ → Machine State) where
+  -- the service of the words
+  abbrev pub service_of : ServerRole → Machine State
+  service_of role = services (kind_in role.service)
+
+  -- the turns are those of a lawful incarnation
+  pub record IsIncarnation (role : ServerRole) (turns : List ServerTurn) (law : List Turn) : Type 0 where
+    pub turns_are : AreTurns role turns law
+    pub lawful : IsLawful (service_of role) (first_of role) law
+
+  -- The premises: what comes is near to the live connections, and the entries that it completes are sound, wherever a lawful server may stand then
+  pub record IsFairAt (role : ServerRole) (received : Received) (node : Node) : Type 0 where
+    pub near : IsNearInput role.local (input_in role received) node.stage
+    pub sound : IsSoundInput (service_of role) node (input_in role received) node.stage
+
+  abbrev pub AreFair : ServerRole → List ServerTurn → Type 0
+  AreFair role [] = Unit {0}
+  AreFair role (turn ∷ earlier) =
+      AreFair role earlier × ((law : List Turn) → IsIncarnation role earlier law → IsFairAt role turn.received (node_after (first_of role) law))
+
+  -- as long as the premises hold, the turns are lawful
+  abbrev pub AreLawful : ServerRole → List ServerTurn → Type 0
+  AreLawful role [] = Unit {0}
+  AreLawful role (turn ∷ earlier) = AreLawful role earlier × (AreFair role (turn ∷ earlier) → (law : List Turn) × IsIncarnation role (turn ∷ earlier) law)
+
+  -- a server from its boot on: it says Hello, its turns are lawful, and nothing that it received fences it
+  pub record Serves (role : ServerRole) (at_boot : List Sent) (turns : List ServerTurn) : Type 0 where
+    pub boots : wires_in at_boot ≡ map wire_of (hello (first_of role))
+    pub lawful : AreLawful role turns
+    pub unfenced : AllByRecursion (λ turn. fence_in role turn.received ≡ None) turns

@@ -10,6 +10,7 @@ pub mod LoggerTurns
 pub mod Logging
 pub mod Options
 pub mod Outcome
+pub mod OwnRoles
 pub mod Pair
 pub mod PairParts
 pub mod Ranges

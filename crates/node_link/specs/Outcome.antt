@@ -1,4 +1,4 @@
--- What a process did, by its words, and how that is told.
+-- What a process did, by its words and with any services, and how that is told.
 use Rattle.std.specs.Prelude.{◌≡◌, ◌⊎◌, ℕ, Option, None, Some, Result, Ok, Err, List}
 use Rattle.std.specs.Io.KnownBytes.{Appends}
 use Rattle.ft_io.specs.declared.link_call.LinkCall.{LinkCall}
@@ -9,6 +9,9 @@ use Rattle.node_link.specs.declared.role.Role.{Role}
 use Rattle.node_link.specs.declared.role.Role.TheVariants.{Server, Logger, Client, Pair}
 use Rattle.node_link.specs.declared.status.NodeEnd.{NodeEnd}
 use Rattle.node_link.specs.declared.status.NodeEnd.TheVariants.{Usage, NoMemory}
+use Rattle.server_trait.specs.Service.{Machine}
+use Rattle.ft_model.specs.Legal.{machines}
+use Rattle.sample_servers.specs.AnyService.{any_started, any_after}
 use Rattle.peer_client.specs.declared.live.ClientEnd.TheVariants.{Closed}
 use Rattle.node_link.specs.ClientRuns.{RunsScript, IsEndedBy, ClientStops}
 use Rattle.node_link.specs.Ends.{code_of, text_of}
@@ -29,36 +32,45 @@ pub record Given : Type 0 where
 abbrev pub HasDoneNothing : (before after : Given) → Type 0
 HasDoneNothing before after = (after.left ≡ before.left) × (after.calls ≡ before.calls) × (after.spawned ≡ before.spawned) × (after.out ≡ before.out)
 
--- what a role did. The client alone reads the input, and a pair alone starts children, and calls nothing on the link
-abbrev pub LivesAs : Role → Result (Unit {0}) NodeEnd → (before after : Given) → Type 0
-LivesAs (Server role) (Ok _) before after = (after.left ≡ before.left) × IsServer role before.calls after.calls (Appends before.out after.out)
-LivesAs (Server role) (Err end) before after = (after.left ≡ before.left) × ServerStops role before.calls after.calls before.out after.out end
-LivesAs (Logger role) (Ok _) before after = (after.left ≡ before.left) × IsLogger role before.calls after.calls (Appends before.out after.out)
-LivesAs (Logger role) (Err end) before after = (after.left ≡ before.left) × LoggerStops role before.calls after.calls before.out after.out end
-LivesAs (Client role) (Ok _) before after = RunsScript role before.left after.left before.calls after.calls (Appends before.out after.out) (IsEndedBy Closed)
-LivesAs (Client role) (Err end) before after = ClientStops role before.left after.left before.calls after.calls before.out after.out end
-LivesAs (Pair role) (Ok _) before after =
-    (after.left ≡ before.left) × (after.calls ≡ before.calls) × IsPair (steps_of role) before.started before.spawned after.spawned (Appends before.out after.out)
-LivesAs (Pair role) (Err end) before after =
-    (after.left ≡ before.left) × (after.calls ≡ before.calls) × PairStops role before.started before.spawned after.spawned before.out after.out end
-
--- by the role that the words ask for. Words that aren't allowed are told as such, and memory may be wanting to read them
-abbrev pub Lives : Option Role → Result (Unit {0}) NodeEnd → (before after : Given) → Type 0
-Lives None end before after = ((end ≡ Err Usage) ⊎ (end ≡ Err NoMemory)) × HasDoneNothing before after
-Lives (Some role) end before after = LivesAs role end before after ⊎ ((end ≡ Err NoMemory) × HasDoneNothing before after)
-
 -- the status of an end, and what is written of it to err: the whole line, or a front of it at 5
 abbrev pub IsTold : Result (Unit {0}) NodeEnd → (err_old err_new : Option (List ℕ)) → (code : ℕ) → Type 0
 IsTold (Ok _) err_old err_new code = (code ≡ 0) × (err_new ≡ err_old)
 IsTold (Err end) err_old err_new code =
     ((code ≡ code_of end) × Appends err_old err_new (text_of end)) ⊎ ((code ≡ 5) × AppendsFront err_old err_new (text_of end))
 
--- what was done and what was told agree
-pub record HasEnded (role : Option Role) (before after : Given) (err_old err_new : Option (List ℕ)) (code : ℕ) : Type 0 where
-  pub end : Result (Unit {0}) NodeEnd
-  pub lives : Lives role end before after
-  pub told : IsTold end err_old err_new code
-
 -- a count of faults doesn't rise
 abbrev pub IsStill : ℕ → ℕ → Type 0
 IsStill before after = Rose before after → ⊥
+
+module _ {State : Type 0} (services : ℕ → Machine State) where
+  -- what a role did. The client alone reads the input, and a pair alone starts children, and calls nothing on the link
+  abbrev pub LivesAs : Role → Result (Unit {0}) NodeEnd → (before after : Given) → Type 0
+  LivesAs (Server role) (Ok _) before after = (after.left ≡ before.left) × IsServer services role before.calls after.calls (Appends before.out after.out)
+  LivesAs (Server role) (Err end) before after = (after.left ≡ before.left) × ServerStops services role before.calls after.calls before.out after.out end
+  LivesAs (Logger role) (Ok _) before after = (after.left ≡ before.left) × IsLogger role before.calls after.calls (Appends before.out after.out)
+  LivesAs (Logger role) (Err end) before after = (after.left ≡ before.left) × LoggerStops role before.calls after.calls before.out after.out end
+  LivesAs (Client role) (Ok _) before after = RunsScript role before.left after.left before.calls after.calls (Appends before.out after.out) (IsEndedBy Closed)
+  LivesAs (Client role) (Err end) before after = ClientStops role before.left after.left before.calls after.calls before.out after.out end
+  LivesAs (Pair role) (Ok _) before after =
+      (after.left ≡ before.left) × (after.calls ≡ before.calls) × IsPair (steps_of role) before.started before.spawned after.spawned (Appends before.out after.out)
+  LivesAs (Pair role) (Err end) before after =
+      (after.left ≡ before.left) × (after.calls ≡ before.calls) × PairStops role before.started before.spawned after.spawned before.out after.out end
+
+  -- by the role that the words ask for. Words that aren't allowed are told as such, and memory may be wanting to read them
+  abbrev pub Lives : Option Role → Result (Unit {0}) NodeEnd → (before after : Given) → Type 0
+  Lives None end before after = ((end ≡ Err Usage) ⊎ (end ≡ Err NoMemory)) × HasDoneNothing before after
+  Lives (Some role) end before after = LivesAs role end before after ⊎ ((end ≡ Err NoMemory) × HasDoneNothing before after)
+
+  -- what was done and what was told agree
+  pub record HasEndedWith (role : Option Role) (before after : Given) (err_old err_new : Option (List ℕ)) (code : ℕ) : Type 0 where
+    pub end : Result (Unit {0}) NodeEnd
+    pub lives : Lives role end before after
+    pub told : IsTold end err_old err_new code
+
+-- the same of a program with the four services
+abbrev pub HasEnded : Option Role → (before after : Given) → (err_old err_new : Option (List ℕ)) → (code : ℕ) → Type 0
+HasEnded = HasEndedWith (machines any_started any_after)
+
+-- a process with nothing but a link and a sink
+abbrev pub with_link : (calls : Option (List LinkCall)) → (out : Option (List ℕ)) → Given
+with_link calls out = record { left = None; calls = calls; started = 0; spawned = None; out = out }

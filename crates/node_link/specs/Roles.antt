@@ -51,14 +51,21 @@ isn_in uses = number_at 0 (2 ^ 32 - 1) uses option.Isn
 abbrev pub turns_in : List Use → Option ℕ
 turns_in uses = number_at 1 1000000 uses option.Turns
 
-abbrev pub server_from : Option Addr → Option Addr → Option ServiceKind → Option ℕ → Option ℕ → Option ℕ → Option ServerRole
-server_from (Some local) (Some logger) (Some service) (Some boot) (Some isn) (Some turns) =
+abbrev pub server_from : Option ServiceKind → Option Addr → Option Addr → Option ℕ → Option ℕ → Option ℕ → Option ServerRole
+server_from service (Some local) (Some logger) (Some boot) (Some isn) (Some turns) =
     Some (record { local = local; logger = logger; service = service; boot = boot; isn = isn; turns = turns })
 server_from _ _ _ _ _ _ = None
 
+abbrev pub server_with : List Use → Option ServiceKind → Option ServerRole
+server_with uses service =
+    server_from service (addr_at uses option.Local) (addr_at uses option.Logger) (number_at 1 (2 ^ 64 - 1) uses option.Boot) (isn_in uses) (turns_in uses)
+
 abbrev pub server_in : List Use → Option ServerRole
-server_in uses =
-    server_from (addr_at uses option.Local) (addr_at uses option.Logger) (service_at uses option.Service) (number_at 1 (2 ^ 64 - 1) uses option.Boot) (isn_in uses) (turns_in uses)
+server_in uses = option_and_then (λ service. server_with uses (Some service)) (service_at uses option.Service)
+
+-- a server of a program with a service of its own
+abbrev pub own_server_in : List Use → Option ServerRole
+own_server_in uses = server_with uses None
 
 abbrev pub logger_from : Option Addr → Option ℕ → Option LoggerRole
 logger_from (Some local) (Some turns) = Some (record { local = local; turns = turns })
@@ -91,6 +98,9 @@ pair_in uses =
 abbrev pub server_options : List OptionName
 server_options = option.Local ∷ option.Logger ∷ option.Service ∷ option.Boot ∷ option.Isn ∷ option.Turns ∷ []
 
+abbrev pub own_server_options : List OptionName
+own_server_options = option.Local ∷ option.Logger ∷ option.Boot ∷ option.Isn ∷ option.Turns ∷ []
+
 abbrev pub logger_options : List OptionName
 logger_options = option.Local ∷ option.Turns ∷ []
 
@@ -102,6 +112,9 @@ pair_options = option.Program ∷ option.Base ∷ option.First ∷ option.Second
 
 unfoldable pub server_of : List Text → Option Role
 server_of words = option_map Server (option_and_then server_in (allowed_uses server_options words))
+
+unfoldable pub own_server_of : List Text → Option Role
+own_server_of words = option_map Server (option_and_then own_server_in (allowed_uses own_server_options words))
 
 unfoldable pub logger_of : List Text → Option Role
 logger_of words = option_map Logger (option_and_then logger_in (allowed_uses logger_options words))
@@ -121,6 +134,14 @@ role_of (name ∷ words) =
     else (if bytes_eq name (codes "client") then client_of words
     else (if bytes_eq name (codes "pair") then pair_of words
     else None)))
+
+-- the role that words ask for of a program with a service of its own: a server or a logger
+unfoldable pub own_role_of : List Text → Option Role
+own_role_of [] = None
+own_role_of (name ∷ words) =
+    if bytes_eq name (codes "server") then own_server_of words
+    else (if bytes_eq name (codes "logger") then logger_of words
+    else None)
 
 abbrev pub is_pair : Option Role → Bool
 is_pair (Some (Pair role)) = true

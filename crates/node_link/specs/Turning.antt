@@ -6,9 +6,7 @@ use Rattle.ft_io.specs.Told.{Tells}
 use Rattle.ft_model.specs.Node as law
 use Rattle.ft_model.specs.Lawful.{Turn, node_after, fence, hello, IsNearInput, IsSoundInput}
 use Rattle.ft_model.specs.Wire.{Wire, wire_of}
-use Rattle.ft_model.specs.Schedule.{kind_of}
-use Rattle.sample_servers.specs.AnyService.{any_machine}
-use Rattle.sample_servers.specs.declared.any_service.AnyService.{AnyService}
+use Rattle.server_trait.specs.Service.{Machine}
 use Rattle.server_trait.specs.declared.Service.{Ghosts}
 use Rattle.server_node.specs.declared.identity.Identity.{Identity}
 use Rattle.server_node.specs.declared.input.TurnEnd.{TurnEnd}
@@ -22,14 +20,14 @@ use Rattle.node_link.specs.declared.role.ServerRole.{ServerRole}
 use Rattle.node_link.specs.Counts.{with_calls, counts_of}
 use Rattle.node_link.specs.Received.{Received, received_as}
 use Rattle.node_link.specs.ServerTurns.{Sent, wires_in, sending, ServerTurn, turn_calls, server_calls, input_from}
-use Rattle.node_link.specs.Incarnation.{service_of, first_of, IsIncarnation, AreFair, Serves, fence_in}
+use Rattle.node_link.specs.Incarnation.{kind_in, service_of, first_of, IsIncarnation, AreFair, Serves, fence_in}
 
 -- a node: what it is, and how far
-pub record Standing : Type 0 where
+pub record Standing (State : Type 0) : Type 0 where
   pub who : Identity
-  pub stage : Stage AnyService
+  pub stage : Stage State
 
-unfoldable pub standing_of : {ghosts : Ghosts AnyService} → Node AnyService ghosts → Standing
+unfoldable pub standing_of : {State : Type 0} → {ghosts : Ghosts State} → Node State ghosts → Standing State
 standing_of node = record { who = node.who; stage = node.stage }
 
 -- all of these were handed to send, in order
@@ -40,33 +38,7 @@ pub record HasSent (logger : Addr) (wires : List Wire) (old new : Option (List L
   pub counts_are : counts ≡ with_calls counted (sending logger sent)
 
 abbrev pub identity_of : ServerRole → Identity
-identity_of role = record { boot = role.boot; isn = role.isn; kind = kind_of role.service; local = role.local }
-
--- a boot: it stands where the law's server boots, and its Hello was handed to send
-pub record HasBooted (role : ServerRole) (s : Standing) (old new : Option (List LinkCall)) (counted counts : Counts) : Type 0 where
-  pub at_boot : List Sent
-  pub wires_are : wires_in at_boot ≡ map wire_of (hello (first_of role))
-  pub few : length at_boot ≤ 2 ^ 64
-  pub tells : Tells old new (sending role.logger at_boot)
-  pub counts_are : counts ≡ with_calls counted (sending role.logger at_boot)
-  pub who : s.who ≡ identity_of role
-  pub stands : StageStands (service_of role) (first_of role) s.stage
-
-abbrev pub Goes : Standing → law.Input → Standing → List Wire → Type 0
-Goes before input after wires = (standing : law.Stage) → IsNearInput before.who.local input standing
-    → IsSoundInput (any_machine before.who.kind) (node_of before.who standing) input standing
-    → StageStands (any_machine before.who.kind) (node_of before.who standing) before.stage
-    → NodeGoes (any_machine before.who.kind) (node_of before.who standing) input before.who after.stage wires
-
--- a whole turn
-pub record HasTurned (logger : Addr) (before after : Standing) (old new : Option (List LinkCall)) (counted counts : Counts) : Type 0 where
-  pub turn : ServerTurn
-  pub few : length turn.sent ≤ 2 ^ 64
-  pub tells : Tells old new (turn_calls logger turn)
-  pub counts_are : counts ≡ with_calls counted (turn_calls logger turn)
-  pub who : after.who ≡ before.who
-  pub goes : Goes before (input_from logger turn.received) after (wires_in turn.sent)
-  pub unfenced : (standing : law.Stage) → fence (node_of before.who standing) (input_from logger turn.received) ≡ None
+identity_of role = record { boot = role.boot; isn = role.isn; kind = kind_in role.service; local = role.local }
 
 -- a turn that ended the node: it had received, and nothing was sent
 pub record EndsTurn (logger : Addr) (old new : Option (List LinkCall)) (Ends : law.Input → Type 0) : Type 0 where
@@ -74,49 +46,76 @@ pub record EndsTurn (logger : Addr) (old new : Option (List LinkCall)) (Ends : l
   pub tells : Tells old new (received_as received ∷ [])
   pub ends : Ends (input_from logger received)
 
-abbrev pub TurnStops : Addr → Standing → (old new : Option (List LinkCall)) → TurnEnd → Type 0
+abbrev pub TurnStops : {State : Type 0} → Addr → Standing State → (old new : Option (List LinkCall)) → TurnEnd → Type 0
 TurnStops logger before old new end.NoMemory = EndsTurn logger old new (λ input. (standing : law.Stage) → fence (node_of before.who standing) input ≡ None)
 TurnStops logger before old new (end.Fenced newer) = EndsTurn logger old new (λ input. (standing : law.Stage) → fence (node_of before.who standing) input ≡ Some newer)
 
--- where the node stands after these turns, as long as the premises hold
-pub record Stands (role : ServerRole) (turns : List ServerTurn) (s : Standing) : Type 0 where
-  pub turns_by_law : List Turn
-  pub standing : law.Stage
-  pub incarnation : IsIncarnation role turns turns_by_law
-  pub node : node_after (first_of role) turns_by_law ≡ node_of (identity_of role) standing
-  pub stands : StageStands (service_of role) (node_of (identity_of role) standing) s.stage
+module _ {State : Type 0} (services : ℕ → Machine State) where
+  -- a boot: it stands where the law's server boots, and its Hello was handed to send
+  pub record HasBooted (role : ServerRole) (s : Standing State) (old new : Option (List LinkCall)) (counted counts : Counts) : Type 0 where
+    pub at_boot : List Sent
+    pub wires_are : wires_in at_boot ≡ map wire_of (hello (first_of role))
+    pub few : length at_boot ≤ 2 ^ 64
+    pub tells : Tells old new (sending role.logger at_boot)
+    pub counts_are : counts ≡ with_calls counted (sending role.logger at_boot)
+    pub who : s.who ≡ identity_of role
+    pub stands : StageStands (service_of services role) (first_of role) s.stage
 
--- so many turns were done
-pub record IsServing (role : ServerRole) (count : ℕ) (s : Standing) (old new : Option (List LinkCall)) (counts : Counts) : Type 0 where
-  pub at_boot : List Sent
-  pub turns : List ServerTurn
-  pub count_is : length turns ≡ count
-  pub tells : Tells old new (server_calls role.logger at_boot turns)
-  pub serves : Serves role at_boot turns
-  pub counts_are : counts ≡ counts_of (server_calls role.logger at_boot turns)
-  pub total : length (server_calls role.logger at_boot turns) ≤ (count + 1) * (2 ^ 64 + 1)
-  pub who : s.who ≡ identity_of role
-  pub stands : AreFair role turns → Stands role turns s
+  abbrev pub Goes : Standing State → law.Input → Standing State → List Wire → Type 0
+  Goes before input after wires = (standing : law.Stage) → IsNearInput before.who.local input standing
+      → IsSoundInput (services before.who.kind) (node_of before.who standing) input standing
+      → StageStands (services before.who.kind) (node_of before.who standing) before.stage
+      → NodeGoes (services before.who.kind) (node_of before.who standing) input before.who after.stage wires
 
--- the same, wherever the node stands
-pub record HasServed (role : ServerRole) (old new : Option (List LinkCall)) (counts : Counts) : Type 0 where
-  pub at_boot : List Sent
-  pub turns : List ServerTurn
-  pub count_is : length turns ≡ role.turns
-  pub tells : Tells old new (server_calls role.logger at_boot turns)
-  pub serves : Serves role at_boot turns
-  pub counts_are : counts ≡ counts_of (server_calls role.logger at_boot turns)
+  -- a whole turn
+  pub record HasTurned (logger : Addr) (before after : Standing State) (old new : Option (List LinkCall)) (counted counts : Counts) : Type 0 where
+    pub turn : ServerTurn
+    pub few : length turn.sent ≤ 2 ^ 64
+    pub tells : Tells old new (turn_calls logger turn)
+    pub counts_are : counts ≡ with_calls counted (turn_calls logger turn)
+    pub who : after.who ≡ before.who
+    pub goes : Goes before (input_from logger turn.received) after (wires_in turn.sent)
+    pub unfenced : (standing : law.Stage) → fence (node_of before.who standing) (input_from logger turn.received) ≡ None
 
--- fewer turns were done, and another receive ended the server
-pub record IsCutServing (role : ServerRole) (old new : Option (List LinkCall)) (Ends : Received → Type 0) : Type 0 where
-  pub at_boot : List Sent
-  pub turns : List ServerTurn
-  pub last : Received
-  pub within : length turns < role.turns
-  pub tells : Tells old new (server_calls role.logger at_boot turns ++ received_as last ∷ [])
-  pub serves : Serves role at_boot turns
-  pub ends : Ends last
+  -- where the node stands after these turns, as long as the premises hold
+  pub record Stands (role : ServerRole) (turns : List ServerTurn) (s : Standing State) : Type 0 where
+    pub turns_by_law : List Turn
+    pub standing : law.Stage
+    pub incarnation : IsIncarnation services role turns turns_by_law
+    pub node : node_after (first_of role) turns_by_law ≡ node_of (identity_of role) standing
+    pub stands : StageStands (service_of services role) (node_of (identity_of role) standing) s.stage
 
-abbrev pub ServeStops : ServerRole → (old new : Option (List LinkCall)) → TurnEnd → Type 0
-ServeStops role old new end.NoMemory = (new ≡ old) ⊎ IsCutServing role old new (λ last. fence_in role last ≡ None)
-ServeStops role old new (end.Fenced newer) = IsCutServing role old new (λ last. fence_in role last ≡ Some newer)
+  -- so many turns were done
+  pub record IsServing (role : ServerRole) (count : ℕ) (s : Standing State) (old new : Option (List LinkCall)) (counts : Counts) : Type 0 where
+    pub at_boot : List Sent
+    pub turns : List ServerTurn
+    pub count_is : length turns ≡ count
+    pub tells : Tells old new (server_calls role.logger at_boot turns)
+    pub serves : Serves services role at_boot turns
+    pub counts_are : counts ≡ counts_of (server_calls role.logger at_boot turns)
+    pub total : length (server_calls role.logger at_boot turns) ≤ (count + 1) * (2 ^ 64 + 1)
+    pub who : s.who ≡ identity_of role
+    pub stands : AreFair services role turns → Stands role turns s
+
+  -- the same, wherever the node stands
+  pub record HasServed (role : ServerRole) (old new : Option (List LinkCall)) (counts : Counts) : Type 0 where
+    pub at_boot : List Sent
+    pub turns : List ServerTurn
+    pub count_is : length turns ≡ role.turns
+    pub tells : Tells old new (server_calls role.logger at_boot turns)
+    pub serves : Serves services role at_boot turns
+    pub counts_are : counts ≡ counts_of (server_calls role.logger at_boot turns)
+
+  -- fewer turns were done, and another receive ended the server
+  pub record IsCutServing (role : ServerRole) (old new : Option (List LinkCall)) (Ends : Received → Type 0) : Type 0 where
+    pub at_boot : List Sent
+    pub turns : List ServerTurn
+    pub last : Received
+    pub within : length turns < role.turns
+    pub tells : Tells old new (server_calls role.logger at_boot turns ++ received_as last ∷ [])
+    pub serves : Serves services role at_boot turns
+    pub ends : Ends last
+
+  abbrev pub ServeStops : ServerRole → (old new : Option (List LinkCall)) → TurnEnd → Type 0
+  ServeStops role old new end.NoMemory = (new ≡ old) ⊎ IsCutServing role old new (λ last. fence_in role last ≡ None)
+  ServeStops role old new (end.Fenced newer) = IsCutServing role old new (λ last. fence_in role last ≡ Some newer)

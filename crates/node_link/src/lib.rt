@@ -1,12 +1,13 @@
 //! `node`: the top call of `ftnode`. By its words it is a server, a logger or a client of FT-TCP (INFOCOM 2001), over a network of datagrams,
-//! or it starts a pair of servers with a logger and a client, each a program of its own.
+//! or it starts a pair of servers with a logger and a client, each a program of its own. `node_of` is the same for a service of one's own, as a server or
+//! its logger.
 #![tactic(auto)]
 
 pub use counts::Counts;
 pub use program::Program;
 pub use role::{ClientRole, LoggerRole, PairRole, Role, ServerRole, read_role};
 pub use status::{NodeEnd, Status};
-pub use top::node;
+pub use top::{node, node_of};
 
 mod client;
 mod counts;

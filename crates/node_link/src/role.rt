@@ -1,11 +1,15 @@
 //! What the words ask for: a role, and the values of its options.
 
-ghost use Rattle.std.specs.Prelude.{◌≡◌, ◌≤◌, List, map, string_bytes, IfOk, IfSome};
+ghost use Rattle.std.specs.Prelude.{◌≡◌, ◌≤◌, List, map, string_bytes, option_map, IfOk, IfSome};
+ghost use Rattle.node_link.specs.declared.role.Role.TheVariants as roles;
+ghost use Rattle.node_link.specs.Incarnation.{kind_in};
 ghost use Rattle.node_link.specs.Options.{Use, HasValues};
 ghost use Rattle.node_link.specs.Ranges.{ServerInRange, IsShort, ClientInRange, InRange};
 ghost use Rattle.node_link.specs.Roles.{addr_at as addr_lem, number_at as number_lem, service_at as service_lem, script_at as script_lem};
 ghost use Rattle.node_link.specs.Roles.{program_at as program_lem};
-ghost use Rattle.node_link.specs.Roles.{server_in, logger_in, client_in, pair_in, server_of, logger_of, client_of, pair_of, role_of};
+ghost use Rattle.node_link.specs.Roles.{server_with as server_lem, server_in, own_server_in, logger_in, client_in, pair_in};
+ghost use Rattle.node_link.specs.Roles.{server_of, own_server_of, logger_of, client_of, pair_of, role_of, own_role_of};
+ghost use Rattle.node_link.specs.OwnRoles.{as_role};
 
 use crate::options::{OptionName, read_options};
 use crate::program::Program;
@@ -19,6 +23,14 @@ const SERVER_OPTIONS: [OptionName; 6] = [
     OptionName::Local,
     OptionName::Logger,
     OptionName::Service,
+    OptionName::Boot,
+    OptionName::Isn,
+    OptionName::Turns,
+];
+
+const OWN_SERVER_OPTIONS: [OptionName; 5] = [
+    OptionName::Local,
+    OptionName::Logger,
     OptionName::Boot,
     OptionName::Isn,
     OptionName::Turns,
@@ -53,7 +65,8 @@ const TURN_LIMIT: u64 = 1_000_000;
 pub struct ServerRole {
     pub local: Addr,
     pub logger: Addr,
-    pub service: ServiceKind,
+    /// One of the four, or none where the program has a service of its own.
+    pub service: Option<ServiceKind>,
     /// At least 1.
     pub boot: u64,
     /// From which its connections' initial numbers are made.
@@ -98,6 +111,18 @@ pub struct PairRole {
     pub turns: u32,
 }
 
+impl ServerRole {
+    /// The number by which the service is told its kind: that of the four, or 0.
+    pub(crate) fn kind(&self) -> u8
+        ensures { result ≡ kind_in self.now.service }
+    {
+        match self.service {
+            Some(service) => service.number(),
+            None => 0,
+        }
+    }
+}
+
 /// What one process is to be.
 #[derive(Debug, Drop)]
 pub enum Role {
@@ -105,6 +130,13 @@ pub enum Role {
     Logger(LoggerRole),
     Client(ClientRole),
     Pair(PairRole),
+}
+
+/// What one process of a program with a service of its own is to be.
+#[derive(Clone, Copy, Debug)]
+pub(crate) enum OwnRole {
+    Server(ServerRole),
+    Logger(LoggerRole),
 }
 
 fn addr_at(matches: &ArgMatches<'_>, option: OptionName) -> Option<Addr>
@@ -158,18 +190,26 @@ fn program_at(
     }
 }
 
-fn server_role(matches: &ArgMatches<'_>) -> Option<ServerRole>
+fn server_with(matches: &ArgMatches<'_>, service: Option<ServiceKind>) -> Option<ServerRole>
     ensures range { IfSome result (λ role. ServerInRange role) }
-    ensures value { (uses : List Use) → HasValues uses matches.now → result ≡ server_in uses }
+    ensures value { (uses : List Use) → HasValues uses matches.now → result ≡ server_lem uses service }
 {
     Some(ServerRole {
         local: addr_at(matches, OptionName::Local)?,
         logger: addr_at(matches, OptionName::Logger)?,
-        service: service_at(matches, OptionName::Service)?,
+        service,
         boot: number_at(matches, OptionName::Boot, 1, u64::MAX)?,
         isn: number_at(matches, OptionName::Isn, 0, u64::from(u32::MAX))? as u32,
         turns: number_at(matches, OptionName::Turns, 1, TURN_LIMIT)? as u32,
     })
+}
+
+fn server_role(matches: &ArgMatches<'_>) -> Option<ServerRole>
+    ensures range { IfSome result (λ role. ServerInRange role) }
+    ensures value { (uses : List Use) → HasValues uses matches.now → result ≡ server_in uses }
+{
+    let service = service_at(matches, OptionName::Service)?;
+    server_with(matches, Some(service))
 }
 
 fn logger_role(matches: &ArgMatches<'_>) -> Option<LoggerRole>
@@ -236,15 +276,26 @@ fn read_server(alloc: Global, words: &[String]) -> Result<Option<Role>, NoMemory
     Ok(server_role(&matches).map(Role::Server))
 }
 
-#[tactic(auto, unfolding(crate::specs::Roles::logger_of))]
-fn read_logger(alloc: Global, words: &[String]) -> Result<Option<Role>, NoMemory>
-    ensures role { IfOk result (λ role. role ≡ logger_of (map string_bytes words.now)) }
-    ensures range { IfOk result (λ role. IfSome role InRange) }
+#[tactic(auto, unfolding(crate::specs::Roles::own_server_of))]
+fn read_own_server(alloc: Global, words: &[String]) -> Result<Option<ServerRole>, NoMemory>
+    ensures role { IfOk result (λ role. option_map roles.Server role ≡ own_server_of (map string_bytes words.now)) }
+    ensures range { IfOk result (λ role. IfSome role ServerInRange) }
 {
-    let Some(matches) = read_options(alloc, &LOGGER_OPTIONS, words)? else {
-        return Ok(None);
-    };
-    Ok(logger_role(&matches).map(Role::Logger))
+    match read_options(alloc, &OWN_SERVER_OPTIONS, words)? {
+        Some(matches) => Ok(server_with(&matches, None)),
+        None => Ok(None),
+    }
+}
+
+#[tactic(auto, unfolding(crate::specs::Roles::logger_of))]
+fn read_logger(alloc: Global, words: &[String]) -> Result<Option<LoggerRole>, NoMemory>
+    ensures role { IfOk result (λ role. option_map roles.Logger role ≡ logger_of (map string_bytes words.now)) }
+    ensures range { IfOk result (λ role. IfSome role (λ r. r.turns ≤ 1000000)) }
+{
+    match read_options(alloc, &LOGGER_OPTIONS, words)? {
+        Some(matches) => Ok(logger_role(&matches)),
+        None => Ok(None),
+    }
 }
 
 #[tactic(auto, unfolding(crate::specs::Roles::client_of))]
@@ -287,9 +338,31 @@ pub fn read_role(alloc: Global, words: &[String]) -> Result<Option<Role>, NoMemo
     };
     match name.as_str() {
         "server" => read_server(alloc, words),
-        "logger" => read_logger(alloc, words),
+        "logger" => Ok(read_logger(alloc, words)?.map(Role::Logger)),
         "client" => read_client(alloc, words),
         "pair" => read_pair(alloc, words),
+        _ => Ok(None),
+    }
+}
+
+/// Reads the role of a program with a service of its own: the words of a server but for `--service`, or those of a logger.
+#[tactic(auto, unfolding(crate::specs::Roles::own_role_of))]
+pub(crate) fn read_own_role(alloc: Global, words: &[String]) -> Result<Option<OwnRole>, NoMemory>
+    ensures role { IfOk result (λ role. option_map as_role role ≡ own_role_of (map string_bytes words.now)) }
+    ensures range { IfOk result (λ role. IfSome role (λ r. InRange (as_role r))) }
+{
+    let Some((name, words)) = words.split_first() else {
+        return Ok(None);
+    };
+    match name.as_str() {
+        "server" => match read_own_server(alloc, words)? {
+            Some(role) => Ok(Some(OwnRole::Server(role))),
+            None => Ok(None),
+        },
+        "logger" => match read_logger(alloc, words)? {
+            Some(role) => Ok(Some(OwnRole::Logger(role))),
+            None => Ok(None),
+        },
         _ => Ok(None),
     }
 }

@@ -8,7 +8,7 @@ ghost use Rattle.ft_io.specs.Faults.{Rose};
 ghost use Rattle.ft_io.specs.Told.{Tells};
 ghost use Rattle.ft_io.specs.declared.link_call.LinkCall.{LinkCall};
 ghost use Rattle.ft_io.specs.declared.link_call.LinkCall.TheVariants.{Bound};
-ghost use Rattle.ft_model.specs.Schedule.{kind_of as kind_lem};
+ghost use Rattle.ft_model.specs.Legal.{machines};
 ghost use Rattle.server_node.specs.Inputs.{input_of as input_lem};
 ghost use Rattle.server_node.specs.Sending.{party_of};
 ghost use Rattle.node_link.specs.Counts.{HasRoom};
@@ -23,22 +23,9 @@ use crate::receiving::{DATAGRAM_ROOM, receive};
 use crate::role::ServerRole;
 use crate::status::NodeEnd;
 use ft_io::{Addr, Failed, Link, NoMemory, Sink};
-use ft_model::ServiceKind;
-use sample_servers::AnyService;
 use server_node::{Input, Node, OutPacket, To, TurnEnd};
+use server_trait::Service;
 use std::alloc::Global;
-
-/// The number by which the services know a kind.
-fn kind_of(service: ServiceKind) -> u8
-    ensures { result ≡ kind_lem service }
-{
-    match service {
-        ServiceKind::Echo => 1,
-        ServiceKind::Line => 2,
-        ServiceKind::Transfer => 3,
-        ServiceKind::Meter => 4,
-    }
-}
 
 /// Where a packet goes: to its client's own address, or to the logger's.
 fn address_of(logger: Addr, to: To) -> Addr
@@ -84,15 +71,15 @@ fn input_of<'a>(logger: Addr, came: Option<(usize, Addr)>, buffer: &'a [u8]) -> 
 }
 
 /// One turn: a receive, and all that the node sends at what came.
-fn take_turn<L: Link>(
+fn take_turn<S: Service, L: Link>(
     alloc: Global,
     logger: Addr,
-    node: &mut Node<AnyService>,
+    node: &mut Node<S>,
     link: &mut L,
     counts: &mut Counts,
 ) -> Result<(), TurnEnd>
     requires { HasRoom (2 ^ 64) counts.old }
-    ensures turned { OnOk result (HasTurned logger (standing_of node.old) (standing_of node.new) (L.told link.old) (L.told link.new) counts.old counts.new) }
+    ensures turned { OnOk result (HasTurned (machines S.started S.after) logger (standing_of node.old) (standing_of node.new) (L.told link.old) (L.told link.new) counts.old counts.new) }
     ensures stops { IfErr result (TurnStops logger (standing_of node.old) (L.told link.old) (L.told link.new)) }
 {
     let mut buffer = [0; DATAGRAM_ROOM];
@@ -103,36 +90,34 @@ fn take_turn<L: Link>(
 }
 
 /// Boots, and sends what the boot sends.
-fn boot<L: Link>(
+fn boot<S: Service, L: Link>(
     alloc: Global,
     role: &ServerRole,
     link: &mut L,
     counts: &mut Counts,
-) -> Result<Node<AnyService>, NoMemory>
+) -> Result<Node<S>, NoMemory>
     requires range { ServerInRange role.now }
     requires room { HasRoom (2 ^ 64) counts.old }
-    ensures booted { IfOk result (λ node. HasBooted role.now (standing_of node) (L.told link.old) (L.told link.new) counts.old counts.new) }
+    ensures booted { IfOk result (λ node. HasBooted (machines S.started S.after) role.now (standing_of node) (L.told link.old) (L.told link.new) counts.old counts.new) }
     ensures lost { OnErr result (L.told link.new ≡ L.told link.old) }
 {
-    let node = Node::boot(
-        alloc,
-        role.boot,
-        role.isn,
-        kind_of(role.service),
-        role.local,
-    )?;
+    let node = Node::boot(alloc, role.boot, role.isn, role.kind(), role.local)?;
     send_all(link, role.logger, node.sent(), counts);
     Ok(node)
 }
 
 /// So many turns, and their calls counted.
-fn serve<L: Link>(alloc: Global, role: &ServerRole, link: &mut L) -> Result<Counts, TurnEnd>
+fn serve<S: Service, L: Link>(
+    alloc: Global,
+    role: &ServerRole,
+    link: &mut L,
+) -> Result<Counts, TurnEnd>
     requires { ServerInRange role.now }
-    ensures served { IfOk result (λ counts. HasServed role.now (L.told link.old) (L.told link.new) counts) }
-    ensures stops { IfErr result (ServeStops role.now (L.told link.old) (L.told link.new)) }
+    ensures served { IfOk result (λ counts. HasServed (machines S.started S.after) role.now (L.told link.old) (L.told link.new) counts) }
+    ensures stops { IfErr result (ServeStops (machines S.started S.after) role.now (L.told link.old) (L.told link.new)) }
 {
     let mut counts = Counts::new();
-    let mut node = boot(alloc, role, link, &mut counts)?;
+    let mut node = boot::<S, L>(alloc, role, link, &mut counts)?;
     for _turn in 0..role.turns {
         take_turn(alloc, role.logger, &mut node, link, &mut counts)?;
     }
@@ -140,7 +125,7 @@ fn serve<L: Link>(alloc: Global, role: &ServerRole, link: &mut L) -> Result<Coun
 }
 
 /// A server behind its bind: its turns, and the line that it ends with.
-fn serve_and_tell<L: Link, O: Sink>(
+fn serve_and_tell<S: Service, L: Link, O: Sink>(
     alloc: Global,
     role: &ServerRole,
     link: &mut L,
@@ -148,13 +133,13 @@ fn serve_and_tell<L: Link, O: Sink>(
 ) -> Result<(), NodeEnd>
     requires { ServerInRange role.now }
     ensures done { OnOk result ((before : Option (List LinkCall)) → Tells before (L.told link.old) (Bound role.now.local ∷ [])
-        → IsServer role.now before (L.told link.new) (Appends (O.taken out.old) (O.taken out.new))) }
+        → IsServer (machines S.started S.after) role.now before (L.told link.new) (Appends (O.taken out.old) (O.taken out.new))) }
     ensures stops { IfErr result (λ end. (before : Option (List LinkCall)) → Tells before (L.told link.old) (Bound role.now.local ∷ [])
-        → ServerStops role.now before (L.told link.new) (O.taken out.old) (O.taken out.new) end) }
+        → ServerStops (machines S.started S.after) role.now before (L.told link.new) (O.taken out.old) (O.taken out.new) end) }
     ensures write_cause { IsErrOf result NodeEnd.WriteFault → Rose (O.fault_count out.old) (O.fault_count out.new) }
     ensures bound { IsErrOf result NodeEnd.LinkFault → ⊥ }
 {
-    match serve(alloc, role, link) {
+    match serve::<S, L>(alloc, role, link) {
         Err(TurnEnd::NoMemory) => Err(NodeEnd::NoMemory),
         Err(TurnEnd::Fenced { newer }) => Err(NodeEnd::Fenced { newer }),
         Ok(counts) => tell_counts(alloc, &counts, out),
@@ -162,20 +147,20 @@ fn serve_and_tell<L: Link, O: Sink>(
 }
 
 /// A server: it binds, boots, does its turns, and tells the counts of their calls.
-pub(crate) fn run_server<L: Link, O: Sink>(
+pub(crate) fn run_server<S: Service, L: Link, O: Sink>(
     alloc: Global,
     role: &ServerRole,
     link: &mut L,
     out: &mut O,
 ) -> Result<(), NodeEnd>
     requires { ServerInRange role.now }
-    ensures done { OnOk result (IsServer role.now (L.told link.old) (L.told link.new) (Appends (O.taken out.old) (O.taken out.new))) }
-    ensures stops { IfErr result (ServerStops role.now (L.told link.old) (L.told link.new) (O.taken out.old) (O.taken out.new)) }
+    ensures done { OnOk result (IsServer (machines S.started S.after) role.now (L.told link.old) (L.told link.new) (Appends (O.taken out.old) (O.taken out.new))) }
+    ensures stops { IfErr result (ServerStops (machines S.started S.after) role.now (L.told link.old) (L.told link.new) (O.taken out.old) (O.taken out.new)) }
     ensures bind_cause { IsErrOf result NodeEnd.LinkFault → Rose (L.bind_fault_count link.old) (L.bind_fault_count link.new) }
     ensures write_cause { IsErrOf result NodeEnd.WriteFault → Rose (O.fault_count out.old) (O.fault_count out.new) }
 {
     match link.bind(role.local) {
         Err(Failed) => Err(NodeEnd::LinkFault),
-        Ok(()) => serve_and_tell(alloc, role, link, out),
+        Ok(()) => serve_and_tell::<S, L, O>(alloc, role, link, out),
     }
 }

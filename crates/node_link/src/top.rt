@@ -7,17 +7,21 @@ ghost use Rattle.node_link.specs.declared.role.ClientRole.{ClientRole};
 ghost use Rattle.node_link.specs.declared.role.LoggerRole.{LoggerRole};
 ghost use Rattle.node_link.specs.declared.role.PairRole.{PairRole};
 ghost use Rattle.node_link.specs.declared.role.Role.TheVariants as roles;
-ghost use Rattle.node_link.specs.Outcome.{Lives, HasEnded, IsStill};
-ghost use Rattle.node_link.specs.Roles.{role_of, is_pair};
+ghost use Rattle.ft_model.specs.Legal.{machines};
+ghost use Rattle.sample_servers.specs.AnyService.{any_started, any_after};
+ghost use Rattle.node_link.specs.Outcome.{Lives, HasEndedWith, HasEnded, with_link, IsStill};
+ghost use Rattle.node_link.specs.Roles.{role_of, own_role_of, is_pair};
 
 use crate::client::run_client;
 use crate::logger::run_logger;
 use crate::pair::run_pair;
-use crate::role::{Role, read_role};
+use crate::role::{OwnRole, Role, read_own_role, read_role};
 use crate::server::run_server;
 use crate::status::{NodeEnd, Status};
 use crate::telling::tell;
 use ft_io::{Link, Sink, Source, Spawner};
+use sample_servers::AnyService;
+use server_trait::Service;
 use std::alloc::Global;
 
 /// Does what the words ask for.
@@ -29,7 +33,7 @@ fn run<L: Link, I: Source, O: Sink, P: Spawner>(
     out: &mut O,
     kids: &mut P,
 ) -> Result<(), NodeEnd>
-    ensures lives { Lives (role_of (map string_bytes words.now)) result
+    ensures lives { Lives (machines any_started any_after) (role_of (map string_bytes words.now)) result
         (record { left = I.left input.old; calls = L.told link.old; started = P.started kids.old; spawned = P.told kids.old; out = O.taken out.old })
         (record { left = I.left input.new; calls = L.told link.new; started = P.started kids.new; spawned = P.told kids.new; out = O.taken out.new }) }
     ensures same_kids { is_pair (role_of (map string_bytes words.now)) ≡ false → kids.new ≡ kids.old }
@@ -40,7 +44,7 @@ fn run<L: Link, I: Source, O: Sink, P: Spawner>(
 {
     match read_role(alloc, words)? {
         None => Err(NodeEnd::Usage),
-        Some(Role::Server(role)) => run_server(alloc, &role, link, out),
+        Some(Role::Server(role)) => run_server::<AnyService, L, O>(alloc, &role, link, out),
         Some(Role::Logger(role)) => run_logger(alloc, &role, link, out),
         Some(Role::Client(role)) => run_client(alloc, &role, link, input, out),
         Some(Role::Pair(role)) => run_pair(alloc, &role, kids, out),
@@ -92,6 +96,56 @@ pub fn node<L: Link, I: Source, O: Sink, E: Sink, P: Spawner>(
         → IsStill (E.fault_count err.old) (E.fault_count err.new) → (result.code ≡ 0) ⊎ (result.code ≡ 3) }
 {
     match run(alloc, words, link, input, out, kids) {
+        Ok(()) => Status { code: 0 },
+        Err(end) => tell(err, end),
+    }
+}
+
+/// Does what the words ask for of a program with this service.
+fn run_own<S: Service, L: Link, O: Sink>(
+    alloc: Global,
+    words: &[String],
+    link: &mut L,
+    out: &mut O,
+) -> Result<(), NodeEnd>
+    ensures lives { Lives (machines S.started S.after) (own_role_of (map string_bytes words.now)) result
+        (with_link (L.told link.old) (O.taken out.old)) (with_link (L.told link.new) (O.taken out.new)) }
+    ensures bind_cause { IsErrOf result NodeEnd.LinkFault → Rose (L.bind_fault_count link.old) (L.bind_fault_count link.new) }
+    ensures write_cause { IsErrOf result NodeEnd.WriteFault → Rose (O.fault_count out.old) (O.fault_count out.new) }
+{
+    match read_own_role(alloc, words)? {
+        None => Err(NodeEnd::Usage),
+        Some(OwnRole::Server(role)) => run_server::<S, L, O>(alloc, &role, link, out),
+        Some(OwnRole::Logger(role)) => run_logger(alloc, &role, link, out),
+    }
+}
+
+/// A server with a service of one's own, or its logger, over the link. The words are those of a server or a logger of [`node`], without `--service`: the
+/// service is `S`, whose kind is 0. What ended it early stands in `err`. The status is 0 where all turns were done, 2 where the words aren't allowed, 3 for
+/// want of memory, 4 where the bind failed, 5 for a fault of a sink, and 6 where a newer server fenced this one.
+pub fn node_of<S: Service, L: Link, O: Sink, E: Sink>(
+    alloc: Global,
+    words: &[String],
+    link: &mut L,
+    out: &mut O,
+    err: &mut E,
+) -> Status
+    // What was called on the link and written to out by the role of the words, and what was written to err of the end.
+    ensures ended { HasEndedWith (machines S.started S.after) (own_role_of (map string_bytes words.now))
+        (with_link (L.told link.old) (O.taken out.old)) (with_link (L.told link.new) (O.taken out.new)) (E.taken err.old) (E.taken err.new) result.code }
+
+    ensures link_fault { result.code ≡ 4 → Rose (L.bind_fault_count link.old) (L.bind_fault_count link.new) }
+    ensures write_fault { result.code ≡ 5 → Rose (O.fault_count out.old) (O.fault_count out.new) ⊎ Rose (E.fault_count err.old) (E.fault_count err.new) }
+
+    // Where the words are allowed, the bind succeeded and no sink failed, only a fence or want of memory ends a role early.
+    ensures server { (role : ServerRole) → own_role_of (map string_bytes words.now) ≡ Some (roles.Server role)
+        → IsStill (L.bind_fault_count link.old) (L.bind_fault_count link.new) → IsStill (O.fault_count out.old) (O.fault_count out.new)
+        → IsStill (E.fault_count err.old) (E.fault_count err.new) → (result.code ≡ 0) ⊎ ((result.code ≡ 6) ⊎ (result.code ≡ 3)) }
+    ensures logger { (role : LoggerRole) → own_role_of (map string_bytes words.now) ≡ Some (roles.Logger role)
+        → IsStill (L.bind_fault_count link.old) (L.bind_fault_count link.new) → IsStill (O.fault_count out.old) (O.fault_count out.new)
+        → IsStill (E.fault_count err.old) (E.fault_count err.new) → (result.code ≡ 0) ⊎ (result.code ≡ 3) }
+{
+    match run_own::<S, L, O>(alloc, words, link, out) {
         Ok(()) => Status { code: 0 },
         Err(end) => tell(err, end),
     }

@@ -2,8 +2,8 @@
 use Rattle.std.proofs.Common.{◌≡◌, ◌∙◌, refl, sym, ap, ℕ, ◌==◌, Bool, true, false, List, [], ◌∷◌, ◌++◌, length, take, drop, take-append-drop, append_assoc}
 use Rattle.server_trait.specs.Service.{Run, fold_from, cut, reference}
 use Rattle.ft_model.specs.Growth.{IsPrefix}
-use Rattle.own_service.specs.declared.counter.Counter.{Counter}
-use Rattle.own_service.specs.Counter.{counted, answer, count_after, answers, counter_machine}
+use Rattle.counter_service.specs.declared.counter.Counter.{Counter}
+use Rattle.counter_service.specs.Counter.{counted, answer, count_after, answers, counter_machine}
 
 answers_append : (count : ℕ) (xs ys : List ℕ) → answers count (xs ++ ys) ≡ answers count xs ++ answers (count_after count xs) ys
 answers_append count [] ys = refl

@@ -14,8 +14,8 @@ use Rattle.ft_model.specs.Schedule.{kind_of}
 use Rattle.ft_model.specs.World.{World, Moment, Joint, world_after}
 use Rattle.ft_model.specs.declared.event.Event.{Event}
 use Rattle.ft_model.specs.declared.schedule.Schedule.{Schedule}
-use Rattle.own_service.specs.declared.counter.Counter.{Counter}
-use Rattle.own_service.specs.Counter.{counter_started, counter_after, answers, counter_machine}
+use Rattle.counter_service.specs.declared.counter.Counter.{Counter}
+use Rattle.counter_service.specs.Counter.{counter_started, counter_after, answers, counter_machine}
 use Rattle.own_service.specs.Seen.{SeesAnswers, IsPlayed}
 use Rattle.own_service.proofs.Fronts.{front, longer}
 

@@ -1,3 +1,1 @@
-pub mod Counter
-pub mod Laws
 pub mod Seen

@@ -8,8 +8,8 @@ use Rattle.ft_model.specs.declared.event.Event.{Event}
 use Rattle.ft_model.specs.declared.schedule.Schedule.{Schedule}
 use Rattle.net_schedule.specs.Standing.{Kept}
 use Rattle.net_schedule.specs.Stepping.{StandsAfter}
-use Rattle.own_service.specs.declared.counter.Counter.{Counter}
-use Rattle.own_service.specs.Counter.{counter_started, counter_after, answers}
+use Rattle.counter_service.specs.declared.counter.Counter.{Counter}
+use Rattle.counter_service.specs.Counter.{counter_started, counter_after, answers}
 
 -- a client has accepted a front of the answers to its script
 abbrev pub SeesAnswers : Client → Type 0

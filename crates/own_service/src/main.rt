@@ -7,9 +7,9 @@ ghost use Rattle.std.specs.List.{AllByRecursion};
 ghost use Rattle.ft_model.specs.Playable.{IsPlayable};
 ghost use Rattle.net_schedule.specs.Keeping.{kept};
 ghost use Rattle.own_service.specs.Seen.{IsPlayed, SeesAnswers};
-ghost use Rattle.own_service.specs.Counter.{answers};
+ghost use Rattle.counter_service.specs.Counter.{answers};
 
-use counter::Counter;
+use counter_service::Counter;
 use ft_io::{NoMemory, ReadSource, read_to_limit};
 use ft_model::Script;
 use ft_model::grammar::{accepted_schedules_can_be_played, accepted_schedules_keep_the_limits};
@@ -19,8 +19,6 @@ use schedule_text::{Schedule, read_schedule};
 use server_trait::{CHUNK_LIMIT, Service};
 use std::alloc::Global;
 use std::{io, str};
-
-mod counter;
 
 /// The most bytes of a schedule that is read.
 const TEXT_LIMIT: usize = 1 << 20;

@@ -1,5 +1,5 @@
 use Rattle.std.proofs.Common.{◌≡◌, ◌++◌, length}
-use Rattle.own_service.specs.Counter.{answers}
+use Rattle.counter_service.specs.Counter.{answers}
 use Rattle.own_service.proofs.unfailing.Given as goal
 
 -- what is answered, and the answers to what is left, are the answers to all

@@ -1,6 +1,7 @@
+use Rattle.ft_model.specs.Legal.{machines}
 use Rattle.node_link.specs.Turning.{IsServing, standing_of}
 use Rattle.node_link.proofs.server.serve.Given as goal
 
 -- so many turns are done
 abbrev pub invariant-loop-turn : goal.invariant-loop-turn
-invariant-loop-turn g l = IsServing l.role l._turn (standing_of l.node) (g.L.Link.told l.fn.link) (g.L.Link.told l.link) l.counts
+invariant-loop-turn g l = IsServing (machines g.S.Service.started g.S.Service.after) l.role l._turn (standing_of l.node) (g.L.Link.told l.fn.link) (g.L.Link.told l.link) l.counts

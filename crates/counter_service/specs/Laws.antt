@@ -6,8 +6,8 @@ use Rattle.std.proofs.lemmas.Str.{IsAscii-append}
 use Rattle.std.proofs.lemmas.List.Elements.{All-from_get_or, recursion_from_All}
 use Rattle.server_trait.specs.Service.{AreBytes, WritesBytes}
 use Rattle.sample_servers.specs.WrittenBytes.{Anything, bytes_fold}
-use Rattle.own_service.specs.declared.counter.Counter.{Counter}
-use Rattle.own_service.specs.Counter.{counted, answer, answers, counter_after, counter_machine}
+use Rattle.counter_service.specs.declared.counter.Counter.{Counter}
+use Rattle.counter_service.specs.Counter.{counted, answer, answers, counter_after, counter_machine}
 
 -- a byte is answered by at most 20 digits and a line feed
 length-answer-le : (count byte : ℕ) → length (answer (counted count) byte) ≤ 21

@@ -1,7 +1,7 @@
 //! Counter, a service of one's own. Its state is a number, which a crash loses and the log brings back.
 
 ghost use Rattle.std.specs.Prelude.{◌≡◌, ℕ, ◌^◌, ◌≤◌, List, [], ◌++◌, length, true, OnOk};
-ghost use Rattle.own_service.specs.Counter.{counted, answer};
+ghost use Rattle.counter_service.specs.Counter.{counted, answer};
 
 use ft_io::NoMemory;
 use itoa::Buffer;
@@ -33,8 +33,8 @@ impl Counter {
 
 impl Service for Counter {
     ghost use Rattle.std.proofs.Common.{rules};
-    ghost use Rattle.own_service.specs.Counter.{counter_started, counter_after};
-    ghost use Rattle.own_service.specs.Laws.{length-counter_after-le, bytes-counter};
+    ghost use Rattle.counter_service.specs.Counter.{counter_started, counter_after};
+    ghost use Rattle.counter_service.specs.Laws.{length-counter_after-le, bytes-counter};
 
     ghost started = { λ _. counter_started };
 

@@ -1,7 +1,7 @@
 -- Counter: the bytes of the input are counted, and each line feed is answered by the count. The empty chunk closes.
 use Rattle.std.specs.Prelude.{ℕ, ◌+◌, ◌-◌, ◌^◌, min, List, [], ◌∷◌, ◌++◌, length, decimal, codes, ◌==◌, if◌then◌else◌}
 use Rattle.server_trait.specs.Service.{Served, Machine, machine}
-use Rattle.own_service.specs.declared.counter.Counter.{Counter}
+use Rattle.counter_service.specs.declared.counter.Counter.{Counter}
 
 -- nothing is counted yet
 abbrev pub counter_started : Counter

@@ -1,6 +1,6 @@
 use Rattle.std.proofs.Common.{◌≡◌, ◌++◌, drop}
-use Rattle.own_service.specs.Counter.{count_after, answers}
-use Rattle.own_service.proofs.counter.CounterService.take.Given as goal
+use Rattle.counter_service.specs.Counter.{count_after, answers}
+use Rattle.counter_service.proofs.counter.CounterService.take.Given as goal
 
 -- the bytes that are left lead on to where the whole chunk leads
 abbrev pub invariant-loop-byte : goal.invariant-loop-byte

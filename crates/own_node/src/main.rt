@@ -1,0 +1,18 @@
+//! `own_node`: a service of one's own as a process over UDP: a server, or a logger beside it. All is done by `node_of`; here are the words, the socket, the
+//! standard output and the standard error.
+#![tactic(auto)]
+
+use counter_service::Counter;
+use ft_io::{UdpLink, WriteSink};
+use node_link::node_of;
+use std::process::ExitCode;
+use std::{env, io};
+
+fn main(rt: HostRuntime) -> io::Result<ExitCode> {
+    let words: Vec<String> = env::args(&rt)?.skip(1).collect(rt.alloc())?;
+    let mut link = UdpLink::new(&rt);
+    let mut out = WriteSink::new(rt.stdout());
+    let mut err = WriteSink::new(rt.stderr());
+    let status = node_of::<Counter, _, _, _>(rt.alloc(), &words, &mut link, &mut out, &mut err);
+    Ok(ExitCode::from(status.code))
+}

@@ -1,0 +1,69 @@
+# Sourced by real_client.sh and own.sh: a kernel's TCP client in a network namespace of its own, and a server, its logger and tools/bridge.py in another. The
+# script sets `name`, `program` (a built one), `loss` (in percent) and the array `service` (the words of a server that choose its service, or none).
+program=$(realpath "$program") client_ip=10.77.0.1 server=10.77.0.2:7 logger=10.77.0.3:7008
+inside=ftclient$$ outside=ftnode$$ room=$(mktemp -d) started=()
+
+missing() { echo "$name: not run: $1" >&2; exit 2; }
+[ "$(id -u)" = 0 ] || missing "it needs root"
+[ -x "$program" ] || missing "there is no program $program; build it: (cd crates/$(basename "$program") && rt run)"
+[ -c /dev/net/tun ] || missing "there is no /dev/net/tun: the kernel has no TUN devices"
+command -v ip >/dev/null || missing "the command ip is missing (package iproute2)"
+command -v python3 >/dev/null || missing "python3 is missing"
+
+clean_up() {
+    exec 2>/dev/null
+    for process in "${started[@]}"; do kill -9 "$process"; done
+    wait
+    ip netns del "$inside"
+    ip netns del "$outside"
+    rm -rf "$room"
+}
+trap clean_up EXIT
+
+start_server() { # BOOT
+    ip netns exec "$outside" "$program" server --local "$server" --logger "$logger" "${service[@]}" --boot "$1" --isn "$((100000 * $1))" --turns 1000000 \
+        >"$room/server.$1" 2>&1 &
+    server_process=$!
+    started+=("$server_process")
+}
+
+start_all() {
+    ip netns add "$inside" 2>"$room/why" && ip netns add "$outside" 2>>"$room/why" || missing "no network namespace can be made: $(cat "$room/why")"
+    ip -n "$outside" link set lo up
+    for address in "$client_ip" "${server%:*}" "${logger%:*}"; do ip -n "$outside" addr add "$address/32" dev lo; done
+    ip netns exec "$outside" "$program" logger --local "$logger" --turns 1000000 >"$room/logger" 2>&1 &
+    started+=("$!")
+    start_server 1
+    ip netns exec "$outside" tools/bridge.py --client "$client_ip" --server "$server" --netns "$inside" --device "ft$$" --loss "$loss" >"$room/bridge" 2>&1 &
+    bridge_process=$!
+    started+=("$bridge_process")
+    for _ in $(seq 100); do grep -q up "$room/bridge" && break; sleep 0.05; done
+    grep -q up "$room/bridge" || missing "the bridge doesn't start: $(cat "$room/bridge")"
+}
+
+# The client sends the bytes of $room/sent, and those of $room/wanted have to come. The server is killed (kill -9) when a quarter, a half and three quarters
+# of them have, and started again with the next boot number.
+through_three_kills() {
+    local bytes client boot status
+    bytes=$(stat -c %s "$room/wanted")
+    echo 0 >"$room/progress"
+    SECONDS=0
+    ip netns exec "$inside" examples/socket_client.py "$room/sent" "$room/wanted" "${server%:*}" "${server#*:}" "$room/progress" &
+    client=$!
+    started+=("$client")
+    for boot in 2 3 4; do
+        while kill -0 "$client" 2>/dev/null && [ "$(cat "$room/progress")" -lt $((bytes * (boot - 1) / 4)) ] 2>/dev/null; do sleep 0.02; done
+        kill -0 "$client" 2>/dev/null || break
+        { kill -9 "$server_process" && wait "$server_process"; } 2>/dev/null
+        echo "killed the server when $(cat "$room/progress") bytes had come; boot $boot"
+        sleep 0.2
+        start_server "$boot"
+    done
+    wait "$client"
+    status=$?
+    kill -TERM "$bridge_process" && wait "$bridge_process"
+    tail -n 1 "$room/bridge"
+    echo "$name: $([ $status = 0 ] && echo passed || echo FAILED), $SECONDS seconds"
+    [ $status = 0 ] || cat "$room"/server.* "$room/logger"
+    return $status
+}

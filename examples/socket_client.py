@@ -1,0 +1,35 @@
+#!/usr/bin/env python3
+"""An ordinary socket of the kernel: socket_client.py SENT WANTED HOST PORT PROGRESS.
+
+It sends the bytes of the file SENT, 2,000 every 20 ms, ends its side when all are sent, and compares what comes with those of the file WANTED. How many bytes
+have come stands in the file PROGRESS."""
+import os
+import select
+import socket
+import sys
+import time
+
+data, wanted = [open(name, "rb").read() for name in sys.argv[1:3]]
+host, port, progress = sys.argv[3], int(sys.argv[4]), sys.argv[5]
+back, sent, due = b"", 0, time.monotonic()
+link = socket.create_connection((host, port), timeout=30)
+print("from", link.getsockname(), flush=True)
+while True:
+    wait = max(0, due - time.monotonic()) if sent < len(data) else 30
+    if select.select([link], [], [], wait)[0]:
+        more = link.recv(65536)
+        if not more:
+            break
+        back += more
+        with open(progress + ".new", "w", encoding="ascii") as file:
+            file.write(str(len(back)))
+        os.replace(progress + ".new", progress)
+    elif sent == len(data):
+        sys.exit(f"nothing came for 30 seconds; {len(back)} bytes had come")
+    if sent < len(data) and time.monotonic() >= due:
+        sent += link.send(data[sent : sent + 2000])
+        due += 0.02
+        if sent == len(data):
+            link.shutdown(socket.SHUT_WR)
+print(f"sent {sent} bytes, {len(back)} came:", "as wanted" if back == wanted else "DIFFERENT", flush=True)
+sys.exit(back != wanted)
