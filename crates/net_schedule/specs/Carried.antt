@@ -4,7 +4,7 @@ use Rattle.std.specs.Option.{option_map_or}
 use Rattle.ft_io.specs.declared.Key.{Key}
 use Rattle.ft_io.specs.Key.{key_eq}
 use Rattle.ft_model.specs.Wire.{Wire, Party}
-use Rattle.ft_model.specs.Wire.Party.{A_client, The_server}
+use Rattle.ft_model.specs.Wire.Party.{A_client, The_server, The_logger}
 use Rattle.ft_model.specs.declared.way.Way.{Way}
 use Rattle.ft_model.specs.declared.way.Way.TheVariants.{ClientToServer, ServerToClient, ServerToLogger, LoggerToServer}
 
@@ -26,16 +26,19 @@ number_in keys key = option_map_or (λ i. i + 1) (position (λ k. key_eq k key) 
 -- the way of a packet from the server to this party
 abbrev pub way_to : List Key → Party → Way
 way_to keys (A_client key) = ServerToClient (number_in keys key)
-way_to keys _ = ServerToLogger
+way_to keys The_server = ServerToLogger
+way_to keys The_logger = ServerToLogger
 
 -- the way of a packet to the server from this party
 abbrev pub way_from : List Key → Party → Way
 way_from keys (A_client key) = ClientToServer (number_in keys key)
-way_from keys _ = LoggerToServer
+way_from keys The_server = LoggerToServer
+way_from keys The_logger = LoggerToServer
 
 abbrev pub way_between : List Key → (from to : Party) → Way
 way_between keys from The_server = way_from keys from
-way_between keys from to = way_to keys to
+way_between keys from (A_client key) = way_to keys (A_client key)
+way_between keys from The_logger = way_to keys The_logger
 
 -- the way that a wire goes
 abbrev pub way_along : List Key → Wire → Way

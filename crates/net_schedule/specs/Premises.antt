@@ -6,7 +6,7 @@ use Rattle.seq_arith.specs.MessageGrammar as messages
 use Rattle.server_trait.specs.Service.{Machine}
 use Rattle.ft_model.specs.Lawful.{IsNearInput, IsSoundInput, fence}
 use Rattle.ft_model.specs.Network.{Packet}
-use Rattle.ft_model.specs.Network.Packet.{To_server, From_logger}
+use Rattle.ft_model.specs.Network.Packet.{To_server, To_client, To_logger, From_logger}
 use Rattle.ft_model.specs.Node.{Node, Input}
 use Rattle.ft_model.specs.Wire.{HasWire}
 use Rattle.ft_model.specs.World.{World as Seen, MayCome, IsStart, segment_or_noise, message_or_noise}
@@ -24,4 +24,5 @@ pub record Premises {State : Type 0} (service : Machine State) (v : Seen) : Type
 abbrev pub ComesAs : Seen → Packet → List ℕ → Type 0
 ComesAs v (To_server segment) bytes = MayCome v (segment_or_noise (segments.reading bytes))
 ComesAs v (From_logger message) bytes = MayCome v (message_or_noise (messages.reading bytes))
-ComesAs v _ bytes = Unit {0}
+ComesAs v (To_client segment) bytes = Unit {0}
+ComesAs v (To_logger message) bytes = Unit {0}

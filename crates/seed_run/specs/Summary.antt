@@ -6,15 +6,31 @@ use Rattle.ft_model.specs.Client.{Client}
 use Rattle.ft_model.specs.Texts.{phase_text}
 use Rattle.ft_model.specs.World.{World, Moment, world_after}
 use Rattle.ft_model.specs.declared.event.Event.{Event}
-use Rattle.ft_model.specs.declared.event.Event.TheVariants.{Boot, Crash}
+use Rattle.ft_model.specs.declared.event.Event.TheVariants.{Boot, Crash, Tick, Deliver, Flip, Begin, Send, Fin, Ack, Reset}
 
 abbrev pub is_boot : Event → Bool
 is_boot (Boot boot isn) = true
-is_boot _ = false
+is_boot Crash = false
+is_boot Tick = false
+is_boot (Deliver packet) = false
+is_boot (Flip packet bit) = false
+is_boot (Begin client window) = false
+is_boot (Send client from len) = false
+is_boot (Fin client) = false
+is_boot (Ack client window) = false
+is_boot (Reset client) = false
 
 abbrev pub is_crash : Event → Bool
 is_crash Crash = true
-is_crash _ = false
+is_crash (Boot boot isn) = false
+is_crash Tick = false
+is_crash (Deliver packet) = false
+is_crash (Flip packet bit) = false
+is_crash (Begin client window) = false
+is_crash (Send client from len) = false
+is_crash (Fin client) = false
+is_crash (Ack client window) = false
+is_crash (Reset client) = false
 
 -- how many moments of a trace have such an event
 abbrev pub count_events : (Event → Bool) → List Moment → ℕ
