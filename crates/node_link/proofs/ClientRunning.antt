@@ -1,5 +1,5 @@
 -- A client's turns follow one another: so do their calls and what is written.
-use Rattle.std.proofs.Common.{◌≡◌, ◌∙◌, ◌^◌, IfSome, ℕ, Bool, true, false, suc, ◌+◌, ◌<◌, ◌≤◌, add-one, refl, sym, ap, subst, Option, None, Some, List, [], ◌∷◌, ◌++◌, length, take, drop, min, length-append, arith, Result, Ok, Err, OnOk, OnErr, IfErr, slice_get}
+use Rattle.std.proofs.Common.{◌≡◌, ◌∙◌, ◌^◌, IfSome, ℕ, Bool, true, false, suc, ◌+◌, ◌<◌, ◌≤◌, add-one, refl, sym, ap, subst, Option, None, Some, List, [], ◌∷◌, ◌++◌, length, take, drop, min, length-append, arith, Result, Ok, Err, slice_get}
 use Rattle.std.proofs.Math.Seq.{take-length, take-append_seam, take-append-add}
 use Rattle.std.proofs.lemmas.List.{length-take, take_more}
 use Rattle.std.proofs.lemmas.Option.{slice_get_within, get_or_from_slice_get}
