@@ -80,20 +80,17 @@ beside_echo() {
     done
 }
 
-# So many turns as the run wants, and some that are idle (20 ms each): for each segment of the client about five datagrams come to the server, and three to
-# the logger
-server_turns=$((size / 1460 * 54 / 10 + 300))
-logger_turns=$((size / 1460 * 34 / 10 + 300))
 machine
 lines "$size"
 
-# a run whose client sends the script, and to whom the bytes of a file have to come
-transfer() { # NAME WANTED
+# A run whose client sends the script, and to whom the bytes of a file have to come. Server and logger have so many turns for ten segments of the client, as
+# many datagrams as come then, and 600 more, which are ticks (20 ms each)
+transfer() { # NAME WANTED SERVER_TURNS LOGGER_TURNS
     local logger_pid server_pid begun status=0
-    logger "$1" "$logger_turns"
+    logger "$1" $((size / 14600 * $4 + 600))
     logger_pid=$last
     sleep 0.2
-    server "$1" 1 "$server_turns"
+    server "$1" 1 $((size / 14600 * $3 + 600))
     server_pid=$last
     begun=$(date +%s%N)
     client "$1"
@@ -105,12 +102,12 @@ transfer() { # NAME WANTED
     told "$1"
 }
 echo "Echo:"
-transfer A "$work/script"
+transfer A "$work/script" 54 34
 echo_taken=$taken
 echo "Counter:"
 head -n $((size / 64)) "$work/script" | awk '{ count += length($0) + 1; print count }' >"$work/counts"
 base=$((base + 20)) program=$own service=()
-transfer C "$work/counts"
+transfer C "$work/counts" 76 43
 base=$((base - 20)) program=$ours service=(--service echo)
 
 gcc -O2 -Wall -o "$work/link" bench/link.c

@@ -9,13 +9,14 @@ import socket
 import sys
 import time
 
+PATIENCE = 60
 data, wanted = [open(name, "rb").read() for name in sys.argv[1:3]]
 host, port, progress = sys.argv[3], int(sys.argv[4]), sys.argv[5]
 back, sent, due = b"", 0, time.monotonic()
-link = socket.create_connection((host, port), timeout=30)
+link = socket.create_connection((host, port), timeout=PATIENCE)
 print("from", link.getsockname(), flush=True)
 while True:
-    wait = max(0, due - time.monotonic()) if sent < len(data) else 30
+    wait = max(0, due - time.monotonic()) if sent < len(data) else PATIENCE
     if select.select([link], [], [], wait)[0]:
         more = link.recv(65536)
         if not more:
@@ -25,7 +26,7 @@ while True:
             file.write(str(len(back)))
         os.replace(progress + ".new", progress)
     elif sent == len(data):
-        sys.exit(f"nothing came for 30 seconds; {len(back)} bytes had come")
+        sys.exit(f"nothing came for {PATIENCE} seconds; {len(back)} bytes had come")
     if sent < len(data) and time.monotonic() >= due:
         sent += link.send(data[sent : sent + 2000])
         due += 0.02
