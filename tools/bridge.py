@@ -25,22 +25,11 @@ import struct
 import subprocess
 import sys
 
-from internet import checksum
+from internet import address, checksum
 
 SET_DEVICE, TUN, NO_HEADER = 0x400454CA, 0x0001, 0x1000  # TUNSETIFF, IFF_TUN, IFF_NO_PI
 LONGEST = 1500
 TCP = 6
-
-
-def address(text):
-    """An address and a port: `10.77.0.2:7`."""
-    host, colon, port = text.partition(":")
-    try:
-        if not colon or not 0 < int(port) < 65536:
-            raise ValueError
-        return socket.inet_aton(host), int(port)
-    except (OSError, ValueError):
-        raise argparse.ArgumentTypeError(f"{text} is no address with a port") from None
 
 
 def host(text):

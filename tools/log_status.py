@@ -26,24 +26,13 @@ import struct
 import sys
 import time
 
-from internet import checksum
+from internet import address, checksum
 
 LIST, ENTRY, STALE = 3, 4, 17
 HEADER = struct.Struct("!2sBBHHQ")
 FIELDS = struct.Struct("!H4sHIIHIBBII")
 PLACES = 64
 TRIES = 3
-
-
-def address(text):
-    """An address and a port: `10.77.0.3:7008`."""
-    host, colon, port = text.rpartition(":")
-    try:
-        if not colon or not 0 < int(port) < 65536:
-            raise ValueError
-        return socket.inet_ntoa(socket.inet_aton(host)), int(port)
-    except (OSError, ValueError):
-        raise argparse.ArgumentTypeError(f"{text} is no address with a port") from None
 
 
 def places(text):
@@ -73,7 +62,8 @@ class Logger:
     """A logger that is asked over UDP."""
 
     def __init__(self, where, wait):
-        self.where, self.wait, self.boot = where, wait, 1
+        ip, port = where
+        self.where, self.wait, self.boot = (socket.inet_ntoa(ip), port), wait, 1
         self.socket = socket.socket(socket.AF_INET, socket.SOCK_DGRAM)
 
     def answer(self, index):
