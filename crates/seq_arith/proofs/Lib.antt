@@ -1,4 +1,8 @@
 pub mod Coming
+pub mod ComingAlone
+pub mod ComingFins
+pub mod ComingKeeps
+pub mod ComingShifts
 pub mod Damaged
 pub mod Flipped
 pub mod Gaps

@@ -25,13 +25,13 @@ datagram_back (datagrams.Got number) = refl
 datagram_back datagrams.Alone = refl
 
 -- no datagram is longer than a Forward
-bounded : (kind : TwinKind) (n : ℕ) → has_length kind n ≡ true → n ≤ 1507
+pub bounded : (kind : TwinKind) (n : ℕ) → has_length kind n ≡ true → n ≤ 1507
 unfolding has_length
 bounded kinds.Forward n is = leb-true n 1507 (and_parts (nat_le 32 n) (nat_le n 1507) is).1
 bounded kinds.Got n is = omega (arith, eqb-true n 16 is)
 bounded kinds.Alone n is = omega (arith, eqb-true n 16 is)
 
-length_of : (d : TwinDatagram) (check : ℕ) → length (spelled d check) ≡ 16 + length (behind_of d)
+pub length_of : (d : TwinDatagram) (check : ℕ) → length (spelled d check) ≡ 16 + length (behind_of d)
 unfolding spelled
 length_of d check = headed_length 85 (kind_number (kind_of d)) (number_of d) (behind_of d) check
 

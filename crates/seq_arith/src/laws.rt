@@ -1,11 +1,11 @@
 //! Laws of the words in `specs`, each the clause of a function that does nothing: what a crate above may cite. Most say that a test on
 //! numbers or on offsets stays as it is where both its sides move by one number.
 
-ghost use Rattle.std.specs.Prelude.{◌≡◌, ◌<◌, ◌≤◌, ◌+◌, ◌-◌, ◌*◌, ◌/◌, ◌%◌, ◌^◌, ℕ, ℤ, pos, ◌+ℤ◌, ◌-ℤ◌, ◌≤ℤ◌, int_lt, max, Bool, true, false, List, ◌∷◌, ◌++◌, length, take, drop};
+ghost use Rattle.std.specs.Prelude.{◌≡◌, ◌<◌, ◌≤◌, ◌+◌, ◌-◌, ◌*◌, ◌/◌, ◌%◌, ◌^◌, ℕ, ℤ, pos, ◌+ℤ◌, ◌-ℤ◌, ◌≤ℤ◌, Bool, true, false, List, [], ◌∷◌, ◌++◌, length, take, drop};
 ghost use Rattle.std.specs.Prelude.{nat_abs, Ok, IsErr};
 ghost use Rattle.seq_arith.specs.Number.{gap, number_at, offset_of};
 ghost use Rattle.seq_arith.specs.Arrival.{is_acceptable, is_usable, below, text_between, is_new_ack, is_beyond, una_after, updates_window};
-ghost use Rattle.seq_arith.specs.Coming.{nothing_came, comes};
+ghost use Rattle.seq_arith.specs.Coming.{Early, early_from, came_from, nothing_came, comes, StandsBehind};
 ghost use Rattle.seq_arith.specs.Checksum.{word_sum, odd_after, check_of, Summed, with_bytes};
 ghost use Rattle.seq_arith.specs.Damage.{flipped};
 ghost use Rattle.seq_arith.specs.Packet.{Segment};
@@ -56,10 +56,10 @@ pub fn usable_shifts()
     ensures { (next window k : ℕ) (first : ℤ) (len : ℕ) → is_usable (next + k) window (first +ℤ pos k) len ≡ is_usable next window first len }
 {}
 
-/// So does what a segment adds to the stream.
+/// So does what a segment makes of the stream, and what is held then lies as much further up.
 pub fn coming_shifts()
-    ensures { (n edge k : ℕ) (fin : Bool) (first : ℤ) (text : List ℕ) (has_fin : Bool)
-        → comes (n + k) (edge + k) fin (first +ℤ pos k) text has_fin ≡ comes n edge fin first text has_fin }
+    ensures { (n edge k : ℕ) (fin : Bool) (early : Early) (first : ℤ) (text : List ℕ) (has_fin : Bool)
+        → comes (n + k) (edge + k) fin (early_from k early) (first +ℤ pos k) text has_fin ≡ came_from k (comes n edge fin early first text has_fin) }
 {}
 
 /// So does how much of a text was taken before.
@@ -88,21 +88,25 @@ pub fn window_update_shifts()
         → updates_window (una + k) (wl1 +ℤ pos j) (wl2 + k) (first +ℤ pos j) (ack + k) ≡ updates_window una wl1 wl2 first ack }
 {}
 
-/// What is taken keeps to the receive edge, and a FIN that is newly taken lies below it.
+/// What is held stays behind what is taken, what is taken keeps to the receive edge, and a FIN that is newly taken lies below it.
 pub fn coming_keeps_to_the_edge()
-    ensures bytes { (n edge : ℕ) (fin : Bool) (first : ℤ) (text : List ℕ) (has_fin : Bool)
-        → n + length (comes n edge fin first text has_fin).added ≤ max n edge }
-    ensures fin { (n edge : ℕ) (first : ℤ) (text : List ℕ) (has_fin : Bool) → (comes n edge false first text has_fin).fin ≡ true
-        → n + length (comes n edge false first text has_fin).added < edge }
+    ensures behind { (n edge : ℕ) (fin : Bool) (early : Early) (first : ℤ) (text : List ℕ) (has_fin : Bool) → StandsBehind n edge fin early
+        → StandsBehind (n + length (comes n edge fin early first text has_fin).added) edge (comes n edge fin early first text has_fin).fin
+        (comes n edge fin early first text has_fin).early }
+    ensures bytes { (n edge : ℕ) (fin : Bool) (early : Early) (first : ℤ) (text : List ℕ) (has_fin : Bool) → StandsBehind n edge fin early
+        → n + length (comes n edge fin early first text has_fin).added ≤ edge }
+    ensures fin { (n edge : ℕ) (early : Early) (first : ℤ) (text : List ℕ) (has_fin : Bool) → StandsBehind n edge false early
+        → (comes n edge false early first text has_fin).fin ≡ true → n + length (comes n edge false early first text has_fin).added < edge }
 {}
 
-/// A segment adds nothing at the receive edge, once the FIN is taken, and behind a gap.
+/// A segment changes nothing at the receive edge, once the FIN is taken, and without text and FIN. What is held stays held.
 pub fn nothing_comes()
-    ensures shut { (n edge : ℕ) (fin : Bool) (first : ℤ) (text : List ℕ) (has_fin : Bool) → edge ≤ n
-        → comes n edge fin first text has_fin ≡ nothing_came fin }
-    ensures ended { (n edge : ℕ) (first : ℤ) (text : List ℕ) (has_fin : Bool) → comes n edge true first text has_fin ≡ nothing_came true }
-    ensures gap { (n edge : ℕ) (fin : Bool) (first : ℤ) (text : List ℕ) (has_fin : Bool) → int_lt (pos n) first ≡ true
-        → comes n edge fin first text has_fin ≡ nothing_came fin }
+    ensures shut { (n : ℕ) (fin : Bool) (early : Early) (first : ℤ) (text : List ℕ) (has_fin : Bool) → StandsBehind n n fin early
+        → comes n n fin early first text has_fin ≡ nothing_came early fin }
+    ensures ended { (n edge : ℕ) (early : Early) (first : ℤ) (text : List ℕ) (has_fin : Bool) → StandsBehind n edge true early
+        → comes n edge true early first text has_fin ≡ nothing_came early true }
+    ensures bare { (n edge : ℕ) (fin : Bool) (early : Early) (first : ℤ) → StandsBehind n edge fin early
+        → comes n edge fin early first [] false ≡ nothing_came early fin }
 {}
 
 /// The text between two offsets is what stands behind its bytes below the first, cut where the second comes.

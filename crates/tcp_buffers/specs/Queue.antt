@@ -1,6 +1,6 @@
 -- A receive queue, and what a push and a hold make of it: the bytes in order that aren't read, and behind them places that hold a byte or none.
-use Rattle.std.specs.Prelude.{ℕ, ◌-◌, nat_le, Option, List, [], ◌++◌, length, take, drop, if◌then◌else◌}
-use Rattle.seq_arith.specs.Early.{laid, run_count, front_run, behind_front_run}
+use Rattle.std.specs.Prelude.{ℕ, ◌-◌, Option, List, [], ◌++◌, length, take, drop}
+use Rattle.seq_arith.specs.Early.{front_run, behind_front_run}
 
 pub record Queue : Type 0 where
   pub unread : List ℕ  -- in order, the oldest first
@@ -23,11 +23,3 @@ added_by bytes q = fitting bytes q ++ front_run (left_over bytes q)
 
 unfoldable pub pushed : List ℕ → Queue → Queue
 pushed bytes q = record { unread = q.unread ++ added_by bytes q; early = behind_front_run (left_over bytes q) }
-
--- the most runs of places that are held
-abbrev pub most_runs : ℕ
-most_runs = 16
-
--- bytes that come early are held where the places held then form at most so many runs, and else none of them is
-unfoldable pub held_with : ℕ → List ℕ → List (Option ℕ) → List (Option ℕ)
-held_with at bytes held = if nat_le (run_count (laid at bytes held)) most_runs then laid at bytes held else held

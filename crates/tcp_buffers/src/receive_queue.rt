@@ -1,8 +1,8 @@
 //! The bytes that came in order and that the user hasn't read, and behind them those that came early.
 
 ghost use Rattle.std.specs.Prelude.{◌≡◌, ℕ, ◌+◌, ◌-◌, ◌<◌, ◌≤◌, ◌==◌, [], ◌++◌, length, min, take, drop, nat_le, nat_lt, IfOk};
-ghost use Rattle.seq_arith.specs.Early.{laid, run_count, front_run, holds_some};
-ghost use Rattle.tcp_buffers.specs.Queue.{empty_queue, pushed, added_by, held_with, most_runs};
+ghost use Rattle.seq_arith.specs.Early.{laid, run_count, front_run, holds_some, held_with, most_runs};
+ghost use Rattle.tcp_buffers.specs.Queue.{empty_queue, pushed, added_by};
 
 use crate::QUEUE_ROOM;
 use crate::copying::copy_behind;
