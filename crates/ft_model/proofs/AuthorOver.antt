@@ -37,15 +37,15 @@ use Rattle.ft_model.proofs.Services.{reads_go_on, prefix_length}
 use Rattle.ft_model.proofs.AuthorTurns.{settles, is_settled, settled_goes_on, one_settled, Before, After, all_go_then, connection_after, OnlySettled, TurnRuns, runs_after, new_author}
 
 -- the points of the log's entries, by what is logged
-points_run : {State : Type 0} (service : Machine State) (script author : Key → List ℕ) (isn : Key → ℕ) (log : Log) → AreDistinct (entry_keys log) → EntriesFit script isn log.entries
-    → AllByRecursion (λ e. IsPrefix e.lengths (author e.key) × (sum e.lengths ≤ length e.bytes)) log.entries
+points_run : {State : Type 0} (service : Machine State) (script author : Key → List ℕ) (isn : Key → ℕ) (log : Log) → ((k : Key) → length (script k) ≤ 2 ^ 24) → AreDistinct (entry_keys log)
+    → EntriesFit script isn log.entries → AllByRecursion (λ e. IsPrefix e.lengths (author e.key) × (sum e.lengths ≤ length e.bytes)) log.entries
     → ((key : Key) → length (reference service (script key) (author key)).output ≤ 2 ^ 24)
     → AllByRecursion (λ e. Before service script isn (λ key. logged_lengths key log) log (Lives (point_of service e))) log.entries
-points_run service script author isn log d fits fronts short =
+points_run service script author isn log scripts d fits fronts short =
     all_from_get (λ e. Before service script isn (λ key. logged_lengths key log) log (Lives (point_of service e))) log.entries
     (λ i e at. let f = all_slice_get (λ x. EntryFits (script x.key) (isn x.key) x) log.entries i e fits at in
     let g = all_slice_get (λ x. IsPrefix x.lengths (author x.key) × (sum x.lengths ≤ length x.bytes)) log.entries i e fronts at in
-    let place = all_slice_get (λ x. PlaceFits script isn log (Lives (point_of service x))) log.entries i e (points_fit service script isn log d fits) at in
+    let place = all_slice_get (λ x. PlaceFits script isn log (Lives (point_of service x))) log.entries i e (points_fit service script isn log scripts d fits) at in
     let found : entry_of e.key log ≡ Some e = finds_itself (λ x. x.key) log.entries i e d at in
     let small : length (reference service (script e.key) e.lengths).output ≤ 2 ^ 24 =
     le_trans (prefix_length _ _ (reads_go_on service (script e.key) e.lengths (author e.key) g.0).output) (short e.key) in
@@ -104,7 +104,7 @@ resuming_runs service script author isn log node count fetched places sent small
     let old : Key → List ℕ = λ key. logged_lengths key log in
     let whole = nothing_missing log.entries count fetched a none in
     let before : AllByRecursion (Before service script isn old log) (all_restored service fetched) =
-    restored_all (Before service script isn old log) service log.entries fetched (points_run service script author isn log d fits fronts bound) (λ k. (tt, tt)) a whole.0 in
+    restored_all (Before service script isn old log) service log.entries fetched (points_run service script author isn log short d fits fronts bound) (λ k. (tt, tt)) a whole.0 in
     let all = all_go_then (Revives service node) (Before service script isn old log) (After service script isn old log) (IsAuthor (new_author places old)) (Follows service script (new_author places old) log)
     (revive_runs service script old (new_author places old) isn log node small short fits (λ key. ([], append-nil (logged_lengths key log)))) (all_restored service fetched) places sent before t in
     runs_after service script isn old log (all_restored service fetched) places sent apart all.0 all.1

@@ -1,5 +1,5 @@
 -- The author of the logged reads through a turn of the server.
-use Rattle.std.proofs.Common.{append-nil, flat_map, ◌≡◌, ℕ, ◌≤◌, ◌^◌, Bool, true, false, ◌&&◌, not, nat_lt, refl, sym, ap, ◌∙◌, subst, true≢false, inl, inr, ◌⊎◌, ⊎_elim, is_some, Option, Some, None, List, [], ◌∷◌, ◌++◌, map, length, if◌then◌else◌}
+use Rattle.std.proofs.Common.{append-nil, flat_map, ◌≡◌, ℕ, ◌≤◌, ◌^◌, Bool, true, false, ◌&&◌, not, nat_lt, le_of_eq, refl, sym, ap, ◌∙◌, subst, true≢false, inl, inr, ◌⊎◌, ⊎_elim, is_some, Option, Some, None, List, [], ◌∷◌, ◌++◌, map, length, if◌then◌else◌}
 use Rattle.std.specs.List.{AllByRecursion, list_any}
 use Rattle.std.proofs.lemmas.Bool.{and_parts, or_right, or_from}
 use Rattle.ft_io.specs.declared.Addr.{Addr}
@@ -36,9 +36,10 @@ use Rattle.ft_model.specs.Serving.{PlaceTurn, is_asked, opens_at}
 use Rattle.ft_model.specs.Growth.{logged_lengths}
 use Rattle.ft_model.proofs.PlaceTurns.{place_went}
 use Rattle.ft_model.proofs.StageTurns.{either_turn}
+use Rattle.ft_model.proofs.Copied.{Grows}
 use Rattle.ft_model.proofs.Scripts.{DataFits, copies_fit}
 use Rattle.ft_model.proofs.Services.{more_bytes}
-use Rattle.ft_model.proofs.Running.{HasSmallOutputs}
+use Rattle.ft_model.proofs.Running.{HasSmallOutputs, taken_more}
 use Rattle.ft_model.proofs.Authored.{Follows, PlaceRuns, PlaceRan, IsAuthor, connection_runs, opened_runs}
 use Rattle.ft_model.proofs.FaithfulKept.{InputFits, place_fits, news_fit, new_fits}
 use Rattle.ft_io.proofs.Booleans.{not_true}
@@ -139,7 +140,7 @@ short_by : {State : Type 0} (service : Machine State) (script : Key → List ℕ
     → length (reference service (script key) (author_at o (old key))).output ≤ 2 ^ 24
 short_by service script isn log key old (Some (Lives p)) f s =
     let x = f (Lives p) refl in
-    let same : reference service (script p.key) p.lengths ≡ reference service p.taken p.lengths = more_bytes service p.taken (script p.key) p.lengths x.1.0.0.front x.1.1.1.enough in
+    let same : reference service (script p.key) p.lengths ≡ reference service p.taken p.lengths = more_bytes service p.taken (script p.key) p.lengths x.1.0.0.fronts.front x.1.1.1.enough in
     subst (λ k. length (reference service (script k) p.lengths).output ≤ 2 ^ 24) x.0 (subst (λ r. length r.output ≤ 2 ^ 24) (sym same) x.1.1.1.short)
 short_by service script isn log key old (Some (Opens n)) f s = s
 short_by service script isn log key old (Some (Ended k)) f s = s
@@ -208,7 +209,8 @@ pub connection_after : {State : Type 0} (service : Machine State) (script old au
 connection_after service script old author isn log node news p after now sent small front nf fits r n t =
     let key : after.key ≡ p.key = either_turn service node.server node.boot news p after sent (λ r. ap (λ x. x.key) r.point) (λ l. l.same.key) t in
     let fit : PlaceFits script isn log (Lives after) = one_of (PlaceFits script isn log) (Lives after) now n fits in
-    let datas : AllByRecursion (DataFits script) (copies news p after) = copies_fit script (isn after.key) news p after (subst (λ k. NewsFits (script k) (isn k) news) (sym key) nf) fit.0 in
+    let more : Grows p after = either_turn service node.server node.boot news p after sent (λ r. le_of_eq (sym (ap (λ x. length x.taken) r.point))) (λ l. taken_more news p after l.taken) t in
+    let datas : AllByRecursion (DataFits script) (copies news p after) = copies_fit script (isn after.key) news p after more (subst (λ k. NewsFits (script k) (isn k) news) (sym key) nf) fit.0 in
     let c = connection_runs service node.server script old author isn log node.boot news p after sent small front datas fit r t in
     (subst (AllByRecursion (After service script isn old log)) (sym n) ((fit, c.0), tt), λ is. c.1 (one_of (IsAuthor author) (Lives after) now n is))
 

@@ -95,7 +95,7 @@ released_logged service script isn log q h k r front =
     let count : q.reads_answered ≤ length logged = subst (λ o. q.reads_answered ≤ length (lengths_in o)) (sym k.found) k.reads in
     let same : take q.reads_answered q.lengths ≡ take q.reads_answered logged = take_of_prefix q.reads_answered logged q.lengths front count in
     let low : sum (take q.reads_answered q.lengths) ≤ length q.taken = le_trans (sum_take q.reads_answered q.lengths) r.enough in
-    let bytes : reference service (script q.key) (take q.reads_answered q.lengths) ≡ answered_run service q = more_bytes service q.taken (script q.key) (take q.reads_answered q.lengths) h.front low in
+    let bytes : reference service (script q.key) (take q.reads_answered q.lengths) ≡ answered_run service q = more_bytes service q.taken (script q.key) (take q.reads_answered q.lengths) h.fronts.front low in
     let part : IsPrefix (take q.reads_answered q.lengths) logged = subst (λ l. IsPrefix l logged) (sym same) (take_first q.reads_answered logged) in
     subst (λ x. GoesOn x (logged_run service script log q.key)) bytes (reads_go_on service (script q.key) (take q.reads_answered q.lengths) logged part)
 

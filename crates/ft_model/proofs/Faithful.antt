@@ -32,6 +32,7 @@ use Rattle.ft_model.proofs.Lists.{all_weaker, all_map, all_append, all_find, fou
 use Rattle.ft_model.proofs.Grows.{found_later, units_grow, lengths_grow, logged_units_grow, logged_lengths_grow}
 use Rattle.ft_model.proofs.Fetching.{own_entry, on_some, chosen_some}
 use Rattle.ft_model.proofs.Scripts.{FitsScript, HasTaken, PartFits, EntryFits, NewsFits, DataFits, taken_fits, copies_fit}
+use Rattle.ft_model.proofs.Running.{taken_more}
 use Rattle.ft_model.proofs.Spoken.{Spoken, segments_spoken, IsHeaded, headed}
 use Rattle.ft_model.proofs.StageTurns.{either_turn}
 use Rattle.seq_arith.proofs.Units.{one_at_most}
@@ -241,7 +242,7 @@ reset_fits : (script : Key → List ℕ) (isn : Key → ℕ) (log : Log) (boot :
     → PlaceFits script isn log (Lives q) × AllByRecursion (IsFit script isn log) sent
 reset_fits script isn log boot news p q sent n f t =
     let after : Point = record p { answered = answered_after news p; reads_answered = reads_answered_after news p; reset = true } in
-    let taken : HasTaken (script p.key) (isn p.key) after = record { front = f.0.front; fin = f.0.fin; cisn = f.0.cisn } in (
+    let taken : HasTaken (script p.key) (isn p.key) after = record { fronts = f.0.fronts; behind = f.0.behind; cisn = f.0.cisn } in (
       subst (λ x. PlaceFits script isn log (Lives x)) (sym t.point) (taken, known_after log news p after f.1 n refl refl refl refl),
       subst (AllByRecursion (IsFit script isn log)) (sym t.packets) (bodies_fit script isn log boot (dones news p q) (dones_fit script isn news p q)),
     )
@@ -252,7 +253,7 @@ live_fits : {State : Type 0} (service : Machine State) (server : Addr) (script :
     → PlaceFits script isn log (Lives q) × AllByRecursion (IsFit script isn log) sent
 live_fits service server script isn log boot news p q sent short entries nf n f t =
     let key : p.key ≡ q.key = sym t.same.key in
-    let at_p : HasTaken (script p.key) (isn p.key) q = taken_fits (script p.key) (isn p.key) news p q nf f.0 t.taken t.fin t.same.cisn in
+    let at_p : HasTaken (script p.key) (isn p.key) q = taken_fits service server boot (script p.key) (isn p.key) news p q sent nf f.0 t in
     let taken : HasTaken (script q.key) (isn q.key) q = subst (λ k. HasTaken (script k) (isn k) q) key at_p in
     let nfq : NewsFits (script q.key) (isn q.key) news = subst (λ k. NewsFits (script k) (isn k) news) key nf in
     let known : IsKnown log q = known_after log news p q f.1 n t.same.key t.same.sisn t.answered t.reads_answered in
@@ -263,7 +264,7 @@ live_fits service server script isn log boot news p q sent short entries nf n f 
     (segments_spoken service server news p q) in
     let bodies : AllByRecursion (BodyFits script isn) (copies news p q ++ (reads_told news p q ++ dones news p q)) =
     all_append (BodyFits script isn) (copies news p q) _
-    (all_weaker (DataFits script) (BodyFits script isn) (copies news p q) (data_fits script isn) (copies_fit script (isn q.key) news p q nfq taken))
+    (all_weaker (DataFits script) (BodyFits script isn) (copies news p q) (data_fits script isn) (copies_fit script (isn q.key) news p q (taken_more news p q t.taken) nfq taken))
     (all_append (BodyFits script isn) (reads_told news p q) (dones news p q) (told_reads_fit script isn news p q) (dones_fit script isn news p q)) in (
       (taken, known),
       subst (AllByRecursion (IsFit script isn log)) (sym t.packets)

@@ -40,7 +40,7 @@ use Rattle.ft_model.proofs.Happened.{IsBrought, IsUnderWay, all_sent, answers}
 use Rattle.ft_model.proofs.PlaceTurns.{PlaceWent, IsNews}
 use Rattle.ft_model.proofs.PlaceTurns.PlaceWent.{stayed, went_on, began, dropped, ended, refused}
 use Rattle.ft_model.proofs.Stands.{nothing_first}
-use Rattle.ft_model.proofs.Scripts.{FitsScript, PartFits, EntryFits, NewsFits, entry_fits}
+use Rattle.ft_model.proofs.Scripts.{FitsScript, PartFits, EntryFits, NewsFits, nothing_held, entry_fits}
 use Rattle.ft_model.proofs.Faithful.{HasEntry, BodyFits, AnswerFits, PacketFits, PlaceFits, StageFits, EntriesFit, IsFit, NewsKnown, place_later, packet_later, told_fits, units_within, connection_fits}
 use Rattle.ft_io.proofs.Choices.{holds_if}
 
@@ -215,7 +215,7 @@ news_fit script isn log node input Begins p f n = absurd n
 pub opened_point : (script : Key → List ℕ) (isn : Key → ℕ) (log : Log) (kept : Numbers) → EntriesFit script isn log.entries → HasEntry log kept → PlaceFits script isn log (Lives (point_opened kept))
 opened_point script isn log kept entries h =
     let within = units_within script isn log kept.key h.0 entries h.1 in (
-      record { front = nothing_first (script kept.key); fin = λ k. absurd (true≢false (sym k)); cisn = sym h.2 ∙ within.0.cisn },
+      nothing_held (script kept.key) (isn kept.key) (point_opened kept) (nothing_first (script kept.key)) (λ k. absurd (true≢false (sym k))) refl (omega arith) (sym h.2 ∙ within.0.cisn),
       record { entry = h.0; found = h.1; sisn = h.3; answered = omega arith; reads = omega arith },
     )
 

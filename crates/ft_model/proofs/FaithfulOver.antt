@@ -1,5 +1,5 @@
 -- Over a whole trace: all that a client is told to be received is logged, and what is logged is the front of its script.
-use Rattle.std.proofs.Common.{◌≡◌, ℕ, zero, suc, ◌+◌, ◌≤◌, ◌^◌, true, ◌&&◌, not, le_refl, refl, sym, ap, ◌∙◌, subst, subst₂, true≢false, ⊎_elim, find, Option, Some, None, option_to_list, List, [], ◌∷◌, ◌++◌, map, length}
+use Rattle.std.proofs.Common.{◌≡◌, ℕ, zero, suc, ◌+◌, ◌≤◌, ◌^◌, true, ◌&&◌, not, le_refl, refl, sym, ap, ◌∙◌, subst, subst₂, true≢false, ⊎_elim, find, Option, Some, None, option_to_list, List, [], ◌∷◌, ◌++◌, map, length, arith}
 use Rattle.std.specs.List.{AllByRecursion}
 use Rattle.ft_io.specs.declared.Addr.{Addr}
 use Rattle.ft_io.specs.declared.Key.{Key}
@@ -31,7 +31,8 @@ use Rattle.ft_model.proofs.StageTurns.StageWent.{was_fenced, waited, held_off, a
 use Rattle.ft_model.proofs.Fetching.{IsFront, IsWhole, AreFetched, whole_is}
 use Rattle.ft_model.proofs.Asked.{IsAsked, StageAgrees, entry_keys, progress_agrees}
 use Rattle.ft_model.proofs.Resumed.{nothing_missing}
-use Rattle.ft_model.proofs.Scripts.{FitsScript, EntryFits, move_fits}
+use Rattle.ft_model.proofs.Services.{prefix_length}
+use Rattle.ft_model.proofs.Scripts.{FitsScript, EntryFits, nothing_held, move_fits}
 use Rattle.ft_model.proofs.Faithful.{PacketFits, PlaceFits, StageFits, EntriesFit, IsFit, units_within, acknowledges_units, connection_fits}
 use Rattle.ft_model.proofs.FaithfulKept.{ClientFits, IsFaithful, IsSameClient, received_same, client_fits, clients_fit, heard_faithful, listen_fits, asked_fits, InputFits, input_fits, place_fits, new_fits}
 use Rattle.ft_io.proofs.Choices.{holds_if}
@@ -84,12 +85,13 @@ restored_all Q service entries (f ∷ earlier) points done a w =
     all_append Q (all_restored service earlier) (restored service f ∷ []) (restored_all Q service entries earlier points done a.4 w.1)
     (restored_one Q service f a.0 (all_slice_get (λ e. Q (Lives (point_of service e))) entries (length earlier) a.0 points a.1) done a.2 w.0, tt)
 
-pub points_fit : {State : Type 0} (service : Machine State) (script : Key → List ℕ) (isn : Key → ℕ) (log : Log) → AreDistinct (entry_keys log) → EntriesFit script isn log.entries
+pub points_fit : {State : Type 0} (service : Machine State) (script : Key → List ℕ) (isn : Key → ℕ) (log : Log) → ((k : Key) → length (script k) ≤ 2 ^ 24) → AreDistinct (entry_keys log) → EntriesFit script isn log.entries
     → AllByRecursion (λ e. PlaceFits script isn log (Lives (point_of service e))) log.entries
-points_fit service script isn log d fits =
+points_fit service script isn log short d fits =
     all_from_get (λ e. PlaceFits script isn log (Lives (point_of service e))) log.entries
     (λ i e at. let f : EntryFits (script e.key) (isn e.key) e = all_slice_get (λ x. EntryFits (script x.key) (isn x.key) x) log.entries i e fits at in (
-      record { front = f.front; fin = f.fin; cisn = f.cisn },
+      let size = prefix_length e.bytes (script e.key) f.front in
+          nothing_held (script e.key) (isn e.key) (point_of service e) f.front f.fin refl (omega (arith, size, short e.key)) f.cisn,
       record { entry = e; found = finds_itself (λ x. x.key) log.entries i e d at; sisn = refl; answered = le_refl (length e.bytes + one_if e.fin); reads = le_refl (length e.lengths) },
     ))
 
@@ -133,7 +135,7 @@ turn_faithful service script isn w node input sent after short a f e brought (re
     let whole = nothing_missing w.log.entries count fetched agrees.1 none in
     let went = all_go_on (Revives service node) (PlaceFits script isn w.log) (PlaceFits script isn w.log) (IsFit script isn w.log) (revives_fit service script isn w.log node short f.entries)
     (all_restored service fetched) places sent
-    (restored_all (PlaceFits script isn w.log) service w.log.entries fetched (points_fit service script isn w.log a.distinct f.entries) (λ k. tt) agrees.1 whole.0) t in
+    (restored_all (PlaceFits script isn w.log) service w.log.entries fetched (points_fit service script isn w.log short a.distinct f.entries) (λ k. tt) agrees.1 whole.0) t in
     (subst (StageFits script isn w.log) (sym g) went.0, went.1)
 turn_faithful service script isn w node input sent after short a f e brought (served opened places later b g t) =
     let i : InputFits script isn w.log input = input_fits script isn w input f.packets brought in

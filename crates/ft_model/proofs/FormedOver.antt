@@ -178,7 +178,7 @@ turn_formed service start w node input sent after writes s k e brought (resumed 
     let points : AllByRecursion (λ x. PlaceSound start w.log (Lives (point_of service x))) w.log.entries =
     all_both (λ x. PlaceFits (script_of start) (isn_of start) w.log (Lives (point_of service x))) (EntryFormed start) _ w.log.entries
     (λ x f h. (f, point_formed service start x h))
-    (points_fit service (script_of start) (isn_of start) w.log k.truth.0.1.distinct k.truth.1.entries) k.formed.entries in
+    (points_fit service (script_of start) (isn_of start) w.log s.short k.truth.0.1.distinct k.truth.1.entries) k.formed.entries in
     let went = all_go_on (Revives service node) (PlaceSound start w.log) (PlaceSound start w.log) (PacketFormed start)
     (revived_formed service start w.log node writes s k.truth.1.entries n.server n.boot) (all_restored service fetched) places sent
     (restored_all (PlaceSound start w.log) service w.log.entries fetched points (λ key. (tt, tt)) agrees.1 whole.0) t in

@@ -30,8 +30,7 @@ use Rattle.ft_model.specs.Serving.{newcomers, refusals, is_strange}
 use Rattle.ft_model.specs.World.{World}
 use Rattle.ft_model.proofs.Lists.{all_weaker, all_map, all_append, none_is_some, some_is}
 use Rattle.ft_model.proofs.Services.{sum_append, prefix_length}
-use Rattle.ft_model.specs.Taken.{taken_after}
-use Rattle.ft_model.proofs.Running.{next_within, taken_grows}
+use Rattle.ft_model.proofs.Running.{next_within, taken_more}
 use Rattle.ft_model.proofs.Spoken.{Spoken, segments_spoken}
 use Rattle.ft_model.proofs.Spoken.Spoken.{spoken_syn, spoken_text, spoken_fin, spoken_bare}
 use Rattle.ft_model.proofs.StageTurns.{either_turn}
@@ -44,7 +43,7 @@ use Rattle.ft_model.proofs.FaithfulOver.{script_of, isn_of}
 use Rattle.ft_model.proofs.Formed.{bytes_take, bytes_drop, bytes_front, bytes_output, HasClient, IsSize, AreLengths, IsBoot, NumbersFormed, BodyFormed, SegmentFormed, PacketFormed, StartFormed, PointFormed, PlaceFormed}
 use Rattle.ft_model.proofs.FormedLog.{no_zero, lengths_drop}
 use Rattle.ft_io.proofs.Booleans.{not_true}
-use Rattle.ft_model.proofs.Copied.{text_in, all_copies, cut_short}
+use Rattle.ft_model.proofs.Copied.{Grows, text_in, all_copies}
 use Rattle.ft_io.proofs.Choices.{holds_if}
 
 -- the reads of a turn: each has a byte, or is the only one of length 0
@@ -98,10 +97,10 @@ pub record Stands (start : World) (q : Point) : Type 0 where
 
 stands : (start : World) (log : Log) (q : Point) → StartFormed start → PlaceFits (script_of start) (isn_of start) log (Lives q) → Stands start q
 stands start log q s f =
-    let size = prefix_length q.taken (script_of start q.key) f.0.front in
+    let size = prefix_length q.taken (script_of start q.key) f.0.fronts.front in
     let small = s.short q.key in
     record {
-      bytes = bytes_front q.taken (script_of start q.key) f.0.front (s.bytes q.key);
+      bytes = bytes_front q.taken (script_of start q.key) f.0.fronts.front (s.bytes q.key);
       short = omega (arith, size, small);
     }
 
@@ -155,15 +154,16 @@ news_short (Logged kept) n = omega arith
 news_short Ticks n = omega arith
 news_short Begins n = omega arith
 
-copies_formed : (start : World) (boot : ℕ) (news : News) (p q : Point) → NewsFormed news → HasClient start q.key → Stands start q
+copies_formed : (start : World) (boot : ℕ) (news : News) (p q : Point) → NewsFormed news → HasClient start q.key → Stands start q → Grows p q
     → AllByRecursion (BodyFormed start boot) (copies news p q)
-copies_formed start boot news p q n key s =
+copies_formed start boot news p q n key s more =
     all_copies (BodyFormed start boot) news p q
     (λ part c. (
       subst (HasClient start) (sym c.key) key,
-      omega (arith, c.within, s.short),
-      subst AreBytes (sym c.text.2) (bytes_take c.text.1 (drop c.text.0 (text_in news)) (bytes_drop c.text.0 (text_in news) (news_bytes news n))),
-      cut_short part.bytes (text_in news) 1460 c.text (news_short news n),
+      omega (arith, c.within more, s.short),
+      ⊎_elim (λ t. subst AreBytes (sym t.2) (bytes_take t.1 (drop t.0 (text_in news)) (bytes_drop t.0 (text_in news) (news_bytes news n))))
+          (λ t. bytes_front part.bytes (drop part.offset q.taken) t (bytes_drop part.offset q.taken s.bytes)) c.text,
+      c.short (news_short news n),
     ))
 
 messages_formed : (start : World) (boot : ℕ) (key : Key) (index : ℕ) (lengths : List ℕ) → HasClient start key → AreLengths lengths
@@ -199,9 +199,6 @@ reset_formed start boot news p q sent b h t =
       subst (AllByRecursion (PacketFormed start)) (sym t.packets) (bodies_sent start boot (dones news p q) b (dones_formed start boot news p q key)),
     )
 
-taken_more : (news : News) (p q : Point) → q.taken ≡ taken_after news p → length p.taken ≤ length q.taken
-taken_more news p q e = let size = prefix_length p.taken (taken_after news p) (taken_grows news p) in let same = ap length e in omega (arith, size, same)
-
 live_point : {State : Type 0} (service : Machine State) (start : World) (server : Addr) (boot : ℕ) (news : News) (p q : Point) (sent : List Packet)
     → PointFormed start p → LiveTurn service server boot news p q sent → PointFormed start q
 live_point service start server boot news p q sent h t =
@@ -229,7 +226,7 @@ live_formed service start server boot news p q sent writes at b n h s t =
     all_weaker (Spoken service server news p q) _ (segments_of service server news p q)
     (λ x spoken. segment_formed service start server news p q x writes at point s.bytes spoken) (segments_spoken service server news p q) in
     let bodies : AllByRecursion (BodyFormed start boot) (copies news p q ++ (reads_told news p q ++ dones news p q)) =
-    all_append (BodyFormed start boot) (copies news p q) _ (copies_formed start boot news p q n point.key s)
+    all_append (BodyFormed start boot) (copies news p q) _ (copies_formed start boot news p q n point.key s (taken_more news p q t.taken))
     (all_append (BodyFormed start boot) (reads_told news p q) (dones news p q) (reads_formed start boot news p q point s) (dones_formed start boot news p q point.key)) in (
       point,
       subst (AllByRecursion (PacketFormed start)) (sym t.packets)

@@ -37,7 +37,7 @@ use Rattle.ft_model.proofs.AuthorOver.{HasAuthor, EntryOf}
 use Rattle.ft_model.proofs.AuthorWorld.{author_goes_on, start_author}
 use Rattle.ft_model.proofs.Backed.{EntryBacked, IsBacked}
 use Rattle.ft_model.proofs.BackedOver.{start_backed, backed_goes_on}
-use Rattle.ft_model.proofs.Seen.{Sees, IsSeen, SaysRun, seen_later, received_sees, moved_seen}
+use Rattle.ft_model.proofs.Seen.{HoldsOf, Sees, IsSeen, SaysRun, seen_later, received_sees, moved_seen}
 use Rattle.ft_io.proofs.Choices.{holds_if}
 
 opened_closed : (c : Client) (segment : Segment) → has_rst segment ≡ true → is_open c.phase ≡ false → is_open (opened_by c segment).phase ≡ false
@@ -64,10 +64,12 @@ says service script log key e segment found s = λ rst.
 
 seen_as : {State : Type 0} (service : Machine State) (script : Key → List ℕ) (log : Log) (c d : Client) → d.key ≡ c.key → IsPrefix d.accepted (logged_run service script log c.key).output
     → (is_ended d.phase ≡ true → ((logged_run service script log c.key).closed ≡ true) × (d.accepted ≡ (logged_run service script log c.key).output))
+    → HoldsOf (logged_run service script log c.key) (length d.accepted) d.early
     → (is_open d.phase ≡ true → (e : Entry) × (entry_of c.key log ≡ Some e) × (e.sisn ≡ d.sisn)) → IsSeen service script log d
-seen_as service script log c d k front ended sisn = record {
+seen_as service script log c d k front ended holds sisn = record {
   front = subst (λ x. IsPrefix d.accepted (logged_run service script log x).output) (sym k) front;
   ended = λ e. subst (λ x. ((logged_run service script log x).closed ≡ true) × (d.accepted ≡ (logged_run service script log x).output)) (sym k) (ended e);
+  holds = subst (λ x. HoldsOf (logged_run service script log x) (length d.accepted) d.early) (sym k) holds;
   sisn = λ o. subst (λ x. (e : Entry) × (entry_of x log ≡ Some e) × (e.sisn ≡ d.sisn)) (sym k) (sisn o);
 }
 
@@ -79,15 +81,15 @@ received_by : {State : Type 0} (service : Machine State) (script : Key → List 
     → (has_rst segment ≡ false → IsSpoken service script log c.key segment) → IsSeen service script log c → IsSeen service script log (received c segment)
 received_by service script log c segment (Some e) b found rst says_so s =
     let sees : Sees (logged_run service script log c.key) e.sisn c =
-    record { front = s.front; ended = s.ended; sisn_is = λ o. let x = s.sisn o in sym x.2 ∙ ap (λ z. z.sisn) (some_is x.0 e (sym x.1 ∙ found)) } in
+    record { front = s.front; ended = s.ended; holds = s.holds; sisn_is = λ o. let x = s.sisn o in sym x.2 ∙ ap (λ z. z.sisn) (some_is x.0 e (sym x.1 ∙ found)) } in
     let after : Sees (logged_run service script log c.key) e.sisn (received c segment) = received_sees (logged_run service script log c.key) e.sisn c segment sees (says service script log c.key e segment found says_so) in
-    seen_as service script log c (received c segment) (received_same c segment).key after.front after.ended (λ o. (e, found, sym (after.sisn_is o)))
+    seen_as service script log c (received c segment) (received_same c segment).key after.front after.ended after.holds (λ o. (e, found, sym (after.sisn_is o)))
 received_by service script log c segment None true found rst says_so s =
     let closed : is_open c.phase ≡ false = not_open service script log c s found in
-    let sees : Sees (logged_run service script log c.key) 0 c = record { front = s.front; ended = s.ended; sisn_is = λ o. absurd (true≢false (sym o ∙ closed)) } in
+    let sees : Sees (logged_run service script log c.key) 0 c = record { front = s.front; ended = s.ended; holds = s.holds; sisn_is = λ o. absurd (true≢false (sym o ∙ closed)) } in
     let after : Sees (logged_run service script log c.key) 0 (received c segment) =
     received_sees (logged_run service script log c.key) 0 c segment sees (λ r. absurd (true≢false (sym rst ∙ r))) in
-    seen_as service script log c (received c segment) (received_same c segment).key after.front after.ended (λ o. absurd (true≢false (sym o ∙ received_closed c segment rst closed)))
+    seen_as service script log c (received c segment) (received_same c segment).key after.front after.ended after.holds (λ o. absurd (true≢false (sym o ∙ received_closed c segment rst closed)))
 received_by service script log c segment None false found rst says_so s = none_is_some (says_so rst).entry (sym found ∙ (says_so rst).found)
 
 received_seen : {State : Type 0} (service : Machine State) (script : Key → List ℕ) (log : Log) (c : Client) (segment : Segment) → c.key ≡ destination_of segment
@@ -119,7 +121,7 @@ start_sees : {State : Type 0} (service : Machine State) (script : Key → List �
 start_sees service script w s =
     all_weaker (IsNewClient w.server) _ w.clients
     (λ c n. subst (IsSeen service script w.log) (sym n.new)
-    (record { front = ((logged_run service script w.log c.key).output, refl); ended = λ e. absurd (true≢false (sym e)); sisn = λ o. absurd (true≢false (sym o)) })) s.clients
+    (record { front = ((logged_run service script w.log c.key).output, refl); ended = λ e. absurd (true≢false (sym e)); holds = record { held = tt; held_fin = tt }; sisn = λ o. absurd (true≢false (sym o)) })) s.clients
 
 -- all that is kept true
 pub record IsSound {State : Type 0} (service : Machine State) (start w : World) : Type 0 where

@@ -45,6 +45,8 @@ pub mod Stands
 pub mod Coming
 pub mod Copied
 pub mod RightEdge
+pub mod BeyondNext
+pub mod HeldSegments
 pub mod ShutWindow
 pub mod Scripts
 pub mod Spoken
@@ -53,6 +55,7 @@ pub mod Faithful
 pub mod FaithfulKept
 pub mod FaithfulOver
 pub mod Acknowledged
+pub mod Held
 pub mod Distinct
 pub mod Refused
 pub mod KnownKeys

@@ -71,6 +71,7 @@ live_turn service server boot news p known =
       same = record { key = refl; cisn = refl; sisn = refl; mss = refl; fetched = refl };
       taken = refl;
       fin = refl;
+      early = refl;
       answered = refl;
       reads_answered = refl;
       reads = record { news = ns; lengths = refl; makes = makes_alike service news p ns p.lengths 0 0 0 0 after.sent after.interval after.rest after.end_ticks makes };

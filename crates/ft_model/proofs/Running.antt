@@ -1,5 +1,5 @@
 -- A live connection reads no more than it has taken, and keeps its output within a stream.
-use Rattle.std.proofs.Common.{◌≡◌, ℕ, ◌+◌, ◌-◌, ◌<◌, ◌≤◌, ◌^◌, ◌==◌, ◌&&◌, not, nat_lt, nat_le, min, sum, le_trans, sym, ap, subst, Some, None, List, [], ◌∷◌, ◌++◌, length, append-nil, append_assoc, arith, length-append, ltb-true, leb-true}
+use Rattle.std.proofs.Common.{◌≡◌, ℕ, ◌+◌, ◌-◌, ◌<◌, ◌≤◌, ◌^◌, ◌==◌, ◌&&◌, not, nat_lt, nat_le, min, sum, le_of_eq, le_trans, sym, ap, subst, Some, None, List, [], ◌∷◌, ◌++◌, length, append-nil, append_assoc, arith, length-append, ltb-true, leb-true}
 use Rattle.std.specs.List.{list_any}
 use Rattle.std.proofs.lemmas.Bool.{and_parts}
 use Rattle.ft_io.specs.declared.Addr.{Addr}
@@ -7,7 +7,7 @@ use Rattle.server_trait.specs.Service.{Machine, reference}
 use Rattle.ft_model.specs.Network.{Packet}
 use Rattle.ft_model.specs.News.{News}
 use Rattle.ft_model.specs.News.News.{Comes, Logged, Ticks, Begins}
-use Rattle.ft_model.specs.Point.{Point, made, released}
+use Rattle.ft_model.specs.Point.{Point, made, released, receive_edge}
 use Rattle.ft_model.specs.Taken.{taken_after, came}
 use Rattle.ft_model.specs.Answered.{reads_answered_after}
 use Rattle.ft_model.specs.Reads.{next_length, may_read, next_read, with_read, Makes}
@@ -75,6 +75,23 @@ taken_grows (Comes segment) p = prefix_more p.taken (came p segment).added
 taken_grows (Logged kept) p = prefix_refl p.taken
 taken_grows Ticks p = prefix_refl p.taken
 taken_grows Begins p = prefix_refl p.taken
+
+pub taken_more : (news : News) (p q : Point) → q.taken ≡ taken_after news p → length p.taken ≤ length q.taken
+taken_more news p q e = let size = prefix_length p.taken (taken_after news p) (taken_grows news p) in let same = ap length e in omega (arith, size, same)
+
+sum_grows : (lengths more : List ℕ) → sum lengths ≤ sum (lengths ++ more)
+sum_grows lengths [] = le_of_eq (ap sum (sym (append-nil lengths)))
+sum_grows lengths (n ∷ more) =
+    let one = sum_append lengths n in
+    let rest : sum (lengths ++ n ∷ []) ≤ sum (lengths ++ n ∷ more) = subst (λ l. sum (lengths ++ n ∷ []) ≤ sum l) (append_assoc lengths (n ∷ []) more) (sum_grows (lengths ++ n ∷ []) more) in
+    omega (arith, one, rest)
+
+-- a turn doesn't lower the receive edge
+pub edge_grows : {State : Type 0} (service : Machine State) (server : Addr) (boot : ℕ) (news : News) (p q : Point) (sent : List Packet)
+    → LiveTurn service server boot news p q sent → receive_edge p ≤ receive_edge q
+edge_grows service server boot news p q sent t =
+    let read : sum p.lengths ≤ sum q.lengths = subst (λ l. sum p.lengths ≤ sum l) (sym t.reads.lengths) (sum_grows p.lengths t.reads.news) in
+    omega (arith, t.same.fetched, read)
 
 pub reset_within : {State : Type 0} (service : Machine State) (boot : ℕ) (news : News) (p q : Point) (sent : List Packet) → ReadsWithin service p → ResetTurn boot news p q sent → ReadsWithin service q
 reset_within service boot news p q sent r t =

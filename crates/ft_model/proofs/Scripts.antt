@@ -1,28 +1,34 @@
 -- Every byte of a client that is under way, logged or taken is its script's at that offset, and a FIN stands only at the script's end.
-use Rattle.std.proofs.Common.{ap₂, ◌≡◌, ℕ, ◌+◌, ◌-◌, ◌≤◌, ◌^◌, pos, ◌+ℤ◌, true, false, ◌==◌, ◌&&◌, ◌||◌, nat_lt, nat_le, min, refl, sym, ap, ◌∙◌, subst, true≢false, inl, inr, ◌⊎◌, ⊎_elim, List, [], ◌++◌, length, take, drop, arith, length-take, length-drop, leb-true, ltb-false, eqb-true}
+use Rattle.std.proofs.Common.{ap₂, ◌≡◌, ℕ, ◌+◌, ◌-◌, ◌≤◌, ◌^◌, pos, ◌+ℤ◌, Bool, true, false, ◌==◌, ◌&&◌, ◌||◌, nat_lt, nat_le, min, refl, sym, ap, ◌∙◌, subst, true≢false, inl, inr, ◌⊎◌, ⊎_elim, List, [], ◌++◌, length, take, drop, arith, append-nil, length-append, length-take, length-drop, leb-true, ltb-false, eqb-true}
 use Rattle.std.specs.List.{AllByRecursion}
 use Rattle.std.proofs.lemmas.Bool.{and_parts, or_parts}
+use Rattle.ft_io.specs.declared.Addr.{Addr}
 use Rattle.ft_io.specs.declared.Key.{Key}
 use Rattle.seq_arith.specs.Arrival.{int_eq, below}
-use Rattle.seq_arith.specs.Coming.{nothing_came, comes}
+use Rattle.seq_arith.specs.Coming.{Early, Came, nothing_early, nothing_came, comes, StandsBehind}
 use Rattle.seq_arith.specs.Packet.{Segment, has_syn}
 use Rattle.seq_arith.specs.Message.{Part, Body}
 use Rattle.seq_arith.specs.Message.Body.{DataMsg}
+use Rattle.seq_arith.proofs.Coming.{stays_behind, behind_within, behind_up, nothing_behind}
 use Rattle.seq_arith.proofs.Shifts.{offset_of_number}
+use Rattle.server_trait.specs.Service.{Machine}
 use Rattle.ft_model.specs.Offset.{first_of, text_of, fin_of}
 use Rattle.ft_model.specs.Client.{Client, Move, IsMove, may_move, suits_phase, suits_range, segment_of}
 use Rattle.ft_model.specs.Client.Move.{Syn, Text, Fin, Acknowledge, Rst, Refuse}
 use Rattle.ft_model.specs.Log.{Entry, with_part, with_bytes, with_its_fin}
-use Rattle.ft_model.specs.Point.{Point, receive_edge}
+use Rattle.ft_model.specs.Point.{Point, receive_edge, HoldsBehind}
 use Rattle.ft_model.specs.News.{News}
 use Rattle.ft_model.specs.News.News.{Comes, Logged, Ticks, Begins}
-use Rattle.ft_model.specs.Taken.{counts, end_of, came, taken_after, fin_after}
+use Rattle.ft_model.specs.Taken.{counts, end_of, came, taken_after, early_after, fin_after}
 use Rattle.ft_model.specs.Copy.{from_start, copy_start, copied_text, una_part, copied_part, copies}
 use Rattle.ft_model.specs.Growth.{IsPrefix}
-use Rattle.ft_model.proofs.Lists.{take_first}
-use Rattle.ft_model.proofs.Stands.{nothing_first, part_stands, goes_on_all, take_nothing}
-use Rattle.ft_model.proofs.Copied.{HasForm, all_copies}
-use Rattle.ft_model.proofs.Coming.{Fronts, Says, int_same, unchanged, comes_fits}
+use Rattle.ft_model.specs.Network.{Packet}
+use Rattle.ft_model.specs.Connection.{LiveTurn}
+use Rattle.ft_model.proofs.Lists.{take_first, prefix_trans}
+use Rattle.ft_model.proofs.Stands.{nothing_first, drop_prefix, part_stands, goes_on_all, take_nothing}
+use Rattle.ft_model.proofs.Copied.{Grows, IsFurther, HasForm, all_copies}
+use Rattle.ft_model.proofs.Coming.{Fronts, Says, int_same, comes_fits}
+use Rattle.ft_model.proofs.Running.{edge_grows}
 use Rattle.ft_io.proofs.Choices.{holds_if}
 
 -- a segment carries a part of its client's script, or nothing
@@ -38,11 +44,21 @@ pub record FitsScript (script : List ℕ) (isn : ℕ) (segment : Segment) : Type
   pub syn : has_syn segment ≡ true → segment.head.seq ≡ isn
   pub text : Carries script isn segment ⊎ IsBare segment
 
--- what is taken of a client is a front of its script
+-- what is taken of a client is a front of its script, and what is held is the script's and stands behind that
 pub record HasTaken (script : List ℕ) (isn : ℕ) (p : Point) : Type 0 where
-  pub front : IsPrefix p.taken script
-  pub fin : p.fin ≡ true → length p.taken ≡ length script
+  pub fronts : Fronts script (Unit {0}) p.taken p.fin p.early
+  pub behind : HoldsBehind p
   pub cisn : p.cisn ≡ isn
+
+-- where nothing is held
+pub nothing_held : (script : List ℕ) (isn : ℕ) (p : Point) → IsPrefix p.taken script → (p.fin ≡ true → length p.taken ≡ length script) → p.early ≡ nothing_early
+    → length p.taken ≤ receive_edge p → p.cisn ≡ isn → HasTaken script isn p
+nothing_held script isn p front fin none low cisn = record {
+  fronts = subst (λ early. Fronts script (Unit {0}) p.taken p.fin early) (sym none)
+      (record { front = front; fin_taken = λ e. (tt, fin e); held = tt; held_fin = tt });
+  behind = subst (StandsBehind (length p.taken) (receive_edge p) p.fin) (sym none) (nothing_behind (length p.taken) (receive_edge p) p.fin low);
+  cisn = cisn;
+}
 
 pub record PartFits (script : List ℕ) (part : Part) : Type 0 where
   pub stands : IsPrefix part.bytes (drop part.offset script)
@@ -57,34 +73,59 @@ abbrev pub NewsFits : List ℕ → ℕ → News → Type 0
 NewsFits script isn (Comes segment) = FitsScript script isn segment
 NewsFits script isn _ = Unit {0}
 
--- the law Taken, in one sentence: each byte taken is the script's byte at its offset, and a FIN is taken only at the script's end
-came_fits : (script : List ℕ) (isn : ℕ) (segment : Segment) (p : Point) → FitsScript script isn segment → HasTaken script isn p
-    → Fronts script (taken_after (Comes segment) p) (fin_after (Comes segment) p)
-unfolding taken_after fin_after came
-came_fits script isn segment p f h =
-    let taken : Fronts script p.taken p.fin = record { front = h.front; fin = h.fin } in
-    holds_if (λ c. Fronts script (p.taken ++ c.added) c.fin) (counts p segment)
-    (comes (length p.taken) (receive_edge p) p.fin (first_of p.cisn segment) (text_of segment) (fin_of segment)) (nothing_came p.fin)
-    (λ t. comes_fits script p.taken (receive_edge p) p.fin (first_of p.cisn segment) (text_of segment) (fin_of segment) taken
-    (subst (λ n. Says script (first_of n segment) (text_of segment) (fin_of segment)) (sym h.cisn) f.text))
-    (λ t. unchanged script p.taken p.fin taken)
+-- what a segment says of its client's script
+says_script : (script : List ℕ) (isn n : ℕ) (segment : Segment) → n ≡ isn → FitsScript script isn segment
+    → Says script (Unit {0}) (first_of n segment) (text_of segment) (fin_of segment)
+says_script script isn n segment same f =
+    ⊎_elim (λ s. inl (s.0, ap (λ k. first_of k segment) same ∙ s.1, s.2, λ e. (tt, s.3 e))) (λ s. inr s) f.text
 
--- the law Taken: what is taken after any news is a front of the script still
-pub taken_fits : (script : List ℕ) (isn : ℕ) (news : News) (p q : Point) → NewsFits script isn news → HasTaken script isn p
-    → q.taken ≡ taken_after news p → q.fin ≡ fin_after news p → q.cisn ≡ p.cisn → HasTaken script isn q
-unfolding taken_after fin_after
-taken_fits script isn (Comes segment) p q f h t e c =
-    let after = came_fits script isn segment p f h in
+-- the law Taken, in one sentence: each byte taken or held is the script's byte at its offset, and a FIN is taken or held only at the script's end
+came_fits : (script : List ℕ) (isn : ℕ) (segment : Segment) (p : Point) → FitsScript script isn segment → HasTaken script isn p
+    → Fronts script (Unit {0}) (p.taken ++ (came p segment).added) (came p segment).fin (came p segment).early
+unfolding came
+came_fits script isn segment p f h =
+    holds_if (λ c. Fronts script (Unit {0}) (p.taken ++ c.added) c.fin c.early) (counts p segment)
+    (comes (length p.taken) (receive_edge p) p.fin p.early (first_of p.cisn segment) (text_of segment) (fin_of segment)) (nothing_came p.early p.fin)
+    (λ t. comes_fits script (Unit {0}) p.taken (receive_edge p) p.fin p.early (first_of p.cisn segment) (text_of segment) (fin_of segment) h.fronts
+    (says_script script isn p.cisn segment h.cisn f))
+    (λ t. subst (λ l. Fronts script (Unit {0}) l p.fin p.early) (sym (append-nil p.taken)) h.fronts)
+
+-- and it keeps to the receive edge
+came_behind : (segment : Segment) (p : Point) → HoldsBehind p
+    → StandsBehind (length (p.taken ++ (came p segment).added)) (receive_edge p) (came p segment).fin (came p segment).early
+unfolding came
+came_behind segment p h =
+    holds_if (λ c. StandsBehind (length (p.taken ++ c.added)) (receive_edge p) c.fin c.early) (counts p segment)
+    (comes (length p.taken) (receive_edge p) p.fin p.early (first_of p.cisn segment) (text_of segment) (fin_of segment)) (nothing_came p.early p.fin)
+    (λ t. let c : Came = comes (length p.taken) (receive_edge p) p.fin p.early (first_of p.cisn segment) (text_of segment) (fin_of segment) in
+    subst (λ n. StandsBehind n (receive_edge p) c.fin c.early) (sym (length-append p.taken c.added))
+    (stays_behind (length p.taken) (receive_edge p) p.fin p.early (first_of p.cisn segment) (text_of segment) (fin_of segment) (behind_within (length p.taken) (receive_edge p) p.fin p.early h) h))
+    (λ t. subst (λ l. StandsBehind (length l) (receive_edge p) p.fin p.early) (sym (append-nil p.taken)) h)
+
+-- where a point stands after news, as far as this goes
+record HasNow (script : List ℕ) (edge : ℕ) (taken : List ℕ) (fin : Bool) (early : Early) : Type 0 where
+  fronts : Fronts script (Unit {0}) taken fin early
+  behind : StandsBehind (length taken) edge fin early
+
+has_after : (script : List ℕ) (isn : ℕ) (news : News) (p : Point) → NewsFits script isn news → HasTaken script isn p
+    → HasNow script (receive_edge p) (taken_after news p) (fin_after news p) (early_after news p)
+unfolding taken_after fin_after early_after
+has_after script isn (Comes segment) p f h = record { fronts = came_fits script isn segment p f h; behind = came_behind segment p h.behind }
+has_after script isn (Logged kept) p f h = record { fronts = h.fronts; behind = h.behind }
+has_after script isn Ticks p f h = record { fronts = h.fronts; behind = h.behind }
+has_after script isn Begins p f h = record { fronts = h.fronts; behind = h.behind }
+
+-- the law Taken: so it is after any news
+pub taken_fits : {State : Type 0} (service : Machine State) (server : Addr) (boot : ℕ) (script : List ℕ) (isn : ℕ) (news : News) (p q : Point) (sent : List Packet)
+    → NewsFits script isn news → HasTaken script isn p → LiveTurn service server boot news p q sent → HasTaken script isn q
+taken_fits service server boot script isn news p q sent f h t =
+    let after : HasNow script (receive_edge p) (taken_after news p) (fin_after news p) (early_after news p) = has_after script isn news p f h in
+    let now : HasNow script (receive_edge p) q.taken q.fin q.early = rw (t.taken, t.fin, t.early) after in
     record {
-      front = subst (λ l. IsPrefix l script) (sym t) after.front;
-      fin = λ k. ap length t ∙ after.fin (sym e ∙ k);
-      cisn = c ∙ h.cisn;
+      fronts = now.fronts;
+      behind = behind_up (length q.taken) (receive_edge p) (receive_edge q) q.fin q.early (edge_grows service server boot news p q sent t) now.behind;
+      cisn = t.same.cisn ∙ h.cisn;
     }
-taken_fits script isn news p q f h t e c = record {
-  front = subst (λ l. IsPrefix l script) (sym t) h.front;
-  fin = λ k. ap length t ∙ h.fin (sym e ∙ k);
-  cisn = c ∙ h.cisn;
-}
 
 -- a body says of a client's stream only what its script has
 abbrev pub DataFits : (Key → List ℕ) → Body → Type 0
@@ -124,20 +165,29 @@ copied_fits script isn segment p f h =
       fin = λ k. absurd (true≢false (sym (and_parts (fin_of segment) p.fin (and_parts (fin_of segment && p.fin) (int_eq (end_of p segment) (pos (length p.taken))) (and_parts (fin_of segment && p.fin && int_eq (end_of p segment) (pos (length p.taken))) (nat_le p.answered (length p.taken)) k).0).0).0 ∙ c.1));
     }) f.text
 
-part_fits : (script : List ℕ) (isn : ℕ) (news : News) (p : Point) (part : Part) → NewsFits script isn news → HasTaken script isn p → HasForm news p part → PartFits script part
-part_fits script isn (Comes segment) p part f h form =
+further_fits : (script : List ℕ) (isn : ℕ) (before p : Point) (part : Part) → Grows before p → HasTaken script isn p → IsFurther before p part → PartFits script part
+further_fits script isn before p part more h i = record {
+  stands = prefix_trans part.bytes (drop part.offset p.taken) (drop part.offset script) i.stands (drop_prefix part.offset p.taken script h.fronts.front);
+  fin = λ e. let f = i.fin e in f.1 more ∙ (h.fronts.fin_taken f.0).1;
+}
+
+part_fits : (script : List ℕ) (isn : ℕ) (news : News) (before p : Point) (part : Part) → Grows before p → NewsFits script isn news → HasTaken script isn p → HasForm news before p part
+    → PartFits script part
+part_fits script isn (Comes segment) before p part more f h form =
     ⊎_elim (λ e. subst (PartFits script) (sym e) (copied_fits script isn segment p f h))
-    (λ e. subst (PartFits script) (sym e) (record { stands = nothing_first (drop (una_part p).offset script); fin = λ k. absurd (true≢false (sym k)) })) form
-part_fits script isn (Logged kept) p part f h form = absurd form
-part_fits script isn Ticks p part f h form = absurd form
-part_fits script isn Begins p part f h form = absurd form
+    (λ rest. ⊎_elim
+    (λ e. subst (PartFits script) (sym e) (record { stands = nothing_first (drop (una_part p).offset script); fin = λ k. absurd (true≢false (sym k)) }))
+    (λ i. further_fits script isn before p part more h i) rest) form
+part_fits script isn (Logged kept) before p part more f h form = absurd form
+part_fits script isn Ticks before p part more f h form = absurd form
+part_fits script isn Begins before p part more f h form = absurd form
 
 -- the law Copy: a Data carries the script's bytes at its offset, and a FIN only at the script's end
-pub copies_fit : (script : Key → List ℕ) (isn : ℕ) (news : News) (before p : Point) → NewsFits (script p.key) isn news → HasTaken (script p.key) isn p
+pub copies_fit : (script : Key → List ℕ) (isn : ℕ) (news : News) (before p : Point) → Grows before p → NewsFits (script p.key) isn news → HasTaken (script p.key) isn p
     → AllByRecursion (DataFits script) (copies news before p)
-copies_fit script isn news before p f h =
+copies_fit script isn news before p more f h =
     all_copies (DataFits script) news before p
-    (λ part c. subst (λ k. PartFits (script k) part) (sym c.key) (part_fits (script p.key) isn news p part f h c.form))
+    (λ part c. subst (λ k. PartFits (script k) part) (sym c.key) (part_fits (script p.key) isn news before p part more f h c.form))
 
 by_move : (c : Client) (move : Move) (window : ℕ) → length c.script ≤ 2 ^ 24 → may_move c move ≡ true → FitsScript c.script c.isn (segment_of c move window)
 by_move c (Syn mss) window short may = record { syn = λ e. refl; text = inr (refl, refl) }

@@ -3,7 +3,7 @@ use Rattle.std.proofs.Common.{ℕ, false, List, [], ◌∷◌, ◌++◌}
 use Rattle.server_trait.specs.Service.{Machine}
 use Rattle.ft_model.specs.News.{News}
 use Rattle.ft_model.specs.Point.{Point}
-use Rattle.ft_model.specs.Taken.{taken_after, fin_after}
+use Rattle.ft_model.specs.Taken.{taken_after, early_after, fin_after}
 use Rattle.ft_model.specs.Answered.{answered_after, reads_answered_after}
 use Rattle.ft_model.specs.Reads.{Makes, next_length, may_read}
 use Rattle.ft_model.specs.Timer.{interval_after, rest_after}
@@ -20,6 +20,7 @@ noted news p lengths sent interval rest end_ticks = record {
   fetched = p.fetched;
   taken = taken_after news p;
   fin = fin_after news p;
+  early = early_after news p;
   answered = answered_after news p;
   lengths = lengths;
   reads_answered = reads_answered_after news p;

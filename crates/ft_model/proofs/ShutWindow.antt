@@ -1,14 +1,14 @@
 -- At a receive window of zero the acknowledgement of a segment at the next number is used, and nothing of it is taken; at the right edge of an open
 -- window a segment of length 0 is acceptable.
-use Rattle.std.proofs.Common.{◌≡◌, ℕ, ◌+◌, ◌-◌, ◌<◌, ℤ, pos, Bool, true, false, ◌==◌, ◌&&◌, ◌||◌, nat_lt, refl, sym, ap, ap₂, ◌∙◌, List, ◌++◌, length, arith, append-nil, if◌then◌else◌}
+use Rattle.std.proofs.Common.{◌≡◌, ℕ, ◌+◌, ◌-◌, ◌<◌, ℤ, pos, Bool, true, false, ◌==◌, ◌&&◌, ◌||◌, nat_lt, refl, sym, ap, ap₂, ◌∙◌, subst, List, ◌++◌, length, arith, append-nil, if◌then◌else◌}
 use Rattle.std.proofs.lemmas.Int.{ints}
 use Rattle.seq_arith.specs.Arrival.{int_eq, is_acceptable, is_at_right_edge, is_allowed_at_zero}
 use Rattle.seq_arith.specs.Packet.{Segment, has_rst}
-use Rattle.seq_arith.specs.Coming.{Came, nothing_came, comes}
-use Rattle.seq_arith.proofs.Coming.{comes_shut, comes_ended}
+use Rattle.seq_arith.specs.Coming.{Early, Came, nothing_came, comes, StandsBehind}
+use Rattle.seq_arith.proofs.Coming.{comes_shut, comes_ended, behind_within}
 use Rattle.ft_model.specs.Offset.{first_of, text_of, fin_of, length_of}
 use Rattle.ft_model.specs.News.News.{Comes}
-use Rattle.ft_model.specs.Point.{Point, taken_units, receive_edge, room}
+use Rattle.ft_model.specs.Point.{Point, taken_units, receive_edge, HoldsBehind, room}
 use Rattle.ft_model.specs.Taken.{accepts, uses, came, counts, taken_after, fin_after}
 use Rattle.ft_model.specs.Owed.{owes}
 use Rattle.ft_io.proofs.Choices.{holds_either_way}
@@ -29,22 +29,25 @@ shut_uses p segment shut at =
     ∙ sym (or_true (is_acceptable (taken_units p) (room p) (first_of p.cisn segment) (length_of segment) || is_at_right_edge (taken_units p) (room p) (first_of p.cisn segment) (length_of segment)))
 
 -- where the window is zero all that may be taken is
-nothing_shut : (n edge : ℕ) (fin : Bool) (first : ℤ) (text : List ℕ) (has_fin : Bool) → edge + (if fin then 1 else 0) - (n + (if fin then 1 else 0)) ≡ 0
-    → comes n edge fin first text has_fin ≡ nothing_came fin
-nothing_shut n edge true first text has_fin e = comes_ended n edge first text has_fin
-nothing_shut n edge false first text has_fin e = comes_shut n edge false first text has_fin (omega (arith, e))
+nothing_shut : (n edge : ℕ) (fin : Bool) (early : Early) (first : ℤ) (text : List ℕ) (has_fin : Bool) → StandsBehind n edge fin early
+    → edge + (if fin then 1 else 0) - (n + (if fin then 1 else 0)) ≡ 0 → comes n edge fin early first text has_fin ≡ nothing_came early fin
+nothing_shut n edge true early first text has_fin h e = comes_ended n edge early first text has_fin h
+nothing_shut n edge false early first text has_fin h e =
+    let same : edge ≡ n = omega (arith, e, behind_within n edge false early h) in
+    ap (λ k. comes n k false early first text has_fin) same ∙ comes_shut n false early first text has_fin (subst (λ k. StandsBehind n k false early) same h)
 
-shut_came : (p : Point) (segment : Segment) → room p ≡ 0 → came p segment ≡ nothing_came p.fin
+shut_came : (p : Point) (segment : Segment) → HoldsBehind p → room p ≡ 0 → came p segment ≡ nothing_came p.early p.fin
 unfolding came
-shut_came p segment shut =
-    holds_either_way (λ c. c ≡ nothing_came p.fin) (counts p segment)
-    (comes (length p.taken) (receive_edge p) p.fin (first_of p.cisn segment) (text_of segment) (fin_of segment)) (nothing_came p.fin)
-    (nothing_shut (length p.taken) (receive_edge p) p.fin (first_of p.cisn segment) (text_of segment) (fin_of segment) shut) refl
+shut_came p segment h shut =
+    holds_either_way (λ c. c ≡ nothing_came p.early p.fin) (counts p segment)
+    (comes (length p.taken) (receive_edge p) p.fin p.early (first_of p.cisn segment) (text_of segment) (fin_of segment)) (nothing_came p.early p.fin)
+    (nothing_shut (length p.taken) (receive_edge p) p.fin p.early (first_of p.cisn segment) (text_of segment) (fin_of segment) h shut) refl
 
-pub shut_takes : (p : Point) (segment : Segment) → room p ≡ 0 → (taken_after (Comes segment) p ≡ p.taken) × (fin_after (Comes segment) p ≡ p.fin)
+pub shut_takes : (p : Point) (segment : Segment) → HoldsBehind p → room p ≡ 0
+    → (taken_after (Comes segment) p ≡ p.taken) × (fin_after (Comes segment) p ≡ p.fin)
 unfolding taken_after fin_after
-shut_takes p segment shut =
-    let none = shut_came p segment shut in (ap (λ (c : Came). p.taken ++ c.added) none ∙ append-nil p.taken, ap (λ (c : Came). c.fin) none)
+shut_takes p segment h shut =
+    let none = shut_came p segment h shut in (ap (λ (c : Came). p.taken ++ c.added) none ∙ append-nil p.taken, ap (λ (c : Came). c.fin) none)
 
 not_accepted : (next window : ℕ) (first : ℤ) (len : ℕ) → window ≡ 0 → 0 < len → (is_acceptable next window first len || is_at_right_edge next window first len) ≡ false
 unfolding is_at_right_edge

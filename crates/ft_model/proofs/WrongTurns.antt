@@ -9,7 +9,7 @@ use Rattle.ft_model.specs.declared.event.Event.TheVariants.{Deliver}
 use Rattle.ft_model.specs.Node.Input.{Packet_comes}
 use Rattle.ft_model.proofs.Lists.{some_is}
 use Rattle.seq_arith.specs.Message.{Body}
-use Rattle.seq_arith.specs.Message.Body.{ReadMsg, BytesMsg, CutsMsg}
+use Rattle.seq_arith.specs.Message.Body.{DataMsg, ReadMsg, BytesMsg, CutsMsg}
 use Rattle.ft_model.specs.Node.{Node, Input}
 use Rattle.ft_model.specs.News.News.{Ticks}
 use Rattle.ft_model.specs.Node.Input.{Tick_comes}
@@ -31,22 +31,23 @@ use Rattle.ft_model.proofs.SegmentWhileRestarting.{restart_3, restart_5}
 use Rattle.ft_model.proofs.RestartInTurns.{turn_2, turn_3}
 
 -- what tells packets apart: their count, and the kind, flags, acknowledgement, length, index or place of each
-abbrev mark_of_body : Body → ℕ
+abbrev pub mark_of_body : Body → ℕ
 mark_of_body (ReadMsg key index n) = index
 mark_of_body (BytesMsg key offset) = 101 + 10 * offset
 mark_of_body (CutsMsg key first) = 102 + 10 * first
+mark_of_body (DataMsg part) = 103 + 10 * part.offset
 mark_of_body _ = 100
 
-abbrev mark : Packet → ℕ
+abbrev pub mark : Packet → ℕ
 mark (To_client segment) = 1000 + segment.head.ack + 10 * length segment.payload + 100000 * segment.head.flags
 mark (To_logger message) = mark_of_body message.body
 mark _ = 200
 
-abbrev marks : List Packet → List ℕ
+abbrev pub marks : List Packet → List ℕ
 marks [] = []
 marks (packet ∷ packets) = mark packet ∷ marks packets
 
-abbrev are_same : List ℕ → List ℕ → Bool
+abbrev pub are_same : List ℕ → List ℕ → Bool
 are_same [] [] = true
 are_same (n ∷ ns) (m ∷ ms) = n == m && are_same ns ms
 are_same _ _ = false

@@ -4,7 +4,7 @@ use Rattle.ft_io.specs.declared.Addr.{Addr}
 use Rattle.ft_io.specs.declared.Key.{Key}
 use Rattle.seq_arith.specs.Number.{number_at}
 use Rattle.seq_arith.specs.Arrival.{int_eq, is_acceptable, is_usable}
-use Rattle.seq_arith.specs.Coming.{Came, comes}
+use Rattle.seq_arith.specs.Coming.{Early, Came, nothing_early, comes}
 use Rattle.seq_arith.specs.Packet.{Segment, has_syn, has_rst, has_ack}
 use Rattle.ft_model.specs.Offset.{first_of, ack_of, text_of, fin_of, length_of, one_if}
 use Rattle.ft_model.specs.declared.phase.Phase.{Phase}
@@ -32,9 +32,10 @@ pub record Client : Type 0 where
   pub acknowledged : ℕ  -- units of these that the server acknowledged
   pub accepted : List ℕ  -- the server's bytes
   pub edge : ℕ  -- the right edge: no byte from here on is accepted
+  pub early : Early  -- of a live client: the server's text behind the accepted bytes, and its FIN, that are held
 
 abbrev pub new_client : ClientKind → Addr → Key → ℕ → List ℕ → Client
-new_client kind server key isn script = record { kind = kind; key = key; server = server; isn = isn; script = script; phase = New; sisn = 0; sent = 0; acknowledged = 0; accepted = []; edge = 0 }
+new_client kind server key isn script = record { kind = kind; key = key; server = server; isn = isn; script = script; phase = New; sisn = 0; sent = 0; acknowledged = 0; accepted = []; edge = 0; early = nothing_early }
 
 abbrev pub is_new : Phase → Bool
 is_new New = true
@@ -247,12 +248,22 @@ may_use client segment =
 abbrev pub with_ack : Client → ℤ → Client
 with_ack client ack = record client { acknowledged = if int_lt (pos client.acknowledged) ack then nat_abs ack else client.acknowledged }
 
+-- a live client holds what comes early, as a server does; a scripted one drops it
+abbrev pub holds : ClientKind → Early → Early
+holds Scripted early = nothing_early
+holds Live early = early
+
 -- what a segment adds to the server's stream is accepted, and the server's FIN ends it
 abbrev pub with_added : Client → Came → Client
-with_added client came = record client { accepted = client.accepted ++ came.added; phase = if came.fin then Ended else client.phase }
+with_added client came = record client {
+  accepted = client.accepted ++ came.added;
+  early = holds client.kind came.early;
+  phase = if came.fin then Ended else client.phase;
+}
 
 abbrev pub came : Client → Segment → Came
-came client segment = comes (length client.accepted) client.edge (is_ended client.phase) (first_of client.sisn segment) (text_of segment) (fin_of segment)
+came client segment =
+    comes (length client.accepted) client.edge (is_ended client.phase) (holds client.kind client.early) (first_of client.sisn segment) (text_of segment) (fin_of segment)
 
 -- a segment with ACK that may be used, in an open connection. One that acknowledges what was not sent is dropped
 abbrev pub used : Client → Segment → Client

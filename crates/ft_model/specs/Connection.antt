@@ -8,7 +8,7 @@ use Rattle.ft_model.specs.Network.{Packet}
 use Rattle.ft_model.specs.Network.Packet.{To_client, To_logger}
 use Rattle.ft_model.specs.Point.{Point}
 use Rattle.ft_model.specs.News.{News}
-use Rattle.ft_model.specs.Taken.{taken_after, fin_after}
+use Rattle.ft_model.specs.Taken.{taken_after, early_after, fin_after}
 use Rattle.ft_model.specs.Answered.{answered_after, reads_answered_after}
 use Rattle.ft_model.specs.Reads.{MakesReads, reads_told}
 use Rattle.ft_model.specs.Sending.{syn_acked_after, acknowledged_after, edge_after, wl1_after, wl2_after, sent_after}
@@ -40,6 +40,7 @@ pub record LiveTurn {State : Type 0} (service : Machine State) (server : Addr) (
   pub same : IsSameConnection before after
   pub taken : after.taken ≡ taken_after news before
   pub fin : after.fin ≡ fin_after news before
+  pub early : after.early ≡ early_after news before
   pub answered : after.answered ≡ answered_after news before
   pub reads_answered : after.reads_answered ≡ reads_answered_after news before
   pub reads : MakesReads service before after

@@ -1,6 +1,7 @@
--- The law Copy: what of a segment goes to the logger (FT-TCP, INFOCOM 2001: the south side wrapper). Nothing is kept for sending again:
--- the client is not acknowledged, so it repeats. Whether the segment was acceptable plays no part.
-use Rattle.std.specs.Prelude.{ℕ, ℤ, Bool, false, pos, negsuc, ◌-◌, ◌&&◌, ◌||◌, nat_lt, nat_le, max, min, List, [], ◌∷◌, length, take, drop, if◌then◌else◌}
+-- The law Copy: what of a segment goes to the logger, and what of the held text that it lets be taken (FT-TCP, INFOCOM 2001: the south side wrapper).
+-- Nothing is kept for sending again: the client is not acknowledged, so it repeats. Whether the segment was acceptable plays no part.
+use Rattle.std.specs.Prelude.{ℕ, ℤ, Bool, false, zero, suc, pos, negsuc, ◌+◌, ◌-◌, ◌&&◌, ◌||◌, not, nat_lt, nat_le, max, min, List, [], ◌∷◌, ◌++◌, length, take, drop, if◌then◌else◌}
+use Rattle.ft_io.specs.declared.Key.{Key}
 use Rattle.seq_arith.specs.Arrival.{int_eq, below}
 use Rattle.seq_arith.specs.Packet.{Segment}
 use Rattle.seq_arith.specs.Message.{Part, Body}
@@ -35,12 +36,43 @@ una_part p = record { key = p.key; offset = min p.answered (length p.taken); ack
 abbrev pub copied_part : Point → Segment → Part
 copied_part p segment = record { key = p.key; offset = copy_start p segment; acked = p.una; fin = copies_fin p segment; bytes = copied_text p segment }
 
--- Copy: the part of the segment between what is answered and what is taken after the turn goes out as one Data. Where there is none and
--- SND.UNA rose, a Data without bytes tells that. Every Data carries SND.UNA
+-- the part of the segment between what is answered and what is taken after the turn, where there is one
+unfoldable pub own_data : Point → Segment → List Body
+own_data p segment = if nat_lt 0 (length (copied_text p segment)) || copies_fin p segment then DataMsg (copied_part p segment) ∷ [] else []
+
+-- where the text begins that the turn took out of what was held and that isn't known to be logged: behind the bytes taken before and the segment's own
+abbrev pub further_start : (before after : Point) → Segment → ℕ
+further_start before after segment = max after.answered (max (length before.taken) (min (from_start (end_of after segment)) (length after.taken)))
+
+abbrev pub further_text : (before after : Point) → Segment → List ℕ
+further_text before after segment = drop (further_start before after segment) after.taken
+
+-- a FIN is taken that isn't in the segment's own part: it was held
+abbrev pub takes_held_fin : (before after : Point) → Segment → Bool
+takes_held_fin before after segment = after.fin && not before.fin && not (copies_fin after segment) && nat_le after.answered (length after.taken)
+
+-- these bytes from an offset on, as at most k Data: 1,460 bytes each but the last, which has the FIN
+unfoldable pub datas : (k : ℕ) → Key → (acked offset : ℕ) → List ℕ → Bool → List Body
+datas zero key acked offset bytes fin = []
+datas (suc k) key acked offset bytes fin =
+    if nat_lt 1460 (length bytes)
+    then DataMsg (record { key = key; offset = offset; acked = acked; fin = false; bytes = take 1460 bytes }) ∷ datas k key acked (offset + 1460) (drop 1460 bytes) fin
+    else (if nat_lt 0 (length bytes) || fin then DataMsg (record { key = key; offset = offset; acked = acked; fin = fin; bytes = bytes }) ∷ [] else [])
+
+unfoldable pub further_data : (before after : Point) → Segment → List Body
+further_data before after segment =
+    datas (length (further_text before after segment) + 1) after.key after.una (further_start before after segment) (further_text before after segment)
+    (takes_held_fin before after segment)
+
+-- where no Data goes out and SND.UNA rose, a Data without bytes tells that
+abbrev pub or_una : (before after : Point) → List Body → List Body
+or_una before after [] = if nat_lt before.una after.una then DataMsg (una_part after) ∷ [] else []
+or_una before after (first ∷ others) = first ∷ others
+
+-- Copy: the segment's own part goes out as one Data, and the text and FIN that the turn took out of what was held follow in further Data, in order.
+-- Every Data carries SND.UNA
 unfoldable pub copies : News → Point → Point → List Body
-copies (Comes segment) before after =
-    if nat_lt 0 (length (copied_text after segment)) || copies_fin after segment then DataMsg (copied_part after segment) ∷ []
-    else (if nat_lt before.una after.una then DataMsg (una_part after) ∷ [] else [])
+copies (Comes segment) before after = or_una before after (own_data after segment ++ further_data before after segment)
 copies (Logged kept) before after = []
 copies Ticks before after = []
 copies Begins before after = []

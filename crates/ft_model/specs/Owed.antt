@@ -14,13 +14,13 @@ abbrev pub is_refused : Point → Segment → Bool
 is_refused p segment = not p.syn_acked && has_ack segment && int_lt (ack_of p.sisn segment) (pos 0)
 
 -- TCP owes an answer to an acceptable segment: a challenge ACK for a RST elsewhere than at the next number and for a SYN, and an ACK
--- for what takes up numbers, and for what begins past the next number
+-- for what takes up numbers. An acknowledgement that stands past the next number alone is owed none, else two ends that each miss a segment would
+-- answer each other for ever
 abbrev pub owes_acceptable : Point → Segment → Bool
 owes_acceptable p segment =
     if has_rst segment then not (int_eq (first_of p.cisn segment) (pos (taken_units p)))
     else (if has_syn segment then true
-    else (if is_refused p segment then false
-    else nat_lt 0 (length_of segment) || (has_ack segment && int_lt (pos (taken_units p)) (first_of p.cisn segment))))
+    else (if is_refused p segment then false else nat_lt 0 (length_of segment)))
 
 -- TCP owes an answer to a segment: to each that isn't acceptable, unless it has RST
 unfoldable pub owes : Point → Segment → Bool

@@ -3,6 +3,7 @@
 -- bytes, and one more where the FIN of that side is counted.
 use Rattle.std.specs.Prelude.{ℕ, ℤ, Bool, false, pos, ◌+◌, ◌-◌, ◌^◌, ◌&&◌, nat_lt, max, min, sum, List, [], length, take}
 use Rattle.ft_io.specs.declared.Key.{Key}
+use Rattle.seq_arith.specs.Coming.{Early, nothing_early, StandsBehind}
 use Rattle.server_trait.specs.Service.{Machine, Run, reference}
 use Rattle.ft_model.specs.Offset.{one_if}
 
@@ -14,6 +15,7 @@ pub record Point : Type 0 where
   pub fetched : ℕ  -- the client's bytes that a restart fetched from the log; else 0
   pub taken : List ℕ  -- the client's bytes that are taken, the fetched ones first
   pub fin : Bool  -- whether the client's FIN is taken
+  pub early : Early  -- the client's text behind the bytes taken, and its FIN, that are held until the gap before them is filled
   pub answered : ℕ  -- the client's units that are known to be logged
   pub lengths : List ℕ  -- of all reads, the fetched ones first
   pub reads_answered : ℕ  -- how many of these, from the first on, are known to be logged
@@ -38,6 +40,7 @@ blank_point key cisn sisn mss = record {
   fetched = 0;
   taken = [];
   fin = false;
+  early = nothing_early;
   answered = 0;
   lengths = [];
   reads_answered = 0;
@@ -88,6 +91,10 @@ target service p = released service p + one_if (answered_run service p).closed
 -- the receive edge: 65,535 bytes are buffered beyond what is read, the fetched bytes are there already, and a stream has 2^24 bytes
 abbrev pub receive_edge : Point → ℕ
 receive_edge p = min (max p.fetched (bytes_read p) + 65535) (2 ^ 24)
+
+-- what is held stands behind what is taken, and keeps to the receive edge. So it is in every joint trace
+abbrev pub HoldsBehind : Point → Type 0
+HoldsBehind p = StandsBehind (length p.taken) (receive_edge p) p.fin p.early
 
 -- the edge that TCP announces: a taken FIN has used up one number
 abbrev pub announced_edge : Point → ℕ

@@ -1,9 +1,9 @@
--- The law Taken: which bytes of a segment are taken, and when its FIN is (RFC 9293, 3.10.7.4: first, seventh and eighth check).
+-- The law Taken: which bytes of a segment are taken, which are held, and when its FIN is taken (RFC 9293, 3.10.7.4: first, seventh and eighth check).
 -- All tests begin at the point before the turn.
 use Rattle.std.specs.Prelude.{ℕ, ℤ, Bool, pos, ◌+ℤ◌, ◌&&◌, ◌||◌, not, int_le, List, ◌++◌, length, if◌then◌else◌}
 use Rattle.seq_arith.specs.Arrival.{is_acceptable_or_at_edge, is_usable}
 use Rattle.seq_arith.specs.Packet.{Segment, has_syn, has_rst, has_ack}
-use Rattle.seq_arith.specs.Coming.{Came, nothing_came, comes}
+use Rattle.seq_arith.specs.Coming.{Early, Came, nothing_came, comes}
 use Rattle.ft_model.specs.Offset.{first_of, ack_of, text_of, fin_of, length_of}
 use Rattle.ft_model.specs.Point.{Point, taken_units, receive_edge, room}
 use Rattle.ft_model.specs.News.{News}
@@ -26,21 +26,28 @@ counts p segment =
 abbrev pub end_of : Point → Segment → ℤ
 end_of p segment = first_of p.cisn segment +ℤ pos (length (text_of segment))
 
--- what its text and its FIN add to the client's stream, where it counts
+-- what its text and its FIN make of the client's stream, where it counts
 unfoldable pub came : Point → Segment → Came
 came p segment =
     if counts p segment
-    then comes (length p.taken) (receive_edge p) p.fin (first_of p.cisn segment) (text_of segment) (fin_of segment)
-    else nothing_came p.fin
+    then comes (length p.taken) (receive_edge p) p.fin p.early (first_of p.cisn segment) (text_of segment) (fin_of segment)
+    else nothing_came p.early p.fin
 
--- Taken
+-- Taken: the bytes taken, ..
 unfoldable pub taken_after : News → Point → List ℕ
 taken_after (Comes segment) p = p.taken ++ (came p segment).added
 taken_after (Logged kept) p = p.taken
 taken_after Ticks p = p.taken
 taken_after Begins p = p.taken
 
--- Taken, for the FIN
+-- .. what is held, ..
+unfoldable pub early_after : News → Point → Early
+early_after (Comes segment) p = (came p segment).early
+early_after (Logged kept) p = p.early
+early_after Ticks p = p.early
+early_after Begins p = p.early
+
+-- .. and the FIN
 unfoldable pub fin_after : News → Point → Bool
 fin_after (Comes segment) p = (came p segment).fin
 fin_after (Logged kept) p = p.fin

@@ -7,6 +7,8 @@ pub mod CrashAfterLogged
 pub mod Closing
 pub mod ZeroWindow
 pub mod RightEdge
+pub mod BeyondNext
+pub mod HeldSegments
 pub mod SegmentWhileRestarting
 pub mod RestartInTurns
 pub mod ClientKnowsMore

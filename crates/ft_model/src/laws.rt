@@ -1,6 +1,6 @@
 //! Laws over the definitions. Nothing here runs; each function is a theorem.
 
-ghost use Rattle.std.specs.Prelude.{◌≡◌, ℕ, ◌<◌, ◌+◌, pos, true, false, None, List, [], ◌∷◌, if◌then◌else◌};
+ghost use Rattle.std.specs.Prelude.{◌≡◌, ℕ, ◌<◌, ◌+◌, pos, true, false, Some, None, List, [], ◌∷◌, if◌then◌else◌};
 ghost use Rattle.std.specs.List.{AllByRecursion, list_any};
 ghost use Rattle.ft_io.specs.declared.Addr.{Addr};
 ghost use Rattle.server_trait.specs.Service.{machine};
@@ -10,15 +10,15 @@ ghost use Rattle.ft_model.specs.News.News.{Comes, Begins};
 ghost use Rattle.ft_model.specs.Reads.{next_read};
 ghost use Rattle.ft_model.specs.Segments.{fin_segment, sends_fin, new_fin};
 ghost use Rattle.ft_model.specs.Told.{is_segment, IsTold};
-ghost use Rattle.ft_model.specs.Point.{Point, taken_units, room};
+ghost use Rattle.ft_model.specs.Point.{Point, taken_units, HoldsBehind, room};
 ghost use Rattle.ft_model.specs.Offset.{first_of, length_of};
 ghost use Rattle.ft_model.specs.Taken.{accepts, uses, taken_after, fin_after};
 ghost use Rattle.ft_model.specs.Owed.{owes};
 ghost use Rattle.seq_arith.specs.Packet.{Segment, has_rst};
 ghost use Rattle.ft_model.specs.Connection.{LiveTurn};
-ghost use Rattle.ft_model.specs.Node.{Node, Input, AllCount};
+ghost use Rattle.ft_model.specs.Node.{Node, Input, AllCount, points_at};
 ghost use Rattle.ft_model.specs.Lawful.{LawfulTurn, is_fenced};
-ghost use Rattle.ft_model.specs.World.{World, Moment, Happens, IsStart};
+ghost use Rattle.ft_model.specs.World.{World, Moment, Happens, Joint, IsStart, world_after};
 ghost use Rattle.ft_model.specs.Legal.{Legal, start_of, machines};
 ghost use Rattle.ft_model.specs.declared.event.Event.TheVariants.{Flip};
 ghost use Rattle.ft_model.specs.Outcome.{IsWhole, IsRefused, IsPastPackets, HasOutcome};
@@ -75,8 +75,14 @@ pub fn new_fins_are_closed<S: Service>()
 /// owed an answer. Without this rule neither side of a connection whose windows are both full could go on.
 pub fn shut_windows_pass_acknowledgements()
     ensures used { (p : Point) (segment : Segment) → room p ≡ 0 → first_of p.cisn segment ≡ pos (taken_units p) → uses p segment ≡ true }
-    ensures not_taken { (p : Point) (segment : Segment) → room p ≡ 0 → (taken_after (Comes segment) p ≡ p.taken) × (fin_after (Comes segment) p ≡ p.fin) }
+    ensures not_taken { (p : Point) (segment : Segment) → HoldsBehind p → room p ≡ 0 → (taken_after (Comes segment) p ≡ p.taken) × (fin_after (Comes segment) p ≡ p.fin) }
     ensures owed { (p : Point) (segment : Segment) → room p ≡ 0 → 0 < length_of segment → has_rst segment ≡ false → owes p segment ≡ true }
+{}
+
+/// In every joint trace what a live connection holds stands behind what it has taken, and keeps to the receive edge.
+pub fn held_text_stands_behind<S: Service>()
+    ensures { (kind : ℕ) (start : World) (trace : List Moment) (node : Node) → Joint (machine (S.started kind) S.after) start trace
+        → (world_after start trace).node ≡ Some node → AllByRecursion HoldsBehind (points_at node.stage) }
 {}
 
 /// At the right edge of an open window a segment of length 0 is acceptable.

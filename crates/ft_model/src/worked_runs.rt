@@ -17,6 +17,8 @@ ghost use Rattle.ft_model.specs.WorkedRuns.Closing;
 ghost use Rattle.ft_model.specs.WorkedRuns.ZeroWindow;
 ghost use Rattle.ft_model.specs.WorkedRuns.ZeroWindowTrace;
 ghost use Rattle.ft_model.specs.WorkedRuns.RightEdge;
+ghost use Rattle.ft_model.specs.WorkedRuns.BeyondNext;
+ghost use Rattle.ft_model.specs.WorkedRuns.HeldSegments;
 ghost use Rattle.ft_model.specs.WorkedRuns.CrashBeforeSynAck;
 ghost use Rattle.ft_model.specs.WorkedRuns.ClientKnowsMore;
 ghost use Rattle.ft_model.specs.WorkedRuns.SegmentWhileRestarting;
@@ -43,10 +45,31 @@ pub fn zero_window_is_lawful()
     ensures { Lawful echo server 1 5000 (hello (booted server 1 5000)) ZeroWindow.probe_turns }
 {}
 
-/// The acknowledgement and the window of a bare segment at the right edge are used, and a RST there is challenged. Past the edge nothing is used.
+/// The acknowledgement and the window of a bare segment at the right edge are used and it is owed no answer, and a RST there is challenged. Past the
+/// edge nothing is used, and an answer is owed.
 pub fn right_edge_is_lawful()
     ensures at_it { Lawful echo server 1 5000 (hello (booted server 1 5000)) RightEdge.edge_turns }
     ensures past_it { Lawful echo server 1 5000 (hello (booted server 1 5000)) RightEdge.beyond_turns }
+{}
+
+/// The acknowledgement and the window of a bare segment past the next number are used, and it may not be answered.
+pub fn acknowledgements_beyond_next_are_not_answered()
+    ensures lawful { Lawful echo server 1 5000 (hello (booted server 1 5000)) BeyondNext.turns }
+    ensures answered { IsUnlawful BeyondNext.turn_3.node BeyondNext.turn_4.input BeyondNext.answered }
+{}
+
+/// Text that comes early is held, and taken and copied once the gap before it is filled: the run, whole, is a legal trace of its schedule, and its
+/// report has these lines.
+pub fn held_segments_are_legal()
+    ensures legal { Legal (λ kind. echo) HeldSegments.schedule HeldSegments.trace }
+    ensures told { report HeldSegments.schedule HeldSegments.trace ≡ concat HeldSegments.report_lines }
+{}
+
+/// In the turn in which the gap is filled, what was held may not be left uncopied, nor go before the segment's own part, nor in one Data with it.
+pub fn wrong_copies_of_held_text_are_refused()
+    ensures left_out { IsUnlawful (FirstPath.node_live HeldSegments.held_point) HeldSegments.gap_filled HeldSegments.without_held }
+    ensures held_first { IsUnlawful (FirstPath.node_live HeldSegments.held_point) HeldSegments.gap_filled HeldSegments.held_first }
+    ensures as_one { IsUnlawful (FirstPath.node_live HeldSegments.held_point) HeldSegments.gap_filled HeldSegments.as_one }
 {}
 
 /// A segment that comes during a restart is held off with window 0, and taken afterwards.

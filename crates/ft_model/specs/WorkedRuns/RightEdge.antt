@@ -1,5 +1,5 @@
 -- A client whose segments fill the server's window, and of which the first is lost, numbers what it sends next at the right edge: the acknowledgement
--- and the window of such a segment are used, and a RST there is challenged.
+-- and the window of such a segment are used and it is owed no answer, and a RST there is challenged.
 use Rattle.std.specs.Prelude.{pos, None, List, [], ◌∷◌}
 use Rattle.seq_arith.specs.Packet.{Segment}
 use Rattle.ft_model.specs.Point.{Point}
@@ -23,7 +23,7 @@ abbrev pub given : Point
 given = record opened { edge = 5; wl1 = pos 65535 }
 
 abbrev pub edge_5 : Turn
-edge_5 = on_segment bare (to_client 16 5001 1001 65535 None [] ∷ []) (serving_at 1 5000 given)
+edge_5 = on_segment bare [] (serving_at 1 5000 given)
 
 abbrev pub edge_6 : Turn
 edge_6 = on_segment reset (to_client 16 5001 1001 65535 None [] ∷ []) (serving_at 1 5000 given)
