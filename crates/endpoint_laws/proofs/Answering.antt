@@ -109,10 +109,10 @@ beside_is {X = X} f e p b begun bounded usual =
 
 -- such parts: the RST that answers, what else is due in the turn, what was last announced, and the numbers of the connection
 text_of : {X : Type 0} (f : Tcb → X) (e : Tcb) (p : Segment) → ((r : Tcb) → (name : StateName) → f (entering name r) ≡ f r)
-    → f (record e { receiving = segment_taken e p; owed = e.owed || int_lt (pos (next e.receiving)) (first e p) }) ≡ f e → f (with_text_and_fin e p) ≡ f e
+    → f (record e { receiving = segment_taken e p }) ≡ f e → f (with_text_and_fin e p) ≡ f e
 unfolding with_text_and_fin
 text_of f e p enters same =
-    let taking : Tcb = record e { receiving = segment_taken e p; owed = e.owed || int_lt (pos (next e.receiving)) (first e p) } in
+    let taking : Tcb = record e { receiving = segment_taken e p } in
     let fin : Bool = taking.receiving.fin && not e.receiving.fin in
     part_of_if f fin (entering (after_fin e.name) taking) taking
     ∙ ap (λ x. if fin then x else f taking) (enters taking (after_fin e.name)) ∙ same_if fin (f taking) ∙ same
@@ -129,7 +129,7 @@ pub record IsApart {X : Type 0} (f : Tcb → X) : Type 0 where
   pub enters : (e : Tcb) (name : StateName) (ticks : ℕ) → f (record e { name = name; wait = ticks }) ≡ f e
   pub dies : (e : Tcb) → f (killed e) ≡ f e
   pub owes : (e : Tcb) (owed : Bool) → f (record e { owed = owed }) ≡ f e
-  pub takes : (e : Tcb) (receiving : Receiving) (owed : Bool) → f (record e { receiving = receiving; owed = owed }) ≡ f e
+  pub takes : (e : Tcb) (receiving : Receiving) → f (record e { receiving = receiving }) ≡ f e
   pub uses : (e : Tcb) (sending : Sending) → f (record e { sending = sending }) ≡ f e
   pub opens : (e : Tcb) (name : StateName) (sending : Sending) → f (record e { name = name; sending = sending }) ≡ f e
 
@@ -137,7 +137,7 @@ pub apart_beside : {X : Type 0} (f : Tcb → X) → IsApart f → Beside f
 unfolding waiting_again
 apart_beside f a = record {
   aside = record { killed = a.dies; owing = λ b e. a.owes e (e.owed || b); waiting = λ e p. a.waits e _ };
-  text = λ e p. text_of f e p (λ r name. a.enters r name _) (a.takes e _ _);
+  text = λ e p. text_of f e p (λ r name. a.enters r name _) (a.takes e _);
   acked = λ e. acked_of f e (λ r name. a.enters r name _);
   using = λ e p. a.uses e _;
   opening = λ e p. a.opens e _ _;
@@ -149,7 +149,7 @@ answer_apart = record {
   enters = λ e m n. refl;
   dies = λ e. refl;
   owes = λ e o. refl;
-  takes = λ e r o. refl;
+  takes = λ e r. refl;
   uses = λ e s. refl;
   opens = λ e m s. refl;
 }

@@ -4,6 +4,7 @@ use Rattle.std.specs.Prelude.{pos, ◌+ℤ◌}
 use Rattle.std.proofs.Math.ListN.{replicate}
 use Rattle.std.proofs.Math.Seq.{drop-append_seam}
 use Rattle.std.proofs.lemmas.List.{length-replicate}
+use Rattle.seq_arith.specs.Coming.{early_from}
 use Rattle.seq_arith.specs.Number.{offset_of}
 use Rattle.ft_model.specs.Point.{Point, blank_point}
 use Rattle.ft_model.specs.News.{News}
@@ -25,6 +26,7 @@ point_of e = record (blank_point (record { ip = e.remote.ip; port = e.remote.por
   fetched = ahead e;
   taken = replicate (e.receiving.read + ahead e) 0 ++ e.receiving.unread;
   fin = e.receiving.fin;
+  early = early_from (ahead e) e.receiving.early;
   lengths = (e.receiving.read + ahead e) ∷ [];
   una = e.sending.una;
   sent = e.sending.sent;
@@ -64,6 +66,7 @@ stands_somewhere e fits between =
         long = all_taken r.read (ahead e) r.unread;
         unread = rest_unread (r.read + ahead e) r.unread;
         fin = refl;
+        early = refl;
       };
       sends = record { sisn = refl; mss = refl; syn_acked = refl; una = refl; edge = refl; wl1 = λ h. refl; wl2 = refl };
       sent = refl;

@@ -1,6 +1,6 @@
 -- What a turn's news make of an endpoint that stands at a point: they lead it to where the laws lead the point, and say what is due.
 use Rattle.std.proofs.Common.{◌≡◌, ℕ, ◌≤◌, ◌+◌, ◌-◌, Bool, true, false, not, Option, Some, None, List, [], ◌∷◌, length, max, refl, sym, ap, subst, arith, ◌∙◌}
-use Rattle.std.specs.Prelude.{pos, ◌+ℤ◌, ◌==◌, ◌&&◌, ◌||◌, nat_abs, nat_lt, int_lt, if◌then◌else◌}
+use Rattle.std.specs.Prelude.{pos, ◌+ℤ◌, ◌==◌, ◌&&◌, nat_abs, nat_lt, int_lt, if◌then◌else◌}
 use Rattle.std.proofs.lemmas.Bool.{false≢true, or_left}
 use Rattle.seq_arith.specs.Number.{offset_of}
 use Rattle.seq_arith.specs.Arrival.{int_eq, una_after}
@@ -10,7 +10,7 @@ use Rattle.seq_arith.specs.Offset.{one_if, first_of, length_of}
 use Rattle.ft_model.specs.Point.{Point, taken_units}
 use Rattle.ft_model.specs.News.{News}
 use Rattle.ft_model.specs.News.News.{Comes, Logged, Ticks, Begins}
-use Rattle.ft_model.specs.Taken.{taken_after, fin_after}
+use Rattle.ft_model.specs.Taken.{taken_after, early_after, fin_after}
 use Rattle.ft_model.specs.Sending.{syn_acked_after, acknowledged_after, edge_after, wl1_after, wl2_after}
 use Rattle.ft_model.specs.Timer as timer
 use Rattle.ft_model.specs.Owed as rule
@@ -33,13 +33,14 @@ use Rattle.endpoint_laws.proofs.Answering.{Beside, IsApart, apart_beside, beside
 use Rattle.endpoint_laws.proofs.Calls.{FinIsLast}
 use Rattle.endpoint_laws.proofs.StandingLaw.{Meets, next_is, accepts_is, first_is, ack_is, received_receives, received_sends}
 use Rattle.ft_io.proofs.Booleans.{false_or}
-use Rattle.seq_arith.proofs.Shifts.{point_shift, above_shift}
+use Rattle.seq_arith.proofs.Shifts.{point_shift}
 
 -- where the laws lead a point, but for the reads, what is sent, and the timer
 abbrev pub moved : News → Point → Point
 moved news p = record p {
   taken = taken_after news p;
   fin = fin_after news p;
+  early = early_after news p;
   syn_acked = syn_acked_after news p;
   una = acknowledged_after news p;
   edge = edge_after news p;
@@ -77,28 +78,28 @@ local_is : (e : Tcb) (p : Segment) → has_begun e.name ≡ true → IsBounded e
 unfolding refusing
 local_is e p begun b usual =
     kept_is (λ t. t.local) e p
-    (record { waits = λ e n. refl; enters = λ e m n. refl; dies = λ e. refl; owes = λ e o. refl; takes = λ e r o. refl; uses = λ e s. refl; opens = λ e m s. refl })
+    (record { waits = λ e n. refl; enters = λ e m n. refl; dies = λ e. refl; owes = λ e o. refl; takes = λ e r. refl; uses = λ e s. refl; opens = λ e m s. refl })
     (λ r. refl) begun b usual
 
 remote_is : (e : Tcb) (p : Segment) → has_begun e.name ≡ true → IsBounded e → IsUsual e p → (received e p).remote ≡ e.remote
 unfolding refusing
 remote_is e p begun b usual =
     kept_is (λ t. t.remote) e p
-    (record { waits = λ e n. refl; enters = λ e m n. refl; dies = λ e. refl; owes = λ e o. refl; takes = λ e r o. refl; uses = λ e s. refl; opens = λ e m s. refl })
+    (record { waits = λ e n. refl; enters = λ e m n. refl; dies = λ e. refl; owes = λ e o. refl; takes = λ e r. refl; uses = λ e s. refl; opens = λ e m s. refl })
     (λ r. refl) begun b usual
 
 again_is : (e : Tcb) (p : Segment) → has_begun e.name ≡ true → IsBounded e → IsUsual e p → (received e p).again ≡ e.again
 unfolding refusing
 again_is e p begun b usual =
     kept_is (λ t. t.again) e p
-    (record { waits = λ e n. refl; enters = λ e m n. refl; dies = λ e. refl; owes = λ e o. refl; takes = λ e r o. refl; uses = λ e s. refl; opens = λ e m s. refl })
+    (record { waits = λ e n. refl; enters = λ e m n. refl; dies = λ e. refl; owes = λ e o. refl; takes = λ e r. refl; uses = λ e s. refl; opens = λ e m s. refl })
     (λ r. refl) begun b usual
 
 probe_is : (e : Tcb) (p : Segment) → has_begun e.name ≡ true → IsBounded e → IsUsual e p → (received e p).probe ≡ e.probe
 unfolding refusing
 probe_is e p begun b usual =
     kept_is (λ t. t.probe) e p
-    (record { waits = λ e n. refl; enters = λ e m n. refl; dies = λ e. refl; owes = λ e o. refl; takes = λ e r o. refl; uses = λ e s. refl; opens = λ e m s. refl })
+    (record { waits = λ e n. refl; enters = λ e m n. refl; dies = λ e. refl; owes = λ e o. refl; takes = λ e r. refl; uses = λ e s. refl; opens = λ e m s. refl })
     (λ r. refl) begun b usual
 
 -- the parts of the sending half that an acknowledgement leaves
@@ -174,12 +175,12 @@ pub refuses_is : (p : Point) (e : Tcb) (segment : Segment) → Meets p e segment
 refuses_is p e segment m = λ i. accepts_is p e segment m i && not (has_rst segment) && not (has_syn segment) && less_is p e segment m i
 
 -- an acceptable segment that isn't refused acknowledges no less than the SYN, unless it has SYN or RST
-unrefused_by : (rst syn less some ack early place place' early' : Bool) → (true && not rst && not syn && less) ≡ false → place ≡ place' → early ≡ early'
-    → (if rst then not place else (if syn then true else (if less then false else some || (ack && early)))) ≡ (if rst then not place' else (if syn then true else some || (ack && early')))
-unrefused_by true syn less some ack early place place' early' none p e = ap not p
-unrefused_by false true less some ack early place place' early' none p e = refl
-unrefused_by false false true some ack early place place' early' none p e = absurd (false≢true (sym none))
-unrefused_by false false false some ack early place place' early' none p e = ap (λ v. some || (ack && v)) e
+unrefused_by : (rst syn less some place place' : Bool) → (true && not rst && not syn && less) ≡ false → place ≡ place'
+    → (if rst then not place else (if syn then true else (if less then false else some))) ≡ (if rst then not place' else (if syn then true else some))
+unrefused_by true syn less some place place' none p = ap not p
+unrefused_by false true less some place place' none p = refl
+unrefused_by false false true some place place' none p = absurd (false≢true (sym none))
+unrefused_by false false false some place place' none p = refl
 
 owes_is : (p : Point) (e : Tcb) (segment : Segment) → Meets p e segment → is_refused e segment ≡ false → rule.owes p segment ≡ owes e segment
 unfolding rule.owes
@@ -193,12 +194,10 @@ owes_is p e segment m unrefused =
     let z : first_of p.cisn segment ≡ first e segment +ℤ pos k = first_is p e segment m (or_left (accepts e segment) _ acceptable) in
     let place : int_eq (first_of p.cisn segment) (pos (taken_units p)) ≡ int_eq (first e segment) (pos n) =
     (λ i. int_eq (z i) (pos (units i))) ∙ point_shift n k (first e segment) in
-    let early : int_lt (pos (taken_units p)) (first_of p.cisn segment) ≡ int_lt (pos n) (first e segment) =
-    (λ i. int_lt (pos (units i)) (z i)) ∙ above_shift n k (first e segment) in
-    unrefused_by (has_rst segment) (has_syn segment) (rule.is_refused p segment) (nat_lt 0 (length_of segment)) (has_ack segment) _ _ _ _
+    unrefused_by (has_rst segment) (has_syn segment) (rule.is_refused p segment) (nat_lt 0 (length_of segment)) _ _
     (ap (λ v. true && not (has_rst segment) && not (has_syn segment) && v) (less_is p e segment m)
     ∙ ap (λ v. v && not (has_rst segment) && not (has_syn segment) && acknowledges_less e segment) (sym acceptable) ∙ unrefused)
-    place early)
+    place)
     (λ h. refl)
 
 -- a list with something in it
@@ -317,10 +316,10 @@ ticked_sends p e s =
 
 ticked_receives : (p : Point) (e : Tcb) → ReceivesAt p e → ReceivesAt p (after_tick e)
 unfolding after_tick timer_ticked waited
-ticked_receives p e r = record { cisn = r.cisn; limit = r.limit; read = r.read; long = r.long; unread = r.unread; fin = r.fin }
+ticked_receives p e r = record { cisn = r.cisn; limit = r.limit; read = r.read; long = r.long; unread = r.unread; fin = r.fin; early = r.early }
 
 tick_arrives : (p : Point) (e : Tcb) → IsBetweenTurns e → StandsAt p e → Arrived Ticks p e (after_tick e)
-unfolding after_tick timer_ticked waited taken_after fin_after syn_acked_after acknowledged_after edge_after wl1_after wl2_after answer_out
+unfolding after_tick timer_ticked waited taken_after early_after fin_after syn_acked_after acknowledged_after edge_after wl1_after wl2_after answer_out
 tick_arrives p e between stands =
     let t : Sending = e.sending in
     let runs_out : expires t ≡ timer.expires Ticks p = ap (λ n. n == 1) (sym stands.rest) in
@@ -347,7 +346,7 @@ tick_arrives p e between stands =
 
 -- all kinds
 pub arrives : (news : News) (p : Point) (e : Tcb) → has_begun e.name ≡ true → IsBetweenTurns e → StandsAt p e → IsUsualNews news e → Arrived news p e (arrived news e)
-unfolding taken_after fin_after syn_acked_after acknowledged_after edge_after wl1_after wl2_after
+unfolding taken_after early_after fin_after syn_acked_after acknowledged_after edge_after wl1_after wl2_after
 arrives (Comes segment) p e begun between stands usual = segment_arrives p e segment begun between stands usual
 arrives (Logged kept) p e begun between stands usual = nothing_arrives (Logged kept) p e between stands refl refl refl
 arrives Ticks p e begun between stands usual = tick_arrives p e between stands

@@ -5,6 +5,7 @@ use Rattle.std.specs.Bool.{MatchBool}
 use Rattle.std.proofs.lemmas.Bool.{false≢true}
 use Rattle.std.proofs.Math.Seq.{drop-length}
 use Rattle.ft_io.specs.declared.Addr.{Addr}
+use Rattle.seq_arith.specs.Coming.{early_from, nothing_early}
 use Rattle.seq_arith.specs.Packet.{Segment}
 use Rattle.ft_model.specs.Opening as opening
 use Rattle.seq_arith.specs.Offset.{one_if}
@@ -37,7 +38,7 @@ record Opened (local : Addr) (iss limit : ℕ) (syn : Segment) (m : Tcb) : Type 
   local_is : m.local ≡ local
   remote : m.remote ≡ source syn
   begun : has_begun m.name ≡ true
-  receiving : m.receiving ≡ record { irs = syn.head.seq; read = 0; unread = []; fin = false; limit = min limit (2 ^ 30) }
+  receiving : m.receiving ≡ record { irs = syn.head.seq; read = 0; unread = []; fin = false; early = nothing_early; limit = min limit (2 ^ 30) }
   iss_is : m.sending.iss ≡ iss
   mss : m.sending.mss ≡ opening.segment_size syn.head.mss
   syn_acked : m.sending.syn_acked ≡ false
@@ -100,6 +101,7 @@ receives_begun local iss limit cisn fetched syn m u o a whole number =
       long = omega (arith, taken_none);
       unread = a.unread fetched (length fetched) start;
       fin = sym (a.fin ∙ ap (λ (r : Receiving). r.fin) o.receiving);
+      early = ap (early_from (length fetched)) (sym (a.early ∙ ap (λ (r : Receiving). r.early) o.receiving));
     }
 
 sends_begun : (local : Addr) (iss limit cisn : ℕ) (fetched : List ℕ) (syn : Segment) (m u : Tcb) → Opened local iss limit syn m → IsUsed m u

@@ -5,6 +5,7 @@ use Rattle.std.proofs.lemmas.Int.{ints}
 use Rattle.std.proofs.lemmas.Bool.{false≢true}
 use Rattle.seq_arith.specs.Number.{offset_of}
 use Rattle.seq_arith.specs.Arrival.{int_eq, is_new_ack}
+use Rattle.seq_arith.specs.Coming.{Came, StandsBehind}
 use Rattle.seq_arith.proofs.Gaps.{offset_leads}
 use Rattle.seq_arith.specs.Packet.{Segment, has_syn, has_rst, has_ack}
 use Rattle.ft_io.specs.declared.Addr.{Addr}
@@ -13,7 +14,7 @@ use Rattle.tcp_buffers.specs.Near.{IsNearFirst}
 use Rattle.tcp_endpoint.specs.declared.states.StateName.{StateName}
 use Rattle.tcp_endpoint.specs.declared.states.StateName.TheVariants.{Listen, SynSent}
 use Rattle.tcp_endpoint.specs.States.{has_begun}
-use Rattle.tcp_endpoint.specs.Receiving.{Receiving, taken, receive_edge, with_came, with_segment}
+use Rattle.tcp_endpoint.specs.Receiving.{Receiving, taken, receive_edge, came, with_came, with_segment, read_out}
 use Rattle.tcp_endpoint.specs.Sending.{Sending, with_syn_acked, acknowledged, moves_edge, sendable, expires, ticked, timed, with_sent, with_fin_sent, IsShort}
 use Rattle.tcp_endpoint.specs.Tcb.{Tcb, listening, connecting}
 use Rattle.tcp_endpoint.specs.Arrival.{first, ack_at, received, received_in, in_listen, begun, refusing, answered, in_syn_sent}
@@ -22,9 +23,13 @@ use Rattle.tcp_endpoint.specs.Turning.{after_tick, timer_ticked, waited, after_r
 use Rattle.endpoint_laws.specs.Laws.{counts, taken_by, Bounds, IsBounded, IsUsual}
 use Rattle.endpoint_laws.proofs.TakenLaw.{taken_law}
 use Rattle.endpoint_laws.proofs.SendingLaw.{sending_is, held_field, near_of_counts}
-use Rattle.seq_arith.proofs.Coming.{comes_within}
+use Rattle.seq_arith.proofs.Coming.{stays_behind, comes_within, behind_within, behind_up, nothing_behind}
 use Rattle.ft_io.proofs.Booleans.{left_true}
 use Rattle.ft_io.proofs.Choices.{holds_either_way}
+
+-- what is held stands behind the bytes taken
+abbrev pub HoldsBehind : Receiving → Type 0
+HoldsBehind r = StandsBehind (taken r) (receive_edge r) r.fin r.early
 
 pub bounded_is_short : (e : Tcb) → IsBounded e → IsShort e.sending
 bounded_is_short e b = record { sent = grind (arith, b.sent); wl2 = grind (arith, b.wl2, b.order, b.sent) }
@@ -34,6 +39,7 @@ unfolding listening
 bounded_at_listen local iss limit small = record {
   limit = grind arith;
   taken = omega arith;
+  early = nothing_behind 0 (min 65535 (min limit (2 ^ 30))) false (omega arith);
   order = omega arith;
   syn_unacked = λ h. refl;
   shut = λ h. refl;
@@ -52,6 +58,7 @@ syn_unacked_irs : (r : Receiving) (s : Sending) (irs mss : ℕ) → s.syn_acked 
 syn_unacked_irs r s irs mss syn_unacked b = record {
   limit = b.limit;
   taken = b.taken;
+  early = b.early;
   order = b.order;
   syn_unacked = b.syn_unacked;
   shut = b.shut;
@@ -83,25 +90,29 @@ bounded_in_listen e p name syn_unacked b =
 pub record StaysWithin (before after : Receiving) : Type 0 where
   pub irs : after.irs ≡ before.irs
   pub limit : after.limit ≡ before.limit
-  pub taken : taken before ≤ before.limit → taken after ≤ after.limit
+  pub taken : taken before ≤ before.limit → HoldsBehind before → taken after ≤ after.limit
+  pub behind : HoldsBehind before → HoldsBehind after
 
-within_by : (read n limit : ℕ) (unread added : List ℕ) → length unread ≡ n → read + n + length added ≤ max (read + n) (min (read + 65535) limit) → read + n ≤ limit
-    → read + length (unread ++ added) ≤ limit
-within_by read n limit unread added long most h = omega (arith, long, most, h, length-append unread added)
-
-came_within : (r : Receiving) (first : ℤ) (text : List ℕ) (fin : Bool) → StaysWithin r (with_segment r first text fin)
+pub came_within : (r : Receiving) (first : ℤ) (text : List ℕ) (fin : Bool) → StaysWithin r (with_segment r first text fin)
 unfolding with_came
-came_within r first text fin = record {
-  irs = refl;
-  limit = refl;
-  taken = λ h. within_by r.read (length r.unread) r.limit r.unread _ refl (comes_within (taken r) (receive_edge r) r.fin first text fin) h;
-}
+came_within r first text fin =
+    let c : Came = came r first text fin in
+    let size : taken (with_segment r first text fin) ≡ taken r + length c.added = omega (arith, length-append r.unread c.added) in
+    record {
+      irs = refl;
+      limit = refl;
+      taken = λ h behind. let most = comes_within (taken r) (receive_edge r) r.fin r.early first text fin behind in omega (arith, size, most);
+      behind = λ behind.
+          let order : taken r ≤ receive_edge r = behind_within (taken r) (receive_edge r) r.fin r.early behind in
+          let P : ℕ → Type 0 = λ n. StandsBehind n (receive_edge r) c.fin c.early in
+          subst P (sym size) (stays_behind (taken r) (receive_edge r) r.fin r.early first text fin order behind);
+    }
 
 pub taken_within : (e : Tcb) (p : Segment) → StaysWithin e.receiving (taken_by e p)
 unfolding taken_by
 taken_within e p =
     holds_either_way (λ (r : Receiving). StaysWithin e.receiving r) (counts e p) (with_segment e.receiving (first e p) (text_of p) (fin_of p)) e.receiving
-    (came_within e.receiving (first e p) (text_of p) (fin_of p)) (record { irs = refl; limit = refl; taken = λ h. h })
+    (came_within e.receiving (first e p) (text_of p) (fin_of p)) (record { irs = refl; limit = refl; taken = λ h behind. h; behind = λ behind. behind })
 
 -- the sending half, for a later acknowledgement
 pub new_within : (una sent : ℕ) (z : ℤ) → una ≤ sent → (if is_new_ack una sent z then nat_abs z else una) ≤ sent
@@ -123,9 +134,9 @@ pub not_less : (una sent : ℕ) (z : ℤ) → una ≤ (if is_new_ack una sent z 
 not_less una sent z = grind (arith, ints)
 
 later_bounds : (r : Receiving) (s : Sending) (seq window : ℕ) (z : ℤ) → Bounds r s → IsNearFirst (offset_of r.irs seq) → seq < 2 ^ 32 → window ≤ 65535 → s.syn_acked ≡ true
-    → (r' : Receiving) → r'.limit ≤ 2 ^ 24 → taken r' ≤ r'.limit → r'.irs ≡ r.irs → Bounds r' (acknowledged s seq z window)
+    → (r' : Receiving) → r'.limit ≤ 2 ^ 24 → taken r' ≤ r'.limit → HoldsBehind r' → r'.irs ≡ r.irs → Bounds r' (acknowledged s seq z window)
 unfolding acknowledged
-later_bounds r s seq window z b near fits small is_syn_acked r' limit within irs =
+later_bounds r s seq window z b near fits small is_syn_acked r' limit within behind irs =
     let una : ℕ = if is_new_ack s.una s.sent z then nat_abs z else s.una in
     let una_sent : una ≤ s.sent = new_within s.una s.sent z b.order in
     let kept : una + length (if is_new_ack s.una s.sent z then drop (nat_abs z - s.una) s.held else s.held) ≡ max una (s.una + length s.held) =
@@ -134,6 +145,7 @@ later_bounds r s seq window z b near fits small is_syn_acked r' limit within irs
     record {
       limit = limit;
       taken = within;
+      early = behind;
       order = una_sent;
       syn_unacked = b.syn_unacked;
       shut = λ h. absurd (false≢true (sym h ∙ is_syn_acked));
@@ -149,12 +161,13 @@ later_bounds r s seq window z b near fits small is_syn_acked r' limit within irs
     }
 
 first_bounds : (r : Receiving) (s : Sending) (seq window : ℕ) → Bounds r s → IsNearFirst (offset_of r.irs seq) → seq < 2 ^ 32 → window ≤ 65535 → s.syn_acked ≡ false
-    → (r' : Receiving) → r'.limit ≤ 2 ^ 24 → taken r' ≤ r'.limit → r'.irs ≡ r.irs → Bounds r' (with_syn_acked s seq window)
-first_bounds r s seq window b near fits small syn_unacked r' limit within irs =
+    → (r' : Receiving) → r'.limit ≤ 2 ^ 24 → taken r' ≤ r'.limit → HoldsBehind r' → r'.irs ≡ r.irs → Bounds r' (with_syn_acked s seq window)
+first_bounds r s seq window b near fits small syn_unacked r' limit within behind irs =
     let una : s.una ≡ 0 = omega (arith, b.order, b.syn_unacked syn_unacked) in
     record {
       limit = limit;
       taken = within;
+      early = behind;
       order = omega arith;
       syn_unacked = λ h. refl;
       shut = λ h. absurd (false≢true (sym h));
@@ -168,10 +181,11 @@ first_bounds r s seq window b near fits small syn_unacked r' limit within irs =
       reach = omega (arith, small);
     }
 
-pub other_bounds : (r : Receiving) (s : Sending) → Bounds r s → (r' : Receiving) → r'.limit ≤ 2 ^ 24 → taken r' ≤ r'.limit → r'.irs ≡ r.irs → Bounds r' s
-other_bounds r s b r' limit within irs = record {
+pub other_bounds : (r : Receiving) (s : Sending) → Bounds r s → (r' : Receiving) → r'.limit ≤ 2 ^ 24 → taken r' ≤ r'.limit → HoldsBehind r' → r'.irs ≡ r.irs → Bounds r' s
+other_bounds r s b r' limit within behind irs = record {
   limit = limit;
   taken = within;
+  early = behind;
   order = b.order;
   syn_unacked = b.syn_unacked;
   shut = b.shut;
@@ -196,11 +210,12 @@ bounded_by_segment e p begun b usual =
     let r' : Receiving = taken_by e p in
     let w : StaysWithin e.receiving r' = taken_within e p in
     let limit : r'.limit ≤ 2 ^ 24 = omega (arith, w.limit, b.limit) in
-    let within : taken r' ≤ r'.limit = w.taken b.taken in
+    let within : taken r' ≤ r'.limit = w.taken b.taken b.early in
+    let behind : HoldsBehind r' = w.behind b.early in
     let bounds = chosen_bounds r' _ _ _ (counts e p) e.sending.syn_acked
-    (λ counted h. later_bounds e.receiving e.sending p.head.seq p.head.window (ack_at e p) b (near_of_counts e p b usual counted) usual.seq usual.window h r' limit within w.irs)
-    (λ counted h. first_bounds e.receiving e.sending p.head.seq p.head.window b (near_of_counts e p b usual counted) usual.seq usual.window h r' limit within w.irs)
-    (other_bounds e.receiving e.sending b r' limit within w.irs) in
+    (λ counted h. later_bounds e.receiving e.sending p.head.seq p.head.window (ack_at e p) b (near_of_counts e p b usual counted) usual.seq usual.window h r' limit within behind w.irs)
+    (λ counted h. first_bounds e.receiving e.sending p.head.seq p.head.window b (near_of_counts e p b usual counted) usual.seq usual.window h r' limit within behind w.irs)
+    (other_bounds e.receiving e.sending b r' limit within behind w.irs) in
     let P : Receiving → Type 0 = λ r. Bounds r (received e p).sending in
     let Q : Sending → Type 0 = λ s. Bounds r' s in
     subst P (sym (taken_law e p begun b usual)) (subst Q (sym (sending_is e p begun b usual)) bounds)
@@ -211,6 +226,7 @@ sent_more : (r : Receiving) (s : Sending) (n : ℕ) → Bounds r s → s.sent + 
 sent_more r s n b flight sent syn_unacked = record {
   limit = b.limit;
   taken = b.taken;
+  early = b.early;
   order = omega (arith, b.order);
   syn_unacked = λ h. omega (arith, b.syn_unacked h, syn_unacked h);
   shut = b.shut;
@@ -231,6 +247,7 @@ fin_more r s b unsent is_syn_acked =
     record {
       limit = b.limit;
       taken = b.taken;
+      early = b.early;
       order = omega (arith, b.order);
       syn_unacked = λ h. absurd (false≢true (sym h ∙ is_syn_acked));
       shut = λ h. absurd (false≢true (sym h ∙ is_syn_acked));
@@ -248,6 +265,7 @@ timer_bounds : (r : Receiving) (s : Sending) (interval rest : ℕ) → Bounds r 
 timer_bounds r s interval rest b = record {
   limit = b.limit;
   taken = b.taken;
+  early = b.early;
   order = b.order;
   syn_unacked = b.syn_unacked;
   shut = b.shut;
@@ -272,8 +290,17 @@ pub bounded_by_tick : (e : Tcb) → IsBounded e → IsBounded (after_tick e)
 unfolding after_tick timer_ticked waited
 bounded_by_tick e b = ticked_bounds e.receiving e.sending b
 
+-- reading moves the receive edge up, and leaves the end of the bytes taken where it is
+read_behind : (r : Receiving) (n : ℕ) → n ≤ length r.unread → HoldsBehind r → HoldsBehind (read_out r n)
+read_behind r n some behind =
+    let same : taken (read_out r n) ≡ taken r = omega (arith, some, length-drop n r.unread) in
+    let P : ℕ → Type 0 = λ k. StandsBehind k (receive_edge (read_out r n)) r.fin r.early in
+    subst P (sym same) (behind_up (taken r) (receive_edge r) (receive_edge (read_out r n)) r.fin r.early (omega arith) behind)
+
 pub bounded_by_read : (e : Tcb) (n : ℕ) → n ≤ length e.receiving.unread → IsBounded e → IsBounded (after_read e n)
-bounded_by_read e n some b = other_bounds e.receiving e.sending b (after_read e n).receiving b.limit (omega (arith, b.taken, length-drop n e.receiving.unread)) refl
+bounded_by_read e n some b =
+    other_bounds e.receiving e.sending b (after_read e n).receiving b.limit (omega (arith, b.taken, length-drop n e.receiving.unread))
+    (read_behind e.receiving n some b.early) refl
 
 pub bounded_by_more : (e : Tcb) (bytes : List ℕ) → e.sending.una + length e.sending.held + length bytes ≤ 2 ^ 24 + one_if e.sending.fin_sent → IsBounded e
     → IsBounded (after_write e bytes)
@@ -282,6 +309,7 @@ bounded_by_more e bytes few b =
     record {
       limit = b.limit;
       taken = b.taken;
+      early = b.early;
       order = b.order;
       syn_unacked = b.syn_unacked;
       shut = b.shut;
@@ -407,6 +435,7 @@ answered_bounds r s seq window mss b fits small syn_unacked =
     record {
       limit = b.limit;
       taken = b.taken;
+      early = b.early;
       order = omega arith;
       syn_unacked = λ h. refl;
       shut = λ h. absurd (false≢true (sym h));

@@ -43,6 +43,7 @@ pub record IsUsed (m u : Tcb) : Type 0 where
   pub limit : u.receiving.limit ≡ m.receiving.limit
   pub taken : taken u.receiving ≡ taken m.receiving
   pub fin : u.receiving.fin ≡ m.receiving.fin
+  pub early : u.receiving.early ≡ m.receiving.early
   pub unread : (all : List ℕ) (fetched : ℕ) → drop (m.receiving.read + fetched) all ≡ m.receiving.unread → drop (u.receiving.read + fetched) all ≡ u.receiving.unread
   pub sends : SendsAs m.sending u.sending
   pub told : told u ≡ told m
@@ -136,6 +137,7 @@ used_same m = record {
   limit = refl;
   taken = refl;
   fin = refl;
+  early = refl;
   unread = λ all fetched h. h;
   sends = sends_same m.sending;
   told = refl;
@@ -154,6 +156,7 @@ used_on m n u a b = record {
   limit = b.limit ∙ a.limit;
   taken = b.taken ∙ a.taken;
   fin = b.fin ∙ a.fin;
+  early = b.early ∙ a.early;
   unread = λ all fetched h. b.unread all fetched (a.unread all fetched h);
   sends = sends_on m.sending n.sending u.sending a.sends b.sends;
   told = b.told ∙ a.told;
@@ -184,6 +187,7 @@ used_call (Reads n) m may = record {
   limit = refl;
   taken = omega (arith, may, length-drop n m.receiving.unread);
   fin = refl;
+  early = refl;
   unread = λ all fetched h. read_on n m.receiving.read fetched all m.receiving.unread h;
   sends = sends_same m.sending;
   told = refl;
@@ -200,6 +204,7 @@ used_call (Writes bytes) m may = record {
   limit = refl;
   taken = refl;
   fin = refl;
+  early = refl;
   unread = λ all fetched h. h;
   sends = sends_written m.sending (m.sending.held ++ bytes) m.sending.closed (omega (arith, length-append m.sending.held bytes)) (λ h. h)
       (λ h. none_behind m.sending.closed m.reset (length m.sending.held) (length bytes) h may.0 (length-append m.sending.held bytes));
@@ -217,6 +222,7 @@ used_call Closes m may = record {
   limit = refl;
   taken = refl;
   fin = refl;
+  early = refl;
   unread = λ all fetched h. h;
   sends = sends_written m.sending m.sending.held true (omega arith) (λ h. refl) (λ h. refl);
   told = refl;
@@ -243,6 +249,7 @@ bounded_call (Writes bytes) m may last b =
 bounded_call Closes m may last b = record {
   limit = b.limit;
   taken = b.taken;
+  early = b.early;
   order = b.order;
   syn_unacked = b.syn_unacked;
   shut = b.shut;

@@ -7,6 +7,7 @@ use Rattle.std.proofs.lemmas.Bool.{false≢true}
 use Rattle.ft_io.specs.declared.Addr.{Addr}
 use Rattle.seq_arith.specs.Arrival.{int_eq}
 use Rattle.seq_arith.specs.Packet.{Segment, has_syn, has_rst, has_ack}
+use Rattle.seq_arith.proofs.Coming.{nothing_behind}
 use Rattle.ft_model.specs.News.{News}
 use Rattle.ft_model.specs.News.News.{Comes, Logged, Ticks, Begins}
 use Rattle.tcp_endpoint.specs.declared.states.StateName.{StateName}
@@ -332,6 +333,7 @@ unanswered_bounds : (iss limit interval rest : ℕ) (held : List ℕ) → limit 
 unanswered_bounds iss limit interval rest held small written = record {
   limit = omega (arith, small);
   taken = omega arith;
+  early = nothing_behind 0 (min 65535 (kept_limit limit)) false (omega arith);
   order = omega arith;
   syn_unacked = λ h. refl;
   shut = λ h. refl;

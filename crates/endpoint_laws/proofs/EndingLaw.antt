@@ -1,6 +1,6 @@
 -- The state of a connection through a turn: it follows what its halves tell, and it is CLOSED by a RST or once both FINs are through.
 use Rattle.std.proofs.Common.{◌≡◌, ◌⊎◌, inl, inr, ℕ, ◌≤◌, ◌+◌, ◌-◌, ◌*◌, Bool, true, false, not, None, List, [], ◌∷◌, length, min, refl, sym, ap, subst, arith, ◌∙◌}
-use Rattle.std.specs.Prelude.{ℤ, pos, ◌==◌, ◌&&◌, ◌||◌, nat_abs, nat_lt, int_lt, if◌then◌else◌}
+use Rattle.std.specs.Prelude.{ℤ, pos, ◌==◌, ◌&&◌, ◌||◌, nat_abs, nat_lt, if◌then◌else◌}
 use Rattle.std.proofs.lemmas.Int.{ints}
 use Rattle.std.proofs.lemmas.Bool.{false≢true}
 use Rattle.seq_arith.specs.Arrival.{int_eq, is_acceptable, is_at_right_edge, is_new_ack}
@@ -192,16 +192,13 @@ still false false stays h = refl
 
 pub stays_taken : (r : Receiving) (z : ℤ) (text : List ℕ) (fin : Bool) → r.fin ≡ true → (with_segment r z text fin).fin ≡ true
 unfolding with_came
-stays_taken r z text fin h = fin_stays (taken r) (receive_edge r) r.fin z text fin h
+stays_taken r z text fin h = fin_stays (taken r) (receive_edge r) r.fin r.early z text fin h
 
 text_follows : (e : Tcb) (p : Segment) → e.sending.syn_acked ≡ true → FollowsAt e → FollowsAt (with_text_and_fin e p)
 unfolding with_text_and_fin
 text_follows e p is h =
     let s : Sending = e.sending in
-    let taking : Tcb = record e {
-      receiving = with_segment e.receiving (first e p) p.payload (has_fin p);
-      owed = e.owed || int_lt (pos (next e.receiving)) (first e p);
-    } in
+    let taking : Tcb = record e { receiving = with_segment e.receiving (first e p) p.payload (has_fin p) } in
     let f : Bool = e.receiving.fin in
     let f' : Bool = taking.receiving.fin in
     holds_if (λ (t : Tcb). FollowsAt t) (f' && not f) (entering (after_fin e.name) taking) taking
@@ -516,10 +513,7 @@ begun_named_law e iss limit syn calls l is =
 text_resets : (e : Tcb) (p : Segment) → (with_text_and_fin e p).reset ≡ e.reset
 unfolding with_text_and_fin
 text_resets e p =
-    let taking : Tcb = record e {
-      receiving = with_segment e.receiving (first e p) p.payload (has_fin p);
-      owed = e.owed || int_lt (pos (next e.receiving)) (first e p);
-    } in
+    let taking : Tcb = record e { receiving = with_segment e.receiving (first e p) p.payload (has_fin p) } in
     holds_if (λ (t : Tcb). t.reset ≡ e.reset) (taking.receiving.fin && not e.receiving.fin) (entering (after_fin e.name) taking) taking (λ h. refl) (λ h. refl)
 
 acked_resets : (e : Tcb) → (with_fin_acked e).reset ≡ e.reset

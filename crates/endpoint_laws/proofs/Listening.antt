@@ -1,9 +1,10 @@
 -- An endpoint in LISTEN stays as `listen` made it until a SYN comes, but for what its user has written.
-use Rattle.std.proofs.Common.{◌≡◌, ℕ, ◌≤◌, ◌+◌, ◌^◌, Bool, true, false, not, List, [], ◌∷◌, ◌++◌, length, length-append, None, refl, sym, ap, subst, arith, ◌∙◌}
+use Rattle.std.proofs.Common.{◌≡◌, ℕ, ◌≤◌, ◌+◌, ◌^◌, Bool, true, false, not, List, [], ◌∷◌, ◌++◌, length, length-append, min, None, refl, sym, ap, subst, arith, ◌∙◌}
 use Rattle.std.specs.Prelude.{◌&&◌, if◌then◌else◌}
 use Rattle.std.proofs.lemmas.Bool.{false≢true}
 use Rattle.ft_io.specs.declared.Addr.{Addr}
 use Rattle.seq_arith.specs.Packet.{Segment, has_syn, has_rst, has_ack}
+use Rattle.seq_arith.proofs.Coming.{nothing_behind}
 use Rattle.ft_model.specs.News.{News}
 use Rattle.ft_model.specs.News.News.{Comes, Logged, Ticks, Begins}
 use Rattle.ft_model.specs.Opening.{is_syn}
@@ -41,6 +42,7 @@ unsent_bounds : (iss limit : ℕ) (held : List ℕ) → limit ≤ 2 ^ 24 → len
 unsent_bounds iss limit held small written = record {
   limit = omega (arith, small);
   taken = omega arith;
+  early = nothing_behind 0 (min 65535 (kept_limit limit)) false (omega arith);
   order = omega arith;
   syn_unacked = λ h. refl;
   shut = λ h. refl;

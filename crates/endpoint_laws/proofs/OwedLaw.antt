@@ -8,42 +8,37 @@ use Rattle.seq_arith.specs.Packet.{Segment, has_syn, has_rst, has_ack}
 use Rattle.seq_arith.specs.Offset.{length_of}
 use Rattle.tcp_buffers.specs.Near.{is_ahead}
 use Rattle.tcp_endpoint.specs.States.{after_syn_acked, after_fin, after_fin_acked, has_begun}
-use Rattle.tcp_endpoint.specs.Receiving.{Receiving, next, window}
+use Rattle.tcp_endpoint.specs.Receiving.{next, window}
 use Rattle.tcp_endpoint.specs.Sending.{with_syn_acked, acknowledged, fin_acked}
 use Rattle.tcp_endpoint.specs.Tcb.{Tcb}
 use Rattle.tcp_endpoint.specs.Arrival.{first, ack_at, owing_if, killed, entering, with_text_and_fin, with_fin_acked, with_first_ack, with_ack, check_ack, check_syn, check_rst, waiting_again, check_place, in_others, received, refusing}
 use Rattle.tcp_endpoint.specs.Arrival as check
 use Rattle.endpoint_laws.specs.Laws.{accepts, acknowledges_less, is_refused, owes_acceptable, owes, IsBounded, IsUsual}
-use Rattle.endpoint_laws.proofs.TakenLaw.{part_of_if, same_if, if_when, begun_is, at_ack, goes_on, segment_taken, sent_bool, accepts_same, acked_part}
-use Rattle.ft_io.proofs.Booleans.{or_false, or_other, and_false, left_false, false_or}
+use Rattle.endpoint_laws.proofs.TakenLaw.{part_of_if, same_if, if_when, begun_is, at_ack, goes_on, segment_taken, sent_bool, accepts_same}
+use Rattle.ft_io.proofs.Booleans.{or_other, and_false, left_false, false_or}
 use Rattle.ft_io.proofs.Choices.{by_cases}
 
-text_part : (e : Tcb) (p : Segment) → (with_text_and_fin e p).owed ≡ (e.owed || int_lt (pos (next e.receiving)) (first e p))
+text_part : (e : Tcb) (p : Segment) → (with_text_and_fin e p).owed ≡ e.owed
 unfolding with_text_and_fin
 text_part e p =
-    let taking : Tcb = record e {
-      receiving = segment_taken e p;
-      owed = e.owed || int_lt (pos (next e.receiving)) (first e p);
-    }
-    in part_of_if (λ (t : Tcb). t.owed) (taking.receiving.fin && not e.receiving.fin) (entering (after_fin e.name) taking) taking
-    ∙ same_if (taking.receiving.fin && not e.receiving.fin) taking.owed
+    let taking : Tcb = record e { receiving = segment_taken e p } in
+    part_of_if (λ (t : Tcb). t.owed) (taking.receiving.fin && not e.receiving.fin) (entering (after_fin e.name) taking) taking
+    ∙ same_if (taking.receiving.fin && not e.receiving.fin) e.owed
 
 -- what the end of the other side's FIN leaves
 acked_owed : (e : Tcb) → (with_fin_acked e).owed ≡ e.owed
 unfolding with_fin_acked
 acked_owed e = part_of_if (λ (t : Tcb). t.owed) (fin_acked e.sending) (entering (after_fin_acked e.name) e) e ∙ same_if (fin_acked e.sending) e.owed
 
-later_ack_part : (e : Tcb) (p : Segment) → is_ahead e.sending.sent (ack_at e p) ≡ false
-    → (with_ack e p).owed ≡ (e.owed || int_lt (pos (next e.receiving)) (first e p))
+later_ack_part : (e : Tcb) (p : Segment) → is_ahead e.sending.sent (ack_at e p) ≡ false → (with_ack e p).owed ≡ e.owed
 unfolding with_ack
 later_ack_part e p sent =
     let used : Tcb = record e { sending = acknowledged e.sending p.head.seq (ack_at e p) p.head.window }
     in ap (λ b. (if b then owing_if true e else with_text_and_fin (with_fin_acked used) p).owed) sent
     ∙ text_part (with_fin_acked used) p
-    ∙ ap (λ o. o || int_lt (pos (next (with_fin_acked used).receiving)) (first (with_fin_acked used) p)) (acked_owed used)
-    ∙ ap (λ (r : Receiving). e.owed || int_lt (pos (next r)) (first (record e { receiving = r }) p)) (acked_part used)
+    ∙ acked_owed used
 
-first_ack_part : (e : Tcb) (p : Segment) → int_eq (ack_at e p) (pos 0) ≡ true → (with_first_ack e p).owed ≡ (e.owed || int_lt (pos (next e.receiving)) (first e p))
+first_ack_part : (e : Tcb) (p : Segment) → int_eq (ack_at e p) (pos 0) ≡ true → (with_first_ack e p).owed ≡ e.owed
 unfolding with_first_ack
 first_ack_part e p is_syn =
     let opening : Tcb = record e { name = after_syn_acked e.sending.closed; sending = with_syn_acked e.sending p.head.seq p.head.window }
@@ -51,10 +46,10 @@ first_ack_part e p is_syn =
 
 -- with ACK, while it isn't refused
 ack_part : (e : Tcb) (p : Segment) → is_ahead e.sending.sent (ack_at e p) ≡ false → (e.sending.syn_acked ≡ false → int_eq (ack_at e p) (pos 0) ≡ true)
-    → (if e.sending.syn_acked then (with_ack e p).owed else (with_first_ack e p).owed) ≡ (e.owed || int_lt (pos (next e.receiving)) (first e p))
+    → (if e.sending.syn_acked then (with_ack e p).owed else (with_first_ack e p).owed) ≡ e.owed
 ack_part e p sent syn =
-    if_when e.sending.syn_acked (with_ack e p).owed _ (with_first_ack e p).owed _ (λ h. later_ack_part e p sent) (λ h. first_ack_part e p (syn h))
-    ∙ same_if e.sending.syn_acked _
+    if_when e.sending.syn_acked (with_ack e p).owed e.owed (with_first_ack e p).owed e.owed (λ h. later_ack_part e p sent) (λ h. first_ack_part e p (syn h))
+    ∙ same_if e.sending.syn_acked e.owed
 
 reset_owed : (o q : Bool) → o ≡ false → (if q then o else o || true) ≡ not q
 reset_owed o true none = none
@@ -72,19 +67,15 @@ is_syn_ack e p b usual not_less is_ack syn_unacked =
 
 -- an acceptable segment with neither SYN nor RST
 plain_owed : (e : Tcb) (p : Segment) → IsBounded e → IsUsual e p → e.owed ≡ false → acknowledges_less e p ≡ false
-    → (check_ack (at_ack e p) p).owed ≡ (nat_lt 0 (length_of p) || (has_ack p && int_lt (pos (next e.receiving)) (first e p)))
+    → (check_ack (at_ack e p) p).owed ≡ nat_lt 0 (length_of p)
 unfolding check_ack waiting_again
 plain_owed e p b usual none not_less =
     let e1 : Tcb = at_ack e p in
-    let early : Bool = int_lt (pos (next e.receiving)) (first e p) in
-    let some : Bool = nat_lt 0 (length_of p) in
     part_of_if (λ (t : Tcb). t.owed) (has_ack p) (if e1.sending.syn_acked then with_ack e1 p else with_first_ack e1 p) e1
     ∙ ap (λ x. if has_ack p then x else e1.owed) (part_of_if (λ (t : Tcb). t.owed) e1.sending.syn_acked (with_ack e1 p) (with_first_ack e1 p))
-    ∙ if_when (has_ack p) _ (some || (has_ack p && early)) _ (some || (has_ack p && early))
-    (λ is_ack. ack_part e1 p (sent_bool e p b usual is_ack) (is_syn_ack e p b usual not_less is_ack)
-    ∙ ap (λ v. v || early) (false_or e.owed some none) ∙ ap (λ v. some || (v && early)) (sym is_ack))
-    (λ no_ack. false_or e.owed some none ∙ or_false some ∙ ap (λ v. some || (v && early)) (sym no_ack))
-    ∙ same_if (has_ack p) (some || (has_ack p && early))
+    ∙ if_when (has_ack p) _ e1.owed e1.owed e1.owed
+    (λ is_ack. ack_part e1 p (sent_bool e p b usual is_ack) (is_syn_ack e p b usual not_less is_ack)) (λ no_ack. refl)
+    ∙ same_if (has_ack p) e1.owed ∙ false_or e.owed (nat_lt 0 (length_of p)) none
 
 -- what isn't refused, though it is acceptable and has neither SYN nor RST
 not_less_of : (acceptable rst syn less : Bool) → (acceptable && not rst && not syn && less) ≡ false → acceptable ≡ true → rst ≡ false → syn ≡ false → less ≡ false
@@ -145,7 +136,7 @@ allowed_owed e p b usual none unacceptable allowed =
     ap (λ v. (if v then (if at_next then killed e0 else owing_if true e0) else check_syn e0 p).owed) no_rst
     ∙ part_of_if (λ (t : Tcb). t.owed) (has_syn p) (owing_if true e0) (check_ack (at_ack e p) p)
     ∙ if_when (has_syn p) _ true _ true (λ is_syn. false_or e.owed true none)
-    (λ no_syn. plain_owed e p b usual none not_less ∙ ap (λ v. v || (has_ack p && int_lt (pos (next e.receiving)) (first e p))) some)
+    (λ no_syn. plain_owed e p b usual none not_less ∙ some)
     ∙ same_if (has_syn p) true ∙ ap not (sym no_rst)
 
 -- a segment that goes on

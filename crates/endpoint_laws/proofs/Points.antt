@@ -46,6 +46,7 @@ after_meets_laws service news before n = record {
   same = record { key = refl; cisn = refl; sisn = refl; mss = refl; fetched = refl };
   taken = refl;
   fin = refl;
+  early = refl;
   syn_acked = refl;
   una = refl;
   edge = refl;

@@ -22,10 +22,7 @@ use Rattle.ft_io.proofs.Booleans.{or_false}
 text_part : (e : Tcb) (p : Segment) → (with_text_and_fin e p).sending ≡ e.sending
 unfolding with_text_and_fin
 text_part e p =
-    let taking : Tcb = record e {
-      receiving = segment_taken e p;
-      owed = e.owed || int_lt (pos (next e.receiving)) (first e p);
-    }
+    let taking : Tcb = record e { receiving = segment_taken e p }
     in part_of_if (λ (t : Tcb). t.sending) (taking.receiving.fin && not e.receiving.fin) (entering (after_fin e.name) taking) taking
     ∙ same_if (taking.receiving.fin && not e.receiving.fin) e.sending
 

@@ -6,11 +6,11 @@ use Rattle.std.proofs.lemmas.List.{drop-append-le}
 use Rattle.std.proofs.lemmas.Bool.{false≢true, and_right, and_left}
 use Rattle.seq_arith.specs.Number.{offset_of}
 use Rattle.seq_arith.specs.Arrival.{int_eq, lies_in, is_acceptable, is_at_right_edge, is_acceptable_or_at_edge, is_allowed_at_zero, una_after, updates_window}
-use Rattle.seq_arith.specs.Coming.{Came, nothing_came, comes}
+use Rattle.seq_arith.specs.Coming.{Came, early_from, nothing_came, came_from, comes}
 use Rattle.seq_arith.specs.Packet.{Segment, has_syn, has_rst, has_ack}
 use Rattle.seq_arith.proofs.Gaps.{Leads, offset_leads}
 use Rattle.seq_arith.proofs.Shifts.{lies_in_shift, updates_window_shift}
-use Rattle.seq_arith.proofs.Coming.{comes_shift}
+use Rattle.seq_arith.proofs.Coming.{comes_from}
 use Rattle.seq_arith.specs.Offset.{one_if, first_of, ack_of, text_of, fin_of, length_of}
 use Rattle.ft_model.specs.Point.{Point, taken_units, room}
 use Rattle.ft_model.specs.Point as point
@@ -204,18 +204,23 @@ uses_of e segment h =
 
 -- what comes is the same, counted from some bytes behind a stream's beginning
 abbrev brought : Tcb → Segment → Came
-brought e segment = if counts e segment then came e.receiving (first e segment) (text_of segment) (fin_of segment) else nothing_came e.receiving.fin
+brought e segment =
+    if counts e segment then came e.receiving (first e segment) (text_of segment) (fin_of segment) else nothing_came e.receiving.early e.receiving.fin
 
-came_is : (p : Point) (e : Tcb) (segment : Segment) → Meets p e segment → model.came p segment ≡ brought e segment
+came_is : (p : Point) (e : Tcb) (segment : Segment) → Meets p e segment → model.came p segment ≡ came_from p.fetched (brought e segment)
 unfolding model.came
 came_is p e segment m =
     let r : Receiving = e.receiving in
-    ap (λ b. if b then comes (length p.taken) (point.receive_edge p) p.fin (first_of p.cisn segment) (text_of segment) (fin_of segment) else nothing_came p.fin)
+    let k : ℕ = p.fetched in
+    let brings : Came = came r (first e segment) (text_of segment) (fin_of segment) in
+    ap (λ b. if b then comes (length p.taken) (point.receive_edge p) p.fin p.early (first_of p.cisn segment) (text_of segment) (fin_of segment) else nothing_came p.early p.fin)
     (counts_is p e segment m)
-    ∙ if_when (counts e segment) _ _ _ _
-    (λ h. (λ i. comes (m.receives.long i) (edge_is p e m.receives i) (m.receives.fin i) (first_is p e segment m (uses_of e segment h) i) (text_of segment) (fin_of segment))
-    ∙ comes_shift (taken r) (receive_edge r) p.fetched r.fin (first e segment) (text_of segment) (fin_of segment))
-    (λ h i. nothing_came (m.receives.fin i))
+    ∙ if_when (counts e segment) _ (came_from k brings) _ (came_from k (nothing_came r.early r.fin))
+    (λ h. (λ i. comes (m.receives.long i) (edge_is p e m.receives i) (m.receives.fin i) (m.receives.early i) (first_is p e segment m (uses_of e segment h) i)
+    (text_of segment) (fin_of segment))
+    ∙ comes_from (taken r) (receive_edge r) k r.fin r.early (first e segment) (text_of segment) (fin_of segment))
+    (λ h i. nothing_came (m.receives.early i) (m.receives.fin i))
+    ∙ sym (part_of_if (came_from k) (counts e segment) brings (nothing_came r.early r.fin))
 
 -- bytes are put behind all that were taken, and so behind those that aren't read
 grown_rest : (all unread more : List ℕ) (read fetched : ℕ) → drop (read + fetched) all ≡ unread → length all ≡ read + length unread + fetched
@@ -227,7 +232,7 @@ grown_long : (all unread more : List ℕ) (read fetched : ℕ) → length all �
 grown_long all unread more read fetched long = omega (arith, long, length-append all more, length-append unread more)
 
 -- .. and the endpoint takes just that
-nothing_more : (r : Receiving) → r ≡ with_came r (nothing_came r.fin)
+nothing_more : (r : Receiving) → r ≡ with_came r (nothing_came r.early r.fin)
 unfolding with_came
 nothing_more r = λ i. record r { unread = sym (append-nil r.unread) i }
 
@@ -236,7 +241,7 @@ unfolding taken_by
 taken_by_is e segment =
     let r : Receiving = e.receiving in
     if_when (counts e segment) _ _ _ _ (λ h. refl) (λ h. nothing_more r)
-    ∙ sym (part_of_if (with_came r) (counts e segment) (came r (first e segment) (text_of segment) (fin_of segment)) (nothing_came r.fin))
+    ∙ sym (part_of_if (with_came r) (counts e segment) (came r (first e segment) (text_of segment) (fin_of segment)) (nothing_came r.early r.fin))
 
 -- an acknowledgement of at most what was sent is used whole
 used_whole : (z : ℤ) (sent : ℕ) → int_le (pos 0) z ≡ true → z ≤ℤ pos sent → min (nat_abs z) sent ≡ nat_abs z
@@ -362,6 +367,7 @@ abbrev pub point_after : Segment → Point → Point
 point_after segment p = record p {
   taken = model.taken_after (Comes segment) p;
   fin = model.fin_after (Comes segment) p;
+  early = model.early_after (Comes segment) p;
   syn_acked = sender.syn_acked_after (Comes segment) p;
   una = sender.acknowledged_after (Comes segment) p;
   edge = sender.edge_after (Comes segment) p;
@@ -370,7 +376,7 @@ point_after segment p = record p {
 }
 
 receives_after : (p : Point) (e after : Tcb) (segment : Segment) → Meets p e segment → after.receiving ≡ taken_by e segment → ReceivesAt (point_after segment p) after
-unfolding with_came model.taken_after model.fin_after
+unfolding with_came model.taken_after model.early_after model.fin_after
 receives_after p e after segment m receiving =
     let r : ReceivesAt p e = m.receives in
     let is : after.receiving ≡ with_came e.receiving (brought e segment) = receiving ∙ taken_by_is e segment in
@@ -388,6 +394,7 @@ receives_after p e after segment m receiving =
       unread = (λ i. drop (read i + p.fetched) (p.taken ++ added i))
           ∙ grown_rest p.taken e.receiving.unread (brought e segment).added e.receiving.read p.fetched r.unread r.long ∙ sym unread;
       fin = ap (λ (c : Came). c.fin) (came_is p e segment m) ∙ sym (ap (λ (q : Receiving). q.fin) is);
+      early = ap (λ (c : Came). c.early) (came_is p e segment m) ∙ ap (λ (q : Receiving). early_from p.fetched q.early) (sym is);
     }
 
 sends_after : (p : Point) (e after : Tcb) (segment : Segment) → Meets p e segment → after.receiving ≡ taken_by e segment → IsSentBy e segment after.sending

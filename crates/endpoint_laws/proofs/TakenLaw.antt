@@ -1,6 +1,6 @@
 -- The checks on a segment, one by one, take what the law Taken says.
 use Rattle.std.proofs.Common.{◌≡◌, ℕ, ◌≤◌, ◌+◌, ◌-◌, ◌^◌, Bool, true, false, not, refl, sym, ap, arith, ◌∙◌}
-use Rattle.std.specs.Prelude.{ℤ, pos, ◌-ℤ◌, ◌≤ℤ◌, ◌&&◌, ◌||◌, nat_lt, int_lt, int_le, if◌then◌else◌}
+use Rattle.std.specs.Prelude.{ℤ, pos, ◌-ℤ◌, ◌≤ℤ◌, ◌&&◌, ◌||◌, nat_lt, int_le, if◌then◌else◌}
 use Rattle.std.proofs.lemmas.Int.{ints}
 use Rattle.std.proofs.lemmas.Bool.{false≢true}
 use Rattle.seq_arith.specs.Number.{offset_of}
@@ -134,10 +134,7 @@ others_part f e p aside =
 text_part : (e : Tcb) (p : Segment) → (with_text_and_fin e p).receiving ≡ segment_taken e p
 unfolding with_text_and_fin
 text_part e p =
-    let taking : Tcb = record e {
-      receiving = segment_taken e p;
-      owed = e.owed || int_lt (pos (next e.receiving)) (first e p);
-    }
+    let taking : Tcb = record e { receiving = segment_taken e p }
     in part_of_if (λ (t : Tcb). t.receiving) (taking.receiving.fin && not e.receiving.fin) (entering (after_fin e.name) taking) taking
     ∙ same_if (taking.receiving.fin && not e.receiving.fin) taking.receiving
 

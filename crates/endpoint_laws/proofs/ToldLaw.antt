@@ -1,6 +1,6 @@
 -- What was last announced, when a segment without data goes out, and where a probe is right.
 use Rattle.std.proofs.Common.{◌≡◌, ℕ, ◌≤◌, ◌+◌, ◌-◌, Bool, true, false, not, List, ◌++◌, length, length-append, max, min, refl, sym, ap, arith, ◌∙◌}
-use Rattle.std.specs.Prelude.{pos, ◌==◌, ◌&&◌, ◌||◌, nat_lt, int_lt, if◌then◌else◌}
+use Rattle.std.specs.Prelude.{pos, ◌==◌, ◌&&◌, ◌||◌, nat_lt, if◌then◌else◌}
 use Rattle.std.proofs.lemmas.Bool.{false≢true, and_parts}
 use Rattle.seq_arith.specs.Arrival.{int_eq}
 use Rattle.seq_arith.specs.Packet.{Segment, has_syn, has_rst, has_ack}
@@ -10,7 +10,7 @@ use Rattle.tcp_endpoint.specs.States.{after_syn_acked, after_fin, after_fin_acke
 use Rattle.tcp_endpoint.specs.Receiving.{next, announced_edge}
 use Rattle.tcp_endpoint.specs.Sending.{Sending, with_syn_acked, acknowledged, fin_acked, target, sendable, sends_fin, must_run, timed, expires, ticked, with_sent, with_fin_sent}
 use Rattle.tcp_endpoint.specs.Tcb.{Tcb}
-use Rattle.tcp_endpoint.specs.Arrival.{first, ack_at, owing_if, entering, with_text_and_fin, with_fin_acked, with_first_ack, with_ack, waiting_again, received, refusing}
+use Rattle.tcp_endpoint.specs.Arrival.{ack_at, owing_if, entering, with_text_and_fin, with_fin_acked, with_first_ack, with_ack, waiting_again, received, refusing}
 use Rattle.tcp_endpoint.specs.Leaving.{or_bare, is_owed, bare_segment, full_out, leaving, probes_text, probes_fin, with_probe, with_text_sent, with_fin_out, after_full, announced, is_timed, with_turn_ended, flushed}
 use Rattle.tcp_endpoint.specs.Turning.{after_tick, timer_ticked, waited, after_write}
 use Rattle.endpoint_laws.specs.Laws.{is_refused, owes, told, asks, IsBounded, IsUsual, ProbesRightly, IsShut}
@@ -46,10 +46,7 @@ told_by_flush e begun = announced_by (has_begun e.name) (next e.receiving) (anno
 text_part : (e : Tcb) (p : Segment) → told (with_text_and_fin e p) ≡ told e
 unfolding with_text_and_fin
 text_part e p =
-    let taking : Tcb = record e {
-      receiving = segment_taken e p;
-      owed = e.owed || int_lt (pos (next e.receiving)) (first e p);
-    }
+    let taking : Tcb = record e { receiving = segment_taken e p }
     in part_of_if told (taking.receiving.fin && not e.receiving.fin) (entering (after_fin e.name) taking) taking
     ∙ same_if (taking.receiving.fin && not e.receiving.fin) (told e)
 

@@ -2,6 +2,7 @@
 use Rattle.std.proofs.Common.{◌≡◌, ℕ, ◌≤◌, ◌+◌, ◌*◌, ◌%◌, ◌^◌, Bool, true, false, not, List, [], ◌∷◌, ◌++◌, length, drop, max, min, refl, sym, ap, arith, ◌∙◌}
 use Rattle.std.specs.Prelude.{pos, ◌+ℤ◌, ◌==◌, ◌&&◌, ◌||◌, nat_lt, if◌then◌else◌}
 use Rattle.ft_io.specs.declared.Addr.{Addr}
+use Rattle.seq_arith.specs.Coming.{early_from}
 use Rattle.seq_arith.specs.Number.{offset_of}
 use Rattle.seq_arith.specs.Packet.{Segment}
 use Rattle.server_trait.specs.Service.{Machine}
@@ -47,6 +48,7 @@ receives_of service news before after m u r a laws user =
       long = ap length laws.taken ∙ r.long ∙ (λ i. sym a.taken i + sym laws.same.fetched i);
       unread = a.unread after.taken after.fetched rest;
       fin = laws.fin ∙ r.fin ∙ sym a.fin;
+      early = laws.early ∙ r.early ∙ (λ i. early_from (sym laws.same.fetched i) (sym a.early i));
     }
 
 pub sends_of : {State : Type 0} (service : Machine State) (news : News) (before after : Point) (m u : Tcb) → SendsAt (moved news before) m → IsUsed m u
@@ -168,7 +170,7 @@ between_again u begun bounds probes last interval = record {
 
 pub flushed_receives : (p : Point) (u : Tcb) → ReceivesAt p u → ReceivesAt p (flushed u)
 unfolding flushed with_turn_ended announced after_full left.with_fin_out left.with_text_sent left.with_probe
-flushed_receives p u r = record { cisn = r.cisn; limit = r.limit; read = r.read; long = r.long; unread = r.unread; fin = r.fin }
+flushed_receives p u r = record { cisn = r.cisn; limit = r.limit; read = r.read; long = r.long; unread = r.unread; fin = r.fin; early = r.early }
 
 pub flushed_remote : (u : Tcb) → (flushed u).remote ≡ u.remote
 unfolding flushed with_turn_ended announced after_full left.with_fin_out left.with_text_sent left.with_probe

@@ -1,6 +1,6 @@
 -- TIME-WAIT begins with four ticks to go, and a FIN that comes again begins it anew.
 use Rattle.std.proofs.Common.{◌≡◌, ℕ, ◌≤◌, ◌+◌, ◌-◌, ◌*◌, min, Bool, true, false, not, List, [], ◌∷◌, length, refl, sym, ap, subst, arith, ◌∙◌}
-use Rattle.std.specs.Prelude.{ℤ, pos, ◌+ℤ◌, ◌==◌, ◌&&◌, ◌||◌, nat_lt, int_lt, if◌then◌else◌}
+use Rattle.std.specs.Prelude.{ℤ, pos, ◌+ℤ◌, ◌==◌, ◌&&◌, ◌||◌, nat_lt, if◌then◌else◌}
 use Rattle.std.specs.Bool.{MatchBool}
 use Rattle.std.proofs.lemmas.Bool.{false≢true}
 use Rattle.std.proofs.lemmas.Int.{ints}
@@ -48,10 +48,7 @@ enters_by name t h is = four_ticks (is_time_wait name) (is_time_wait t.name) t.w
 enters_text : (e : Tcb) (p : Segment) → Enters e → Enters (with_text_and_fin e p)
 unfolding with_text_and_fin
 enters_text e p h =
-    let taking : Tcb = record e {
-      receiving = with_segment e.receiving (first e p) p.payload (has_fin p);
-      owed = e.owed || int_lt (pos (next e.receiving)) (first e p);
-    } in
+    let taking : Tcb = record e { receiving = with_segment e.receiving (first e p) p.payload (has_fin p) } in
     holds_if Enters (taking.receiving.fin && not e.receiving.fin) (entering (after_fin e.name) taking) taking (λ b. enters_by (after_fin e.name) taking h) (λ b. h)
 
 enters_acked : (e : Tcb) → Enters e → Enters (with_fin_acked e)
@@ -155,10 +152,7 @@ not_anew false b h = refl
 waits_text : (wait : ℕ) (e : Tcb) (p : Segment) → Waits wait e → Waits wait (with_text_and_fin e p)
 unfolding with_text_and_fin
 waits_text wait e p w =
-    let taking : Tcb = record e {
-      receiving = with_segment e.receiving (first e p) p.payload (has_fin p);
-      owed = e.owed || int_lt (pos (next e.receiving)) (first e p);
-    } in
+    let taking : Tcb = record e { receiving = with_segment e.receiving (first e p) p.payload (has_fin p) } in
     holds_if (Waits wait) (taking.receiving.fin && not e.receiving.fin) (entering (after_fin e.name) taking) taking
     (λ b. absurd (false≢true (sym (not_anew taking.receiving.fin e.receiving.fin w.fin) ∙ b)))
     (λ b. record { name = w.name; wait_is = w.wait_is; syn_acked_is = w.syn_acked_is; fin = stays_taken e.receiving (first e p) p.payload (has_fin p) w.fin })

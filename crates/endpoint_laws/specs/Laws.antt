@@ -7,8 +7,9 @@ use Rattle.seq_arith.specs.Number.{offset_of}
 use Rattle.seq_arith.specs.Arrival.{int_eq, is_acceptable_or_at_edge, is_usable, una_after, updates_window}
 use Rattle.seq_arith.specs.Packet.{Segment, has_syn, has_rst, has_ack}
 use Rattle.seq_arith.specs.Offset.{one_if, text_of, fin_of, length_of}
+use Rattle.seq_arith.specs.Coming.{StandsBehind}
 use Rattle.tcp_buffers.specs.Near.{IsNearFirst}
-use Rattle.tcp_endpoint.specs.Receiving.{Receiving, taken, next, announced_edge, with_segment}
+use Rattle.tcp_endpoint.specs.Receiving.{Receiving, taken, next, receive_edge, announced_edge, with_segment}
 use Rattle.tcp_endpoint.specs.Sending.{Sending, target}
 use Rattle.tcp_endpoint.specs.Tcb.{Tcb}
 use Rattle.tcp_endpoint.specs.Arrival.{first, ack_at}
@@ -26,7 +27,7 @@ uses e p = is_usable (next e.receiving) (announced_edge e.receiving - next e.rec
 abbrev pub counts : Tcb → Segment → Bool
 counts e p = has_ack p && not (has_syn p) && not (has_rst p) && uses e p && (e.sending.syn_acked || int_le (pos 0) (ack_at e p))
 
--- Taken: what the text and the FIN of a segment that counts add. Nothing else changes what is taken
+-- Taken: what the text and the FIN of a segment that counts make of the stream. Nothing else changes what is taken or held
 unfoldable pub taken_by : Tcb → Segment → Receiving
 taken_by e p = if counts e p then with_segment e.receiving (first e p) (text_of p) (fin_of p) else e.receiving
 
@@ -65,6 +66,7 @@ pub record IsUsual (e : Tcb) (p : Segment) : Type 0 where
 -- counts as one unit more
 pub record Bounds (r : Receiving) (s : Sending) : Type 0 where
   pub limit : r.limit ≤ 2 ^ 24
+  pub early : StandsBehind (taken r) (receive_edge r) r.fin r.early
   pub taken : taken r ≤ r.limit
   pub order : s.una ≤ s.sent
   pub syn_unacked : s.syn_acked ≡ false → s.sent ≡ 0
@@ -101,11 +103,11 @@ abbrev pub is_refused : Tcb → Segment → Bool
 is_refused e p = accepts e p && not (has_rst p) && not (has_syn p) && acknowledges_less e p
 
 -- Owed: to an acceptable segment, a challenge ACK for a RST elsewhere than at the next number and for a SYN, and an ACK for what takes up
--- numbers and for what begins past the next number
+-- numbers
 abbrev pub owes_acceptable : Tcb → Segment → Bool
 owes_acceptable e p =
     if has_rst p then not (int_eq (first e p) (pos (next e.receiving)))
-    else (if has_syn p then true else nat_lt 0 (length_of p) || (has_ack p && int_lt (pos (next e.receiving)) (first e p)))
+    else (if has_syn p then true else nat_lt 0 (length_of p))
 
 -- Owed: to each segment that isn't acceptable, unless it has RST
 abbrev pub owes : Tcb → Segment → Bool

@@ -5,6 +5,7 @@
 use Rattle.std.specs.Prelude.{◌≡◌, ℕ, Bool, true, false, pos, ◌+◌, ◌≤◌, ◌%◌, ◌^◌, ◌+ℤ◌, ◌==◌, ◌&&◌, ◌||◌, not, max, List, [], ◌∷◌, ◌++◌, length, drop, sum, if◌then◌else◌, take, ◌⊎◌}
 use Rattle.std.specs.Bool.{MatchBool}
 use Rattle.ft_io.specs.declared.Addr.{Addr}
+use Rattle.seq_arith.specs.Coming.{early_from}
 use Rattle.seq_arith.specs.Number.{offset_of}
 use Rattle.seq_arith.specs.Packet.{Segment, has_syn, has_rst}
 use Rattle.seq_arith.specs.Message.{Numbers}
@@ -15,7 +16,7 @@ use Rattle.ft_model.specs.News.News.{Comes}
 use Rattle.ft_model.specs.Network.{source_of}
 use Rattle.ft_model.specs.Opening.{segment_size, point_opened}
 use Rattle.ft_model.specs.Connection.{IsSameConnection}
-use Rattle.ft_model.specs.Taken.{accepts, taken_after, fin_after}
+use Rattle.ft_model.specs.Taken.{accepts, taken_after, early_after, fin_after}
 use Rattle.ft_model.specs.Sending.{syn_acked_after, acknowledged_after, edge_after, wl1_after, wl2_after, sent_after}
 use Rattle.ft_model.specs.Timer.{interval_after, rest_after}
 use Rattle.ft_model.specs.Owed.{is_refused, owes}
@@ -38,6 +39,7 @@ pub record ReceivesAt (p : Point) (e : Tcb) : Type 0 where
   pub long : length p.taken ≡ taken e.receiving + p.fetched
   pub unread : drop (e.receiving.read + p.fetched) p.taken ≡ e.receiving.unread
   pub fin : p.fin ≡ e.receiving.fin
+  pub early : p.early ≡ early_from p.fetched e.receiving.early
 
 -- the sending half, but for what is sent and the timer
 pub record SendsAt (p : Point) (e : Tcb) : Type 0 where
@@ -82,6 +84,7 @@ pub record MeetsLaws {State : Type 0} (service : Machine State) (news : News) (b
   pub same : IsSameConnection before after
   pub taken : after.taken ≡ taken_after news before
   pub fin : after.fin ≡ fin_after news before
+  pub early : after.early ≡ early_after news before
   pub syn_acked : after.syn_acked ≡ syn_acked_after news before
   pub una : after.una ≡ acknowledged_after news before
   pub edge : after.edge ≡ edge_after news before

@@ -35,7 +35,7 @@ ghost use Rattle.endpoint_laws.specs.Connecting.{IsConnecting, FieldsFit};
 
 use server_trait::Service;
 
-/// The law Taken: which bytes of a segment are taken, and when its FIN is.
+/// The law Taken: which bytes of a segment are taken, which are held, and when its FIN is taken.
 #[tactic(auto, using(crate::proofs::TakenLaw::taken_law))]
 pub fn segments_are_taken_by_law()
     ensures { (e : Tcb) (p : Segment) → has_begun e.name ≡ true → IsBounded e → IsUsual e p → (received e p).receiving ≡ taken_by e p }

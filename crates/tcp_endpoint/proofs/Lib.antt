@@ -1,4 +1,7 @@
 pub mod Pieces
 pub mod Places
+pub mod Commutes
+pub mod Steps
+pub mod Held
 pub mod Acks
 pub mod Spelled

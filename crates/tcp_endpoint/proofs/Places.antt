@@ -1,9 +1,10 @@
 -- The peer's numbers, modulo 2^32, against the receiver's offsets: a test on numbers is the test on the offsets that they name.
-use Rattle.std.proofs.Common.{◌≡◌, ℕ, ◌<◌, ◌≤◌, ◌+◌, ◌%◌, ◌^◌, true, false, arith}
-use Rattle.std.specs.Prelude.{ℤ, pos, ◌+ℤ◌, ◌≤ℤ◌, nat_eq, int_lt}
+use Rattle.std.proofs.Common.{◌≡◌, ℕ, ◌<◌, ◌≤◌, ◌+◌, ◌%◌, ◌^◌, true, false, refl, arith}
+use Rattle.std.specs.Prelude.{ℤ, pos, negsuc, ◌+ℤ◌, ◌≤ℤ◌, nat_eq, int_lt}
 use Rattle.std.proofs.lemmas.Int.{ints}
 use Rattle.seq_arith.specs.Number.{distance, number_at, offset_of, precedes, is_in_window}
 use Rattle.seq_arith.specs.Arrival.{int_eq, lies_in, is_acceptable, is_at_right_edge, is_acceptable_or_at_edge, is_allowed_at_zero, is_usable, below}
+use Rattle.seq_arith.specs.Coming.{ahead}
 use Rattle.seq_arith.proofs.Gaps.{offset_leads}
 use Rattle.tcp_buffers.specs.Near.{IsNearFirst}
 use Rattle.seq_arith.proofs.Shifts.{below_low}
@@ -36,6 +37,38 @@ pub skipped : (irs number next : ℕ) → number < 2 ^ 32 → next ≤ 2 ^ 30 + 
 skipped irs number next small near first no_gap =
     let low : offset_of irs number ≤ℤ pos next = grind (arith, ints)
     in omega (arith, ints, offset_leads irs number small, below_low next (offset_of irs number) low)
+
+gap_up : (next : ℕ) (first : ℤ) → int_lt (pos next) first ≡ true → pos next ≤ℤ first
+gap_up next first h = grind (arith, ints)
+
+ahead_past : (next : ℕ) (first : ℤ) → int_lt (pos next) first ≡ true → pos (next + ahead next first) ≡ first
+ahead_past next (pos first) h = grind (arith, ints)
+ahead_past next (negsuc first) h = grind (arith, ints)
+
+-- how far past the receiver's offset a number stands
+pub past : (irs number next : ℕ) → number < 2 ^ 32 → next ≤ 2 ^ 30 + 1 → IsNearFirst (offset_of irs number)
+    → int_lt (pos next) (offset_of irs number) ≡ true → distance number (number_at irs next) ≡ ahead next (offset_of irs number)
+past irs number next small near first gap =
+    omega (arith, ints, offset_leads irs number small, ahead_past next (offset_of irs number) gap, gap_up next (offset_of irs number) gap)
+
+pub not_past : (next : ℕ) (first : ℤ) → int_lt (pos next) first ≡ false → ahead next first ≡ 0
+not_past next (pos first) h = grind (arith, ints)
+not_past next (negsuc first) h = refl
+
+-- what begins past the offset has nothing before it
+pub none_skipped : (next : ℕ) (first : ℤ) → 0 < ahead next first → below next first ≡ 0
+none_skipped next (pos first) h = omega (arith, h)
+none_skipped next (negsuc first) h = absurd (omega (arith, h))
+
+-- the offset at which a text ends, where it ends in the stream, ..
+pub end_place : (irs number len k : ℕ) → number < 2 ^ 32 → len ≤ 2 ^ 16 → IsNearFirst (offset_of irs number) → offset_of irs number +ℤ pos len ≡ pos k
+    → distance ((number + len) % 2 ^ 32) ((irs + 1) % 2 ^ 32) ≡ k
+end_place irs number len k small short near e = omega (arith, ints, offset_leads irs number small, near.0, near.1, e)
+
+-- .. and where it ends before it
+pub end_below : (irs number len k : ℕ) → number < 2 ^ 32 → len ≤ 2 ^ 16 → IsNearFirst (offset_of irs number) → offset_of irs number +ℤ pos len ≡ negsuc k
+    → 2 ^ 31 ≤ distance ((number + len) % 2 ^ 32) ((irs + 1) % 2 ^ 32)
+end_below irs number len k small short near e = omega (arith, ints, offset_leads irs number small, near.0, near.1, e)
 
 -- an acceptable segment begins near to the window
 pub near_of_acceptable : (next window : ℕ) (first : ℤ) (len : ℕ) → next ≤ 2 ^ 30 + 1 → window ≤ 2 ^ 16 → len ≤ 2 ^ 16

@@ -1,5 +1,5 @@
 -- What a segment that arrives makes of an endpoint: the checks of RFC 9293, 3.10.7, in their order, one definition a check.
-use Rattle.std.specs.Prelude.{ℕ, ℤ, Bool, true, pos, ◌+◌, ◌%◌, ◌^◌, ◌&&◌, ◌||◌, not, nat_lt, int_lt, None, Some, if◌then◌else◌, ◌+ℤ◌, length, take}
+use Rattle.std.specs.Prelude.{ℕ, ℤ, Bool, true, pos, ◌+◌, ◌%◌, ◌^◌, ◌&&◌, ◌||◌, not, nat_lt, None, Some, if◌then◌else◌, ◌+ℤ◌, length, take}
 use Rattle.seq_arith.specs.Arrival.{int_eq, is_acceptable_or_at_edge, is_allowed_at_zero}
 use Rattle.seq_arith.specs.Packet.{Segment, has_fin, has_syn, has_rst, has_ack}
 use Rattle.ft_io.specs.declared.Addr.{Addr}
@@ -92,14 +92,11 @@ in_syn_sent e p =
     else (if has_rst p then e else refusing e p))
     else e
 
--- 3.10.7.4, seventh and eighth check: text and FIN
+-- 3.10.7.4, seventh and eighth check: text and FIN are taken, or held
 unfoldable pub with_text_and_fin : Tcb → Segment → Tcb
 with_text_and_fin e p =
-    let taking = record e {
-      receiving = with_segment e.receiving (first e p) p.payload (has_fin p);
-      owed = e.owed || int_lt (pos (next e.receiving)) (first e p);
-    }
-    in if taking.receiving.fin && not e.receiving.fin then entering (after_fin e.name) taking else taking
+    let taking = record e { receiving = with_segment e.receiving (first e p) p.payload (has_fin p) } in
+    if taking.receiving.fin && not e.receiving.fin then entering (after_fin e.name) taking else taking
 
 -- fifth check: an acknowledgement of the own FIN
 unfoldable pub with_fin_acked : Tcb → Tcb

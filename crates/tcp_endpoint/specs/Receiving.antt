@@ -1,7 +1,7 @@
 -- The receiving half of a connection, in offsets of the peer's stream: byte k has the offset k, and a FIN that is taken counts as one more
 -- (RFC 9293, 3.3.1, receive sequence variables, and 3.10.7.4, first, seventh and eighth check).
-use Rattle.std.specs.Prelude.{◌≡◌, ℕ, ℤ, Bool, false, ◌+◌, ◌-◌, ◌^◌, ◌≤◌, min, List, [], ◌++◌, length, drop}
-use Rattle.seq_arith.specs.Coming.{Came, comes}
+use Rattle.std.specs.Prelude.{ℕ, ℤ, Bool, false, ◌+◌, ◌-◌, ◌^◌, ◌≤◌, min, Option, List, [], ◌++◌, length, drop}
+use Rattle.seq_arith.specs.Coming.{Early, Came, nothing_early, comes, StandsBehind}
 use Rattle.seq_arith.specs.Offset.{one_if}
 use Rattle.tcp_buffers.specs.Queue.{Queue}
 
@@ -10,6 +10,7 @@ pub record Receiving : Type 0 where
   pub read : ℕ  -- how many bytes the user has read
   pub unread : List ℕ  -- the bytes taken and not read
   pub fin : Bool  -- whether the peer's FIN is taken
+  pub early : Early  -- the peer's text behind the bytes taken, and its FIN, that are held until the gap before them is filled
   pub limit : ℕ  -- the receive edge never passes this
 
 -- the bytes taken
@@ -34,15 +35,15 @@ window r = receive_edge r - taken r
 
 -- nothing is received yet
 abbrev pub receiving_up_to : ℕ → Receiving
-receiving_up_to limit = record { irs = 0; read = 0; unread = []; fin = false; limit = limit }
+receiving_up_to limit = record { irs = 0; read = 0; unread = []; fin = false; early = nothing_early; limit = limit }
 
--- what the text and the FIN of a segment add to the stream
+-- what the text and the FIN of a segment make of the stream
 abbrev pub came : Receiving → ℤ → List ℕ → Bool → Came
-came r first text fin = comes (taken r) (receive_edge r) r.fin first text fin
+came r first text fin = comes (taken r) (receive_edge r) r.fin r.early first text fin
 
--- seventh and eighth check: both are taken
+-- seventh and eighth check: both are taken, or held
 unfoldable pub with_came : Receiving → Came → Receiving
-with_came r c = record r { unread = r.unread ++ c.added; fin = c.fin }
+with_came r c = record r { unread = r.unread ++ c.added; early = c.early; fin = c.fin }
 
 abbrev pub with_segment : Receiving → ℤ → List ℕ → Bool → Receiving
 with_segment r first text fin = with_came r (came r first text fin)
@@ -51,9 +52,9 @@ with_segment r first text fin = with_came r (came r first text fin)
 abbrev pub read_out : Receiving → ℕ → Receiving
 read_out r n = record r { read = r.read + n; unread = drop n r.unread }
 
--- what stays true of a receiver's fields: nothing is held that came early
-pub record Keeps (read : ℕ) (queue : Queue) (limit : ℕ) : Type 0 where
+-- what stays true of a receiver's fields
+pub record Keeps (read : ℕ) (queue : Queue) (fin : Bool) (held_fin : Option ℕ) (limit : ℕ) : Type 0 where
   pub within : read + length queue.unread ≤ limit
   pub queued : length queue.unread ≤ 65535
   pub near : limit ≤ 2 ^ 30
-  pub alone : queue.early ≡ []
+  pub behind : StandsBehind (read + length queue.unread) (min (read + 65535) limit) fin (record { text = queue.early; fin = held_fin })

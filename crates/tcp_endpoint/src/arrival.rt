@@ -368,7 +368,7 @@ impl Endpoint {
         }
     }
 
-    /// Seventh and eighth check.
+    /// Seventh and eighth check: text and FIN are taken, or held.
     #[tactic(auto, unfolding(crate::specs::Arrival::with_text_and_fin))]
     fn take_text_and_fin(&mut self, p: PacketRef<'_>)
         requires short { length p.payload.now ≤ 65535 }
@@ -376,9 +376,7 @@ impl Endpoint {
         ensures { self.new ≡ with_text_and_fin self.old (segment_of p.entry) }
     {
         let had_fin = self.receiver.has_fin();
-        let is_early = self.receiver.is_early(p.head.seq);
         self.receiver.take(p.head.seq, p.payload, has_fin(p));
-        self.owe(is_early);
         if self.receiver.has_fin() && !had_fin {
             self.enter(self.name.after_fin());
         }

@@ -1,13 +1,14 @@
 //! The receiving half of a connection: the one place that compares the peer's numbers, modulo 2^32. Contracts see offsets in the peer's
 //! stream, whatever its initial number.
 
-ghost use Rattle.std.specs.Prelude.{◌≡◌, ℕ, ◌+◌, ◌-◌, ◌^◌, ◌<◌, ◌≤◌, ◌==◌, ◌&&◌, ◌||◌, pos, ◌+ℤ◌, int_lt, Bool, false, true, List, [], ◌++◌, length, min, take, drop};
+ghost use Rattle.std.specs.Prelude.{◌≡◌, ℕ, ◌+◌, ◌-◌, ◌^◌, ◌<◌, ◌≤◌, ◌==◌, ◌&&◌, ◌||◌, pos, negsuc, ◌+ℤ◌, int_lt, Bool, false, true, List, [], ◌++◌, length, min, take, drop, if◌then◌else◌};
 ghost use Rattle.std.specs.Bool.{OnTrue};
 ghost use Rattle.seq_arith.specs.Number.{number_at, offset_of};
 ghost use Rattle.seq_arith.specs.Arrival.{int_eq, lies_in, is_acceptable, is_at_right_edge, is_acceptable_or_at_edge, is_allowed_at_zero, below};
-ghost use Rattle.seq_arith.specs.Coming.{new_text, is_fin_at};
+ghost use Rattle.seq_arith.specs.Coming.{StandsBehind, nothing_came, ahead, text_edge, new_text, holds_fin, stands_at};
 ghost use Rattle.tcp_buffers.specs.Near.{IsNearFirst};
-ghost use Rattle.tcp_buffers.specs.Queue.{empty_queue};
+ghost use Rattle.tcp_buffers.specs.Queue.{empty_queue, pushed};
+ghost use Rattle.seq_arith.specs.Early.{held_with};
 ghost use Rattle.tcp_endpoint.specs.Receiving.{taken, next, receive_edge, announced_edge, window, receiving_up_to, with_segment, read_out};
 ghost use Rattle.tcp_endpoint.specs.Tcb.{kept_limit};
 
@@ -25,10 +26,12 @@ pub(crate) struct Receiver {
     irs: Seq,
     /// How many bytes of the peer's stream the user has read.
     read: u32,
-    /// The bytes that are taken and not read. Behind them is RCV.NXT, and nothing is held.
+    /// The bytes that are taken and not read. Behind them is RCV.NXT, and behind a gap text that is held.
     queue: RecvQueue,
     /// Whether the peer's FIN is taken, which RCV.NXT counts as one more.
     fin: bool,
+    /// The offset in the peer's stream of a FIN that is held until the text before it is taken.
+    held_fin: Option<u32>,
     /// The receive edge never passes this, in bytes of the peer's stream.
     limit: u32,
 }
@@ -38,9 +41,16 @@ impl Model for Receiver {
 
     ghost Value = { Receiving };
 
-    ghost view = { λ r. record { irs = r.irs.0; read = r.read; unread = r.queue.unread; fin = r.fin; limit = r.limit } };
+    ghost view = { λ r. record {
+      irs = r.irs.0;
+      read = r.read;
+      unread = r.queue.unread;
+      fin = r.fin;
+      early = record { text = r.queue.early; fin = r.held_fin };
+      limit = r.limit;
+    } };
 
-    ghost invariant = { λ r. Keeps r.read r.queue r.limit };
+    ghost invariant = { λ r. Keeps r.read r.queue r.fin r.held_fin r.limit };
 }
 
 impl Receiver {
@@ -54,6 +64,7 @@ impl Receiver {
             read: 0,
             queue,
             fin: false,
+            held_fin: None,
             limit: limit.min(MOST),
         }
     }
@@ -81,6 +92,7 @@ impl Receiver {
         ensures edge { next self.now + window self.now ≡ announced_edge self.now }
         ensures far { announced_edge self.now ≤ 2 ^ 30 + 1 }
         ensures room { window self.now ≤ 65535 }
+        ensures behind { StandsBehind (taken self.now) (receive_edge self.now) self.now.fin self.now.early }
     {
         let _number = number.0;
         let _read = self.read;
@@ -222,16 +234,6 @@ impl Receiver {
         self.window() == 0 && self.is_next(seq)
     }
 
-    /// Whether a segment begins past RCV.NXT.
-    #[tactic(auto, using(crate::proofs::Places::is_later))]
-    pub(crate) fn is_early(&self, seq: Seq) -> bool
-        requires { IsNearFirst (offset_of self.now.irs seq.0) }
-        ensures { result ≡ int_lt (pos (next self.now)) (offset_of self.now.irs seq.0) }
-    {
-        self.ranges(seq);
-        self.next_number().lt(seq)
-    }
-
     /// The number behind the bytes taken.
     fn taken_number(&self) -> Seq
         ensures { result.0 ≡ number_at self.now.irs (taken self.now) }
@@ -259,54 +261,126 @@ impl Receiver {
         self.taken_number().lt(seq)
     }
 
+    /// How far past the bytes taken a text begins.
+    #[tactic(auto, using(crate::proofs::Places::not_past, crate::proofs::Places::past))]
+    fn gap(&self, seq: Seq) -> u32
+        requires { IsNearFirst (offset_of self.now.irs seq.0) }
+        ensures count { result ≡ ahead (taken self.now) (offset_of self.now.irs seq.0) }
+        ensures most { result ≤ 2 ^ 30 + 2 ^ 24 }
+    {
+        self.ranges(seq);
+        if self.is_past(seq) {
+            return seq.minus(self.taken_number());
+        }
+        0
+    }
+
     /// How much of a text was taken before.
-    #[tactic(auto, using(crate::proofs::Places::skipped))]
-    fn known(&self, seq: Seq) -> u32
+    #[tactic(auto, using(crate::proofs::Places::skipped, crate::proofs::Places::none_skipped))]
+    fn known(&self, seq: Seq, gap: u32) -> u32
         requires near { IsNearFirst (offset_of self.now.irs seq.0) }
-        requires no_gap { int_lt (pos (taken self.now)) (offset_of self.now.irs seq.0) ≡ false }
+        requires gap { gap ≡ ahead (taken self.now) (offset_of self.now.irs seq.0) }
         ensures { result ≡ below (taken self.now) (offset_of self.now.irs seq.0) }
     {
         self.ranges(seq);
+        if gap > 0 {
+            return 0;
+        }
         self.taken_number().minus(seq)
     }
 
-    /// Takes the text and the FIN of a segment whose acknowledgement is used (RFC 9293, 3.10.7.4, seventh and eighth check).
+    /// Up to where text counts: a FIN that is taken or held bounds it too.
+    fn text_edge(&self) -> u32
+        ensures { result ≡ text_edge (taken self.now) (receive_edge self.now) self.now.fin self.now.early }
+    {
+        if self.fin {
+            return self.taken();
+        }
+        match self.held_fin {
+            Some(place) => place.min(self.receive_edge()),
+            None => self.receive_edge(),
+        }
+    }
+
+    /// The new part of a text that begins `gap` bytes past those taken, or before them.
+    #[tactic(auto, unfolding(seq_arith::specs::Coming::new_text))]
+    fn new_part<'a>(&self, seq: Seq, gap: u32, text: &'a [u8]) -> &'a [u8]
+        requires near { IsNearFirst (offset_of self.now.irs seq.0) }
+        requires gap { gap ≡ ahead (taken self.now) (offset_of self.now.irs seq.0) }
+        requires most { gap ≤ 2 ^ 30 + 2 ^ 24 }
+        ensures { result.now ≡ new_text (taken self.now) (receive_edge self.now) self.now.fin self.now.early (offset_of self.now.irs seq.0) text.now }
+    {
+        let known = self.known(seq, gap);
+        let room = self.text_edge().saturating_sub(self.taken() + gap);
+        part(text, known as usize, room as usize)
+    }
+
+    /// Takes the text and the FIN of a segment whose acknowledgement is used, or holds them (RFC 9293, 3.10.7.4, seventh and eighth check).
     pub(crate) fn take(&mut self, seq: Seq, text: &[u8], fin: bool)
         requires near { IsNearFirst (offset_of self.old.irs seq.0) }
         requires short { length text.now ≤ 2 ^ 16 }
         ensures { self.new ≡ with_segment self.old (offset_of self.old.irs seq.0) text.now fin }
     {
+        self.ranges(seq);
         self.take_text(seq, text);
         self.take_fin(seq, text.len() as u32, fin);
     }
 
-    /// Takes the part of a text from the bytes taken on, up to the receive edge: none of a text that begins past them, and none once the
-    /// peer's FIN is taken.
-    #[tactic(auto, unfolding(seq_arith::specs::Coming::new_text))]
+    /// Takes the new part of a text, with the held bytes that continue it, and the FIN where it is held at their end. A part that begins past
+    /// the bytes taken is held.
     fn take_text(&mut self, seq: Seq, text: &[u8])
-        requires near { IsNearFirst (offset_of self.old.irs seq.0) }
-        ensures { self.new ≡ record self.old {
-          unread = self.old.unread ++ new_text (taken self.old) (receive_edge self.old) self.old.fin (offset_of self.old.irs seq.0) text.now;
-        } }
+        requires { IsNearFirst (offset_of self.old.irs seq.0) }
+        ensures { self.new ≡ with_segment self.old (offset_of self.old.irs seq.0) text.now false }
     {
-        if self.fin || self.is_past(seq) {
-            return;
+        let gap = self.gap(seq);
+        let part = self.new_part(seq, gap, text);
+        put(&mut self.queue, gap as usize, part);
+        let end = self.read + self.queue.len() as u32;
+        if stands_at(end, self.held_fin) {
+            self.held_fin = None;
+            self.fin = true;
         }
-        self.ranges(seq);
-        let known = self.known(seq) as usize;
-        let room = usize::from(self.window());
-        append(&mut self.queue, part(text, known, room));
     }
 
-    /// Takes a FIN behind a text of this length, where all bytes end that are taken, below the receive edge.
-    #[tactic(auto, unfolding(seq_arith::specs::Coming::is_fin_at))]
-    fn take_fin(&mut self, seq: Seq, len: u32, fin: bool)
-        requires { len ≤ 2 ^ 16 }
-        ensures { self.new ≡ record self.old {
-          fin = self.old.fin || (fin && is_fin_at (taken self.old) (receive_edge self.old) (offset_of self.old.irs seq.0 +ℤ pos len));
-        } }
+    /// Where a text of this length ends, as an offset in the peer's stream. Where it ends before the stream this is past every offset.
+    fn end(&self, seq: Seq, len: u32) -> u32
+        requires near { IsNearFirst (offset_of self.now.irs seq.0) }
+        requires short { len ≤ 2 ^ 16 }
+        ensures place { (k : ℕ) → offset_of self.now.irs seq.0 +ℤ pos len ≡ pos k → result ≡ k }
+        ensures past { (k : ℕ) → offset_of self.now.irs seq.0 +ℤ pos len ≡ negsuc k → receive_edge self.now ≤ result }
     {
-        self.fin = self.fin || (fin && self.ends(seq, len) && self.taken() < self.receive_edge());
+        self.ranges(seq);
+        seq.add(len).minus(self.irs.add(1))
+    }
+
+    /// Whether a FIN at this place is held, or taken at once: it stands below the receive edge and not below the bytes taken, no text at it
+    /// or past it is held, and no FIN is held or taken.
+    fn holds_fin(&self, place: u32) -> bool
+        ensures { result ≡ holds_fin (taken self.now) (receive_edge self.now) (pos place) (nothing_came self.now.early self.now.fin) }
+    {
+        if place >= self.receive_edge() || place < self.taken() {
+            return false;
+        }
+        self.queue.held_to() <= (place - self.taken()) as usize
+            && self.held_fin.is_none()
+            && !self.fin
+    }
+
+    /// Holds a FIN behind a text of this length, or takes it where the bytes taken end there.
+    fn take_fin(&mut self, seq: Seq, len: u32, fin: bool)
+        requires near { IsNearFirst (offset_of self.old.irs seq.0) }
+        requires short { len ≤ 2 ^ 16 }
+        ensures { self.new ≡ with_segment self.old (offset_of self.old.irs seq.0 +ℤ pos len) [] fin }
+    {
+        let place = self.end(seq, len);
+        if !fin || !self.holds_fin(place) {
+            return;
+        }
+        if place == self.taken() {
+            self.fin = true;
+        } else {
+            self.held_fin = Some(place);
+        }
     }
 
     /// How many bytes are taken and not read.
@@ -351,12 +425,27 @@ fn part(text: &[u8], known: usize, room: usize) -> &[u8]
     &rest[..room.min(rest.len())]
 }
 
-/// Puts bytes that fit into a queue in which nothing is held.
-#[tactic(auto, using(tcp_buffers::proofs::QueueFields::pushed_alone))]
-fn append(queue: &mut RecvQueue, bytes: &[u8])
-    requires fits { length queue.old.unread + length bytes.now ≤ 65535 }
-    requires alone { queue.old.early ≡ [] }
-    ensures { queue.new ≡ record queue.old { unread = queue.old.unread ++ bytes.now } }
+/// Appends bytes to those in order, with the held bytes that continue them, or holds them where they begin past those.
+#[tactic(auto, using(crate::proofs::Steps::none_held))]
+fn put(queue: &mut RecvQueue, gap: usize, bytes: &[u8])
+    requires fits { 0 < length bytes.now → length queue.old.unread + gap + length bytes.now ≤ 65535 }
+    ensures { queue.new ≡ (if gap == 0 then pushed bytes.now queue.old else record queue.old { early = held_with gap bytes.now queue.old.early }) }
 {
-    let _kept = queue.push(bytes);
+    if gap == 0 {
+        let _grown = queue.push(bytes);
+        return;
+    }
+    if !bytes.is_empty() {
+        let _is_held = queue.hold(gap, bytes);
+    }
+}
+
+/// Whether a FIN is held at this offset.
+fn stands_at(end: u32, held_fin: Option<u32>) -> bool
+    ensures { result ≡ stands_at end held_fin }
+{
+    match held_fin {
+        Some(place) => place == end,
+        None => false,
+    }
 }

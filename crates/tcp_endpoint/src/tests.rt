@@ -114,3 +114,27 @@ fn long_text(rt: HostRuntime) -> Result<(), Fail> {
     assert_eq!(rt; shut, Some((5001, 66_536, ACK, 0, 0)));
     Ok(())
 }
+
+/// Text and a FIN that come early are held until the gap before them is filled. A bare acknowledgement from there is owed nothing.
+#[test]
+fn early_text(rt: HostRuntime) -> Result<(), Fail> {
+    let mut out = Outbox::new(rt.alloc())?;
+    let mut server = established(rt.alloc(), &mut out)?;
+    arrive(&mut server, 1004, 5001, ACK, b"");
+    assert_eq!(rt; flush(&mut server, &mut out), None);
+    assert_eq!(rt; out.len(), 0);
+    arrive(&mut server, 1004, 5001, FIN | ACK, b"lo");
+    let held = flush(&mut server, &mut out);
+    assert_eq!(rt; held, Some((5001, 1001, ACK, 65_535, 0)));
+    arrive(&mut server, 1003, 5001, ACK, b"llo past the FIN");
+    assert_eq!(rt; server.readable(), 0);
+    assert_eq!(rt; server.state().name, StateName::Established);
+    arrive(&mut server, 1001, 5001, ACK, b"he");
+    let taken = flush(&mut server, &mut out);
+    assert_eq!(rt; taken, Some((5001, 1007, ACK, 65_530, 0)));
+    assert_eq!(rt; server.state().name, StateName::CloseWait);
+    let mut read = [0u8; 9];
+    assert_eq!(rt; server.read(&mut read), 5);
+    assert_eq!(rt; &read, b"hello\0\0\0\0");
+    Ok(())
+}
