@@ -1,7 +1,7 @@
 -- After a turn output goes on as before it.
 use Rattle.std.proofs.Common.{◌≡◌, ℕ, ◌≤◌, ◌+◌, ◌%◌, ◌^◌, Bool, true, false, not, List, min, max, refl, sym, ap, arith, ◌∙◌}
 use Rattle.std.specs.Prelude.{pos, ◌&&◌, nat_abs, nat_lt, int_le, if◌then◌else◌}
-use Rattle.std.proofs.lemmas.Bool.{false≢true, or_parts}
+use Rattle.std.proofs.lemmas.Bool.{or_parts}
 use Rattle.ft_io.specs.declared.Addr.{Addr}
 use Rattle.seq_arith.specs.Arrival.{una_after}
 use Rattle.seq_arith.specs.Packet.{Segment, has_ack}
@@ -11,7 +11,7 @@ use Rattle.ft_model.specs.Point.{Point, target}
 use Rattle.ft_model.specs.News.{News}
 use Rattle.ft_model.specs.News.News.{Comes, Logged, Ticks, Begins}
 use Rattle.ft_model.specs.Network.{Packet}
-use Rattle.ft_model.specs.Taken.{counts, taken_after, fin_after}
+use Rattle.ft_model.specs.Taken.{counts, taken_after, early_after, fin_after}
 use Rattle.ft_model.specs.Sending.{syn_acked_after, acknowledged_after, edge_after, wl2_after, sent_at_once, sent_after, acknowledged_by, window_by}
 use Rattle.ft_model.specs.Timer.{probes, expires}
 use Rattle.ft_model.specs.Connection.{LiveTurn}
@@ -72,17 +72,18 @@ record Same (news : News) (p : Point) : Type 0 where
   syn_acked : p.syn_acked ≡ false
   taken : taken_after news p ≡ p.taken
   fin : fin_after news p ≡ p.fin
+  early : early_after news p ≡ p.early
   edge : edge_after news p ≡ p.edge
 
 same : (i : ℕ) (news : News) (p : Point) → syn_acked_after news p ≡ false → Same news p
-unfolding syn_acked_after taken_after fin_after edge_after
+unfolding syn_acked_after taken_after early_after fin_after edge_after
 same i (Comes segment) p h =
     let k = or_parts p.syn_acked (counts p segment) h in
     let m : Moves (Comes segment) p 0 i Begins = stays_inside 0 i p segment k.1 in
-    record { syn_acked = k.0; taken = sym m.taken; fin = sym m.fin; edge = sym (minus_none p.edge (edge_after (Comes segment) p) m.edge) }
-same i (Logged kept) p h = record { syn_acked = h; taken = refl; fin = refl; edge = refl }
-same i Ticks p h = record { syn_acked = h; taken = refl; fin = refl; edge = refl }
-same i Begins p h = record { syn_acked = h; taken = refl; fin = refl; edge = refl }
+    record { syn_acked = k.0; taken = sym m.taken; fin = sym m.fin; early = sym m.early; edge = sym (minus_none p.edge (edge_after (Comes segment) p) m.edge) }
+same i (Logged kept) p h = record { syn_acked = h; taken = refl; fin = refl; early = refl; edge = refl }
+same i Ticks p h = record { syn_acked = h; taken = refl; fin = refl; early = refl; edge = refl }
+same i Begins p h = record { syn_acked = h; taken = refl; fin = refl; early = refl; edge = refl }
 
 pub none_sent : (t : ℕ) → max 0 (min t 0) + 0 ≡ 0
 none_sent t = omega arith
@@ -113,6 +114,7 @@ goes_on_again service server boot u i delta news p q sent g f l few =
             edge,
             l.taken ∙ k.taken ∙ o.3,
             l.fin ∙ k.fin ∙ o.4,
-            l.same.fetched ∙ o.5,
+            l.early ∙ k.early ∙ o.5,
+            l.same.fetched ∙ o.6,
           );
     }

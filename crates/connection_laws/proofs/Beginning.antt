@@ -15,7 +15,7 @@ use Rattle.ft_model.specs.Opening.{point_opened}
 use Rattle.ft_model.specs.Point.{Point, acknowledgement, released, target}
 use Rattle.ft_model.specs.Segments.{syn_ack, window, segments_of, full_segments, resent, new_texts, new_fin, new_length, texts, fin_if_closed}
 use Rattle.ft_model.specs.Sending.{syn_acked_after, acknowledged_after, edge_after, wl1_after, wl2_after, sent_after, sent_at_once}
-use Rattle.ft_model.specs.Taken.{taken_after, fin_after}
+use Rattle.ft_model.specs.Taken.{taken_after, early_after, fin_after}
 use Rattle.ft_model.specs.Timer.{must_run, interval_after, rest_after}
 use Rattle.tcp_endpoint.specs.Arrival.{received}
 use Rattle.tcp_endpoint.specs.Tcb.{Tcb, listening}
@@ -39,7 +39,7 @@ begun numbers = record (point_opened numbers) { rest = 1 }
 
 begun_is : {State : Type 0} (service : Machine State) (server : Addr) (boot : ℕ) (numbers : Numbers) (q : Point) (sent : List Packet)
     → LiveTurn service server boot Begins (point_opened numbers) q sent → q ≡ begun numbers
-unfolding taken_after fin_after answered_after reads_answered_after syn_acked_after acknowledged_after edge_after wl1_after wl2_after sent_after sent_at_once interval_after rest_after must_run end_ticks_after
+unfolding taken_after early_after fin_after answered_after reads_answered_after syn_acked_after acknowledged_after edge_after wl1_after wl2_after sent_after sent_at_once interval_after rest_after must_run end_ticks_after
 begun_is service server boot numbers q sent l =
     let lengths : q.lengths ≡ [] = same_lengths service (point_opened numbers) q l.reads (ap length l.taken) l.same.fetched l.fin in
     let sent_is : q.sent ≡ 0 = l.sent_units ∙ (λ j. max 0 (min (target service q) (l.edge j)) + 0) ∙ none_sent (target service q) in
@@ -52,6 +52,7 @@ begun_is service server boot numbers q sent l =
       fetched = l.same.fetched j;
       taken = l.taken j;
       fin = l.fin j;
+      early = l.early j;
       answered = l.answered j;
       lengths = lengths j;
       reads_answered = l.reads_answered j;
@@ -83,7 +84,7 @@ goes_on numbers o = record {
   sent = omega arith;
   edge = omega arith;
   wl2 = omega arith;
-  syn_unacked = λ h. (refl, refl, refl, refl, refl, refl);
+  syn_unacked = λ h. (refl, refl, refl, refl, refl, refl, refl);
 }
 
 -- what leaves

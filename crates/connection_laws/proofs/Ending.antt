@@ -43,6 +43,7 @@ use Rattle.connection_laws.proofs.Quiet.{quiet_sends}
 use Rattle.connection_laws.proofs.Outliving.{rest_stops, taken_stays, closed_sent}
 use Rattle.connection_laws.proofs.Taking.{taken_before}
 use Rattle.connection_laws.proofs.Keeping.{news_keep}
+use Rattle.connection_laws.proofs.Held.{behind_at}
 
 -- no RST comes at the next number
 pub unreset : (u i delta : ℕ) (p : Point) (e : Tcb) (news : News) → StandsInside u i delta p e → p.reset ≡ false → NewsFit p news → reset_after news p ≡ false
@@ -225,7 +226,7 @@ ends_inside service boot u i delta news p q calls e sent st named unreset_p off 
           shift = st.goes_on.shift ∙ ap (λ n. (n + u) % 2 ^ 32) (sym t.goes.same.sisn);
           delta_fits = st.goes_on.delta_fits;
         };
-        receives = record { cisn = r.cisn; limit = r.limit; read = r.read; long = r.long; unread = r.unread; fin = r.fin };
+        receives = record { cisn = r.cisn; limit = r.limit; read = r.read; long = r.long; unread = r.unread; fin = r.fin; early = r.early };
         over = λ j. fin j && lt_by (released service q) q.una past j;
         syn_acked = syn_acked;
         acknowledged = acknowledged;
@@ -234,7 +235,7 @@ ends_inside service boot u i delta news p q calls e sent st named unreset_p off 
       };
       silent = end.silent;
       syn_acked = st.stands.sends.syn_acked ∙ opened_by e.sending.syn_acked e.sending.sent st.between.bounds.syn_unacked (omega (arith, e_sent, h.some));
-      taken = λ j. length ((t.goes.taken ∙ taken_stays news p fin_before) j) + one_if ((fin ∙ sym fin_before) j);
+      taken = λ j. length ((t.goes.taken ∙ taken_stays news p (behind_at (inside u i p) e st.stands.receives st.between.bounds) fin_before) j) + one_if ((fin ∙ sym fin_before) j);
       segments = quiet_sends service e.local news p q (record {
         opens = opens_not u i delta p e news calls t.later st.begun l.may l.ended;
         expires = expires_not news p at_tick;

@@ -1,16 +1,17 @@
 -- A forged segment at the next number, without text and with window 0, changes what it is to change, and nothing else.
-use Rattle.std.proofs.Common.{◌≡◌, ℕ, zero, suc, ◌<◌, ◌+◌, ◌-◌, ◌^◌, Bool, true, false, not, List, [], ◌++◌, length, take, drop, sum, min, max, refl, sym, ap, subst, arith, append-nil, ◌∙◌}
+use Rattle.std.proofs.Common.{◌≡◌, ℕ, zero, suc, ◌<◌, ◌+◌, ◌-◌, ◌^◌, Bool, true, false, not, [], ◌++◌, length, take, drop, sum, min, max, refl, sym, ap, subst, arith, append-nil, ◌∙◌}
 use Rattle.std.specs.Prelude.{ℤ, pos, ◌+ℤ◌, ◌==◌, ◌&&◌, ◌||◌, nat_abs, nat_lt, int_lt, int_le, if◌then◌else◌}
 use Rattle.std.proofs.lemmas.Int.{ints}
 use Rattle.std.proofs.lemmas.Bool.{false≢true}
 use Rattle.seq_arith.specs.Arrival.{int_eq, is_acceptable, is_at_right_edge, is_allowed_at_zero, is_usable, una_after, updates_window}
-use Rattle.seq_arith.specs.Coming.{Came, nothing_came, comes, new_text, is_fin_at}
+use Rattle.seq_arith.specs.Coming.{nothing_came, nothing_early, comes}
+use Rattle.seq_arith.proofs.Coming.{in_order, ComesAlone, comes_alone}
 use Rattle.seq_arith.specs.Packet.{Segment, has_fin, has_syn, has_rst, has_ack}
 use Rattle.server_trait.specs.Service.{Machine, reference}
 use Rattle.ft_model.specs.Offset.{one_if, first_of, ack_of, text_of, fin_of, length_of}
 use Rattle.ft_model.specs.Point.{Point, taken_units, receive_edge, room, target}
 use Rattle.ft_model.specs.News.News.{Comes}
-use Rattle.ft_model.specs.Taken.{uses, counts, came, taken_after, fin_after}
+use Rattle.ft_model.specs.Taken.{uses, counts, came, taken_after, early_after, fin_after}
 use Rattle.ft_model.specs.Sending.{syn_acked_after, acknowledged_after, edge_after, wl1_after, wl2_after, sent_at_once, sent_after, acknowledged_by}
 use Rattle.ft_model.specs.Timer.{must_run, interval_after, rest_after}
 use Rattle.endpoint_laws.specs.Standing.{MeetsLaws}
@@ -32,9 +33,10 @@ pub record IsForged (p : Point) (segment : Segment) (fin : Bool) : Type 0 where
   pub first : first_of p.cisn segment ≡ pos (length p.taken)
   pub back : ack_of p.sisn segment ≡ pos 0
 
--- all that was fetched is taken, nothing is sent, and nothing read
+-- all that was fetched is taken, nothing is held or sent, and nothing read
 pub record IsFresh (p : Point) : Type 0 where
   pub fin : p.fin ≡ false
+  pub early : p.early ≡ nothing_early
   pub una : p.una ≡ 0
   pub sent : p.sent ≡ 0
   pub edge : p.edge ≡ 0
@@ -103,17 +105,22 @@ fin_comes : (n edge : ℕ) (fin : Bool) → (fin ≡ true → nat_lt n edge ≡ 
 fin_comes n edge true below = λ j. same_place n j && ((λ i. nat_lt (plus_none n i) edge) ∙ below refl) j
 fin_comes n edge false below = refl
 
-bare_comes : (n edge : ℕ) (fin : Bool) → (fin ≡ true → nat_lt n edge ≡ true) → comes n edge false (pos n) [] fin ≡ record { added = []; fin = fin }
-unfolding comes new_text is_fin_at
+not_ahead : (n : ℕ) → int_lt (pos n) (pos n) ≡ false
+not_ahead n = grind (arith, ints)
+
+bare_comes : (n edge : ℕ) (fin : Bool) → (fin ≡ true → nat_lt n edge ≡ true) → comes n edge false nothing_early (pos n) [] fin ≡ nothing_came nothing_early fin
 bare_comes n edge fin below =
-    let none : new_text n edge false (pos n) [] ≡ [] = no_text (int_lt (pos n) (pos n)) (edge - n) (n - n) in
+    let alone : ComesAlone n edge false (pos n) [] fin (comes n edge false nothing_early (pos n) [] fin) = comes_alone n edge false (pos n) [] fin in
+    let none : in_order n edge false (pos n) [] ≡ [] = no_text (int_lt (pos n) (pos n)) (edge - n) (n - n) in
     λ j. record {
-      added = none j;
-      fin = ((λ i. fin && is_fin_at (n + length (none i)) edge (pos n +ℤ pos 0)) ∙ fin_comes n edge fin below) j;
+      added = (alone.added ∙ none) j;
+      early = alone.early (not_ahead n) j;
+      fin = (alone.fin ∙ (λ i. fin && (int_eq (pos n +ℤ pos 0) (pos (n + length ((alone.added ∙ none) i))) && nat_lt (n + length ((alone.added ∙ none) i)) edge))
+          ∙ fin_comes n edge fin below) j;
     }
 
 forged_came : (p : Point) (segment : Segment) (fin : Bool) → IsFresh p → IsForged p segment fin → (fin ≡ true → length p.taken < 2 ^ 24)
-    → came p segment ≡ record { added = []; fin = fin }
+    → came p segment ≡ nothing_came nothing_early fin
 unfolding came
 forged_came p segment fin f s few =
     let n : ℕ = length p.taken in
@@ -121,7 +128,7 @@ forged_came p segment fin f s few =
     let text : text_of segment ≡ [] = λ j. if s.syn j || s.rst j then [] else s.text j in
     let fin_is : fin_of segment ≡ fin = (λ j. s.fin_is j && not (s.syn j || s.rst j)) ∙ and_true fin in
     let edge : receive_edge p ≡ min (max p.fetched 0 + 65535) (2 ^ 24) = λ j. min (max p.fetched (sum (f.lengths j)) + 65535) (2 ^ 24) in
-    (λ j. if c j then comes n (receive_edge p) (f.fin j) (s.first j) (text j) (fin_is j) else nothing_came p.fin)
+    (λ j. if c j then comes n (receive_edge p) (f.fin j) (f.early j) (s.first j) (text j) (fin_is j) else nothing_came p.early p.fin)
     ∙ bare_comes n (receive_edge p) fin (λ h. ap (nat_lt n) edge ∙ below_edge n p.fetched (few h) f.fetched)
 
 -- the point after it
@@ -158,9 +165,9 @@ wl2_none false = refl
 
 pub forged_laws : (p : Point) (segment : Segment) (fin : Bool) → IsFresh p → IsForged p segment fin → (fin ≡ true → length p.taken < 2 ^ 24)
     → MeetsLaws silent (Comes segment) p (after_forged fin p)
-unfolding taken_after fin_after syn_acked_after acknowledged_after edge_after wl1_after wl2_after sent_after sent_at_once interval_after rest_after must_run
+unfolding taken_after early_after fin_after syn_acked_after acknowledged_after edge_after wl1_after wl2_after sent_after sent_at_once interval_after rest_after must_run
 forged_laws p segment fin f s few =
-    let k : came p segment ≡ record { added = []; fin = fin } = forged_came p segment fin f s few in
+    let k : came p segment ≡ nothing_came nothing_early fin = forged_came p segment fin f s few in
     let c : counts p segment ≡ true = forged_counts p segment fin f s few in
     let start : int_le (pos 0) (pos 0) ≡ true = at_start false in
     let m : (counts p segment && int_le (pos 0) (ack_of p.sisn segment)) ≡ true = (λ j. c j && int_le (pos 0) (s.back j)) ∙ start in
@@ -171,6 +178,7 @@ forged_laws p segment fin f s few =
       same = record { key = refl; cisn = refl; sisn = refl; mss = refl; fetched = refl };
       taken = sym (ap (λ x. p.taken ++ x.added) k ∙ append-nil p.taken);
       fin = sym (ap (λ x. x.fin) k);
+      early = f.early ∙ sym (ap (λ x. x.early) k);
       syn_acked = or_true p.syn_acked ∙ sym (ap (λ b. p.syn_acked || b) c);
       una = f.una ∙ sym ((λ j. if counts p segment && int_le (pos 0) (ack_of p.sisn segment) then una_after (f.una j) (min (nat_abs (s.back j)) (f.sent j)) else f.una j)
           ∙ acknowledged_none (counts p segment && int_le (pos 0) (ack_of p.sisn segment)));

@@ -12,6 +12,7 @@ pub mod Spliced
 pub mod Beginning
 pub mod Resetting
 pub mod Quiet
+pub mod Held
 pub mod Outliving
 pub mod Keeping
 pub mod Taking

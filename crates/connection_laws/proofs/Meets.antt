@@ -12,7 +12,7 @@ use Rattle.ft_model.specs.Point.{Point, taken_units, receive_edge, released, tar
 use Rattle.ft_model.specs.News.{News}
 use Rattle.ft_model.specs.News.News.{Comes, Logged, Ticks, Begins}
 use Rattle.ft_model.specs.Network.{Packet}
-use Rattle.ft_model.specs.Taken.{uses, counts, came, taken_after, fin_after}
+use Rattle.ft_model.specs.Taken.{uses, counts, came, taken_after, early_after, fin_after}
 use Rattle.ft_model.specs.Sending.{syn_acked_after, acknowledged_after, edge_after, wl1_after, wl2_after, sent_at_once, sent_after, acknowledged_by, window_by}
 use Rattle.ft_model.specs.Timer.{must_run, interval_after, rest_after, is_tick, expires, probes, is_set_anew}
 use Rattle.ft_model.specs.Segments.{repeats_syn}
@@ -31,6 +31,7 @@ use Rattle.ft_io.proofs.Booleans.{or_false}
 pub record Moves (news : News) (p : Point) (u i : ℕ) (inner : News) : Type 0 where
   pub taken : taken_after inner (inside u i p) ≡ taken_after news p
   pub fin : fin_after inner (inside u i p) ≡ fin_after news p
+  pub early : early_after inner (inside u i p) ≡ early_after news p
   pub syn_acked : syn_acked_after inner (inside u i p) ≡ syn_acked_after news p
   pub una : acknowledged_after inner (inside u i p) ≡ acknowledged_after news p - u
   pub edge : edge_after inner (inside u i p) ≡ edge_after news p - u
@@ -47,17 +48,17 @@ counts_is u i delta p segment g l =
     ap (λ b. has_ack segment && not (has_syn segment) && not (has_rst segment) && uses p segment && b)
     (counts_inside u p.sent p.syn_acked (ack_of p.sisn segment) (ack_of i (inward (south_at delta p) segment)) (λ h. (g.syn_unacked h).0) l)
 
--- .. so its text and FIN add the same
+-- .. so its text and FIN make the same of the stream
 came_is : (u i delta : ℕ) (p : Point) (segment : Segment) → GoesOn u i delta p
     → Lowers u p.sent (ack_of p.sisn segment) (ack_of i (inward (south_at delta p) segment)) → came (inside u i p) (inward (south_at delta p) segment) ≡ came p segment
 unfolding came
 came_is u i delta p segment g l =
-    ap (λ b. if b then comes (length p.taken) (receive_edge p) p.fin (first_of p.cisn segment) (text_of segment) (fin_of segment) else nothing_came p.fin)
+    ap (λ b. if b then comes (length p.taken) (receive_edge p) p.fin p.early (first_of p.cisn segment) (text_of segment) (fin_of segment) else nothing_came p.early p.fin)
     (counts_is u i delta p segment g l)
 
 comes_inside : (u i delta : ℕ) (p : Point) (segment : Segment) → GoesOn u i delta p
     → Lowers u p.sent (ack_of p.sisn segment) (ack_of i (inward (south_at delta p) segment)) → Moves (Comes segment) p u i (Comes (inward (south_at delta p) segment))
-unfolding taken_after fin_after syn_acked_after acknowledged_after edge_after wl1_after wl2_after
+unfolding taken_after early_after fin_after syn_acked_after acknowledged_after edge_after wl1_after wl2_after
 comes_inside u i delta p segment g l =
     let inner : Segment = inward (south_at delta p) segment in
     let ack : ℤ = ack_of p.sisn segment in
@@ -72,6 +73,7 @@ comes_inside u i delta p segment g l =
     record {
       taken = ap (λ x. p.taken ++ x.added) k;
       fin = ap (λ x. x.fin) k;
+      early = ap (λ x. x.early) k;
       syn_acked = λ j. p.syn_acked || c j;
       una = (λ j. if c j && int_le (pos 0) (ack_of i inner) then una_after (p.una - u) (min (nat_abs (ack_of i inner)) (p.sent - u)) else p.una - u)
           ∙ una_inside u p.una p.sent (counts p segment) ack (ack_of i inner) g.una g.order l;
@@ -95,19 +97,20 @@ nothing_counts p segment h =
     ap (λ b. has_ack segment && not b && not (has_rst segment) && uses p segment && (p.syn_acked || int_le (pos 0) (ack_of p.sisn segment))) h
     ∙ none_of (has_ack segment) (not (has_rst segment)) (uses p segment) (p.syn_acked || int_le (pos 0) (ack_of p.sisn segment))
 
-nothing_comes : (p : Point) (segment : Segment) → counts p segment ≡ false → came p segment ≡ nothing_came p.fin
+nothing_comes : (p : Point) (segment : Segment) → counts p segment ≡ false → came p segment ≡ nothing_came p.early p.fin
 unfolding came
 nothing_comes p segment c =
-    ap (λ b. if b then comes (length p.taken) (receive_edge p) p.fin (first_of p.cisn segment) (text_of segment) (fin_of segment) else nothing_came p.fin) c
+    ap (λ b. if b then comes (length p.taken) (receive_edge p) p.fin p.early (first_of p.cisn segment) (text_of segment) (fin_of segment) else nothing_came p.early p.fin) c
 
 pub stays_inside : (u i : ℕ) (p : Point) (segment : Segment) → counts p segment ≡ false → Moves (Comes segment) p u i Begins
-unfolding taken_after fin_after syn_acked_after acknowledged_after edge_after wl1_after wl2_after
+unfolding taken_after early_after fin_after syn_acked_after acknowledged_after edge_after wl1_after wl2_after
 stays_inside u i p segment c =
     let none : ℤ = first_of p.cisn segment in
-    let k : came p segment ≡ nothing_came p.fin = nothing_comes p segment c in
+    let k : came p segment ≡ nothing_came p.early p.fin = nothing_comes p segment c in
     record {
       taken = sym (ap (λ x. p.taken ++ x.added) k ∙ append-nil p.taken);
       fin = sym (ap (λ x. x.fin) k);
+      early = sym (ap (λ x. x.early) k);
       syn_acked = or_false p.syn_acked ∙ sym (λ j. p.syn_acked || c j);
       una = sym (λ j. (if c j && int_le (pos 0) (ack_of p.sisn segment) then una_after p.una (acknowledged_by p segment) else p.una) - u);
       edge = sym (λ j. (if moves (c j) p.syn_acked p.una p.wl1 p.wl2 none (ack_of p.sisn segment) p.sent then acknowledged_by p segment + window_by p segment else p.edge) - u);
@@ -135,7 +138,7 @@ pub minus_none : (a b : ℕ) → a - 0 ≡ b - 0 → a ≡ b
 minus_none a b h = omega (arith, h)
 
 idle_inside : (u i delta : ℕ) (p : Point) (segment : Segment) → has_ack segment ≡ false → Moves (Comes segment) p u i (Comes (inward (south_at delta p) segment))
-unfolding taken_after fin_after syn_acked_after acknowledged_after edge_after wl1_after wl2_after
+unfolding taken_after early_after fin_after syn_acked_after acknowledged_after edge_after wl1_after wl2_after
 idle_inside u i delta p segment h =
     let q : Point = inside u i p in
     let a : Moves (Comes segment) p u i Begins = stays_inside u i p segment (unacknowledged p segment h) in
@@ -143,6 +146,7 @@ idle_inside u i delta p segment h =
     record {
       taken = sym b.taken ∙ a.taken;
       fin = sym b.fin ∙ a.fin;
+      early = sym b.early ∙ a.early;
       syn_acked = sym b.syn_acked ∙ a.syn_acked;
       una = minus_none _ (p.una - u) (sym b.una) ∙ a.una;
       edge = minus_none _ (p.edge - u) (sym b.edge) ∙ a.edge;
@@ -165,11 +169,11 @@ by_repeat u i delta p segment true h g f =
 by_repeat u i delta p segment false h g f = comes_any u i delta p segment (has_ack segment) refl g f
 
 pub moves_inside_all : (u i delta : ℕ) (p : Point) (news : News) → GoesOn u i delta p → NewsFit p news → Moves news p u i (news_inside delta p news)
-unfolding taken_after fin_after syn_acked_after acknowledged_after edge_after wl1_after wl2_after
+unfolding taken_after early_after fin_after syn_acked_after acknowledged_after edge_after wl1_after wl2_after
 moves_inside_all u i delta p (Comes segment) g f = by_repeat u i delta p segment (repeats_syn p segment) refl g f
-moves_inside_all u i delta p (Logged kept) g f = record { taken = refl; fin = refl; syn_acked = refl; una = refl; edge = refl; wl1 = refl; wl2 = refl; expires = refl; ticks = refl }
-moves_inside_all u i delta p Ticks g f = record { taken = refl; fin = refl; syn_acked = refl; una = refl; edge = refl; wl1 = refl; wl2 = refl; expires = refl; ticks = refl }
-moves_inside_all u i delta p Begins g f = record { taken = refl; fin = refl; syn_acked = refl; una = refl; edge = refl; wl1 = refl; wl2 = refl; expires = refl; ticks = refl }
+moves_inside_all u i delta p (Logged kept) g f = record { taken = refl; fin = refl; early = refl; syn_acked = refl; una = refl; edge = refl; wl1 = refl; wl2 = refl; expires = refl; ticks = refl }
+moves_inside_all u i delta p Ticks g f = record { taken = refl; fin = refl; early = refl; syn_acked = refl; una = refl; edge = refl; wl1 = refl; wl2 = refl; expires = refl; ticks = refl }
+moves_inside_all u i delta p Begins g f = record { taken = refl; fin = refl; early = refl; syn_acked = refl; una = refl; edge = refl; wl1 = refl; wl2 = refl; expires = refl; ticks = refl }
 
 -- differences
 pub lt_less : (u a b : ℕ) → u ≤ a → nat_lt (a - u) (b - u) ≡ nat_lt a b
@@ -200,6 +204,7 @@ laws_inside service server boot u i delta news p q sent g f above given l =
       same = record { key = l.same.key; cisn = l.same.cisn; sisn = refl; mss = l.same.mss; fetched = l.same.fetched };
       taken = l.taken ∙ sym m.taken;
       fin = l.fin ∙ sym m.fin;
+      early = l.early ∙ sym m.early;
       syn_acked = l.syn_acked ∙ sym m.syn_acked;
       una = ap (λ n. n - u) l.una ∙ sym m.una;
       edge = ap (λ n. n - u) l.edge ∙ sym m.edge;

@@ -1,21 +1,21 @@
 -- A connection goes on without its TCP, once that is CLOSED.
 use Rattle.std.proofs.Common.{◌≡◌, ℕ, zero, suc, ◌≤◌, ◌+◌, ◌-◌, ◌%◌, ◌^◌, ◌*◌, Bool, true, false, not, List, [], ◌∷◌, ◌++◌, length, take, drop, map, min, max, refl, sym, ap, subst, arith, append-nil, ◌∙◌, ◌<◌}
-use Rattle.std.specs.Prelude.{pos, ◌==◌, ◌&&◌, ◌||◌, nat_abs, nat_lt, if◌then◌else◌}
+use Rattle.std.specs.Prelude.{◌==◌, ◌&&◌, ◌||◌, nat_abs, nat_lt, if◌then◌else◌}
 use Rattle.std.proofs.lemmas.Bool.{false≢true, and_parts}
 use Rattle.ft_io.specs.declared.Addr.{Addr}
 use Rattle.seq_arith.specs.Arrival.{una_after}
-use Rattle.seq_arith.specs.Coming.{nothing_came, comes}
+use Rattle.seq_arith.specs.Coming.{nothing_came, comes, early_from, StandsBehind}
 use Rattle.seq_arith.proofs.Coming.{comes_ended}
 use Rattle.seq_arith.specs.Packet.{Segment, has_rst, has_ack}
 use Rattle.server_trait.specs.Service.{Machine, reference}
 use Rattle.ft_model.specs.Growth.{IsPrefix}
 use Rattle.ft_model.specs.Offset.{one_if, first_of, ack_of, text_of, fin_of}
-use Rattle.ft_model.specs.Point.{Point, answered_run, released, target, receive_edge}
+use Rattle.ft_model.specs.Point.{Point, answered_run, released, target, receive_edge, HoldsBehind}
 use Rattle.ft_model.specs.Network.{Packet}
 use Rattle.ft_model.specs.News.{News}
 use Rattle.ft_model.specs.News.News.{Comes, Logged, Ticks, Begins}
 use Rattle.ft_model.specs.Answered.{reads_answered_after}
-use Rattle.ft_model.specs.Taken.{counts, came, taken_after, fin_after}
+use Rattle.ft_model.specs.Taken.{counts, came, taken_after, early_after, fin_after}
 use Rattle.ft_model.specs.Sending.{syn_acked_after, acknowledges, acknowledged_after, sent_at_once, sent_after}
 use Rattle.ft_model.specs.Timer.{is_tick, must_run, expires, rest_after, interval_after, is_set_anew}
 use Rattle.ft_model.specs.Segments.{opens_with}
@@ -51,6 +51,7 @@ use Rattle.connection_laws.specs.Closing.{StandsClosed, ReadsOn, GoesOnClosed}
 use Rattle.connection_laws.proofs.Keeping.{Keeps, kept_same, kept_ticked}
 use Rattle.connection_laws.proofs.Quiet.{quiet_sends}
 use Rattle.connection_laws.proofs.Forged.{plus_none, either}
+use Rattle.connection_laws.proofs.Held.{behind_at}
 
 -- a front goes on where the list does
 pub front_goes_on : (a b : ℕ) (xs ys : List ℕ) → a ≤ b → IsPrefix (take a xs) (take b (xs ++ ys))
@@ -66,27 +67,35 @@ reads_rise (Logged kept) p = omega arith
 reads_rise Ticks p = omega arith
 reads_rise Begins p = omega arith
 
--- where a FIN is taken nothing more is
-came_stays : (p : Point) (segment : Segment) → p.fin ≡ true → came p segment ≡ nothing_came true
+-- where a FIN is taken nothing more is, and what is held stays
+came_stays : (p : Point) (segment : Segment) → HoldsBehind p → p.fin ≡ true → came p segment ≡ nothing_came p.early true
 unfolding came
-came_stays p segment h =
-    (λ j. if counts p segment then comes (length p.taken) (receive_edge p) (h j) (first_of p.cisn segment) (text_of segment) (fin_of segment) else nothing_came (h j))
-    ∙ either (counts p segment) (comes (length p.taken) (receive_edge p) true (first_of p.cisn segment) (text_of segment) (fin_of segment)) (nothing_came true)
-    (comes_ended (length p.taken) (receive_edge p) (first_of p.cisn segment) (text_of segment) (fin_of segment))
+came_stays p segment b h =
+    (λ j. if counts p segment then comes (length p.taken) (receive_edge p) (h j) p.early (first_of p.cisn segment) (text_of segment) (fin_of segment) else nothing_came p.early (h j))
+    ∙ either (counts p segment) (comes (length p.taken) (receive_edge p) true p.early (first_of p.cisn segment) (text_of segment) (fin_of segment)) (nothing_came p.early true)
+    (comes_ended (length p.taken) (receive_edge p) p.early (first_of p.cisn segment) (text_of segment) (fin_of segment)
+    (subst (λ (f : Bool). StandsBehind (length p.taken) (receive_edge p) f p.early) h b))
 
-pub taken_stays : (news : News) (p : Point) → p.fin ≡ true → taken_after news p ≡ p.taken
+pub taken_stays : (news : News) (p : Point) → HoldsBehind p → p.fin ≡ true → taken_after news p ≡ p.taken
 unfolding taken_after
-taken_stays (Comes segment) p h = ap (λ c. p.taken ++ c.added) (came_stays p segment h) ∙ append-nil p.taken
-taken_stays (Logged kept) p h = refl
-taken_stays Ticks p h = refl
-taken_stays Begins p h = refl
+taken_stays (Comes segment) p b h = ap (λ c. p.taken ++ c.added) (came_stays p segment b h) ∙ append-nil p.taken
+taken_stays (Logged kept) p b h = refl
+taken_stays Ticks p b h = refl
+taken_stays Begins p b h = refl
 
-pub fin_stays : (news : News) (p : Point) → p.fin ≡ true → fin_after news p ≡ true
+early_stays : (news : News) (p : Point) → HoldsBehind p → p.fin ≡ true → early_after news p ≡ p.early
+unfolding early_after
+early_stays (Comes segment) p b h = ap (λ c. c.early) (came_stays p segment b h)
+early_stays (Logged kept) p b h = refl
+early_stays Ticks p b h = refl
+early_stays Begins p b h = refl
+
+pub fin_stays : (news : News) (p : Point) → HoldsBehind p → p.fin ≡ true → fin_after news p ≡ true
 unfolding fin_after
-fin_stays (Comes segment) p h = ap (λ c. c.fin) (came_stays p segment h)
-fin_stays (Logged kept) p h = h
-fin_stays Ticks p h = h
-fin_stays Begins p h = h
+fin_stays (Comes segment) p b h = ap (λ c. c.fin) (came_stays p segment b h)
+fin_stays (Logged kept) p b h = h
+fin_stays Ticks p b h = h
+fin_stays Begins p b h = h
 
 pub syn_acked_stays : (news : News) (p : Point) → p.syn_acked ≡ true → syn_acked_after news p ≡ true
 unfolding syn_acked_after
@@ -234,9 +243,10 @@ pub outlives : {State : Type 0} (service : Machine State) (server : Addr) (boot 
 unfolding sent_after sent_at_once
 outlives service server boot u i delta news p q calls e sent st l reads =
     let over = and_parts p.fin (nat_lt (released service p) p.una) st.over in
+    let behind : HoldsBehind p = behind_at p e st.receives st.bounds in
     let closed : (answered_run service p).closed ≡ true = closed_of (answered_run service p).closed (released service p) p.una p.sent over.1 st.acknowledged st.all_sent in
-    let taken : q.taken ≡ p.taken = l.taken ∙ taken_stays news p over.0 in
-    let fin : q.fin ≡ true = l.fin ∙ fin_stays news p over.0 in
+    let taken : q.taken ≡ p.taken = l.taken ∙ taken_stays news p behind over.0 in
+    let fin : q.fin ≡ true = l.fin ∙ fin_stays news p behind over.0 in
     let syn_acked : q.syn_acked ≡ true = l.syn_acked ∙ syn_acked_stays news p st.syn_acked in
     let una : q.una ≡ p.una = l.una ∙ una_stays news p st.acknowledged in
     let run_is : answered_run service q ≡ reference service p.taken (take q.reads_answered (p.lengths ++ l.reads.news)) =
@@ -269,6 +279,8 @@ outlives service server boot u i delta news p q calls e sent st l reads =
       long = ap length taken ∙ r.long ∙ (λ j. sym (a.taken ∙ ap receiver.taken s.receiving) j + sym l.same.fetched j);
       unread = a.unread q.taken q.fetched ((λ j. drop ((s.receiving j).read + l.same.fetched j) (taken j)) ∙ r.unread ∙ ap (λ (x : Receiving). x.unread) (sym s.receiving));
       fin = fin ∙ sym over.0 ∙ r.fin ∙ sym (a.fin ∙ ap (λ (x : Receiving). x.fin) s.receiving);
+      early = l.early ∙ early_stays news p behind over.0 ∙ r.early
+          ∙ (λ j. early_from (sym l.same.fetched j) (sym (a.early ∙ ap (λ (x : Receiving). x.early) s.receiving) j));
     } in
     record {
       stands = record {

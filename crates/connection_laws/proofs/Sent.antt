@@ -83,8 +83,7 @@ owes_is u i delta p segment g f =
     ap (λ b. if accepts p segment
     then (if has_rst segment then not (int_eq (first_of p.cisn segment) (pos (taken_units p)))
     else (if has_syn segment then true
-    else (if b then false
-    else nat_lt 0 (length_of segment) || (has_ack segment && int_lt (pos (taken_units p)) (first_of p.cisn segment)))))
+    else (if b then false else nat_lt 0 (length_of segment))))
     else not (has_rst segment)) (refused_is u i delta p segment g f)
 
 usually : {State : Type 0} (service : Machine State) (server : Addr) (news inner : News) (p q : Point) (u i delta : ℕ) → u ≤ q.sent
@@ -231,11 +230,11 @@ refused_turn service server boot segment p q sent u i delta g r l =
     let taken : q.taken ≡ p.taken = l.taken ∙ sym m.taken in
     let fin : q.fin ≡ p.fin = l.fin ∙ sym m.fin in
     let lens : q.lengths ≡ p.lengths =
-    same_lengths service p q l.reads (ap length (taken ∙ o.3)) (l.same.fetched ∙ o.5) (fin ∙ o.4) in
+    same_lengths service p q l.reads (ap length (taken ∙ o.3)) (l.same.fetched ∙ o.6) (fin ∙ o.4) in
     record {
       opens = λ j. f.2 j && not (has_ack segment) && not (has_rst segment) && segment.head.seq == p.cisn && taken_units p == 0 && p.una == 0;
       owed = λ j. if f.0 j then (if f.1 j then not (int_eq (first_of p.cisn segment) (pos (taken_units p)))
-          else (if f.2 j then true else (if f.3 j then false else nat_lt 0 (length_of segment) || (has_ack segment && int_lt (pos (taken_units p)) (first_of p.cisn segment)))))
+          else (if f.2 j then true else (if f.3 j then false else nat_lt 0 (length_of segment))))
           else not (has_rst segment);
       fin = o.4;
       answered = l.answered;

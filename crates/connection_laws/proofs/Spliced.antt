@@ -155,6 +155,7 @@ syn_turn service local e i g =
 begun_fresh : (local : Addr) (e : Entry) (i : ℕ) → IsFresh (begun_at e.key local e i)
 begun_fresh local e i = record {
   fin = refl;
+  early = refl;
   una = refl;
   sent = refl;
   edge = refl;
@@ -168,6 +169,7 @@ begun_fresh local e i = record {
 acked_fresh : (local : Addr) (e : Entry) (i : ℕ) → IsFresh (after_forged false (begun_at e.key local e i))
 acked_fresh local e i = record {
   fin = refl;
+  early = refl;
   una = refl;
   sent = refl;
   edge = refl;
@@ -243,6 +245,7 @@ at_entry service local e i t g st =
         long = st.receives.long;
         unread = st.receives.unread;
         fin = st.receives.fin;
+        early = st.receives.early;
       };
       sends = record {
         sisn = st.sends.sisn;

@@ -1,6 +1,6 @@
 -- A FIN that is taken leaves a connection open: CLOSED comes only where it was taken before.
 use Rattle.std.proofs.Common.{◌≡◌, List, Bool, true, false, not, refl, sym, subst, ◌∙◌}
-use Rattle.std.specs.Prelude.{pos, ◌&&◌, ◌||◌, nat_lt, int_lt, if◌then◌else◌}
+use Rattle.std.specs.Prelude.{pos, ◌&&◌, ◌||◌, nat_lt, if◌then◌else◌}
 use Rattle.std.proofs.lemmas.Bool.{false≢true}
 use Rattle.seq_arith.specs.Arrival.{int_eq}
 use Rattle.seq_arith.specs.Offset.{length_of}
@@ -68,10 +68,7 @@ newly false f off h = refl
 text_opens : (e : Tcb) (p : Segment) → has_begun e.name ≡ true → e.receiving.fin ≡ false → IsOpenWith (with_text_and_fin e p)
 unfolding with_text_and_fin
 text_opens e p begun off =
-    let taking : Tcb = record e {
-      receiving = with_segment e.receiving (first e p) p.payload (has_fin p);
-      owed = e.owed || int_lt (pos (next e.receiving)) (first e p);
-    } in
+    let taking : Tcb = record e { receiving = with_segment e.receiving (first e p) p.payload (has_fin p) } in
     holds_if IsOpenWith (taking.receiving.fin && not e.receiving.fin) (entering (after_fin e.name) taking) taking
     (λ h k. fin_begun e.name begun) (λ h. not_taken taking (newly taking.receiving.fin e.receiving.fin off h))
 

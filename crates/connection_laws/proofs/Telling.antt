@@ -1,5 +1,5 @@
 -- What a connection's parts tell of its point.
-use Rattle.std.proofs.Common.{◌≡◌, ℕ, ◌<◌, ◌≤◌, ◌+◌, ◌-◌, ◌%◌, ◌^◌, ⊎_elim, Bool, true, false, [], length, max, refl, sym, ap, arith, ◌∙◌}
+use Rattle.std.proofs.Common.{◌≡◌, ℕ, ◌<◌, ◌≤◌, ◌+◌, ◌-◌, ◌%◌, ◌^◌, ⊎_elim, Bool, true, false, [], length, drop, max, refl, sym, ap, arith, ◌∙◌}
 use Rattle.std.specs.Prelude.{◌||◌, if◌then◌else◌, nat_lt, pos, negsuc}
 use Rattle.std.proofs.lemmas.Bool.{false≢true, and_parts, or_right}
 use Rattle.seq_arith.specs.Number.{distance, number_at, offset_of}
@@ -8,7 +8,7 @@ use Rattle.ft_model.specs.Copy.{from_start}
 use Rattle.server_trait.specs.Service.{Machine}
 use Rattle.ft_model.specs.Ending.{reset_after}
 use Rattle.ft_model.specs.News.{News}
-use Rattle.ft_model.specs.Point.{Point, answered_run, released, made}
+use Rattle.ft_model.specs.Point.{Point, answered_run, released, made, HoldsBehind}
 use Rattle.ft_model.specs.Sending.{syn_acked_after, acknowledged_after}
 use Rattle.ft_model.proofs.Services.{prefix_length}
 use Rattle.tcp_endpoint.specs.declared.states.StateName.{StateName}
@@ -40,6 +40,7 @@ use Rattle.connection_laws.proofs.Sent.{still_syn_unacked}
 use Rattle.connection_laws.proofs.Whole.{usual_news}
 use Rattle.connection_laws.proofs.Outliving.{IsStill, still, taken_stays, fin_stays, una_stays, syn_acked_stays}
 use Rattle.connection_laws.proofs.Ending.{unreset}
+use Rattle.connection_laws.proofs.Held.{behind_at}
 use Rattle.connection_laws.proofs.Over.{over_is}
 use Rattle.endpoint_laws.proofs.SegmentsLaw.{begun_open}
 
@@ -226,6 +227,7 @@ news_open service u i delta given news p n e st fits off o =
     acked_by (syn_acked_after news p) m.sending.syn_acked m.sending.iss m.sending.una i delta p.sisn u (acknowledged_after news p) (sym moves.syn_acked ∙ came.sends.syn_acked) (sym came.sends.sisn)
     (sym (sym moves.una ∙ came.sends.una)) g.shift rises.una g.delta_fits g.i_fits g.sisn (λ h. (g.syn_unacked (still_syn_unacked news p h)).0) in
     record {
+      unread = (λ j. drop ((ap (max p.fetched) st.north.read ∙ came.receives.read) j) (sym moves.taken j)) ∙ came.receives.unread;
       taken = ap length (sym moves.taken) ∙ bytes_by _ p.fetched m.receiving.read (length m.receiving.unread) n.read came.receives.long (ap (max p.fetched) st.north.read ∙ came.receives.read);
       fin = sym moves.fin ∙ came.receives.fin ∙ fin_told inner e (has_begun m.name) refl follows;
       acked = acked;
@@ -242,6 +244,7 @@ news_closed service u i delta given news p n e st c =
     let s : IsStill e m = still inner e c.name in
     let k : CountsFrom u i delta p e = c.counts in
     let fin : p.fin ≡ true = (and_parts p.fin (nat_lt (released service p) p.una) c.over).0 in
+    let held : HoldsBehind p = behind_at p e c.receives c.bounds in
     let closed : is_closed m.name ≡ true = ap is_closed (sym (flushed_name m) ∙ (closed_stays_law inner [] e c.name c.answer).0) in
     let una : acknowledged_after news p ≡ p.una = una_stays news p c.acknowledged in
     let acked : acked_number m ≡ distance (acked_at (syn_acked_after news p) p.sisn (acknowledged_after news p)) delta =
@@ -249,10 +252,12 @@ news_closed service u i delta given news p n e st c =
     ∙ (λ j. distance (acked_at (sym (syn_acked_stays news p c.syn_acked) j) p.sisn (sym una j)) delta) in
     let small : p.sent < 2 ^ 31 = small_sent u p.sent e.sending.sent e.sending.fin_sent k.small k.sent c.bounds.sent in
     record {
-      taken = ap length (taken_stays news p fin)
+      unread = (λ j. drop ((ap (max p.fetched) st.north.read ∙ c.receives.read ∙ (λ k. (sym s.receiving k).read + p.fetched)) j) (taken_stays news p held fin j))
+          ∙ (λ j. drop ((s.receiving j).read + p.fetched) p.taken) ∙ c.receives.unread ∙ (λ j. (sym s.receiving j).unread);
+      taken = ap length (taken_stays news p held fin)
           ∙ bytes_by (length p.taken) p.fetched m.receiving.read (length m.receiving.unread) n.read (c.receives.long ∙ (λ j. receiver.taken (sym s.receiving j) + p.fetched))
           (ap (max p.fetched) st.north.read ∙ c.receives.read ∙ (λ j. (sym s.receiving j).read + p.fetched));
-      fin = fin_stays news p fin ∙ sym (or_right (has_taken_fin m.name) (is_closed m.name) closed);
+      fin = fin_stays news p held fin ∙ sym (or_right (has_taken_fin m.name) (is_closed m.name) closed);
       acked = acked;
       acked_units = acked_units_at (syn_acked_after news p) p.sisn delta (acked_number m) (acknowledged_after news p) acked k.delta_fits (omega (arith, small, una, c.acknowledged)) k.sisn
           (λ h. absurd (false≢true (sym h ∙ syn_acked_stays news p c.syn_acked)));

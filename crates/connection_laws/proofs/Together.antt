@@ -13,7 +13,7 @@ use Rattle.ft_model.specs.Network.{Packet}
 use Rattle.ft_model.specs.News.{News}
 use Rattle.ft_model.specs.News.News.{Comes, Logged, Ticks, Begins}
 use Rattle.ft_model.specs.Owed.{is_owed, owes}
-use Rattle.ft_model.specs.Point.{Point, taken_units, announced_edge, answered_run, released, target, made, is_over}
+use Rattle.ft_model.specs.Point.{Point, taken_units, announced_edge, answered_run, released, target, made, is_over, HoldsBehind}
 use Rattle.ft_model.specs.Reads.{Makes, next_read, next_length, may_read}
 use Rattle.ft_model.specs.Segments.{opens_with, repeats_syn, syn_ack, bare_segment, or_bare, segments_of, full_segments, resent, new_texts, new_fin, new_length, texts, fin_if_closed}
 use Rattle.ft_model.specs.Sending.{acknowledged_after, edge_after, sent_at_once, sent_after}
@@ -53,6 +53,7 @@ use Rattle.connection_laws.proofs.Outliving.{IsStill, still, outlives, opens_not
 use Rattle.connection_laws.proofs.Ending.{unreset, flushed_reset, ends_inside, opens_not as opens_by_end}
 use Rattle.connection_laws.proofs.Keeping.{Keeps, news_keep}
 use Rattle.connection_laws.proofs.Fed.{reading, answered_goes, fed_later, fed_arrived, fed_flushed, full_flushed, used_inside, from_start, north_calls_feed}
+use Rattle.connection_laws.proofs.Held.{behind_at}
 use Rattle.connection_laws.proofs.Joining.{socket_laws, hears, heard_shut, socket_stands}
 use Rattle.endpoint_laws.proofs.SegmentsLaw.{begun_open}
 use Rattle.ft_io.proofs.Booleans.{second_of_three}
@@ -65,6 +66,7 @@ goes service server boot news p ks makes = record {
   same = record { key = refl; cisn = refl; sisn = refl; mss = refl; fetched = refl };
   taken = refl;
   fin = refl;
+  early = refl;
   answered = refl;
   reads_answered = refl;
   reads = record { news = ks; lengths = refl; makes = makes };
@@ -345,14 +347,15 @@ at_closed service u i delta given news p b n e stand taken fin lengths fetched s
     let s : IsStill e m = still inner e st.name in
     let over : p.fin ≡ true = (and_parts p.fin (nat_lt (released service p) p.una) st.over).0 in
     let r = st.receives in
-    let taken_is : b.taken ≡ p.taken = taken ∙ taken_stays news p over in
+    let behind : HoldsBehind p = behind_at p e r st.bounds in
+    let taken_is : b.taken ≡ p.taken = taken ∙ taken_stays news p behind over in
     let long : length b.taken ≡ receiver.taken m.receiving + b.fetched = ap length taken_is ∙ r.long ∙ (λ j. receiver.taken (sym s.receiving j) + sym fetched j) in
     let read : max b.fetched (sum b.lengths) ≡ m.receiving.read + b.fetched =
     (λ j. max (fetched j) (sum (lengths j))) ∙ r.read ∙ (λ j. (sym s.receiving j).read + sym fetched j) in
     record {
       read = read;
       unread = (λ j. drop ((s.receiving j).read + fetched j) (taken_is j)) ∙ r.unread ∙ (λ j. (sym s.receiving j).unread);
-      fin = fin ∙ fin_stays news p over ∙ sym over ∙ r.fin ∙ (λ j. (sym s.receiving j).fin);
+      fin = fin ∙ fin_stays news p behind over ∙ sym over ∙ r.fin ∙ (λ j. (sym s.receiving j).fin);
       long = long;
       bounds = s.bounds st.bounds;
       last = s.last st.fin_last;

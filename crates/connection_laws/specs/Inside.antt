@@ -3,6 +3,7 @@
 -- (FT-TCP, INFOCOM 2001: the restarted TCP counts from a number of its own, and the wrappers hide the difference).
 use Rattle.std.specs.Prelude.{◌≡◌, ℕ, false, ◌+◌, ◌-◌, ◌%◌, ◌^◌, ◌<◌, ◌≤◌, [], drop, length}
 use Rattle.server_trait.specs.Service.{Machine, Served, Run}
+use Rattle.seq_arith.specs.Coming.{nothing_early}
 use Rattle.ft_model.specs.Point.{Point, taken_units}
 
 -- a service of whose output so many bytes are still to be swallowed
@@ -35,4 +36,4 @@ pub record GoesOn (u i delta : ℕ) (p : Point) : Type 0 where
   pub edge : u ≤ p.edge
   pub wl2 : u ≤ p.wl2
   -- until an acknowledgement has counted nothing is taken, sent or fetched
-  pub syn_unacked : p.syn_acked ≡ false → (u ≡ 0) × (p.sent ≡ 0) × (p.edge ≡ 0) × (p.taken ≡ []) × (p.fin ≡ false) × (p.fetched ≡ 0)
+  pub syn_unacked : p.syn_acked ≡ false → (u ≡ 0) × (p.sent ≡ 0) × (p.edge ≡ 0) × (p.taken ≡ []) × (p.fin ≡ false) × (p.early ≡ nothing_early) × (p.fetched ≡ 0)

@@ -1,5 +1,5 @@
 -- What a connection's parts tell of its point: so its numbers needn't be kept beside them.
-use Rattle.std.specs.Prelude.{◌≡◌, ◌≤◌, ℕ, Bool, ◌+◌, ◌%◌, ◌^◌, ◌||◌, max, length, if◌then◌else◌}
+use Rattle.std.specs.Prelude.{◌≡◌, ◌≤◌, ℕ, Bool, ◌+◌, ◌%◌, ◌^◌, ◌||◌, max, length, drop, if◌then◌else◌}
 use Rattle.seq_arith.specs.Number.{distance, number_at, offset_of}
 use Rattle.ft_model.specs.Copy.{from_start}
 use Rattle.server_trait.specs.Service.{Machine}
@@ -47,6 +47,7 @@ pub record PartsTell {S : Type 0} (service : Machine S) (delta : ℕ) (p : Point
 -- once the news have come, before the north wrapper's turn
 pub record NewsTell {S : Type 0} (delta : ℕ) (news : News) (p : Point) (n : NorthState S) (m : Tcb) : Type 0 where
   pub taken : length (taken_after news p) ≡ max p.fetched n.read + length m.receiving.unread
+  pub unread : drop (max p.fetched n.read) (taken_after news p) ≡ m.receiving.unread
   pub fin : fin_after news p ≡ tells_fin m
   pub acked : acked_number m ≡ distance (acked_at (syn_acked_after news p) p.sisn (acknowledged_after news p)) delta
   pub acked_units : units_before p.sisn (raised_by delta (acked_number m)) ≡ acknowledged_after news p

@@ -44,11 +44,12 @@ unfolding with_text_and_fin
 text_goes e t p g =
     let r : Receiving = with_segment t.receiving (first t p) p.payload (has_fin p) in
     let k : TakesOn t.receiving r = takes_segment t.receiving (first t p) p.payload (has_fin p) in
-    let taking : Tcb = record t { receiving = r; owed = t.owed || int_lt (pos (next t.receiving)) (first t p) } in
+    let taking : Tcb = record t { receiving = r } in
+    let behind = g.sound.bounds.early in
     let goes : GoesOnFrom e taking = record {
       sound = record {
-        bounds = other_bounds t.receiving t.sending g.sound.bounds r (omega (arith, k.limit, g.sound.bounds.limit)) (k.within g.sound.bounds.taken) k.irs;
-        buffered = k.buffered g.sound.buffered;
+        bounds = other_bounds t.receiving t.sending g.sound.bounds r (omega (arith, k.limit, g.sound.bounds.limit)) (k.within behind) (k.behind behind) k.irs;
+        buffered = k.buffered behind;
         begun = g.sound.begun;
         fin_last = g.sound.fin_last;
       };

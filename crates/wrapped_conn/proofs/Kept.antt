@@ -1,12 +1,12 @@
 -- What news and the end of a turn leave of TCP, whatever comes.
-use Rattle.std.proofs.Common.{◌≡◌, ℕ, ◌<◌, ◌≤◌, ◌+◌, ◌-◌, ◌^◌, Bool, true, false, List, ◌++◌, length, length-append, take, drop, max, min, refl, sym, arith, ◌∙◌}
+use Rattle.std.proofs.Common.{◌≡◌, ℕ, ◌<◌, ◌≤◌, ◌+◌, ◌-◌, ◌^◌, Bool, true, false, List, ◌++◌, length, length-append, take, drop, max, min, refl, sym, subst, arith, ◌∙◌}
 use Rattle.std.specs.Prelude.{ℤ, pos, ◌||◌, nat_abs, int_lt, if◌then◌else◌}
 use Rattle.std.proofs.lemmas.List.{length-take}
 use Rattle.std.proofs.lemmas.Bool.{false≢true}
 use Rattle.seq_arith.specs.Number.{offset_of}
 use Rattle.seq_arith.specs.Arrival.{is_new_ack}
-use Rattle.seq_arith.specs.Coming.{Came}
-use Rattle.seq_arith.proofs.Coming.{comes_within}
+use Rattle.seq_arith.specs.Coming.{Came, StandsBehind}
+use Rattle.seq_arith.proofs.Coming.{stays_behind, comes_within}
 use Rattle.tcp_buffers.specs.Near.{IsNearFirst}
 use Rattle.tcp_endpoint.specs.declared.states.StateName.{StateName}
 use Rattle.tcp_endpoint.specs.declared.states.StateName.TheVariants.{Closed, Listen, SynSent, SynReceived, Established, FinWait1, FinWait2, CloseWait, Closing, LastAck, TimeWait}
@@ -85,33 +85,39 @@ not_listen Closing h = refl
 not_listen LastAck h = refl
 not_listen TimeWait h = refl
 
+-- what is held stands behind the bytes taken
+abbrev HoldsBehind : Receiving → Type 0
+HoldsBehind r = StandsBehind (taken r) (receive_edge r) r.fin r.early
+
 -- the receiving half after a segment's text and FIN
 pub record TakesOn (r t : Receiving) : Type 0 where
   pub irs : t.irs ≡ r.irs
   pub read : t.read ≡ r.read
   pub limit : t.limit ≡ r.limit
   pub more : length r.unread ≤ length t.unread
-  pub within : taken r ≤ r.limit → taken t ≤ t.limit
-  pub buffered : length r.unread ≤ 65535 → length t.unread ≤ 65535
+  pub within : HoldsBehind r → taken t ≤ t.limit
+  pub buffered : HoldsBehind r → length t.unread ≤ 65535
+  pub behind : HoldsBehind r → HoldsBehind t
 
-longer : (unread more : List ℕ) → length unread ≤ length (unread ++ more)
-longer unread more = omega (arith, length-append {A = ℕ} unread more)
-
-takes_came : (r : Receiving) (c : Came) → taken r + length c.added ≤ max (taken r) (receive_edge r) → TakesOn r (with_came r c)
+pub takes_segment : (r : Receiving) (first : ℤ) (text : List ℕ) (fin : Bool) → TakesOn r (with_segment r first text fin)
 unfolding with_came
-takes_came r c few =
+takes_segment r first text fin =
+    let c : Came = came r first text fin in
     let size : length (r.unread ++ c.added) ≡ length r.unread + length c.added = length-append r.unread c.added in
+    let most : HoldsBehind r → taken r + length c.added ≤ receive_edge r = comes_within (taken r) (receive_edge r) r.fin r.early first text fin in
     record {
       irs = refl;
       read = refl;
       limit = refl;
-      more = longer r.unread c.added;
-      within = λ h. omega (arith, size, few, h);
-      buffered = λ h. omega (arith, size, few, h);
+      more = omega (arith, size);
+      within = λ h. omega (arith, size, most h);
+      buffered = λ h. omega (arith, size, most h);
+      behind = λ h.
+          let order : taken r ≤ receive_edge r = omega (arith, h.text) in
+          let P : ℕ → Type 0 = λ n. StandsBehind n (receive_edge r) c.fin c.early in
+          let same : taken r + length c.added ≡ r.read + length (r.unread ++ c.added) = omega (arith, size) in
+          subst P same (stays_behind (taken r) (receive_edge r) r.fin r.early first text fin order h);
     }
-
-pub takes_segment : (r : Receiving) (first : ℤ) (text : List ℕ) (fin : Bool) → TakesOn r (with_segment r first text fin)
-takes_segment r first text fin = takes_came r (came r first text fin) (comes_within (taken r) (receive_edge r) r.fin first text fin)
 
 -- a later acknowledgement
 pub later_bounds : (r : Receiving) (s : Sending) (seq window : ℕ) (z : ℤ) → Bounds r s → IsNearFirst (offset_of r.irs seq) → seq < 2 ^ 32 → window ≤ 65535 → s.syn_acked ≡ true
@@ -126,6 +132,7 @@ later_bounds r s seq window z b near fits small is_syn_acked =
     record {
       limit = b.limit;
       taken = b.taken;
+      early = b.early;
       order = una_sent;
       syn_unacked = b.syn_unacked;
       shut = λ h. absurd (false≢true (sym h ∙ is_syn_acked));
@@ -159,6 +166,7 @@ first_bounds r s seq window b near fits small syn_unacked =
     record {
       limit = b.limit;
       taken = b.taken;
+      early = b.early;
       order = omega arith;
       syn_unacked = λ h. refl;
       shut = λ h. absurd (false≢true (sym h));

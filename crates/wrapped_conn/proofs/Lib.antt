@@ -19,6 +19,7 @@ pub mod Ended
 pub mod NumbersAt
 pub mod Owing
 pub mod Copies
+pub mod Datas
 pub mod Resetting
 pub mod Receiving
 pub mod Hearing

@@ -25,18 +25,18 @@ owed_same false o other e true false taken none t s = (λ j. s refl j || e) ∙ 
     without true false e h = refl
     without false false e h = refl
 
-acceptable : (rst syn text ack refused place : Bool) → refused ≡ false → (if rst then place else ((syn || text) || ack)) ≡ (if rst then place else (if syn then true else (if refused then false else (text || ack))))
-acceptable rst syn text ack true place h = absurd (false≢true (sym h))
-acceptable true syn text ack false place h = refl
-acceptable false true text ack false place h = refl
-acceptable false false text ack false place h = refl
+acceptable : (rst syn text refused place : Bool) → refused ≡ false → (if rst then place else (syn || text)) ≡ (if rst then place else (if syn then true else (if refused then false else text)))
+acceptable rst syn text true place h = absurd (false≢true (sym h))
+acceptable true syn text false place h = refl
+acceptable false true text false place h = refl
+acceptable false false text false place h = refl
 
 -- the answer that a connection owes by its numbers
 abbrev owes_at : (units edge : ℕ) → (first : ℤ) → Segment → Bool
 owes_at units edge first segment =
     if is_acceptable_or_at_edge units (edge - units) first (length_of segment)
     then (if has_rst segment then not (int_eq first (pos units))
-    else ((has_syn segment || nat_lt 0 (length_of segment)) || (has_ack segment && int_lt (pos units) first)))
+    else (has_syn segment || nat_lt 0 (length_of segment)))
     else not (has_rst segment)
 
 by_law : (p : Point) (segment : Segment) → p.syn_acked ≡ true → owes_at (taken_units p) (announced_edge p) (first_of p.cisn segment) segment ≡ owes_by_law p segment
@@ -44,8 +44,7 @@ unfolding owes_by_law accepts_by_law
 by_law p segment syn_acked =
     let off : is_refused p segment ≡ false = λ j. not (syn_acked j) && has_ack segment && int_lt (ack_of p.sisn segment) (pos 0) in
     λ j. if is_acceptable_or_at_edge (taken_units p) (announced_edge p - taken_units p) (first_of p.cisn segment) (length_of segment)
-    then acceptable (has_rst segment) (has_syn segment) (nat_lt 0 (length_of segment)) (has_ack segment && int_lt (pos (taken_units p)) (first_of p.cisn segment)) (is_refused p segment)
-    (not (int_eq (first_of p.cisn segment) (pos (taken_units p)))) off j
+    then acceptable (has_rst segment) (has_syn segment) (nat_lt 0 (length_of segment)) (is_refused p segment) (not (int_eq (first_of p.cisn segment) (pos (taken_units p)))) off j
     else not (has_rst segment)
 
 pub owes_is : {S : Type 0} (service : Machine S) (p : Point) (c : ConnState S) (segment : Segment) → NumbersAt service p c → c.south.cisn ≡ p.cisn → p.syn_acked ≡ true → owes c segment ≡ owes_by_law p segment

@@ -1,5 +1,5 @@
 -- A segment's turn.
-use Rattle.std.proofs.Common.{◌≡◌, ℕ, ◌≤◌, ◌+◌, ◌^◌, Bool, true, false, not, List, [], ◌∷◌, length, max, refl, sym, ap, subst, arith, ◌∙◌}
+use Rattle.std.proofs.Common.{◌≡◌, ℕ, ◌≤◌, ◌+◌, ◌^◌, Bool, true, false, not, List, [], ◌∷◌, length, drop, max, refl, sym, ap, subst, arith, ◌∙◌}
 use Rattle.std.specs.Prelude.{◌==◌, ◌&&◌, ◌||◌, nat_lt, pos, if◌then◌else◌}
 use Rattle.std.specs.Bool.{MatchBool}
 use Rattle.seq_arith.specs.Arrival.{int_eq}
@@ -117,7 +117,7 @@ owed_is service p q t c new segment n m cisn name answered closed =
 -- a segment that doesn't reset it
 live_turn : {S : Type 0} (service : Machine S) (p : Point) (c new : ConnState S) (segment : Segment) (out messages : List (List ℕ)) → IsSound c → IsSound new → Keeps p c → StandsLive service p c
     → p.reset ≡ false → reset_after (Comes segment) p ≡ false → NewsFit p (Comes segment)
-    → GoesOn service.after (before_segment c segment) (repeats_syn c.south segment) (copies (una_units c) segment (come segment p c)) (come segment p c) new out messages
+    → GoesOn service.after (before_segment c segment) (repeats_syn c.south segment) (copies (before_segment c segment) segment (come segment p c)) (come segment p c) new out messages
     → Leads service c.local c.boot (Comes segment) p new out messages
 unfolding answered_after
 live_turn service p c new segment out messages sound sound_new keeps live unreset off fits k =
@@ -143,17 +143,29 @@ live_turn service p c new segment out messages sound sound_new keeps live unrese
     let numbers : NumbersAt service p c = numbers_at service c.south.delta p c told_before keeps.fetched stand.north.read in
     let answered : q.answered ≡ p.answered = here.goes.answered in
     let key : there.key ≡ q.key = keeps.key ∙ sym here.goes.same.key in
-    let copy : copies (una_units c) segment there ≡ copies_by_law news p q =
-    copies_is (una_units c) segment p q there (cisn ∙ sym here.goes.same.cisn) (ap (λ (s : SouthState). s.answered) keeps.south ∙ sym answered)
-    (ap (λ (s : SouthState). s.taken) h.south ∙ ap length (sym here.goes.taken)) (ap (λ (s : SouthState). s.fin) h.south ∙ sym here.goes.fin) key
-    (una_is service p c told_before sisn made) (una ∙ sym here.goes.una) (logged_is c sound.answered ∙ ap (λ (s : SouthState). s.answered) keeps.south ∙ sym answered)
-    (ap (λ (s : SouthState). s.taken) h.south ∙ ap length (sym here.goes.taken)) in
+    let copy : copies (before_segment c segment) segment there ≡ copies_by_law news p q =
+    copies_is (before_segment c segment) segment p q there (record {
+      cisn = cisn ∙ sym here.goes.same.cisn;
+      south_answered = ap (λ (s : SouthState). s.answered) keeps.south ∙ sym answered;
+      south_taken = ap (λ (s : SouthState). s.taken) h.south ∙ ap length (sym here.goes.taken);
+      south_fin = ap (λ (s : SouthState). s.fin) h.south ∙ sym here.goes.fin;
+      key = key;
+      taken_before = numbers.bytes;
+      fin_before = numbers.fin;
+      una_before = una_is service p c told_before sisn made;
+      una = una ∙ sym here.goes.una;
+      answered = logged_is c sound.answered ∙ ap (λ (s : SouthState). s.answered) keeps.south ∙ sym answered;
+      bytes = ap (λ (s : SouthState). s.taken) h.south ∙ ap length (sym here.goes.taken);
+      fin = ap (λ (s : SouthState). s.fin) h.south ∙ sym here.goes.fin;
+      unread = (λ j. drop (max (keeps.fetched j) c.north.read) (here.goes.taken j)) ∙ told.unread;
+      behind = omega arith;
+    }) in
     let owed : PartsTell service c.south.delta q new.north (flushed t) → is_owed (before_segment c segment) (turn_ended (served new.north reads there)) ≡ adds service news p q t = λ tell.
     owed_is service p q t c (turn_ended (served new.north reads there)) segment numbers
     (numbers_at service c.south.delta q (turn_ended (served new.north reads there)) tell (keeps.fetched ∙ sym here.goes.same.fetched) here.rest.stand.north.read) cisn (flushed_name t) answered here.closed in
     let goes_out = subst (λ (n : ConnState _). out ≡ packets (leaves (before_segment c segment) (repeats_syn c.south segment) n (leaving t))) k.state k.goes_out in
     let leads : Leads service c.local c.boot news p (turn_ended (served new.north reads there)) out messages =
-    carries_on service live.u live.i news p there new.north reads (before_segment c segment) (repeats_syn c.south segment) (copies (una_units c) segment there) out messages h refl off sound_new.parts.made here
+    carries_on service live.u live.i news p there new.north reads (before_segment c segment) (repeats_syn c.south segment) (copies (before_segment c segment) segment there) out messages h refl off sound_new.parts.made here
     there.north.reads k.north.told owed (λ j. repeats_syn (keeps.south j) segment) copy goes_out k.told in
     subst (λ n. Leads service c.local c.boot news p n out messages) (sym k.state) leads
 
@@ -218,7 +230,7 @@ receives service p c new segment out messages sound sound_new st fits r =
     (λ on. let off_p : p.reset ≡ true = sym keeps.reset ∙ on in rests_turn service p c new segment out messages keeps (parts_reset service c p st off_p) off_p
     (subst (λ b. MatchBool b (Rests c new out messages)
     (MatchBool (resets c segment) (TellsDone (record c { reset = true }) new out messages)
-    (GoesOn service.after (before_segment c segment) (repeats_syn c.south segment) (copies (una_units c) segment (arrived segment c)) (arrived segment c) new out messages))) on r))
+    (GoesOn service.after (before_segment c segment) (repeats_syn c.south segment) (copies (before_segment c segment) segment (arrived segment c)) (arrived segment c) new out messages))) on r))
     (λ off. let unreset : p.reset ≡ false = sym keeps.reset ∙ off in
     let live : StandsLive service p c = parts_live service c p st unreset in
     let tell : PartsTell service c.south.delta p c.north c.endpoint = parts_tell service live.u live.i c.south.delta live.given p c.north c.endpoint live.parts.stand in
@@ -226,12 +238,12 @@ receives service p c new segment out messages sound sound_new st fits r =
     let same : reset_after (Comes segment) p ≡ resets c segment = reset_is service p c segment numbers (ap (λ (s : SouthState). s.cisn) keeps.south) unreset in
     let later = subst (λ b. MatchBool b (Rests c new out messages)
     (MatchBool (resets c segment) (TellsDone (record c { reset = true }) new out messages)
-    (GoesOn service.after (before_segment c segment) (repeats_syn c.south segment) (copies (una_units c) segment (arrived segment c)) (arrived segment c) new out messages))) off r in
+    (GoesOn service.after (before_segment c segment) (repeats_syn c.south segment) (copies (before_segment c segment) segment (arrived segment c)) (arrived segment c) new out messages))) off r in
     by_cases (resets c segment)
     (λ on. reset_turn service p c new segment out messages sound keeps live unreset (same ∙ on)
     (subst (λ b. MatchBool b (TellsDone (record c { reset = true }) new out messages)
-    (GoesOn service.after (before_segment c segment) (repeats_syn c.south segment) (copies (una_units c) segment (arrived segment c)) (arrived segment c) new out messages)) on later))
+    (GoesOn service.after (before_segment c segment) (repeats_syn c.south segment) (copies (before_segment c segment) segment (arrived segment c)) (arrived segment c) new out messages)) on later))
     (λ none. live_turn service p c new segment out messages sound sound_new keeps live unreset (same ∙ none) fits
-    (subst (λ x. GoesOn service.after (before_segment c segment) (repeats_syn c.south segment) (copies (una_units c) segment x) x new out messages) (come_is segment p c keeps.south)
+    (subst (λ x. GoesOn service.after (before_segment c segment) (repeats_syn c.south segment) (copies (before_segment c segment) segment x) x new out messages) (come_is segment p c keeps.south)
     (subst (λ b. MatchBool b (TellsDone (record c { reset = true }) new out messages)
-    (GoesOn service.after (before_segment c segment) (repeats_syn c.south segment) (copies (una_units c) segment (arrived segment c)) (arrived segment c) new out messages)) none later))))
+    (GoesOn service.after (before_segment c segment) (repeats_syn c.south segment) (copies (before_segment c segment) segment (arrived segment c)) (arrived segment c) new out messages)) none later))))

@@ -234,6 +234,7 @@ close_bounds : (e : Tcb) → IsBounded e → IsBounded (closing e)
 close_bounds e b = record {
   limit = b.limit;
   taken = b.taken;
+  early = b.early;
   order = b.order;
   syn_unacked = b.syn_unacked;
   shut = b.shut;

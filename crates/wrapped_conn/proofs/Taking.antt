@@ -10,7 +10,6 @@ use Rattle.server_trait.specs.Service.{Served}
 use Rattle.south_wrap.specs.Patching.{repeats_syn}
 use Rattle.wrapped_conn.specs.declared.stage.Before.{Before}
 use Rattle.wrapped_conn.specs.ConnState.{ConnState}
-use Rattle.wrapped_conn.specs.Numbers.{una_units}
 use Rattle.wrapped_conn.specs.Arriving.{arrived, before_segment}
 use Rattle.wrapped_conn.specs.Telling.{copies, spelled}
 use Rattle.wrapped_conn.specs.Turning.{GoesOn}
@@ -18,21 +17,21 @@ use Rattle.wrapped_conn.proofs.Copied.{of_read, same_boot}
 
 -- what is copied of it
 abbrev pub copied_now : {S : Type 0} → ConnState S → Before → List ℕ → List Body
-copied_now old before bytes = copies before.una (segment_in bytes) (arrived (segment_in bytes) old)
+copied_now old before bytes = copies before (segment_in bytes) (arrived (segment_in bytes) old)
 
 pub told_now : {S : Type 0} (old mid : ConnState S) (before : Before) (bytes : List ℕ) (told : List (List ℕ)) → IsOk (reading bytes) → IfOk (reading bytes) (λ segment. mid ≡ arrived segment old)
-    → IfOk (reading bytes) (λ segment. told ≡ spelled old.boot (copies before.una segment (arrived segment old))) → told ≡ spelled mid.boot (copied_now old before bytes)
+    → IfOk (reading bytes) (λ segment. told ≡ spelled old.boot (copies before segment (arrived segment old))) → told ≡ spelled mid.boot (copied_now old before bytes)
 told_now old mid before bytes told ok arrive said =
     let seg : Segment = segment_in bytes in
     let is : reading bytes ≡ Ok seg = is_read bytes ok in
     let here : mid ≡ arrived seg old = IfOk-at_ok (λ x. mid ≡ arrived x old) is arrive in
     let boot : mid.boot ≡ old.boot = ap (λ (x : ConnState _). x.boot) here ∙ same_boot seg old in
-    IfOk-at_ok (λ x. told ≡ spelled old.boot (copies before.una x (arrived x old))) is said ∙ ap (λ b. spelled b (copied_now old before bytes)) (sym boot)
+    IfOk-at_ok (λ x. told ≡ spelled old.boot (copies before x (arrived x old))) is said ∙ ap (λ b. spelled b (copied_now old before bytes)) (sym boot)
 
 pub takes : {S : Type 0} (after : S → List ℕ → Served S) (old mid new : ConnState S) (before : Before) (repeats : Bool) (bytes : List ℕ) (out told : List (List ℕ)) → IsOk (reading bytes)
     → IfOk (reading bytes) (λ segment. before ≡ before_segment old segment) → IfOk (reading bytes) (λ segment. repeats ≡ repeats_syn old.south segment)
     → IfOk (reading bytes) (λ segment. mid ≡ arrived segment old) → GoesOn after before repeats (copied_now old before bytes) mid new out told
-    → IfOk (reading bytes) (λ segment. GoesOn after (before_segment old segment) (repeats_syn old.south segment) (copies (una_units old) segment (arrived segment old)) (arrived segment old) new out told)
+    → IfOk (reading bytes) (λ segment. GoesOn after (before_segment old segment) (repeats_syn old.south segment) (copies (before_segment old segment) segment (arrived segment old)) (arrived segment old) new out told)
 takes after old mid new before repeats bytes out told ok known again arrive goes =
     let seg : Segment = segment_in bytes in
     let is : reading bytes ≡ Ok seg = is_read bytes ok in
@@ -40,6 +39,6 @@ takes after old mid new before repeats bytes out told ok known again arrive goes
     let r : repeats ≡ repeats_syn old.south seg = IfOk-at_ok (λ x. repeats ≡ repeats_syn old.south x) is again in
     let m : mid ≡ arrived seg old = IfOk-at_ok (λ x. mid ≡ arrived x old) is arrive in
     of_read bytes _ ok
-    (subst (λ x. GoesOn after x (repeats_syn old.south seg) (copies x.una seg (arrived seg old)) (arrived seg old) new out told) b
+    (subst (λ x. GoesOn after x (repeats_syn old.south seg) (copies x seg (arrived seg old)) (arrived seg old) new out told) b
     (subst (λ x. GoesOn after before x (copied_now old before bytes) (arrived seg old) new out told) r
     (subst (λ x. GoesOn after before repeats (copied_now old before bytes) x new out told) m goes)))

@@ -10,6 +10,8 @@ use Rattle.wrapped_conn.specs.Numbers.{has_fin, is_over, bytes_taken, una_units,
 -- what is known before a segment's turn: a connection that was over answers each but a RST
 abbrev pub before_segment : {S : Type 0} → ConnState S → Segment → Before
 before_segment c segment = record {
+  taken = bytes_taken c;
+  fin = has_fin c.endpoint.name;
   una = una_units c;
   edge = announced c;
   asks = is_over c.endpoint.name && not (has_rst segment);
@@ -18,7 +20,7 @@ before_segment c segment = record {
 
 -- before a turn without a segment, in which the connection owes an answer or not
 abbrev pub before_other : {S : Type 0} → Bool → ConnState S → Before
-before_other asks c = record { una = una_units c; edge = announced c; asks = asks; owes = Bool.false }
+before_other asks c = record { taken = bytes_taken c; fin = has_fin c.endpoint.name; una = una_units c; edge = announced c; asks = asks; owes = Bool.false }
 
 -- the south wrapper learns what TCP has taken, and what the client has acknowledged
 abbrev pub noted : {S : Type 0} → ConnState S → ConnState S

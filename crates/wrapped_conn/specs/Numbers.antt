@@ -65,11 +65,11 @@ abbrev pub accepts : {S : Type 0} → ConnState S → Segment → Bool
 accepts c segment = is_acceptable_or_at_edge (units_taken c) (announced c - units_taken c) (first_of c.south.cisn segment) (length_of segment)
 
 -- an answer is owed to an acceptable segment: a challenge ACK to a RST elsewhere than at the next number and to a SYN, and an ACK to what takes
--- up numbers or begins past the next one ..
+-- up numbers ..
 abbrev pub owes_acceptable : {S : Type 0} → ConnState S → Segment → Bool
 owes_acceptable c segment =
     if has_rst segment then not (int_eq (first_of c.south.cisn segment) (pos (units_taken c)))
-    else (has_syn segment || nat_lt 0 (length_of segment) || (has_ack segment && int_lt (pos (units_taken c)) (first_of c.south.cisn segment)))
+    else (has_syn segment || nat_lt 0 (length_of segment))
 
 -- .. and to each other one, unless it has RST
 unfoldable pub owes : {S : Type 0} → ConnState S → Segment → Bool

@@ -1,19 +1,22 @@
 -- What a connection tells the logger in a turn.
-use Rattle.std.specs.Prelude.{ℕ, Bool, true, false, ◌≤◌, ◌+◌, ◌*◌, ◌^◌, min, nat_lt, List, [], ◌∷◌, map, length, if◌then◌else◌}
+use Rattle.std.specs.Prelude.{ℕ, ℤ, Bool, true, false, pos, ◌≤◌, ◌+◌, ◌-◌, ◌*◌, ◌^◌, ◌+ℤ◌, ◌&&◌, not, min, max, nat_lt, nat_le, List, [], ◌∷◌, ◌++◌, map, length, drop, if◌then◌else◌}
 use Rattle.std.specs.List.{AllByRecursion}
+use Rattle.seq_arith.specs.Offset.{first_of, text_of}
 use Rattle.seq_arith.specs.Packet.{Segment}
 use Rattle.seq_arith.specs.Message.{Part, Body}
 use Rattle.seq_arith.specs.Message.Body.{DataMsg, DoneMsg}
 use Rattle.seq_arith.specs.MessageGrammar.{spelling, behind_of}
+use Rattle.ft_model.specs.Copy.{from_start, datas}
 use Rattle.logger_wire.specs.declared.Body.{Body as Said}
 use Rattle.logger_wire.specs.Value.{body_of}
 use Rattle.south_wrap.specs.Patching.{Copied, copied, is_some_copied}
 use Rattle.tcp_endpoint.specs.Packets.{byte_count}
 use Rattle.north_wrap.specs.declared.read_record.ReadRecord.{ReadRecord}
+use Rattle.wrapped_conn.specs.declared.stage.Before.{Before}
 use Rattle.wrapped_conn.specs.declared.stage.ConnStage.{ConnStage}
 use Rattle.wrapped_conn.specs.declared.stage.ConnStage.TheVariants.{Done, Ending}
 use Rattle.wrapped_conn.specs.ConnState.{ConnState}
-use Rattle.wrapped_conn.specs.Numbers.{una_units, bytes_taken, logged_units}
+use Rattle.wrapped_conn.specs.Numbers.{has_fin, fetched_or_read, una_units, bytes_taken, logged_units}
 
 -- messages of this boot, as bytes
 abbrev pub spelled : (boot : ℕ) → List Body → List (List ℕ)
@@ -26,11 +29,43 @@ part_of c copy = record { key = c.key; offset = copy.offset; acked = una_units c
 abbrev pub acked_part : {S : Type 0} → ConnState S → Part
 acked_part c = record { key = c.key; offset = min (logged_units c) (bytes_taken c); acked = una_units c; fin = false; bytes = [] }
 
--- the copied part of a segment, or else that the client has acknowledged more
-unfoldable pub copies : {S : Type 0} → (una : ℕ) → Segment → ConnState S → List Body
-copies una segment c =
-    if is_some_copied (copied c.south segment) then DataMsg (part_of c (copied c.south segment)) ∷ []
-    else (if nat_lt una (una_units c) then DataMsg (acked_part c) ∷ [] else [])
+-- the copied part of a segment
+abbrev pub own_data : {S : Type 0} → Segment → ConnState S → List Body
+own_data segment c = if is_some_copied (copied c.south segment) then DataMsg (part_of c (copied c.south segment)) ∷ [] else []
+
+-- where a segment's text ends
+abbrev pub end_of : {S : Type 0} → Segment → ConnState S → ℤ
+end_of segment c = first_of c.south.cisn segment +ℤ pos (length (text_of segment))
+
+-- where the text begins that was held and is taken now, and isn't known to be logged: behind the bytes taken before and the segment's own
+unfoldable pub further_start : {S : Type 0} → Before → Segment → ConnState S → ℕ
+further_start before segment c = max (logged_units c) (max before.taken (min (from_start (end_of segment c)) (bytes_taken c)))
+
+-- the text from an offset in the client's stream on, which the service hasn't read
+abbrev pub unread_from : {S : Type 0} → ConnState S → ℕ → List ℕ
+unread_from c start = drop (start - fetched_or_read c) c.endpoint.receiving.unread
+
+-- a FIN is taken now, and doesn't go with the segment's own part: it was held
+abbrev pub takes_held_fin : {S : Type 0} → Before → (own : Bool) → ConnState S → Bool
+takes_held_fin before own c = has_fin c.endpoint.name && not before.fin && not own && nat_le (logged_units c) (bytes_taken c)
+
+-- text from an offset on, in Data of 1,460 bytes each but the last, which has the FIN
+abbrev pub datas_of : {S : Type 0} → ConnState S → (offset : ℕ) → List ℕ → Bool → List Body
+datas_of c offset text fin = datas (length text + 1) c.key (una_units c) offset text fin
+
+-- the text and the FIN that were held and are taken now
+abbrev pub further_data : {S : Type 0} → Before → Segment → ConnState S → List Body
+further_data before segment c =
+    datas_of c (further_start before segment c) (unread_from c (further_start before segment c)) (takes_held_fin before (copied c.south segment).fin c)
+
+-- where no Data goes out, one without bytes tells that the client has acknowledged more
+abbrev pub or_una : {S : Type 0} → (una : ℕ) → ConnState S → List Body → List Body
+or_una una c [] = if nat_lt una (una_units c) then DataMsg (acked_part c) ∷ [] else []
+or_una una c (first ∷ others) = first ∷ others
+
+-- all that a segment's arrival tells
+unfoldable pub copies : {S : Type 0} → Before → Segment → ConnState S → List Body
+copies before segment c = or_una before.una c (own_data segment c ++ further_data before segment c)
 
 -- a read as a message can tell it
 pub record IsTellable (read : ReadRecord) : Type 0 where
@@ -55,9 +90,9 @@ with_done c = record c { stage = if is_done c.stage then Done else Ending }
 abbrev pub text_length : Said → ℕ
 text_length body = length (behind_of (body_of body))
 
--- the messages of a turn have no more text than one segment has ..
+-- the messages of a turn have no more text than one segment and a full buffer have ..
 abbrev pub most_text : ℕ
-most_text = 1460
+most_text = 1460 + 65535
 
 -- .. and heads of at most 64 bytes
 abbrev pub AreShort : List (List ℕ) → Type 0

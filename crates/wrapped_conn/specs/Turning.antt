@@ -67,7 +67,7 @@ abbrev pub Receives : {S : Type 0} → (S → List ℕ → Served S) → Segment
 Receives after segment old new segments messages =
     MatchBool old.reset (Rests old new segments messages)
     (MatchBool (resets old segment) (TellsDone (record old { reset = true }) new segments messages)
-    (GoesOn after (before_segment old segment) (repeats_syn old.south segment) (copies (una_units old) segment (arrived segment old)) (arrived segment old) new segments messages))
+    (GoesOn after (before_segment old segment) (repeats_syn old.south segment) (copies (before_segment old segment) segment (arrived segment old)) (arrived segment old) new segments messages))
 
 -- so much is answered
 abbrev pub heard : {S : Type 0} → (length : ℕ) → (fin : Bool) → (reads : ℕ) → ConnState S → ConnState S

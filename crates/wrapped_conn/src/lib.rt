@@ -8,6 +8,7 @@ pub use stage::ConnStage;
 pub use turn_out::TurnOut;
 
 mod conn;
+mod copying;
 mod inside;
 pub mod laws;
 mod leaving;

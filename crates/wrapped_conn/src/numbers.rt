@@ -3,17 +3,18 @@
 ghost use Rattle.std.specs.Prelude.{◌≡◌, ◌≤◌, ◌+◌, ◌-◌, ◌^◌, ◌%◌, pos, nat_abs, length, max, min};
 ghost use Rattle.seq_arith.specs.Arrival.{is_acceptable, is_acceptable_or_at_edge, is_at_right_edge, lies_in};
 ghost use Rattle.seq_arith.specs.Number.{number_at, offset_of};
-ghost use Rattle.seq_arith.specs.Offset.{length_of as length_of_lem};
+ghost use Rattle.seq_arith.specs.Offset.{length_of as length_of_lem, text_of};
 ghost use Rattle.segment_codec.specs.Value.{segment_of, said};
 ghost use Rattle.ft_model.specs.Copy.{from_start};
 ghost use Rattle.tcp_endpoint.specs.States.{is_closed};
-ghost use Rattle.wrapped_conn.specs.Numbers.{has_fin as has_fin_lem, is_over as is_over_lem, bytes_taken, units_taken, announced, una_units, outer_sent};
+ghost use Rattle.wrapped_conn.specs.Numbers.{has_fin as has_fin_lem, is_over as is_over_lem, fetched_or_read, bytes_taken, units_taken, announced, una_units, outer_sent};
 ghost use Rattle.wrapped_conn.specs.Numbers.{sent_units, logged_units, resets, owes};
+ghost use Rattle.wrapped_conn.specs.Telling.{end_of};
 ghost use Rattle.wrapped_conn.specs.Sound.{IsSound};
 
 use crate::conn::{Conn, STREAM, has_fin, is_over};
 use segment_codec::{Head, PacketRef};
-use seq_arith::{ACK, FIN, RST, SYN, Seq, has};
+use seq_arith::{FIN, RST, SYN, Seq, has};
 use server_trait::Service;
 use socket_layer::Socket;
 use tcp_endpoint::StateName;
@@ -46,14 +47,31 @@ impl<S: Service> Conn<S> {
         is_over(self.endpoint.state().name)
     }
 
+    /// Up to where the client's bytes are read or fetched.
+    pub(crate) fn fetched_or_read(&self) -> u32
+        ensures { result ≡ fetched_or_read self.now }
+    {
+        self.fetched.max(self.north.read())
+    }
+
+    /// The client's bytes that are taken and not read.
+    #[tactic(auto, using(crate::proofs::Small::buffered))]
+    pub(crate) fn unread(&self) -> u32
+        requires { IsSound self.now }
+        ensures value { result ≡ length self.now.endpoint.receiving.unread }
+        ensures most { result ≤ 65535 }
+    {
+        self.endpoint.readable() as u32
+    }
+
     /// The client's bytes that are taken.
-    #[tactic(auto, using(crate::proofs::Small::taken_small, crate::proofs::Small::buffered))]
+    #[tactic(auto, using(crate::proofs::Small::taken_small))]
     pub(crate) fn taken(&self) -> u32
         requires { IsSound self.now }
         ensures value { result ≡ bytes_taken self.now }
         ensures most { result ≤ 2 ^ 24 }
     {
-        self.fetched.max(self.north.read()) + self.endpoint.readable() as u32
+        self.fetched_or_read() + self.unread()
     }
 
     /// Its units that are taken.
@@ -72,7 +90,7 @@ impl<S: Service> Conn<S> {
         ensures value { result ≡ announced self.now }
         ensures most { result ≤ 2 ^ 24 + 1 }
     {
-        (self.fetched.max(self.north.read()) + BUFFER).min(STREAM) + u32::from(self.has_fin())
+        (self.fetched_or_read() + BUFFER).min(STREAM) + u32::from(self.has_fin())
     }
 
     /// The units of output that the client has acknowledged; 0 before the SYN is.
@@ -113,6 +131,14 @@ impl<S: Service> Conn<S> {
         offset(self.south.cisn(), head.seq)
     }
 
+    /// Where a segment's text ends in the client's stream, and 0 where that is before its first byte.
+    pub(crate) fn text_end(&self, segment: &PacketRef<'_>) -> u32
+        requires { length segment.now.payload.now ≤ 1460 }
+        ensures { result ≡ min (from_start (end_of (segment_of segment.now) self.now)) (2 ^ 24 + 1) }
+    {
+        units(self.place_of(&segment.head) + i64::from(text_length(segment)))
+    }
+
     /// Whether a segment resets the connection: a RST at exactly the next number does (RFC 5961, 3.2).
     pub(crate) fn is_reset_by(&self, segment: &PacketRef<'_>) -> bool
         requires { IsSound self.now }
@@ -140,7 +166,7 @@ impl<S: Service> Conn<S> {
         if has(head.flags, RST) {
             return first != i64::from(next);
         }
-        has(head.flags, SYN) || 0 < len || (has(head.flags, ACK) && i64::from(next) < first)
+        has(head.flags, SYN) || 0 < len
     }
 }
 
@@ -155,7 +181,7 @@ fn offset(isn: Seq, number: Seq) -> i64
 
 /// An offset as units of a stream: none before its first byte.
 fn units(offset: i64) -> u32
-    requires { nat_abs offset ≤ 2 ^ 31 }
+    requires { nat_abs offset ≤ 2 ^ 32 }
     ensures value { result ≡ min (from_start offset) (2 ^ 24 + 1) }
     ensures most { result ≤ 2 ^ 24 + 1 }
 {
@@ -214,4 +240,16 @@ fn length_of(segment: &PacketRef<'_>) -> u32
         return 1;
     }
     segment.payload.len() as u32 + u32::from(has(segment.head.flags, FIN))
+}
+
+/// The length of a segment's text: none of it counts with SYN or RST.
+fn text_length(segment: &PacketRef<'_>) -> u32
+    requires { length segment.now.payload.now ≤ 1460 }
+    ensures value { result ≡ length (text_of (segment_of segment.now)) }
+    ensures most { result ≤ 1460 }
+{
+    if has(segment.head.flags, SYN) || has(segment.head.flags, RST) {
+        return 0;
+    }
+    segment.payload.len() as u32
 }

@@ -14,6 +14,10 @@ pub enum ConnStage {
 /// What a turn needs to know of the connection before it.
 #[derive(Clone, Copy, Debug)]
 pub(crate) struct Before {
+    /// The client's bytes that were taken.
+    pub taken: u32,
+    /// Whether the client's FIN was taken.
+    pub fin: bool,
     /// The units of output that the client had acknowledged.
     pub una: u32,
     /// The receive edge.

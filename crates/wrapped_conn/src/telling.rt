@@ -1,15 +1,12 @@
 //! What a connection tells the logger.
 
-ghost use Rattle.std.specs.Prelude.{◌≡◌, ◌≤◌, ◌<◌, ◌+◌, ◌*◌, ◌^◌, ◌∷◌, ◌++◌, [], true, false, ℕ, min, length, take, drop, IsOk, IfOk};
-ghost use Rattle.seq_arith.specs.PacketGrammar.{reading};
+ghost use Rattle.std.specs.Prelude.{◌≡◌, ◌≤◌, ◌<◌, ◌+◌, ◌*◌, ◌^◌, ◌∷◌, ◌++◌, [], length};
 ghost use Rattle.seq_arith.specs.MessageGrammar.{spelling};
 ghost use Rattle.seq_arith.specs.Message.Body.{DataMsg};
 ghost use Rattle.logger_wire.specs.Value.{message_of, IsSendable};
 ghost use Rattle.north_wrap.specs.Standing.{messages_of};
 ghost use Rattle.tcp_endpoint.specs.Packets.{byte_count};
-ghost use Rattle.wrapped_conn.specs.Numbers.{logged_units, bytes_taken};
-ghost use Rattle.wrapped_conn.specs.Telling.{spelled, copies, dones, text_length, most_text, AreShort, AreTellable, with_done};
-ghost use Rattle.wrapped_conn.specs.Sound.{IsSound};
+ghost use Rattle.wrapped_conn.specs.Telling.{spelled, dones, text_length, most_text, AreShort, AreTellable, with_done};
 
 use crate::conn::Conn;
 use crate::stage::ConnStage;
@@ -23,31 +20,15 @@ use tcp_endpoint::Outbox;
 const MESSAGE: usize = 2_048;
 
 impl<S: Service> Conn<S> {
-    /// The copied part of a segment, or else that the client has acknowledged more.
-    #[tactic(auto, unfolding(crate::specs::Telling::copies))]
-    pub(crate) fn tell_copy(&self, packet: &[u8], una_before: u32, out: &mut Outbox)
-        requires sound { IsSound self.now }
-        requires accepted { IsOk (reading packet.now) }
-        requires empty { out.old ≡ [] }
-        ensures told { IfOk (reading packet.now) (λ segment. out.new ≡ spelled self.now.boot (copies una_before segment self.now)) }
-        ensures few { length out.new ≤ 1 }
-        ensures short { AreShort out.new }
-    {
-        let acked = self.una();
-        match self.south.copy_of(packet) {
-            Some(part) => {
-                let bytes = &packet[part.from..part.to];
-                self.tell_data(part.offset, acked, part.fin, bytes, out);
-            }
-            None => {
-                if una_before < acked {
-                    self.tell_data(self.logged_bytes(), acked, false, &[], out);
-                }
-            }
-        }
-    }
-
-    fn tell_data(&self, offset: u32, acked: u32, fin: bool, bytes: &[u8], out: &mut Outbox)
+    /// A part of the client's stream.
+    pub(crate) fn tell_data(
+        &self,
+        offset: u32,
+        acked: u32,
+        fin: bool,
+        bytes: &[u8],
+        out: &mut Outbox,
+    )
         requires boot { 1 ≤ self.now.boot }
         requires within { offset + length bytes.now ≤ 2 ^ 24 }
         requires acked { acked ≤ 2 ^ 24 + 1 }
@@ -75,23 +56,14 @@ impl<S: Service> Conn<S> {
         tell(self.boot, body, out);
     }
 
-    /// The client's bytes that are known to be logged.
-    fn logged_bytes(&self) -> u32
-        requires { IsSound self.now }
-        ensures value { result ≡ min (logged_units self.now) (bytes_taken self.now) }
-        ensures most { result ≤ 2 ^ 24 }
-    {
-        self.logged().min(self.taken())
-    }
-
     /// The reads of this turn.
     pub(crate) fn tell_reads(&self, reads: &ReadRecords, out: &mut Outbox)
         requires boot { 1 ≤ self.now.boot }
         requires tellable { AreTellable reads.now }
-        requires few { length out.old ≤ 1 }
+        requires few { length out.old ≤ 46 }
         requires short { AreShort out.old }
         ensures told { out.new ≡ out.old ++ spelled self.now.boot (messages_of self.now.key reads.now) }
-        ensures few { length out.new ≤ 33 }
+        ensures few { length out.new ≤ length out.old + 32 }
         ensures short { AreShort out.new }
     {
         tell_reads(self.boot, self.key, reads, out);
@@ -100,7 +72,7 @@ impl<S: Service> Conn<S> {
     /// That the connection has ended, until that is logged.
     pub(crate) fn tell_done(&mut self, out: &mut Outbox)
         requires boot { 1 ≤ self.old.boot }
-        requires few { length out.old ≤ 33 }
+        requires few { length out.old ≤ 78 }
         requires short { AreShort out.old }
         ensures state { self.new ≡ with_done self.old }
         ensures told { out.new ≡ out.old ++ spelled self.old.boot (dones self.old) }
@@ -132,10 +104,10 @@ fn tell(boot: u64, body: Body<'_>, out: &mut Outbox)
 fn tell_reads(boot: u64, key: Key, reads: &ReadRecords, out: &mut Outbox)
     requires boot { 1 ≤ boot }
     requires tellable { AreTellable reads.now }
-    requires few { length out.old ≤ 1 }
+    requires few { length out.old ≤ 46 }
     requires short { AreShort out.old }
     ensures told { out.new ≡ out.old ++ spelled boot (messages_of key reads.now) }
-    ensures few { length out.new ≤ 33 }
+    ensures few { length out.new ≤ length out.old + 32 }
     ensures short { AreShort out.new }
 {
     fit(key, boot);

@@ -84,11 +84,11 @@ impl<S: Service> Conn<S> {
         requires no_message { out.old.messages ≡ [] }
         ensures turn { OnOk result (IfOk (reading packet.old)
             (λ segment. GoesOn S.after (before_segment self.old segment) (repeats_syn self.old.south segment)
-            (copies (una_units self.old) segment (arrived segment self.old)) (arrived segment self.old) self.new out.new.segments out.new.messages)) }
+            (copies (before_segment self.old segment) segment (arrived segment self.old)) (arrived segment self.old) self.new out.new.segments out.new.messages)) }
         ensures sound { OnOk result (IsSound self.new) }
     {
         let before = self.before_segment(packet);
-        let repeats = self.arrive(packet, before.una, &mut out.messages);
+        let repeats = self.arrive(packet, before, &mut out.messages);
         self.go_on(alloc, before, repeats, out)
     }
 
@@ -96,10 +96,13 @@ impl<S: Service> Conn<S> {
     fn before_segment(&self, packet: &[u8]) -> Before
         requires sound { IsSound self.now }
         requires accepted { IsOk (reading packet.now) }
-        ensures { IfOk (reading packet.now) (λ segment. result ≡ before_segment self.now segment) }
+        ensures value { IfOk (reading packet.now) (λ segment. result ≡ before_segment self.now segment) }
+        ensures taken { result.taken ≤ 2 ^ 24 }
     {
         let segment = read_accepted(packet);
         Before {
+            taken: self.taken(),
+            fin: self.has_fin(),
             una: self.una(),
             edge: self.edge(),
             asks: self.is_over() && !has(segment.head.flags, RST),
@@ -113,6 +116,8 @@ impl<S: Service> Conn<S> {
         ensures { result ≡ before_other asks self.now }
     {
         Before {
+            taken: self.taken(),
+            fin: self.has_fin(),
             una: self.una(),
             edge: self.edge(),
             asks,
@@ -120,21 +125,22 @@ impl<S: Service> Conn<S> {
         }
     }
 
-    /// A segment arrives, and what of it is taken and not answered goes to the logger. Whether it is the client's SYN again.
-    fn arrive(&mut self, packet: &mut [u8], una_before: u32, messages: &mut Outbox) -> bool
+    /// A segment arrives, and what is taken now and not answered goes to the logger. Whether it is the client's SYN again.
+    fn arrive(&mut self, packet: &mut [u8], before: Before, messages: &mut Outbox) -> bool
         requires sound { IsSound self.old }
         requires accepted { IsOk (reading packet.old) }
+        requires before { before.taken ≤ 2 ^ 24 }
         requires empty { messages.old ≡ [] }
         ensures repeats { IfOk (reading packet.old) (λ segment. result ≡ repeats_syn self.old.south segment) }
         ensures state { IfOk (reading packet.old) (λ segment. self.new ≡ arrived segment self.old) }
-        ensures told { IfOk (reading packet.old) (λ segment. messages.new ≡ spelled self.old.boot (copies una_before segment (arrived segment self.old))) }
-        ensures few { length messages.new ≤ 1 }
+        ensures told { IfOk (reading packet.old) (λ segment. messages.new ≡ spelled self.old.boot (copies before segment (arrived segment self.old))) }
+        ensures few { length messages.new ≤ 46 }
         ensures short { AreShort messages.new }
         ensures sound { IsSound self.new }
     {
         let repeats = self.reach_tcp(packet);
         self.note_arrival();
-        self.tell_copy(packet, una_before, messages);
+        self.tell_copy(packet, before, messages);
         repeats
     }
 
@@ -197,7 +203,7 @@ impl<S: Service> Conn<S> {
     ) -> Result<(), NoMemory>
         requires sound { IsSound self.old }
         requires no_segment { out.old.segments ≡ [] }
-        requires few { length out.old.messages ≤ 1 }
+        requires few { length out.old.messages ≤ 46 }
         requires short { AreShort out.old.messages }
         ensures turn { (copied : List Told) → out.old.messages ≡ spelled self.old.boot copied
             → OnOk result (GoesOn S.after before repeats copied self.old self.new out.new.segments out.new.messages) }
@@ -314,7 +320,7 @@ impl<S: Service> Conn<S> {
         ensures state { self.new ≡ counted (ticked self.old) }
         ensures sent { out.new.segments ≡ packets (passed (ticked self.old).south (leaving (after_tick self.old.endpoint))) }
         ensures told { out.new.messages ≡ spelled self.old.boot (messages_of self.old.key self.old.north.reads) }
-        ensures few { length out.new.messages ≤ 33 }
+        ensures few { length out.new.messages ≤ 32 }
         ensures short { AreShort out.new.messages }
         ensures sound { IsSound self.new }
     {

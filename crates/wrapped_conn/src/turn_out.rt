@@ -6,7 +6,7 @@ use ft_io::NoMemory;
 use std::alloc::Global;
 use tcp_endpoint::Outbox;
 
-/// The segments and the messages that a connection sends in one turn, each list in order, in room that is made once. A turn has at most 34
+/// The segments and the messages that a connection sends in one turn, each list in order, in room that is made once. A turn has at most 79
 /// messages.
 #[derive(Drop)]
 pub struct TurnOut {

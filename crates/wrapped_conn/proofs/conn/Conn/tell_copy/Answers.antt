@@ -1,19 +1,20 @@
-use Rattle.std.proofs.Common.{◌≡◌, ◌≤◌, ◌-◌, ap, arith, length, take, drop}
-use Rattle.tcp_endpoint.specs.Packets.{byte_count}
-use Rattle.wrapped_conn.proofs.Copied.{part_short}
+use Rattle.std.proofs.Common.{◌≤◌, ◌^◌, sym, subst, ◌∙◌}
+use Rattle.std.proofs.lemmas.Result.{IfOk-at_ok}
+use Rattle.seq_arith.specs.PacketGrammar.{segment_in}
+use Rattle.segment_codec.proofs.Accepting.{is_read}
+use Rattle.wrapped_conn.proofs.Copied.{start_low, copies_told}
+use Rattle.wrapped_conn.proofs.Small.{taken_small}
 use Rattle.wrapped_conn.proofs.conn.Conn.tell_copy.Goals as goal
 
-pub tell_data-requires-clause-most : goal.tell_data-requires-clause-most
-tell_data-requires-clause-most g c = part_short c.args.packet.now c.self.inside.south c.in-Some.part c.requires.accepted c.in-Some.ensures.part
+pub tell_further-requires-clause-start : goal.tell_further-requires-clause-start
+tell_further-requires-clause-start g c = λ held.
+    let here = c.args.self.now in
+    let segment = segment_in c.args.packet.now in
+    let start = IfOk-at_ok _ (is_read c.args.packet.now c.requires.accepted) c.further_start-start.ensures in
+    subst (λ n. n ≤ 2 ^ 24) (sym start)
+    (start_low c.args.before _ segment here c.requires.before (taken_small here c.requires.sound) (sym c.takes_held_fin-fin.ensures ∙ held))
 
-pub tell_data-requires-clause-short : goal.tell_data-requires-clause-short
-tell_data-requires-clause-short g c =
-    let most = part_short c.args.packet.now c.self.inside.south c.in-Some.part c.requires.accepted c.in-Some.ensures.part in
-    let none : byte_count c.args.out.now ≡ 0 = ap byte_count c.requires.empty in
-    omega (arith, most, none)
-
-pub returns-in-Some-clause-short : goal.returns-in-Some-clause-short
-returns-in-Some-clause-short g c =
-    let most = part_short c.args.packet.now c.self.inside.south c.in-Some.part c.requires.accepted c.in-Some.ensures.part in
-    let none : byte_count c.args.out.now ≡ 0 = ap byte_count c.requires.empty in
-    omega (arith, most, none, c.tell_data.ensures.few, c.tell_data.ensures.short)
+pub returns-clause-told : goal.returns-clause-told
+returns-clause-told g c =
+    copies_told c.args.packet.now c.args.before c.args.self.now c.tell_own-own.result c.further_start-start.result c.takes_held_fin-fin.result c.tell_own-own.new.out c.tell_further.new.out c.tell_una.new.out
+    c.requires.accepted c.tell_own-own.ensures.told c.tell_own-own.ensures.fin c.further_start-start.ensures c.takes_held_fin-fin.ensures c.tell_further.ensures.told c.tell_una.ensures.told

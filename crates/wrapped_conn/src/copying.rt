@@ -1,0 +1,164 @@
+//! What of the client's stream a connection tells the logger as a segment arrives.
+
+ghost use Rattle.std.specs.Prelude.{◌≡◌, ◌≤◌, ◌+◌, ◌-◌, ◌*◌, ◌^◌, ◌∷◌, ◌++◌, [], true, Bool, List, min, length, take, drop, IsOk, IfOk};
+ghost use Rattle.seq_arith.specs.PacketGrammar.{reading};
+ghost use Rattle.seq_arith.specs.Message.{Body as Told};
+ghost use Rattle.seq_arith.specs.Message.Body.{DataMsg};
+ghost use Rattle.south_wrap.specs.Patching.{copied};
+ghost use Rattle.tcp_endpoint.specs.Packets.{byte_count};
+ghost use Rattle.wrapped_conn.specs.Numbers.{fetched_or_read, una_units, logged_units, bytes_taken};
+ghost use Rattle.wrapped_conn.specs.Telling.{spelled, copies, own_data, further_start as further_start_lem, takes_held_fin as takes_held_fin_lem};
+ghost use Rattle.wrapped_conn.specs.Telling.{unread_from, datas_of, or_una, most_text, AreShort};
+ghost use Rattle.wrapped_conn.specs.Sound.{IsSound};
+
+use crate::conn::Conn;
+use crate::stage::Before;
+use segment_codec::read_accepted;
+use server_trait::Service;
+use tcp_endpoint::Outbox;
+
+/// The most bytes of a Data.
+const DATA: u32 = 1_460;
+
+impl<S: Service> Conn<S> {
+    /// The copied part of a segment, and behind it the text and the FIN that were held and are taken now. Where that is nothing, that the
+    /// client has acknowledged more.
+    pub(crate) fn tell_copy(&self, packet: &[u8], before: Before, out: &mut Outbox)
+        requires sound { IsSound self.now }
+        requires accepted { IsOk (reading packet.now) }
+        requires before { before.taken ≤ 2 ^ 24 }
+        requires empty { out.old ≡ [] }
+        ensures told { IfOk (reading packet.now) (λ segment. out.new ≡ spelled self.now.boot (copies before segment self.now)) }
+        ensures few { length out.new ≤ 46 }
+        ensures short { AreShort out.new }
+    {
+        let own = self.tell_own(packet, out);
+        let start = self.further_start(packet, before);
+        let fin = self.takes_held_fin(before, own);
+        self.tell_further(start, fin, out);
+        self.tell_una(before.una, out);
+    }
+
+    /// The copied part of a segment. Whether the client's FIN goes with it.
+    fn tell_own(&self, packet: &[u8], out: &mut Outbox) -> bool
+        requires sound { IsSound self.now }
+        requires accepted { IsOk (reading packet.now) }
+        requires empty { out.old ≡ [] }
+        ensures told { IfOk (reading packet.now) (λ segment. out.new ≡ spelled self.now.boot (own_data segment self.now)) }
+        ensures fin { IfOk (reading packet.now) (λ segment. result ≡ (copied self.now.south segment).fin) }
+        ensures few { length out.new ≤ 1 }
+        ensures short { byte_count out.new ≤ 64 * length out.new + 1460 }
+    {
+        match self.south.copy_of(packet) {
+            Some(part) => {
+                let bytes = &packet[part.from..part.to];
+                self.tell_data(part.offset, self.una(), part.fin, bytes, out);
+                part.fin
+            }
+            None => false,
+        }
+    }
+
+    /// Where the text begins that was held and is taken now, and isn't known to be logged.
+    fn further_start(&self, packet: &[u8], before: Before) -> u32
+        requires sound { IsSound self.now }
+        requires accepted { IsOk (reading packet.now) }
+        ensures { IfOk (reading packet.now) (λ segment. result ≡ further_start_lem before segment self.now) }
+    {
+        let own_end = self.text_end(&read_accepted(packet)).min(self.taken());
+        self.logged().max(before.taken.max(own_end))
+    }
+
+    /// Whether a FIN that was held is taken now, and isn't known to be logged.
+    fn takes_held_fin(&self, before: Before, own: bool) -> bool
+        requires { IsSound self.now }
+        ensures { result ≡ takes_held_fin_lem before own self.now }
+    {
+        self.has_fin() && !before.fin && !own && self.logged() <= self.taken()
+    }
+
+    /// The unread text from this offset on, in Data of 1,460 bytes each but the last, which has the FIN.
+    fn tell_further(&self, start: u32, fin: bool, out: &mut Outbox)
+        requires sound { IsSound self.now }
+        requires start { fin ≡ true → start ≤ 2 ^ 24 }
+        requires few { length out.old ≤ 1 }
+        requires short { byte_count out.old ≤ 64 * length out.old + 1460 }
+        ensures told { out.new ≡ out.old ++ spelled self.now.boot (datas_of self.now start (unread_from self.now start) fin) }
+        ensures few { length out.new ≤ length out.old + 45 }
+        ensures short { AreShort out.new }
+    {
+        let from = start.saturating_sub(self.fetched_or_read());
+        let count = self.unread().saturating_sub(from);
+        let told = self.tell_full(start, from, count, out);
+        if told < count || fin {
+            self.tell_piece(start + told, from + told, fin, out);
+        }
+    }
+
+    /// Of the `count` unread bytes from place `from` on all but the last 1,460 at most, in Data of 1,460 bytes. How many these have.
+    fn tell_full(&self, start: u32, from: u32, count: u32, out: &mut Outbox) -> u32
+        requires sound { IsSound self.now }
+        requires start { start ≤ fetched_or_read self.now + from }
+        requires count { count ≡ length self.now.endpoint.receiving.unread - from }
+        requires few { length out.old ≤ 1 }
+        requires short { byte_count out.old ≤ 64 * length out.old + 1460 }
+        ensures told { (fin : Bool) → out.new ++ spelled self.now.boot (datas_of self.now (start + result) (drop (from + result) self.now.endpoint.receiving.unread) fin)
+            ≡ out.old ++ spelled self.now.boot (datas_of self.now start (drop from self.now.endpoint.receiving.unread) fin) }
+        ensures within { result ≤ count }
+        ensures rest { count ≤ result + 1460 }
+        ensures few { 1460 * length out.new ≡ 1460 * length out.old + result }
+        ensures short { byte_count out.new + 64 * length out.old ≤ byte_count out.old + 64 * length out.new + result }
+    {
+        let mut told = 0;
+        while told + DATA < count {
+            self.tell_piece(start + told, from + told, false, out);
+            told += DATA;
+        }
+        told
+    }
+
+    /// The unread text from a place on as one Data, at most 1,460 bytes of it.
+    fn tell_piece(&self, offset: u32, from: u32, fin: bool, out: &mut Outbox)
+        requires boot { 1 ≤ self.now.boot }
+        requires within { offset + min (length self.now.endpoint.receiving.unread - from) 1460 ≤ 2 ^ 24 }
+        requires few { length out.old ≤ 80 }
+        requires short { byte_count out.old + min (length self.now.endpoint.receiving.unread - from) 1460 ≤ 64 * length out.old + most_text }
+        ensures told { out.new ≡ out.old ++ spelled self.now.boot (DataMsg (record {
+          key = self.now.key;
+          offset = offset;
+          acked = una_units self.now;
+          fin = fin;
+          bytes = take 1460 (drop from self.now.endpoint.receiving.unread);
+        }) ∷ []) }
+        ensures few { length out.new ≡ length out.old + 1 }
+        ensures short { byte_count out.new ≤ byte_count out.old + 64 + min (length self.now.endpoint.receiving.unread - from) 1460 }
+    {
+        let mut bytes = [0u8; DATA as usize];
+        let count = self.endpoint.peek(from as usize, &mut bytes);
+        self.tell_data(offset, self.una(), fin, &bytes[..count], out);
+    }
+
+    /// Where no Data has gone out, that the client has acknowledged more.
+    fn tell_una(&self, una_before: u32, out: &mut Outbox)
+        requires sound { IsSound self.now }
+        requires few { length out.old ≤ 46 }
+        requires short { AreShort out.old }
+        ensures told { (bodies : List Told) → out.old ≡ spelled self.now.boot bodies → out.new ≡ spelled self.now.boot (or_una una_before self.now bodies) }
+        ensures few { length out.new ≤ 46 }
+        ensures short { AreShort out.new }
+    {
+        let acked = self.una();
+        if out.is_empty() && una_before < acked {
+            self.tell_data(self.logged_bytes(), acked, false, &[], out);
+        }
+    }
+
+    /// The client's bytes that are known to be logged.
+    fn logged_bytes(&self) -> u32
+        requires { IsSound self.now }
+        ensures value { result ≡ min (logged_units self.now) (bytes_taken self.now) }
+        ensures most { result ≤ 2 ^ 24 }
+    {
+        self.logged().min(self.taken())
+    }
+}
