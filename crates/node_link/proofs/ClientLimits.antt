@@ -1,11 +1,12 @@
 -- Whatever comes, a live client's TCP has sent no more than its script and a FIN, so that numbers tell the order of its offsets, and it holds no more
 -- for its user than its buffer has room for.
-use Rattle.std.proofs.Common.{◌≡◌, ℕ, ◌≤◌, ◌+◌, ◌-◌, ◌^◌, Bool, true, false, not, List, [], ◌∷◌, ◌++◌, length, length-append, length-drop, take, drop, max, min, refl, ap, arith, ◌∙◌, Result, Ok, Err}
+use Rattle.std.proofs.Common.{◌≡◌, ℕ, ◌≤◌, ◌+◌, ◌-◌, ◌^◌, Bool, true, false, not, List, [], ◌∷◌, ◌++◌, length, length-append, length-drop, take, drop, max, min, refl, ap, subst, arith, ◌∙◌, Result, Ok, Err}
 use Rattle.std.specs.Prelude.{ℤ, pos, ◌==◌, ◌&&◌, nat_abs, nat_lt, int_le, if◌then◌else◌}
 use Rattle.std.proofs.lemmas.Int.{ints}
 use Rattle.std.proofs.lemmas.List.{length-take}
 use Rattle.ft_io.specs.declared.Addr.{Addr}
 use Rattle.seq_arith.specs.Arrival.{int_eq, is_new_ack}
+use Rattle.seq_arith.specs.Coming.{Came, StandsBehind}
 use Rattle.seq_arith.specs.Offset.{one_if, length_of}
 use Rattle.seq_arith.specs.Packet.{Segment, has_fin, has_syn, has_rst, has_ack}
 use Rattle.seq_arith.specs.PacketGrammar.{reading}
@@ -22,11 +23,12 @@ use Rattle.tcp_endpoint.specs.Turning.{after_tick, timer_ticked, waited, after_r
 use Rattle.endpoint_laws.proofs.Bounding.{text_facts, new_within}
 use Rattle.endpoint_laws.proofs.SendingLaw.{held_field}
 use Rattle.peer_client.specs.Live.{LiveState, new_live, is_of, met, hearing, ticked, unread, given_up, supplied, next_part, closes, before_flush, turned}
+use Rattle.peer_client.proofs.TurnEnds.{read_behind}
 use Rattle.node_link.specs.Received.{Received, datagram, silence, failure}
 use Rattle.node_link.specs.ClientTurns.{ClientTurn, after_receive, emptied, due_at}
 use Rattle.node_link.specs.ClientParts.{HasLimits, IsWithin, IsLimited}
 use Rattle.ft_io.proofs.Booleans.{left_true, right_true}
-use Rattle.seq_arith.proofs.Coming.{comes_within}
+use Rattle.seq_arith.proofs.Coming.{comes_within, stays_behind, behind_within, nothing_behind}
 use Rattle.seq_arith.proofs.Units.{one_at_most}
 use Rattle.ft_io.proofs.Choices.{holds_if, holds_either_way}
 
@@ -50,6 +52,7 @@ module _ (isn written read : ℕ) where
         held_within = omega (arith, kept, una, h.held_within, h.sent_within);
         read_is = h.read_is;
         queued = h.queued;
+        behind = h.behind;
       }
 
   opened_within : (s : Sending) (r : Receiving) (seq edge : ℕ) → HasLimits isn written read s r → HasLimits isn written read (with_syn_acked s seq edge) r
@@ -61,11 +64,13 @@ module _ (isn written read : ℕ) where
     held_within = omega (arith, h.held_within);
     read_is = h.read_is;
     queued = h.queued;
+    behind = h.behind;
   }
 
   -- the receiving half
-  received_within : (s : Sending) (r after : Receiving) → after.read ≡ r.read → length after.unread ≤ 65535 → HasLimits isn written read s r → HasLimits isn written read s after
-  received_within s r after same few h = record {
+  received_within : (s : Sending) (r after : Receiving) → after.read ≡ r.read → length after.unread ≤ 65535
+      → StandsBehind (taken after) (receive_edge after) after.fin after.early → HasLimits isn written read s r → HasLimits isn written read s after
+  received_within s r after same few behind h = record {
     isn_is = h.isn_is;
     order = h.order;
     wl2_within = h.wl2_within;
@@ -73,15 +78,29 @@ module _ (isn written read : ℕ) where
     held_within = h.held_within;
     read_is = same ∙ h.read_is;
     queued = few;
+    behind = behind;
   }
 
-segment_queued : (r : Receiving) (z : ℤ) (text : List ℕ) (fin : Bool) → length r.unread ≤ 65535
-    → ((with_segment r z text fin).read ≡ r.read) × (length (with_segment r z text fin).unread ≤ 65535)
+-- what a segment makes of it keeps to the receive edge
+record Queues (r after : Receiving) : Type 0 where
+  read : after.read ≡ r.read
+  few : length after.unread ≤ 65535
+  behind : StandsBehind (taken after) (receive_edge after) after.fin after.early
+
+segment_queued : (r : Receiving) (z : ℤ) (text : List ℕ) (fin : Bool) → StandsBehind (taken r) (receive_edge r) r.fin r.early → Queues r (with_segment r z text fin)
 unfolding with_came
 segment_queued r z text fin h =
-    let added : List ℕ = (came r z text fin).added in
-    let few : taken r + length added ≤ max (taken r) (receive_edge r) = comes_within (taken r) (receive_edge r) r.fin z text fin in
-    (refl, omega (arith, length-append r.unread added, few, h))
+    let n : ℕ = taken r in
+    let edge : ℕ = receive_edge r in
+    let c : Came = came r z text fin in
+    let within : n + length c.added ≤ edge = comes_within n edge r.fin r.early z text fin h in
+    let both : length (r.unread ++ c.added) ≡ length r.unread + length c.added = length-append r.unread c.added in
+    let all : n + length c.added ≡ r.read + length (r.unread ++ c.added) = omega (arith, both) in
+    record {
+      read = refl;
+      few = omega (arith, both, within);
+      behind = subst (λ (k : ℕ). StandsBehind k edge c.fin c.early) all (stays_behind n edge r.fin r.early z text fin (behind_within n edge r.fin r.early h) h);
+    }
 
 -- a segment comes
 module _ (isn written read : ℕ) (p : Segment) where
@@ -92,8 +111,8 @@ module _ (isn written read : ℕ) (p : Segment) where
   unfolding with_text_and_fin
   text_limited e h =
       let after : Receiving = with_segment e.receiving (first e p) p.payload (has_fin p) in
-      let q = segment_queued e.receiving (first e p) p.payload (has_fin p) h.queued in
-      let good : HasLimits isn written read e.sending after = received_within isn written read e.sending e.receiving after q.0 q.1 h in
+      let q = segment_queued e.receiving (first e p) p.payload (has_fin p) h.behind in
+      let good : HasLimits isn written read e.sending after = received_within isn written read e.sending e.receiving after q.read q.few q.behind h in
       holds_either_way Good _ _ _ good good
 
   fin_acked_limited : (e : Tcb) → Good e → Good (with_fin_acked e)
@@ -172,8 +191,9 @@ tick_limited isn written read e h =
     let limits : Sending → Type 0 = λ s. HasLimits isn written read s e.receiving in holds_either_way limits (expires e.sending) _ _ h h
 
 -- the user's calls
-read_limited : (isn written read : ℕ) (e : Tcb) (n : ℕ) → IsWithin isn written read e → IsWithin isn written (read + n) (after_read e n)
-read_limited isn written read e n h = record {
+read_limited : (isn written read : ℕ) (e : Tcb) (n : ℕ) → n ≤ length e.receiving.unread → IsWithin isn written read e
+    → IsWithin isn written (read + n) (after_read e n)
+read_limited isn written read e n few h = record {
   isn_is = h.isn_is;
   order = h.order;
   wl2_within = h.wl2_within;
@@ -181,6 +201,7 @@ read_limited isn written read e n h = record {
   held_within = h.held_within;
   read_is = ap (λ k. k + n) h.read_is;
   queued = omega (arith, h.queued, length-drop n e.receiving.unread);
+  behind = read_behind e.receiving n few h.behind;
 }
 
 write_limited : (isn written read : ℕ) (e : Tcb) (bytes : List ℕ) → IsWithin isn written read e → IsWithin isn (written + length bytes) read (after_write e bytes)
@@ -194,6 +215,7 @@ write_limited isn written read e bytes h =
       held_within = omega (arith, more, h.held_within);
       read_is = h.read_is;
       queued = h.queued;
+      behind = h.behind;
     }
 
 -- the end of a turn
@@ -208,6 +230,7 @@ module _ (isn written read : ℕ) where
     held_within = h.held_within;
     read_is = h.read_is;
     queued = h.queued;
+    behind = h.behind;
   }
 
   fin_more : (s : Sending) (r : Receiving) → s.fin_sent ≡ false → HasLimits isn written read s r → HasLimits isn written read (with_fin_sent s) r
@@ -222,6 +245,7 @@ module _ (isn written read : ℕ) where
         held_within = omega (arith, held);
         read_is = h.read_is;
         queued = h.queued;
+        behind = h.behind;
       }
 
 fin_is_probed : (a b c d t u : Bool) → (a && b && c && not d && t && u) ≡ true → d ≡ false
@@ -285,7 +309,16 @@ module _ (isn written read : ℕ) where
 connect_limited : (local remote : Addr) (isn limit : ℕ) → IsWithin isn 0 0 (connecting local remote isn limit)
 unfolding connecting listening
 connect_limited local remote isn limit =
-    record { isn_is = refl; order = omega arith; wl2_within = omega arith; sent_within = omega arith; held_within = omega arith; read_is = refl; queued = omega arith }
+    record {
+      isn_is = refl;
+      order = omega arith;
+      wl2_within = omega arith;
+      sent_within = omega arith;
+      held_within = omega arith;
+      read_is = refl;
+      queued = omega arith;
+      behind = nothing_behind 0 (min 65535 (min limit (2 ^ 30))) false (omega arith);
+    }
 
 own_read : (isn written read : ℕ) (e : Tcb) → IsWithin isn written read e → IsWithin isn written e.receiving.read e
 own_read isn written read e h = record {
@@ -296,6 +329,7 @@ own_read isn written read e h = record {
   held_within = h.held_within;
   read_is = refl;
   queued = h.queued;
+  behind = h.behind;
 }
 
 -- a live client
@@ -335,7 +369,7 @@ turned_limited isn l h =
     let m : LiveState = supplied (given_up l) in
     let read : ℕ = l.tcb.receiving.read + n in
     let good : IsWithin isn m.written read m.tcb =
-    write_limited isn l.written read (after_read l.tcb n) (next_part (given_up l)) (read_limited isn l.written l.tcb.receiving.read l.tcb n h.tcb) in
+    write_limited isn l.written read (after_read l.tcb n) (next_part (given_up l)) (read_limited isn l.written l.tcb.receiving.read l.tcb n (omega arith) h.tcb) in
     let closed : IsWithin isn m.written read (before_flush l).tcb = holds_either_way (IsWithin isn m.written read) (closes m) (closing m.tcb) m.tcb good good in
     record {
       tcb = own_read isn m.written read (flushed (before_flush l).tcb) (flush_limited isn m.written read (before_flush l).tcb closed);
@@ -365,7 +399,7 @@ turned_read isn l h =
     let m : LiveState = supplied (given_up l) in
     let read : ℕ = l.tcb.receiving.read + n in
     let good : IsWithin isn m.written read m.tcb =
-    write_limited isn l.written read (after_read l.tcb n) (next_part (given_up l)) (read_limited isn l.written l.tcb.receiving.read l.tcb n h.tcb) in
+    write_limited isn l.written read (after_read l.tcb n) (next_part (given_up l)) (read_limited isn l.written l.tcb.receiving.read l.tcb n (omega arith) h.tcb) in
     let closed : IsWithin isn m.written read (before_flush l).tcb = holds_either_way (IsWithin isn m.written read) (closes m) (closing m.tcb) m.tcb good good in
     (flush_limited isn m.written read (before_flush l).tcb closed).read_is
 

@@ -1,5 +1,5 @@
 -- A logger's turns follow one another: so do their calls, and their counts add up.
-use Rattle.std.proofs.Common.{◌≡◌, ◌∙◌, inl, inr, ℕ, Bool, true, false, suc, ◌+◌, ◌<◌, ◌≤◌, add-one, refl, sym, ap, ap₂, subst, Option, None, Some, List, [], ◌∷◌, ◌++◌, length, append-nil, arith, Result, Ok, Err, OnOk, IfErr}
+use Rattle.std.proofs.Common.{◌≡◌, ◌∙◌, inl, inr, ℕ, Bool, true, false, suc, ◌+◌, ◌<◌, ◌≤◌, add-one, refl, sym, ap, ap₂, subst, Option, None, Some, List, [], ◌∷◌, ◌++◌, length, append-nil, arith}
 use Rattle.ft_io.specs.declared.Addr.{Addr}
 use Rattle.ft_io.specs.declared.link_call.LinkCall.{LinkCall}
 use Rattle.ft_io.specs.declared.link_call.LinkCall.TheVariants.{Bound, Came}

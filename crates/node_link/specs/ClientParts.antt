@@ -1,5 +1,6 @@
 -- What the parts of a client's turn do, and what always holds of a live client.
-use Rattle.std.specs.Prelude.{◌≡◌, ℕ, ◌+◌, ◌^◌, ◌≤◌, Bool, Option, None, List, [], ◌∷◌, length}
+use Rattle.std.specs.Prelude.{◌≡◌, ℕ, ◌+◌, ◌^◌, ◌≤◌, min, Bool, Option, None, List, [], ◌∷◌, length}
+use Rattle.seq_arith.specs.Coming.{Early, StandsBehind}
 use Rattle.seq_arith.specs.Offset.{one_if}
 use Rattle.ft_io.specs.declared.Addr.{Addr}
 use Rattle.ft_io.specs.declared.link_call.LinkCall.{LinkCall}
@@ -42,8 +43,9 @@ pub record HasTurned (server : Addr) (before after : LiveState) (old new : Optio
   pub beside : (c : Client) → IsBetween before c → before.outcome ≡ None → IsNear c turn.received
       → IsDue (after_receive before turn.received) (machine_then before c turn.received)
 
--- with so many bytes written and read: what is sent and held is among those written and a FIN, and what waits to be read fits the buffer
-pub record Limits (isn written read own una sent wl2 held : ℕ) (fin_sent : Bool) (done waiting : ℕ) : Type 0 where
+-- with so many bytes written and read: what is sent and held for sending is among those written and a FIN, what waits to be read fits the buffer, and what
+-- came early stands behind it
+pub record Limits (isn written read own una sent wl2 held : ℕ) (fin_sent : Bool) (done waiting limit : ℕ) (fin : Bool) (early : Early) : Type 0 where
   pub isn_is : own ≡ isn
   pub order : una ≤ sent
   pub wl2_within : wl2 ≤ sent
@@ -51,9 +53,10 @@ pub record Limits (isn written read own una sent wl2 held : ℕ) (fin_sent : Boo
   pub held_within : una + held ≤ written + one_if fin_sent
   pub read_is : done ≡ read
   pub queued : waiting ≤ 65535
+  pub behind : StandsBehind (done + waiting) (min (done + 65535) limit) fin early
 
 abbrev pub HasLimits : (isn written read : ℕ) → Sending → Receiving → Type 0
-HasLimits isn written read s r = Limits isn written read s.iss s.una s.sent s.wl2 (length s.held) s.fin_sent r.read (length r.unread)
+HasLimits isn written read s r = Limits isn written read s.iss s.una s.sent s.wl2 (length s.held) s.fin_sent r.read (length r.unread) r.limit r.fin r.early
 
 abbrev pub IsWithin : (isn written read : ℕ) → Tcb → Type 0
 IsWithin isn written read e = HasLimits isn written read e.sending e.receiving

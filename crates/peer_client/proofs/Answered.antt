@@ -195,6 +195,8 @@ opens l c p h =
           count = r.count;
           rest = r.rest;
           fin = sym fin;
+          early = r.early;
+          behind = r.behind;
           within = r.within;
           queued = r.queued;
         };

@@ -15,7 +15,7 @@ use Rattle.tcp_endpoint.specs.Sending.{Sending, acknowledged, fin_acked}
 use Rattle.tcp_endpoint.specs.Tcb.{Tcb}
 use Rattle.tcp_endpoint.specs.Arrival.{first, ack_at, owing_if, killed, entering, with_text_and_fin, with_fin_acked, with_first_ack, with_ack, check_ack, check_syn, check_rst, waiting_again, accepts, is_allowed, check_place, in_others}
 use Rattle.ft_model.specs.Client as machine
-use Rattle.ft_model.specs.Client.{Client, is_live, is_open, is_ended, next_of, room_of}
+use Rattle.ft_model.specs.Client.{Client, is_live, is_open, is_ended, holds, next_of, room_of}
 use Rattle.ft_model.specs.Client.ClientKind.{Live}
 use Rattle.ft_model.specs.declared.phase.Phase.TheVariants.{Reset}
 use Rattle.peer_client.specs.Standing.{Hears, Sends}
@@ -40,7 +40,7 @@ pub record Keeps (e : Tcb) (c : Client) (written : ℕ) (t : Tcb) (d : Client) :
   pub fin : e.receiving.fin ≡ true → t.receiving.fin ≡ true
   pub hears : Hears t.receiving d
   pub sends : Sends t.sending written d
-  pub same : d ≡ record c { phase = d.phase; acknowledged = d.acknowledged; accepted = d.accepted }
+  pub same : d ≡ record c { phase = d.phase; acknowledged = d.acknowledged; accepted = d.accepted; early = d.early }
   pub phase : is_open d.phase ≡ true
 
 -- what may go on before a segment comes
@@ -97,6 +97,8 @@ ack_kept e c written name owed wait seq room ack b sent = record {
     count = b.hears.count;
     rest = b.hears.rest;
     fin = b.hears.fin;
+    early = b.hears.early;
+    behind = b.hears.behind;
     within = b.hears.within;
     queued = b.hears.queued;
   };
@@ -106,7 +108,7 @@ ack_kept e c written name owed wait seq room ack b sent = record {
 }
 
 -- text and FIN
-sends_heard : (s : Sending) (written : ℕ) (d d' : Client) → d' ≡ record d { phase = d'.phase; accepted = d'.accepted } → Sends s written d → Sends s written d'
+sends_heard : (s : Sending) (written : ℕ) (d d' : Client) → d' ≡ record d { phase = d'.phase; accepted = d'.accepted; early = d'.early } → Sends s written d → Sends s written d'
 sends_heard s written d d' same h =
     subst (λ (x : Client). Sends s written x) (sym same) (record {
       sent = h.sent;
@@ -141,29 +143,29 @@ heard_kept e c written x d d' r name owed wait k h = record {
   hears = h.hears;
   sends = sends_heard x.sending written d d' h.same k.sends;
   same = h.same
-      ∙ (λ i. record (k.same i) { phase = d'.phase; accepted = d'.accepted })
-      ∙ (λ i. record c { phase = d'.phase; acknowledged = ap (λ (y : Client). y.acknowledged) (sym h.same) i; accepted = d'.accepted });
+      ∙ (λ i. record (k.same i) { phase = d'.phase; accepted = d'.accepted; early = d'.early })
+      ∙ (λ i. record c { phase = d'.phase; acknowledged = ap (λ (y : Client). y.acknowledged) (sym h.same) i; accepted = d'.accepted; early = d'.early });
   phase = h.phase;
 }
 
-text_kept : (e : Tcb) (c : Client) (written : ℕ) (x : Tcb) (d : Client) (p : Segment) → has_syn p ≡ false → has_rst p ≡ false → d.edge ≡ receive_edge x.receiving
+text_kept : (e : Tcb) (c : Client) (written : ℕ) (x : Tcb) (d : Client) (p : Segment) → has_syn p ≡ false → has_rst p ≡ false → d.kind ≡ Live → d.edge ≡ receive_edge x.receiving
     → Keeps e c written x d
     → Keeps e c written (with_text_and_fin x p) (machine.with_added d (machine.came d p))
 unfolding with_text_and_fin
-text_kept e c written x d p syn rst edge k =
+text_kept e c written x d p syn rst kind edge k =
     let z : ℤ = first x p in
     let r : Receiving = with_segment x.receiving z p.payload (has_fin p) in
     let text : p.payload ≡ text_of p = λ i. if sym syn i || sym rst i then [] else p.payload in
     let fin : has_fin p ≡ fin_of p = sym (and_true (has_fin p)) ∙ (λ i. has_fin p && not (sym syn i || sym rst i)) in
     let d' : Client = machine.with_added d (machine.came d p) in
-    let args : machine.with_added d (comes (length d.accepted) d.edge (is_ended d.phase) z p.payload (has_fin p)) ≡ d' =
-    λ i. machine.with_added d (comes (length d.accepted) d.edge (is_ended d.phase) (first_of (sym k.hears.sisn i) p) (text i) (fin i)) in
+    let args : machine.with_added d (comes (length d.accepted) d.edge (is_ended d.phase) (holds d.kind d.early) z p.payload (has_fin p)) ≡ d' =
+    λ i. machine.with_added d (comes (length d.accepted) d.edge (is_ended d.phase) (holds d.kind d.early) (first_of (sym k.hears.sisn i) p) (text i) (fin i)) in
     let h : Heard x.receiving d r d' =
-    subst (λ (y : Client). Heard x.receiving d r y) args (segment_heard x.receiving d z p.payload (has_fin p) k.hears k.phase edge) in
-    let taking : Tcb = record x { receiving = r; owed = x.owed || int_lt (pos (next x.receiving)) z } in
+    subst (λ (y : Client). Heard x.receiving d r y) args (segment_heard x.receiving d z p.payload (has_fin p) k.hears kind k.phase edge) in
+    let taking : Tcb = record x { receiving = r } in
     holds_if (λ (t : Tcb). Keeps e c written t d') (r.fin && not x.receiving.fin) (entering (after_fin x.name) taking) taking
-    (λ _. heard_kept e c written x d d' r (after_fin x.name) taking.owed (entering (after_fin x.name) taking).wait k h)
-    (λ _. heard_kept e c written x d d' r x.name taking.owed x.wait k h)
+    (λ _. heard_kept e c written x d d' r (after_fin x.name) x.owed (entering (after_fin x.name) taking).wait k h)
+    (λ _. heard_kept e c written x d d' r x.name x.owed x.wait k h)
 
 -- fifth check
 pub few_sent : (s : Sending) (written : ℕ) (c : Client) (b : Bool) → s.fin_sent ≡ b → Sends s written c → s.sent ≤ 2 ^ 24 + 1
@@ -187,9 +189,9 @@ acked_kept e c written e1 owed wait p is syn rst near b =
     let within : int_lt (pos e.sending.sent) (ack_at e p) ≡ false = sym (ahead_is e.sending.sent (ack_at e p) few near_at) ∙ k in
     subst (λ n. Keeps e c written (with_text_and_fin (if fin_acked m.sending then entering (after_fin_acked m.name) m else m) p) (later n)) b.iss
     (holds_if (λ (x : Tcb). Keeps e c written (with_text_and_fin x p) (later e.sending.iss)) (fin_acked m.sending) (entering (after_fin_acked m.name) m) m
-    (λ q. text_kept e c written (entering (after_fin_acked m.name) m) (machine.with_ack c (ack_at e p)) p syn rst b.edge
+    (λ q. text_kept e c written (entering (after_fin_acked m.name) m) (machine.with_ack c (ack_at e p)) p syn rst b.kind b.edge
     (ack_kept e c written (after_fin_acked e.name) owed (entering (after_fin_acked m.name) m).wait p.head.seq p.head.window (ack_at e p) b within))
-    (λ q. text_kept e c written m (machine.with_ack c (ack_at e p)) p syn rst b.edge
+    (λ q. text_kept e c written m (machine.with_ack c (ack_at e p)) p syn rst b.kind b.edge
     (ack_kept e c written e.name owed wait p.head.seq p.head.window (ack_at e p) b within)))))
 
 -- a SYN and a segment without ACK change nothing of this

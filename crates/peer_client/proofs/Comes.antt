@@ -1,17 +1,18 @@
 -- A segment comes to an established connection: the client machine receives what its TCP does.
-use Rattle.std.proofs.Common.{◌≡◌, ℕ, ◌≤◌, ◌+◌, ◌-◌, ◌^◌, max, Bool, true, false, List, ◌++◌, length, length-append, take, drop, drop-drop, refl, sym, ap, subst, arith, ◌∙◌}
+use Rattle.std.proofs.Common.{◌≡◌, ℕ, ◌≤◌, ◌+◌, ◌-◌, ◌^◌, Bool, true, false, List, ◌++◌, length, length-append, take, drop, drop-drop, refl, sym, ap, subst, arith, ◌∙◌}
 use Rattle.std.specs.Prelude.{ℤ, pos, ◌-ℤ◌, ◌≤ℤ◌, ◌&&◌, nat_abs, int_lt, int_le, if◌then◌else◌}
 use Rattle.std.proofs.lemmas.Int.{ints}
 use Rattle.std.proofs.lemmas.Bool.{false≢true}
 use Rattle.std.proofs.lemmas.List.{drop-append-le}
 use Rattle.seq_arith.specs.Arrival.{is_new_ack}
-use Rattle.seq_arith.specs.Coming.{Came, comes}
-use Rattle.seq_arith.proofs.Coming.{comes_within, fin_stays}
+use Rattle.seq_arith.specs.Coming.{Came, StandsBehind, comes}
+use Rattle.seq_arith.proofs.Coming.{comes_within, fin_stays, stays_behind}
 use Rattle.tcp_buffers.specs.Near.{is_ahead}
 use Rattle.tcp_endpoint.specs.Receiving.{Receiving, taken, receive_edge, came, with_came, with_segment}
 use Rattle.tcp_endpoint.specs.Sending.{Sending, acknowledged, moves_edge}
 use Rattle.ft_model.specs.Client as machine
-use Rattle.ft_model.specs.Client.{Client, is_ended, is_open}
+use Rattle.ft_model.specs.Client.{Client, is_ended, is_open, holds}
+use Rattle.ft_model.specs.Client.ClientKind.{Live}
 use Rattle.ft_model.specs.declared.phase.Phase.{Phase}
 use Rattle.ft_model.specs.declared.phase.Phase.TheVariants.{Ended}
 use Rattle.peer_client.specs.Standing.{Hears, Sends}
@@ -34,7 +35,7 @@ pub record Heard (r : Receiving) (d : Client) (r' : Receiving) (d' : Client) : T
   pub limit : r'.limit ≡ r.limit
   pub grows : taken r ≤ taken r'
   pub keeps : r.fin ≡ true → r'.fin ≡ true
-  pub same : d' ≡ record d { phase = d'.phase; accepted = d'.accepted }
+  pub same : d' ≡ record d { phase = d'.phase; accepted = d'.accepted; early = d'.early }
   pub phase : is_open d'.phase ≡ true
 
 -- where the FIN is taken the client has ended, and it is open as before
@@ -46,13 +47,14 @@ open_is : (b : Bool) (phase : Phase) → is_open phase ≡ true → is_open (if 
 open_is true phase h = refl
 open_is false phase h = h
 
--- what is added within the receive edge, on both sides
-added_heard : (r : Receiving) (d : Client) (c : Came) → Hears r d → is_open d.phase ≡ true → taken r + length c.added ≤ max (taken r) (receive_edge r)
-    → (r.fin ≡ true → c.fin ≡ true) → Heard r d (with_came r c) (machine.with_added d c)
+-- what is added within the receive edge, on both sides, and what is held then
+added_heard : (r : Receiving) (d : Client) (c : Came) → Hears r d → d.kind ≡ Live → is_open d.phase ≡ true → taken r + length c.added ≤ receive_edge r
+    → StandsBehind (taken r + length c.added) (receive_edge r) c.fin c.early → (r.fin ≡ true → c.fin ≡ true) → Heard r d (with_came r c) (machine.with_added d c)
 unfolding with_came
-added_heard r d c h phase few keeps =
+added_heard r d c h kind phase few behind keeps =
     let both : length (r.unread ++ c.added) ≡ length r.unread + length c.added = length-append r.unread c.added in
     let longer : length (d.accepted ++ c.added) ≡ length d.accepted + length c.added = length-append d.accepted c.added in
+    let all : taken r + length c.added ≡ r.read + length (r.unread ++ c.added) = omega (arith, both) in
     record {
       hears = record {
         sisn = h.sisn;
@@ -60,8 +62,10 @@ added_heard r d c h phase few keeps =
         count = omega (arith, both, longer, h.count);
         rest = drop-append-le r.read d.accepted c.added (omega (arith, h.count)) ∙ (λ i. h.rest i ++ c.added);
         fin = ended_is c.fin d.phase r.fin h.fin keeps;
-        within = omega (arith, both, few, h.within);
-        queued = omega (arith, both, few, h.within, h.queued);
+        early = ap (λ k. holds k c.early) kind;
+        behind = subst (λ (n : ℕ). StandsBehind n (receive_edge r) c.fin c.early) all behind;
+        within = omega (arith, both, few);
+        queued = omega (arith, both, few);
       };
       read = refl;
       limit = refl;
@@ -71,11 +75,18 @@ added_heard r d c h phase few keeps =
       phase = open_is c.fin d.phase phase;
     }
 
-pub segment_heard : (r : Receiving) (d : Client) (z : ℤ) (text : List ℕ) (fin : Bool) → Hears r d → is_open d.phase ≡ true → d.edge ≡ receive_edge r
-    → Heard r d (with_segment r z text fin) (machine.with_added d (comes (length d.accepted) d.edge (is_ended d.phase) z text fin))
-segment_heard r d z text fin h phase edge =
-    subst (λ (c : Came). Heard r d (with_segment r z text fin) (machine.with_added d c)) (λ i. comes (sym h.count i) (sym edge i) (sym h.fin i) z text fin)
-    (added_heard r d (came r z text fin) h phase (comes_within (taken r) (receive_edge r) r.fin z text fin) (fin_stays (taken r) (receive_edge r) r.fin z text fin))
+-- the live machine holds what its TCP holds, so that the same comes of a segment
+pub segment_heard : (r : Receiving) (d : Client) (z : ℤ) (text : List ℕ) (fin : Bool) → Hears r d → d.kind ≡ Live → is_open d.phase ≡ true → d.edge ≡ receive_edge r
+    → Heard r d (with_segment r z text fin)
+    (machine.with_added d (comes (length d.accepted) d.edge (is_ended d.phase) (holds d.kind d.early) z text fin))
+segment_heard r d z text fin h kind phase edge =
+    let n : ℕ = taken r in
+    let e : ℕ = receive_edge r in
+    let held : holds d.kind d.early ≡ r.early = ap (λ k. holds k d.early) kind ∙ h.early in
+    subst (λ (c : Came). Heard r d (with_segment r z text fin) (machine.with_added d c))
+    (λ i. comes (sym h.count i) (sym edge i) (sym h.fin i) (sym held i) z text fin)
+    (added_heard r d (came r z text fin) h kind phase (comes_within n e r.fin r.early z text fin h.behind)
+    (stays_behind n e r.fin r.early z text fin (omega (arith, h.behind.text)) h.behind) (fin_stays n e r.fin r.early z text fin))
 
 -- an acknowledgement of what was sent
 both_le : (una sent : ℕ) (z : ℤ) → int_le (pos una) z ≡ true → int_le z (pos sent) ≡ true → nat_abs z ≤ sent

@@ -4,6 +4,7 @@ use Rattle.std.specs.Prelude.{◌&&◌, ◌||◌, nat_lt, nat_le, if◌then◌el
 use Rattle.std.proofs.lemmas.Bool.{false≢true}
 use Rattle.ft_io.specs.declared.Addr.{Addr}
 use Rattle.seq_arith.specs.Packet.{Segment}
+use Rattle.seq_arith.proofs.Coming.{nothing_behind}
 use Rattle.segment_codec.specs.Value.{said}
 use Rattle.segment_codec.specs.declared.Head.{Head}
 use Rattle.tcp_endpoint.specs.declared.states.StateName.TheVariants.{SynSent}
@@ -30,7 +31,17 @@ unfolding connecting listening
 starts local server isn script short = record {
   agrees = record {
     same = record { kind = refl; ip = refl; port = refl; server = refl; script = refl; isn = refl; local = refl; remote = refl };
-    hears = record { sisn = refl; limit = omega arith; count = refl; rest = refl; fin = refl; within = omega arith; queued = omega arith };
+    hears = record {
+      sisn = refl;
+      limit = omega arith;
+      count = refl;
+      rest = refl;
+      fin = refl;
+      early = refl;
+      behind = nothing_behind 0 (min 65535 (2 ^ 24)) false (omega arith);
+      within = omega arith;
+      queued = omega arith;
+    };
     sends = record {
       sent = refl;
       acknowledged = refl;
@@ -293,6 +304,8 @@ turn_ended_waits m c h =
             count = h.agrees.hears.count;
             rest = h.agrees.hears.rest;
             fin = unended c.phase h.phase ∙ h.agrees.hears.fin;
+            early = h.agrees.hears.early;
+            behind = h.agrees.hears.behind;
             within = h.agrees.hears.within;
             queued = h.agrees.hears.queued;
           };

@@ -3,7 +3,9 @@ use Rattle.std.proofs.Common.{◌≡◌, ◌⊎◌, inl, inr, ℕ, ◌≤◌, �
 use Rattle.std.specs.Prelude.{◌==◌, ◌||◌, nat_le, if◌then◌else◌}
 use Rattle.std.proofs.lemmas.Bool.{false≢true}
 use Rattle.std.proofs.lemmas.List.{take-append-drop, drop-append-le, take-take, drop-take, take_min}
+use Rattle.seq_arith.specs.Coming.{StandsBehind}
 use Rattle.seq_arith.specs.Offset.{one_if}
+use Rattle.seq_arith.proofs.Coming.{behind_up}
 use Rattle.tcp_endpoint.specs.States.{has_begun}
 use Rattle.tcp_endpoint.specs.Receiving.{Receiving, next, taken, receive_edge, announced_edge, read_out}
 use Rattle.tcp_endpoint.specs.Sending.{Sending, timed}
@@ -24,6 +26,18 @@ use Rattle.ft_io.proofs.Booleans.{right_true}
 use Rattle.ft_io.proofs.Choices.{holds_if}
 
 -- bytes that are read
+pub read_edge : (r : Receiving) (n : ℕ) → receive_edge r ≤ receive_edge (read_out r n)
+read_edge r n = omega arith
+
+read_taken : (r : Receiving) (n : ℕ) → n ≤ length r.unread → taken (read_out r n) ≡ taken r
+read_taken r n few = omega (arith, length-drop n r.unread, few)
+
+pub read_behind : (r : Receiving) (n : ℕ) → n ≤ length r.unread → StandsBehind (taken r) (receive_edge r) r.fin r.early
+    → StandsBehind (taken (read_out r n)) (receive_edge (read_out r n)) r.fin r.early
+read_behind r n few h =
+    behind_up (taken (read_out r n)) (receive_edge r) (receive_edge (read_out r n)) r.fin r.early (read_edge r n)
+    (subst (λ (k : ℕ). StandsBehind k (receive_edge r) r.fin r.early) (sym (read_taken r n few)) h)
+
 pub read_hears : (r : Receiving) (c : Client) (n : ℕ) → n ≤ length r.unread → Hears r c → Hears (read_out r n) c
 read_hears r c n few h =
     let left : length (drop n r.unread) ≡ length r.unread - n = length-drop n r.unread in
@@ -33,6 +47,8 @@ read_hears r c n few h =
       count = omega (arith, h.count, left, few);
       rest = sym (drop-drop n r.read c.accepted) ∙ ap (drop n) h.rest;
       fin = h.fin;
+      early = h.early;
+      behind = read_behind r n few h.behind;
       within = omega (arith, h.within, left, few);
       queued = omega (arith, h.queued, left);
     }
@@ -132,12 +148,6 @@ pub record Ready (l : LiveState) (c : Client) (u : Tcb) (written : ℕ) : Type 0
   pub unreset : u.reset ≡ false
   pub edge : c.edge ≤ receive_edge u.receiving
   pub told : (u.owed ≡ true) ⊎ Told u c
-
-pub read_edge : (r : Receiving) (n : ℕ) → receive_edge r ≤ receive_edge (read_out r n)
-read_edge r n = omega arith
-
-read_taken : (r : Receiving) (n : ℕ) → n ≤ length r.unread → taken (read_out r n) ≡ taken r
-read_taken r n few = omega (arith, length-drop n r.unread, few)
 
 told_read : (u : Tcb) (c : Client) (n : ℕ) → n ≤ length u.receiving.unread → (u.owed ≡ true) ⊎ Told u c
     → (u.owed ≡ true) ⊎ Told (record u { receiving = read_out u.receiving n }) c
@@ -253,7 +263,17 @@ sent_more u c written sent fin edge w more h = record {
 
 same_hears : (r : Receiving) (c : Client) (sent edge : ℕ) → Hears r c → Hears r (grown c sent edge)
 same_hears r c sent edge h =
-    record { sisn = h.sisn; limit = h.limit; count = h.count; rest = h.rest; fin = h.fin; within = h.within; queued = h.queued }
+    record {
+      sisn = h.sisn;
+      limit = h.limit;
+      count = h.count;
+      rest = h.rest;
+      fin = h.fin;
+      early = h.early;
+      behind = h.behind;
+      within = h.within;
+      queued = h.queued;
+    }
 
 pub speaks_of : (l : LiveState) (c : Client) (u : Tcb) (written : ℕ) → IsSame l c → is_open c.phase ≡ true → Ready l c u written
     → Speaks u c written (receive_edge u.receiving)

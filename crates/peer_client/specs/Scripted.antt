@@ -1,6 +1,7 @@
 -- The scripted client over bytes: what it sends at an event of a schedule, and what it does with bytes that come.
-use Rattle.std.specs.Prelude.{◌≡◌, ℕ, ℤ, Bool, ◌<◌, ◌^◌, ◌++◌, List, length, take, drop, Some, None, Result, Ok, Err}
-use Rattle.seq_arith.specs.Coming.{Came, comes}
+use Rattle.std.specs.Prelude.{◌≡◌, ℕ, ℤ, Bool, pos, ◌-◌, ◌<◌, ◌^◌, ◌&&◌, ◌||◌, ◌++◌, nat_lt, int_lt, List, [], length, take, drop, Some, None, Result, Ok, Err, if◌then◌else◌}
+use Rattle.seq_arith.specs.Arrival.{int_eq, below}
+use Rattle.seq_arith.specs.Coming.{Came, nothing_early, comes}
 use Rattle.seq_arith.specs.Packet.{Segment}
 use Rattle.seq_arith.specs.PacketGrammar.{reading, spelling}
 use Rattle.seq_arith.specs.declared.BadPacket.{BadPacket}
@@ -27,7 +28,16 @@ pub record Refuses (client : Client) (event : Event) (why : EventWhy) : Type 0 w
 
 -- what a text that begins at `first`, and a FIN behind it, add to what the client has accepted
 abbrev pub added : Client → ℤ → List ℕ → Bool → Came
-added client first text fin = comes (length client.accepted) client.edge (is_ended client.phase) first text fin
+added client first text fin = comes (length client.accepted) client.edge (is_ended client.phase) nothing_early first text fin
+
+-- In plain words, for one that holds nothing: the text from the end of the accepted bytes up to the right edge. There is none of a text that begins behind
+-- a gap, and none once the FIN is accepted
+unfoldable pub next_text : (n edge : ℕ) → Bool → ℤ → List ℕ → List ℕ
+next_text n edge fin first text = if fin || int_lt (pos n) first then [] else take (edge - n) (drop (below n first) text)
+
+-- a FIN is accepted where all bytes end that are accepted, below the right edge
+unfoldable pub is_fin_at : (n edge : ℕ) → ℤ → Bool
+is_fin_at n edge place = int_eq place (pos n) && nat_lt n edge
 
 -- the client with bytes that come to it: it receives the segment that they say, and drops bytes that say none
 abbrev pub hearing : Client → Result Segment BadPacket → Client

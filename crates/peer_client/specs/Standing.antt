@@ -1,6 +1,7 @@
 -- How the client machine of the model stands beside a live client: the machine has accepted what the client's TCP has taken, and has sent and
 -- announced what TCP has. Every call keeps this, and each segment that leaves is a move of the machine.
 use Rattle.std.specs.Prelude.{◌≡◌, ◌⊎◌, ℕ, Bool, true, false, pos, ◌+◌, ◌-ℤ◌, ◌≤ℤ◌, ◌^◌, ◌<◌, ◌≤◌, ◌==◌, ◌&&◌, Option, None, Some, Result, Ok, Err, List, [], ◌∷◌, length, take, drop, if◌then◌else◌}
+use Rattle.seq_arith.specs.Coming.{StandsBehind}
 use Rattle.seq_arith.specs.Number.{number_at}
 use Rattle.seq_arith.specs.Offset.{one_if, ack_of}
 use Rattle.seq_arith.specs.Packet.{Segment, has_ack}
@@ -46,13 +47,15 @@ pub record IsSame (l : LiveState) (c : Client) : Type 0 where
   pub local : l.tcb.local ≡ l.local
   pub remote : l.tcb.remote ≡ l.server
 
--- what TCP has taken is accepted
+-- what TCP has taken is accepted, and what TCP holds is held
 pub record Hears (r : Receiving) (c : Client) : Type 0 where
   pub sisn : c.sisn ≡ r.irs
   pub limit : r.limit ≡ 2 ^ 24
   pub count : length c.accepted ≡ taken r
   pub rest : drop r.read c.accepted ≡ r.unread
   pub fin : is_ended c.phase ≡ r.fin
+  pub early : c.early ≡ r.early
+  pub behind : StandsBehind (taken r) (receive_edge r) r.fin r.early
   pub within : taken r ≤ r.limit
   pub queued : length r.unread ≤ 65535
 

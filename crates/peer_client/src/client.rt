@@ -35,6 +35,7 @@ pub struct Client {
 
 impl Model for Client {
     ghost use Rattle.std.specs.Prelude.{ℕ, ◌≤◌, ◌+◌, ◌^◌, length};
+    ghost use Rattle.seq_arith.specs.Coming.{nothing_early};
     ghost use Rattle.ft_model.specs.Client as machine;
     ghost use Rattle.ft_model.specs.Client.ClientKind.{Scripted};
 
@@ -52,6 +53,7 @@ impl Model for Client {
       acknowledged = c.acknowledged;
       accepted = c.accepted.items;
       edge = c.edge;
+      early = nothing_early;
     } };
 
     ghost invariant = { λ c. (length c.script.items ≤ 2 ^ 24) × (c.sent ≤ 2 ^ 24 + 1) };

@@ -1,11 +1,10 @@
 //! What the scripted client does with a packet that comes to it (RFC 9293, 3.10.7.3 and 3.10.7.4, as far as a client that never answers goes).
 
 ghost use Rattle.std.specs.Prelude.{◌≡◌, pos, ◌≤ℤ◌, OnOk, OnErr, length};
-ghost use Rattle.seq_arith.specs.Coming.{new_text};
 ghost use Rattle.segment_codec.specs.Value.{segment_of as value_of};
 ghost use Rattle.ft_model.specs.Client as machine;
 ghost use Rattle.ft_model.specs.Client.{is_ended};
-ghost use Rattle.peer_client.specs.Scripted.{delivered, added};
+ghost use Rattle.peer_client.specs.Scripted.{delivered, added, next_text};
 
 use crate::arrival::{is_acceptable, is_at, is_fin_at, number_of, offset_of, part, skipped};
 use crate::client::Client;
@@ -95,25 +94,26 @@ impl Client {
         Ok(())
     }
 
-    /// Accepts what a text that begins at `first`, and the FIN behind it, add to the server's stream.
-    #[tactic(auto, unfolding(seq_arith::specs::Coming::comes))]
+    /// Accepts what a text that begins at `first`, and the FIN behind it, add to the server's stream. What stands behind a gap is dropped.
+    #[tactic(auto, using(crate::proofs::Alone::accepted_is))]
     fn accept(&mut self, first: i64, text: &[u8], fin: bool) -> Result<(), NoMemory>
         ensures taken { OnOk result (self.new ≡ machine.with_added self.old (added self.old first text.now fin)) }
         ensures kept { OnErr result (self.new ≡ self.old) }
     {
-        let added = self.new_text(first, text);
+        let added = self.next_text(first, text);
         let next = (self.accepted.len() + added.len()) as u64;
+        let ends = fin && is_fin_at(next, self.edge, first, text.len() as u64);
         self.accepted.extend_from_slice(added)?;
-        if fin && is_fin_at(next, self.edge, first, text.len() as u64) {
+        if ends {
             self.phase = Phase::Ended;
         }
         Ok(())
     }
 
     /// The part of a text that continues what is accepted, up to the right edge.
-    #[tactic(auto, unfolding(seq_arith::specs::Coming::new_text))]
-    fn new_text<'a>(&self, first: i64, text: &'a [u8]) -> &'a [u8]
-        ensures { result.now ≡ new_text (length self.now.accepted) self.now.edge (is_ended self.now.phase) first text.now }
+    #[tactic(auto, unfolding(crate::specs::Scripted::next_text))]
+    fn next_text<'a>(&self, first: i64, text: &'a [u8]) -> &'a [u8]
+        ensures { result.now ≡ next_text (length self.now.accepted) self.now.edge (is_ended self.now.phase) first text.now }
     {
         let next = self.accepted.len() as u64;
         if self.phase == Phase::Ended || (first >= 0 && first as u64 > next) {

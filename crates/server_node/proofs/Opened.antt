@@ -1,8 +1,8 @@
 -- What the log's answers to an opening, and its word that a connection has ended, do at the slot of their key.
 use Rattle.std.proofs.Common.{◌≡◌, ◌∙◌, Bool, true, false, ◌==◌, eq-eqb, refl, sym, ap, subst, true≢false, List, [], ◌∷◌, append-nil, Option, Some, None, cond}
-use Rattle.std.specs.List.{AllByRecursion, IsDistinct}
+use Rattle.std.specs.List.{IsDistinct}
 use Rattle.std.specs.Bool.{MatchBool}
-use Rattle.std.specs.Map.{lookup, set_value, remove_entry, keys_of}
+use Rattle.std.specs.Map.{lookup, set_value, keys_of}
 use Rattle.ft_io.specs.declared.Key.{Key}
 use Rattle.ft_io.specs.Key.{key_eq}
 use Rattle.seq_arith.specs.Message.{Message}

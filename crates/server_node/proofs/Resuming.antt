@@ -10,7 +10,7 @@ use Rattle.ft_model.specs.Node.Input.{Packet_comes, Message_comes, Tick_comes}
 use Rattle.ft_model.specs.Lawful.{Rests, Continues, Fetches, StageTurn, NodeTurn, AreSound, IsSoundInput, asked, held, fence, is_fenced, summary_count, fetched_then, restored_count}
 use Rattle.ft_model.specs.Wire.{Wire}
 use Rattle.reincarnate.specs.Asking.{FetchingState}
-use Rattle.reincarnate.specs.Standing.{AnswerLeads, StandsFetching}
+use Rattle.reincarnate.specs.Standing.{AnswerLeads}
 use Rattle.reincarnate.specs.Standing as restart
 use Rattle.server_node.specs.declared.identity.Identity.{Identity}
 use Rattle.server_node.specs.declared.serving.Serving.{Serving}

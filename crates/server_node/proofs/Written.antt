@@ -1,10 +1,9 @@
 -- What a turn of a connection sends is for its client or for the logger, and each number in it fits its field.
-use Rattle.std.proofs.Common.{◌≡◌, ℕ, ◌+◌, ◌-◌, ◌<◌, ◌≤◌, ◌^◌, true, ◌&&◌, ◌||◌, nat_lt, nat_le, refl, sym, subst, ⊎_elim, Option, Some, None, IfSome, List, [], ◌∷◌, ◌++◌, map, length, take, drop, arith, length-drop, length-take}
+use Rattle.std.proofs.Common.{◌≡◌, ℕ, ◌+◌, ◌-◌, ◌<◌, ◌≤◌, ◌^◌, true, ◌&&◌, ◌||◌, nat_le, refl, sym, subst, Option, Some, None, IfSome, List, [], ◌∷◌, ◌++◌, map, length, take, drop, arith, length-drop, length-take}
 use Rattle.std.specs.List.{AllByRecursion}
 use Rattle.std.proofs.lemmas.Bool.{and_from, le-leb}
 use Rattle.ft_io.specs.declared.Addr.{Addr}
 use Rattle.ft_io.specs.declared.Key.{Key}
-use Rattle.seq_arith.specs.Arrival.{below}
 use Rattle.seq_arith.specs.Packet.{Segment, has_syn, has_rst}
 use Rattle.seq_arith.specs.PacketGrammar as packet
 use Rattle.seq_arith.specs.Message.{Part, Body}
@@ -13,13 +12,13 @@ use Rattle.seq_arith.specs.MessageGrammar as message
 use Rattle.seq_arith.specs.MessageGrammar.{flag, is_sound, has_length}
 use Rattle.server_trait.specs.Service.{Machine}
 use Rattle.ft_model.specs.Connection.{LiveTurn, ResetTurn, told_by}
-use Rattle.ft_model.specs.Copy.{copy_start, copied_text, copies_fin, una_part, copied_part, copies}
+use Rattle.ft_model.specs.Copy.{copies}
 use Rattle.ft_model.specs.Ending.{dones, tells_done}
 use Rattle.ft_model.specs.Network.{Packet, destination_of}
 use Rattle.ft_model.specs.Network.Packet.{To_client, To_logger}
 use Rattle.ft_model.specs.News.{News}
 use Rattle.ft_model.specs.News.News.{Comes, Logged, Ticks, Begins}
-use Rattle.ft_model.specs.Offset.{first_of, text_of}
+use Rattle.ft_model.specs.Offset.{text_of}
 use Rattle.ft_model.specs.Point.{Point, answered_run}
 use Rattle.ft_model.specs.Readable.{FitsAddr}
 use Rattle.ft_model.specs.Reads.{read_messages, first_told, reads_told}
@@ -30,7 +29,8 @@ use Rattle.ft_model.proofs.Spoken.Spoken.{spoken_syn, spoken_text, spoken_fin, s
 use Rattle.wrapped_conn.proofs.Sendable.{FitsKey, done_sendable, read_sendable}
 use Rattle.ft_io.proofs.Choices.{holds_if}
 use Rattle.ft_model.proofs.Wires.{flag_low}
-use Rattle.ft_model.proofs.Copied.{text_in, all_copies, cut_short}
+use Rattle.ft_model.proofs.Copied.{Grows, text_in, all_copies}
+use Rattle.ft_model.proofs.Running.{taken_more}
 
 -- the numbers of a point are within their ranges
 pub record IsInRange (q : Point) : Type 0 where
@@ -108,11 +108,12 @@ news_short (Logged kept) h = omega arith
 news_short Ticks h = omega arith
 news_short Begins h = omega arith
 
-copies_told : (boot : ℕ) (news : News) (p q : Point) → IsBoot boot → IsShort news → IsInRange q → AllByRecursion (IsTold boot) (copies news p q)
-copies_told boot news p q b short r =
+copies_told : (boot : ℕ) (news : News) (p q : Point) → IsBoot boot → IsShort news → IsInRange q → Grows p q → AllByRecursion (IsTold boot) (copies news p q)
+copies_told boot news p q b short r grows =
     all_copies (IsTold boot) news p q
-    (λ part c. data_told boot part b (subst FitsKey (sym c.key) r.key) (omega (arith, c.within, r.taken)) (subst (λ n. n ≤ 2 ^ 24 + 1) (sym c.acked) r.una)
-    (cut_short part.bytes (text_in news) 1460 c.text (news_short news short)))
+    (λ part c. let within = c.within grows in
+    data_told boot part b (subst FitsKey (sym c.key) r.key) (omega (arith, within, r.taken)) (subst (λ n. n ≤ 2 ^ 24 + 1) (sym c.acked) r.una)
+    (c.short (news_short news short)))
 
 abbrev pub AreLow : List ℕ → Type 0
 AreLow lengths = AllByRecursion (λ n. n ≤ 2048) lengths
@@ -143,7 +144,7 @@ live_written service server boot news p q sent a b short r low t =
     all_weaker (Spoken service server news p q) (λ s. IsWritten q.key (To_client s)) (segments_of service server news p q)
     (λ s spoken. segment_written service server news p q s a r spoken) (segments_spoken service server news p q) in
     let bodies : AllByRecursion (IsTold boot) (copies news p q ++ (reads_told news p q ++ dones news p q)) =
-    all_append (IsTold boot) (copies news p q) _ (copies_told boot news p q b short r)
+    all_append (IsTold boot) (copies news p q) _ (copies_told boot news p q b short r (taken_more news p q t.taken))
     (all_append (IsTold boot) (reads_told news p q) (dones news p q) (reads_are_told boot news p q b r low) (dones_told boot news p q b r.key)) in
     subst (AllByRecursion (IsWritten q.key)) (sym t.packets)
     (all_append (IsWritten q.key) (map To_client (segments_of service server news p q)) _ (all_map (IsWritten q.key) To_client (segments_of service server news p q) segments)

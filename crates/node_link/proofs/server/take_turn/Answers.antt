@@ -1,5 +1,5 @@
 use Rattle.ft_model.specs.Legal.{machines}
-use Rattle.std.proofs.Common.{◌≡◌, ◌∙◌, ◌≤◌, ◌^◌, sym, ap, subst, length, take, Some, None, Err, arith}
+use Rattle.std.proofs.Common.{◌≡◌, ◌∙◌, ◌≤◌, ◌^◌, sym, ap, subst, length, take, Some, Err, arith}
 use Rattle.node_link.specs.Received.{datagram, IsQuiet}
 use Rattle.ft_model.specs.Node.{Stage as law_stage}
 use Rattle.ft_model.specs.Lawful.{fence}

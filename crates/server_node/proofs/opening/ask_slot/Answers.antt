@@ -1,4 +1,4 @@
-use Rattle.std.proofs.Common.{Result, Ok, Err, OnOk, subst, sym, ⊎_elim}
+use Rattle.std.proofs.Common.{subst, sym, ⊎_elim}
 use Rattle.std.proofs.lemmas.Result.{on_ok_weaker}
 use Rattle.ft_model.specs.Node.Input.{Tick_comes}
 use Rattle.server_node.specs.Identity.{node_of}

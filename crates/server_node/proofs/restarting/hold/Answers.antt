@@ -1,4 +1,4 @@
-use Rattle.std.proofs.Common.{rules, tests, ◌≡◌, ◌∙◌, ◌&&◌, not, true, Result, Ok, Err, OnOk, option_map, ap, sym}
+use Rattle.std.proofs.Common.{rules, tests, ◌≡◌, ◌∙◌, ◌&&◌, not, true, option_map, ap, sym}
 use Rattle.std.proofs.lemmas.Result.{on_ok_weaker}
 use Rattle.seq_arith.specs.Packet.{has_rst}
 use Rattle.segment_codec.specs.Value.{segment_of}

@@ -1,4 +1,4 @@
-use Rattle.std.proofs.Common.{rules, tests, ◌≡◌, true, false, Result, Ok, Err, IfOk, sym, subst}
+use Rattle.std.proofs.Common.{rules, tests, ◌≡◌, true, false, sym, subst}
 use Rattle.server_trait.specs.Service.{machine}
 use Rattle.logger_wire.specs.Value.{message_of}
 use Rattle.reincarnate.specs.Standing.{StandsFetching, AnswerLeads, fetched_then}

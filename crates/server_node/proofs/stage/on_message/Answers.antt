@@ -1,4 +1,4 @@
-use Rattle.std.proofs.Common.{Result, Ok, Err, IfOk, subst}
+use Rattle.std.proofs.Common.{subst}
 use Rattle.server_trait.specs.Service.{machine}
 use Rattle.logger_wire.specs.Value.{message_of}
 use Rattle.ft_model.specs.Lawful.{StageTurn}

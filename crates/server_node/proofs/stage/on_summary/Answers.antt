@@ -1,4 +1,4 @@
-use Rattle.std.proofs.Common.{rules, ◌≡◌, ◌∙◌, [], None, Result, Ok, Err, IfOk, subst, sym}
+use Rattle.std.proofs.Common.{rules, ◌≡◌, ◌∙◌, [], None, subst, sym}
 use Rattle.server_trait.specs.Service.{machine}
 use Rattle.logger_wire.specs.Value.{body_of, message_of}
 use Rattle.ft_model.specs.Lawful.{Fetches, summary_count}
