@@ -2,10 +2,17 @@
 """Writes link_script's script and what it has to print: link_oracle.py SCRIPT PRINTED.
 
 The expected lines follow the written rules alone: which command lines are allowed stands in a table made by hand, and the logger, the server before it has a
-connection, and the pair are played by the short models below, with the messages' bytes made here. What a server with Counter does to one client, and how it
-starts again from the log, is written down step by step."""
+connection, and the pair are played by the short models below, with the messages' bytes made here. How a client's life ends is written down by hand, and the
+endpoint of tools/endpoint_model.py lives it too. What a server with Counter does to one client, and how it starts again from the log, is written down step by
+step."""
+import pathlib
 import random
 import sys
+
+sys.path.insert(0, str(pathlib.Path(__file__).parent.parent / "tools"))
+
+from endpoint_model import Endpoint  # noqa: E402
+from model import LIMIT, Segment  # noqa: E402
 
 script, printed = [], []
 
@@ -235,6 +242,7 @@ run(SERVER[:-1] + "40", [("127.0.0.1:7008", summary(1, 0))] + hostile)
 run(LOGGER[:-1] + "40", hostile + [("10.0.0.1:1", hello(3))])
 # A client at 192.0.2.1:40000 with the number 1000; its server is at 192.0.2.100:7 and has the number 5000
 SYN, ACK, FIN, RST = 2, 16, 1, 4
+spent, reset = "ftnode: spent", "ftnode: reset"
 SERVER_IP, CLIENT_IP = bytes([192, 0, 2, 100]), bytes([192, 0, 2, 1])
 
 
@@ -250,7 +258,35 @@ def packet(flags, seq, ack, text=b""):
     return (head(checksum(head(0))) + body(checksum(pseudo + body(0)))).hex()
 
 
+def lived(comes, turns, script, receive=0):
+    """The life of a client: its status, what it accepted, and how many receives and sends there were."""
+    it, accepted, left, sends = Endpoint(1000, LIMIT, True), b"", list(comes), 0
+    sends += len(it.flush())
+    for count in range(1, turns + 1):
+        came = left.pop(0) if left and count != receive else None
+        if came is None:
+            it.tick()
+        else:
+            flags = "".join(sorted(letter for letter, bit in (("A", ACK), ("F", FIN), ("R", RST), ("S", SYN)) if came[0] & bit))
+            it.arrive(Segment(flags, came[1], came[2], 65535, None, came[3] if len(came) > 3 else b""))
+        if it.opened and not it.closed and it.state != "CLOSED":
+            script = script[it.write(script) :]
+            if not script:
+                it.close()
+        accepted += it.read(LIMIT)
+        sends += len(it.flush())
+        if it.reset:
+            return 7, accepted, count, sends
+        if it.state in ("TIME-WAIT", "CLOSED"):
+            return 0, accepted, count, sends
+    return 8, accepted, turns, sends
+
+
 def life(comes, turns, status, said, receives, sends, script=b"", **fails):
+    if set(fails) <= {"receive"}:
+        ended, accepted, *counts = lived(comes, turns, script, **fails)
+        told = accepted.decode().splitlines() + [text for number, text in ((7, reset), (8, spent)) if number == ended]
+        assert (ended, told, counts) == (status, said, [receives, sends]), (comes, ended, told, counts)
     for came in comes:
         script_line = f"come 192.0.2.100:7 {packet(*came)}"
         line(script_line)
@@ -266,7 +302,7 @@ line("# lives of a client: its SYN, its FIN and its last ACK are sent; hello is 
 both = (SYN | ACK, 5000, 1001)
 closed = [both, (FIN | ACK, 5001, 1002)]
 hello_comes = [both, (ACK, 5001, 1002, b"hello"), (FIN | ACK, 5006, 1002)]
-spent, reset = "ftnode: spent", "ftnode: reset"
+
 life(closed, 5, 0, [], 2, 3)
 life(closed, 2, 0, [], 2, 3)
 life(closed, 1, 8, [spent], 1, 2)
@@ -278,16 +314,28 @@ life([both, (ACK, 5001, 1002, b"he\n"), (RST, 5004, 0)], 5, 7, ["he", reset], 3,
 life([both, (RST, 5002, 0)], 2, 8, [spent], 2, 3)
 life([], 1, 8, [spent], 1, 2)
 # The right edge of the client's window is 5001 + 65535. A RST there is answered by an ACK; one past it isn't. A bare acknowledgement there is used
-# and answered, so that the server's FIN, with an older one, comes to a client whose own FIN is acknowledged; a byte there, or one past it, is not used.
+# and not answered, so that the server's FIN, with an older one, comes to a client whose own FIN is acknowledged; a byte there, or one past it, is not used.
 EDGE = 5001 + 65535
 life([both, (RST, EDGE, 0)] + closed[1:], 5, 0, [], 3, 4)
 life([both, (RST, EDGE + 1, 0)] + closed[1:], 5, 0, [], 3, 3)
 late = (FIN | ACK, 5001, 1001)
-life([both, (ACK, EDGE, 1002), late], 3, 0, [], 3, 4)
+life([both, (ACK, EDGE, 1002), late], 3, 0, [], 3, 3)
 life([both, (ACK, EDGE, 1002, b"x"), late], 3, 8, [spent], 3, 4)
 life([both, (ACK, EDGE + 1, 1002), late], 3, 8, [spent], 3, 4)
 life([both, (ACK, EDGE, 1003), late], 3, 8, [spent], 3, 4)
 life([both, (FIN | ACK, 5001, 1004)], 5, 0, [], 2, 4, script=b"hi")
+line("# what comes early is held, and accepted once it continues: text, and a FIN", "# what comes early is held, and accepted once it continues: text, and a FIN")
+life([both, (ACK, 5003, 1002, b"llo\n"), (ACK, 5001, 1002, b"he"), (FIN | ACK, 5007, 1002)], 5, 0, ["hello"], 4, 5)
+life([both, (FIN | ACK, 5003, 1002, b"llo\n"), (ACK, 5001, 1002, b"he")], 5, 0, ["hello"], 3, 4)
+life([both, (FIN | ACK, 5004, 1002), (ACK, 5001, 1002, b"he\nllo")], 5, 0, ["he"], 3, 4)
+life([both, (ACK, 5007, 1002, b"x\n"), (FIN | ACK, 5004, 1002), (FIN | ACK, 5001, 1002, b"abcdef")], 4, 8, ["abcdefx", spent], 4, 5)
+life([both, (ACK, 5003, 1002, b"XXX\n"), (ACK, 5004, 1002, b"yy"), (ACK, 5001, 1002, b"aab"), (FIN | ACK, 5007, 1002)], 9, 0, ["aabyy"], 5, 6)
+life([both, (ACK, 5003, 1002, b"llo\n"), (RST, 5001, 0)], 5, 7, [reset], 3, 3)
+life([both, (ACK, 5003, 1002, b"llo\n"), (ACK, 5003, 1002), (ACK, 5001, 1002, b"\n")], 4, 8, ["", spent], 4, 4)
+runs = [(ACK, 5002 + 2 * n, 1002, b"x") for n in range(16)]
+fill = b"abcdefghijklmnopqrstuvwxyz01234"
+life([both, *runs, (ACK, 5040, 1002, b"yy"), (ACK, 5033, 1002, b"\n"), (ACK, 5001, 1002, fill[:1]), (ACK, 5003, 1002, fill[2:]), (FIN | ACK, 5034, 1002)], 22, 0,
+    ["axcdefghijklmnopqrstuvwxyz01234x"], 22, 23)
 life(closed, 5, 9, ["ftnode: read fault"], 0, 0, script=b"hi", read=2)
 life(closed, 5, 4, ["ftnode: link fault"], 0, 0, bind=1)
 line("# faults of the bind and of the sinks", "# faults of the bind and of the sinks")

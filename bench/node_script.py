@@ -2,11 +2,18 @@
 """Writes the script of node_script and what it must print: node_script.py REPORTS FOLDER, into FOLDER/stdin and FOLDER/stdout.
 
 REPORTS is a folder with the reports of the worked runs. Of each the turns of the server are taken, and what the report says that the server sends
-is what must be printed. Packets and messages are spelled here, apart from the repository's codecs. The other cases are set by hand below.
+is what must be printed. Packets and messages are spelled here, apart from the repository's codecs. The other cases are set by hand below, but for
+those on held segments: what a server does there is told by the model in tools/model.py.
 """
 import os
+import pathlib
 import struct
 import sys
+
+sys.path.insert(0, str(pathlib.Path(__file__).parent.parent / "tools"))
+
+import model  # noqa: E402
+from seed_model import packet_words  # noqa: E402
 
 REPORTS = sys.argv[1]
 OUT = sys.argv[2]
@@ -192,6 +199,13 @@ play_report("closing", "both FINs, over a crash")
 play_report("segment_while_restarting", "a segment comes while the server restarts")
 play_report("zero_window", "a zero window is probed")
 play_report("number_wrap", "numbers that wrap")
+play_report("held_segments", "a text that comes before the one in front of it", {
+    13: [(K, numbers(0, 0, 0, 0, 0, 0, 0))],
+    14: [(K, numbers(0, 5, 0, 5, 1, 0, 0))],
+}.items())
+play_report("early_acknowledgement", "an acknowledgement past the next number", {
+    11: [(K, numbers(0, 0, 0, 0, 0, 0, 0))],
+}.items())
 
 # ---- by hand -----------------------------------------------------------------------------------------------------------------------------
 
@@ -322,7 +336,7 @@ say(pkt(packet(client_key(1), SERVER, "A", 1001, 5002, 65535, None, b"")), to_cl
 say(conn(client_key(2)), numbers((5002 - (900000 + 65536)) % 2**32, 0, 0, 0, 0, 0, 0))
 say(conn(client_key(1)), "none")
 
-say("# at the right edge a bare segment is used and a RST is owed an ACK; a byte there, or a segment one past it, is not acceptable")
+say("# at the right edge a bare segment is used and owed nothing, and a RST is owed an ACK; a byte there, or a segment one past it, is not acceptable")
 say("boot 1 1 5000", to_logger(HELLO))
 say(msg(SUMMARY))
 say(pkt(syn(A)), to_logger(opening("Open", 1, A, 1000, 5000)))
@@ -342,10 +356,134 @@ say(pkt(packet(A, SERVER, "A", EDGE, 5006, 65535, None, b"")[:-1] + b"!"))
 say(conn(A), numbers(0, 5, 5, 5, 1, 0, 5))
 say(pkt(packet(A, SERVER, "R", EDGE + 1, 0, 0, None, b"")))
 say(pkt(packet(A, SERVER, "R", EDGE, 0, 0, None, b"")), unused)
-say(pkt(packet(A, SERVER, "A", EDGE, 5006, 65535, None, b"")), unused,
+say(pkt(packet(A, SERVER, "A", EDGE, 5006, 65535, None, b"")),
     to_logger(told("Data", f"boot 1 key {text_key(A)} offset 5 acked 5 fin 0 bytes -".split())))
 say(conn(A), numbers(0, 5, 5, 5, 1, 5, 5))
 say("tick")
+
+# ---- held segments, by the model -----------------------------------------------------------------------------------------------------------
+
+class Played:
+    """A server and a log of the model, and a client that says what it is told to. Each turn is a line of the script, with what the model sends in it."""
+
+    def __init__(self, service):
+        self.service, self.log, self.sent = service, model.Log(), []
+        self.boot(1, 5000)
+
+    def boot(self, boot, isn):
+        self.server = model.Server(boot, isn, self.service)
+        self.turn(f"boot {SERVICES[self.service]} {boot} {isn}", self.server.asked())
+        self.drain()
+
+    def turn(self, line, sent):
+        says = []
+        for key, content in sent:
+            words = packet_words(content).split()
+            says.append(to_client(key_of(key), segment("S>1", words, {"1": key_of(key)})) if key else to_logger(told(words[0], words[1:])))
+        say(line, *says)
+        self.sent = [content for key, content in sent if key is None]
+
+    def drain(self):
+        """The log answers what was sent to it, in order."""
+        waiting = self.sent
+        while waiting:
+            answer, waiting = self.log.answer(waiting[0]), waiting[1:]
+            if answer:
+                words = packet_words(answer).split()
+                self.turn(msg(told(words[0], words[1:])), self.server.on_message(answer))
+                waiting = waiting + self.sent
+
+    def comes(self, at, text=b"", flags="A", ack=0, key=K):
+        """A segment of the client at an offset of its stream, whose initial number is 4294967290. Nothing of it is logged yet."""
+        it = model.Segment(flags, (4294967291 + at) % 2**32, (5001 + ack) % 2**32 if "A" in flags else 0, 65535, None, text)
+        self.turn(pkt(segment("1>S", packet_words(it).split(), {"1": key_of(key)})), self.server.on_segment(key, it))
+
+    def begins(self, key=K):
+        self.comes(-1, flags="S", key=key)
+        self.drain()
+        self.comes(0, ack=0 if key == K else 65536, key=key)
+
+    def shows(self, key=K):
+        place = self.server.places[key]
+        delta = (place.sisn - self.server.isn) % 2**32
+        say(conn(key_of(key)), numbers(delta, place.taken(), place.answered, place.consumed, len(place.lengths), place.una, place.sent))
+
+def letters(start, stop):
+    return bytes(97 + at % 26 for at in range(start, stop))
+
+say("# held text and a held FIN are taken with the text that fills the gap: further Data follow, and the FIN goes in the last of them")
+it = Played("meter")
+it.begins()
+it.comes(5, letters(5, 9))
+it.shows()
+it.comes(12, letters(12, 14), "AF")
+it.comes(9, letters(9, 10))
+it.comes(0, letters(0, 5))
+it.shows()
+it.drain()
+it.comes(10, letters(10, 12))
+it.shows()
+it.drain()
+say("# only the FIN was held: its Data has no bytes. Text past it is cut")
+it = Played("meter")
+it.begins()
+it.comes(3, b"", "AF")
+it.comes(1, letters(1, 9))
+it.comes(0, letters(0, 9))
+it.shows()
+it.drain()
+say("# a FIN before held text isn't held, and neither is a seventeenth run of text")
+it = Played("meter")
+it.begins()
+for place in range(16):
+    it.comes(2 + 2 * place, letters(2 + 2 * place, 3 + 2 * place))
+it.comes(40, letters(40, 42))
+it.comes(1, b"", "AF")
+it.comes(33, letters(33, 34))
+it.comes(0, letters(0, 32))
+it.shows()
+it.drain()
+it.comes(34, letters(34, 40), "AF")
+it.shows()
+say("# two clients that each hold their own text, and one of them resets")
+it = Played("echo")
+OTHER = "192.0.2.2:40000"
+it.begins()
+it.begins(OTHER)
+it.comes(2, b"llo")
+it.comes(2, b"LLO", ack=65536, key=OTHER)
+it.comes(0, b"", "R", key=OTHER)
+it.comes(0, b"he")
+it.shows()
+say("# a restart while text is held: it is forgotten, and what fills the gap is taken alone, until the rest comes again")
+it = Played("echo")
+it.begins()
+it.comes(0, b"he")
+it.drain()
+it.comes(4, b"o", "AF", ack=2)
+it.comes(3, b"l", ack=2)
+it.boot(2, 900000)
+it.shows()
+it.comes(2, b"l", ack=2)
+it.drain()
+it.shows()
+it.comes(3, b"lo", "AF", ack=3)
+it.drain()
+it.shows()
+say("# a turn with 46 Data and 32 Read: a whole window is held behind one byte, with a FIN below the edge, and SND.UNA rises with that byte. The service has")
+say("# closed, so its reads make no output and none of them waits")
+it = Played("transfer")
+it.begins()
+it.comes(0, bytes(5))
+it.drain()
+LAST = 5 + 65534
+for at in range(6, LAST, 1460):
+    it.comes(at, letters(at, min(at + 1460, LAST)), "AF" if at + 1460 >= LAST else "A")
+it.shows()
+it.comes(5, letters(5, 6), ack=1)
+assert [said.name for said in it.sent] == ["Data"] * 46 + ["Read"] * 32
+assert [said.fields["fin"] for said in it.sent[:46]] == [0] * 45 + [1] and {said.fields["acked"] for said in it.sent[:46]} == {1}
+it.shows()
 
 say("# hostile datagrams: a server that asks and one that fetches say nothing, and go on as if none had come")
 say("boot 1 1 5000", to_logger(HELLO))

@@ -2,7 +2,7 @@
 
 It follows the laws of docs/MODEL.md in stream offsets, with whole streams in memory and no TCP inside: a second way to the same reports, outside the
 proofs. What it makes of a schedule is compared with what `ftreplay` makes of it (tools/seed_model.py), so no line here may be taken from the program.
-Held segments and congestion control are not in it.
+Congestion control is not in it.
 """
 from collections import namedtuple
 
@@ -12,6 +12,8 @@ READ = 2048  # bytes of a read
 UNANSWERED = 32  # reads on their way to the log
 OPENINGS = 64  # also the entries of a log
 PACKETS = 200_000  # packets of a run
+RUNS = 16  # runs of bytes that are held behind a gap
+PIECE = 1460  # the most bytes of a Data
 
 # The bytes of a message without what follows its fields.
 SIZES = {"Hello": 16, "Summary": 18, "List": 18, "Entry": 48, "Bytes": 26, "Part": 26, "Cuts": 26, "Lens": 26, "Open": 32, "Opened": 32}
@@ -188,6 +190,41 @@ def is_at_zero_window(came, first, following, edge):
     return first == following == edge and "A" in came.flags and not {"S", "R"} & set(came.flags)
 
 
+class Stream:
+    """A peer's stream as it is received: the bytes taken, whether its FIN is, and what stands behind a gap: bytes and a FIN by their offsets."""
+
+    def __init__(self):
+        self.data, self.fin = bytearray(), 0
+        self.held, self.held_fin = {}, None
+
+    def come(self, first, text, has_fin, edge):
+        """The text and the FIN of a segment that counts. Nothing from the edge on is taken or held."""
+        end = len(self.data)
+        start = max(first, end)
+        stop = end if self.fin else edge if self.held_fin is None else min(edge, self.held_fin)
+        new = text[start - first : max(start, stop) - first]
+        if start > end:
+            self.hold(start, new)
+        else:
+            self.data += new
+            self.held = {at: byte for at, byte in self.held.items() if at >= len(self.data)}
+        if has_fin and self.may_hold_fin(first + len(text), edge):
+            self.held_fin = first + len(text)
+        while len(self.data) in self.held:
+            self.data.append(self.held.pop(len(self.data)))
+        if self.held_fin == len(self.data):
+            self.fin, self.held_fin = 1, None
+
+    def hold(self, start, text):
+        """Text behind a gap, where the held bytes form at most 16 runs then."""
+        held = {**self.held, **dict(enumerate(text, start))}
+        if sum(at - 1 not in held for at in held) <= RUNS:
+            self.held = held
+
+    def may_hold_fin(self, at, edge):
+        return not self.fin and self.held_fin is None and len(self.data) <= at < edge and at > max(self.held, default=-1)
+
+
 class Entry:
     """What the log keeps of one connection."""
 
@@ -273,13 +310,14 @@ class Log:
         return "Ended", {"key": entry.key}
 
 
-class Connection:
+class Connection(Stream):
     """A live connection of one incarnation, as its point: what is taken, logged, read, sent and acknowledged, in offsets."""
 
     def __init__(self, key, cisn, sisn, mss, service):
+        super().__init__()
         self.key, self.cisn, self.sisn, self.mss = key, cisn, sisn, mss
         self.service, self.output, self.after_read = Service(service), bytearray(), [(0, False)]
-        self.fetched, self.data, self.fin, self.answered = 0, bytearray(), 0, 0
+        self.fetched, self.answered = 0, 0
         self.lengths, self.consumed, self.reads_answered = [], 0, 0
         self.una = self.sent = self.edge = self.wl1 = self.wl2 = 0
         self.counted, self.interval, self.rest = False, 1, 1
@@ -344,7 +382,7 @@ class Connection:
         if self.reset:
             return self.turn_reset(kind, came)
         una, taken, right, answered, was_over = self.una, self.taken(), self.right(), self.answered, self.is_over()
-        segments, owed, copied, silent = [], kind == "live", None, False
+        segments, owed, copied, silent = [], kind == "live", [], False
         if kind == "segment":
             if self.is_repeated_syn(came):
                 segments, owed = [self.syn_ack()], False
@@ -378,29 +416,26 @@ class Connection:
         return came.flags == "S" and came.seq == self.cisn and self.taken() == 0 and self.una == 0
 
     def arrive(self, came):
-        """A segment comes: whether one is owed, whether nothing is to leave, and which part of it the log is to have."""
+        """A segment comes: whether one is owed, whether nothing is to leave, and which parts of the stream the log is to have."""
         first, length, following, edge = gap(came.seq, self.cisn + 1), length_of(came), self.taken(), self.right()
+        had, had_fin = len(self.data), self.fin
         fits = is_acceptable(first, length, following, edge) or is_at_right_edge(first, length, following, edge)
         if "R" in came.flags:
             self.reset = fits and first == following
-            return fits, False, None
+            return fits, False, []
         if "S" in came.flags:
-            return True, False, None
+            return True, False, []
         acked = gap(came.ack, self.sisn + 1)
         below_syn = not self.counted and acked < 0
         if fits and "A" in came.flags and below_syn:
-            return False, True, self.copy(came, first)
+            return False, True, self.copies(came, first, had, had_fin)
         if "A" in came.flags and not below_syn and (fits or is_at_zero_window(came, first, following, edge)):
             self.take(came, first, acked)
-        owed = not fits or length > 0 or "A" in came.flags and first > following
-        return owed, False, self.copy(came, first)
+        return not fits or length > 0, False, self.copies(came, first, had, had_fin)
 
     def take(self, came, first, acked):
         """A segment that counts: its text and FIN, its acknowledgement and window."""
-        edge = self.right() - self.fin
-        if not self.fin and first <= len(self.data):
-            self.data += came.text[len(self.data) - first :][: max(0, edge - len(self.data))]
-            self.fin = int("F" in came.flags and first + len(came.text) == len(self.data) < edge)
+        self.come(first, came.text, "F" in came.flags, self.right() - self.fin)
         una, lowered = self.una, min(acked, self.sent)
         window = min(WINDOW, came.window + acked - lowered)
         if lowered >= una and (not self.counted or self.wl1 < first or self.wl1 == first and self.wl2 <= lowered):
@@ -410,14 +445,18 @@ class Connection:
             self.interval = self.rest = 1
         self.counted = True
 
-    def copy(self, came, first):
-        """The part of a segment that is taken and not known to be logged: its offset, its bytes, and whether the FIN is with them."""
-        end = first + len(came.text)
-        start, stop = max(first, self.answered), min(end, len(self.data))
-        fin = int("F" in came.flags and self.fin and end == len(self.data) and self.answered <= len(self.data))
-        if start < stop:
-            return start, bytes(self.data[start:stop]), fin
-        return (len(self.data), b"", 1) if fin else None
+    def copies(self, came, first, had, had_fin):
+        """The parts of the stream that go to the log, each with its offset and whether the FIN is with it: of the segment, what is taken and not known to
+        be logged; then what the turn took out of what was held. `had` bytes were taken before the turn."""
+        end, taken = first + len(came.text), len(self.data)
+        start = max(first, 0, self.answered)
+        own = came.text[start - first : max(start, taken) - first]
+        own_fin = int("F" in came.flags and self.fin and end == taken and self.answered <= taken)
+        parts = [(start, own, own_fin)] if own or own_fin else []
+        start = max(self.answered, had, min(end, taken))
+        fin = int(self.fin and not had_fin and not own_fin and self.answered <= taken)
+        parts += [(at, bytes(self.data[at : at + PIECE]), fin * (at + PIECE >= taken)) for at in range(start, taken, PIECE)]
+        return parts + ([(start, b"", 1)] if fin and start >= taken else [])
 
     def hear(self, came):
         said = came.fields
@@ -470,11 +509,10 @@ class Connection:
         return segments
 
     def tell(self, kind, copied, rose, made):
-        """What the log is told: the copy, or that more is acknowledged; the reads; that the connection has ended."""
-        told = []
-        if copied or rose:
-            offset, data, fin = copied or (min(self.answered, len(self.data)), b"", 0)
-            told.append(self.message("Data", offset=offset, acked=self.una, fin=fin, bytes=data))
+        """What the log is told: the copies, or that more is acknowledged; the reads; that the connection has ended."""
+        if rose and not copied:
+            copied = [(min(self.answered, len(self.data)), b"", 0)]
+        told = [self.message("Data", offset=offset, acked=self.una, fin=fin, bytes=data) for offset, data, fin in copied]
         indexes = range(self.reads_answered, len(self.lengths)) if kind == "tick" else made
         told += [self.message("Read", index=index, length=self.lengths[index]) for index in indexes]
         if kind == "tick" and self.is_over() and self.answered >= self.taken():

@@ -5,9 +5,10 @@ import pathlib
 import re
 import unittest
 
-from model import Client, Connection, Log, Message, Segment, Server, Service, World, size_of
-from seed_model import play as report_of
-from seed_model import summary
+from endpoint_model import play_script
+from model import Client, Connection, Log, Message, Segment, Server, Service, Stream, World, size_of
+from reordered import drawn
+from replay_stored import FOLDER, printed
 
 KEY, SERVER = "192.0.2.1:40000", "192.0.2.100:7"
 FIRST_PATH = "boot 1 5000|deliver 1|deliver 2|open 1 65535|deliver 3|deliver 4|deliver 5|deliver 6|ack 1 65535|deliver 7|send 1 0 5|deliver 8|deliver 10"
@@ -86,6 +87,40 @@ class Logs(unittest.TestCase):
         self.assertIsNone(log.answer(said("Bytes", key=KEY, offset=0)))
 
 
+class Streams(unittest.TestCase):
+    """What is taken and held of segments: each row is their places, texts and FINs, then the bytes taken, whether the FIN is, and what is held."""
+
+    def check(self, edge, came, data, fin=0, held="", held_fin=None):
+        stream = Stream()
+        for first, text, *has_fin in came:
+            stream.come(first, text.encode(), bool(has_fin), edge)
+        kept = "".join(chr(stream.held[at]) for at in sorted(stream.held))
+        self.assertEqual((stream.data.decode(), stream.fin, kept, stream.held_fin), (data, fin, held, held_fin), came)
+
+    def test_text(self):
+        self.check(EDGE, [(2, "llo"), (0, "he")], "hello")
+        self.check(EDGE, [(2, "BBB"), (3, "cc"), (0, "aa")], "aaBcc")
+        self.check(EDGE, [(2, "BBB"), (0, "aaaa")], "aaaaB")
+        self.check(EDGE, [(4, "e"), (-2, "xyab")], "ab", held="e")
+        self.check(4, [(2, "cdef"), (5, "f")], "", held="cd")
+
+    def test_runs(self):
+        sixteen = [(1 + 2 * place, "x") for place in range(16)]
+        self.check(EDGE, [*sixteen, (40, "y")], "", held="x" * 16)
+        self.check(EDGE, [*sixteen, (32, "y")], "", held="x" * 16 + "y")
+        self.check(EDGE, [*sixteen, (2, "y"), (40, "z")], "", held="xy" + "x" * 15 + "z")
+        self.check(EDGE, [*sixteen, (40, "y"), (0, "a")], "ax", held="x" * 15)
+
+    def test_fin(self):
+        self.check(EDGE, [(2, "", True), (0, "abcd")], "ab", 1)
+        self.check(EDGE, [(2, "", True), (3, "xy"), (1, "bc")], "", held="b", held_fin=2)
+        self.check(EDGE, [(5, "xyz"), (4, "", True), (0, "ab", True)], "ab", held="xyz")
+        self.check(EDGE, [(2, "cd", True), (6, "", True), (0, "ab")], "abcd", 1)
+        self.check(EDGE, [(0, "ab", True), (4, "x", True)], "ab", 1)
+        self.check(4, [(2, "cd", True), (0, "ab")], "abcd")
+        self.check(4, [(2, "c", True), (0, "ab")], "abc", 1)
+
+
 class Servers(unittest.TestCase):
     def test_questions(self):
         server, asked = Server(1, 5000, "meter"), []
@@ -142,7 +177,7 @@ class Receiving(unittest.TestCase):
             place = self.connection(taken)
             owed, silent, copied = place.arrive(Segment(flags, (1001 + at) % 2**32, 5001 + ack, 9, None, data))
             came = [owed, place.una, place.edge == ack + 9, place.reset]
-            self.assertEqual((came, silent, copied, len(place.data), place.fin), (wanted, False, None, taken, 0), (flags, at, ack, data))
+            self.assertEqual((came, silent, copied, len(place.data), place.fin), (wanted, False, [], taken, 0), (flags, at, ack, data))
 
     def test_zero_window(self):
         self.check(EDGE, [
@@ -165,16 +200,16 @@ class Receiving(unittest.TestCase):
 
     def test_right_edge(self):
         self.check(0, [
-            ("A", EDGE, 5, b"", True, 5, True, False),
-            ("A", EDGE, 0, b"", True, 0, True, False),
-            ("A", EDGE, -1, b"", True, 0, False, False),
+            ("A", EDGE, 5, b"", False, 5, True, False),
+            ("A", EDGE, 0, b"", False, 0, True, False),
+            ("A", EDGE, -1, b"", False, 0, False, False),
             ("", EDGE, 5, b"", False, 0, False, False),
             ("A", EDGE, 5, b"x", True, 0, False, False),
             ("AF", EDGE, 5, b"", True, 0, False, False),
             ("AS", EDGE, 5, b"", True, 0, False, False),
             ("R", EDGE, 0, b"", True, 0, False, False),
             ("AR", EDGE, 5, b"xyz", True, 0, False, False),
-            ("A", EDGE - 1, 5, b"", True, 5, True, False),
+            ("A", EDGE - 1, 5, b"", False, 5, True, False),
             ("A", EDGE + 1, 5, b"", True, 0, False, False),
             ("", EDGE + 1, 5, b"", True, 0, False, False),
             ("R", EDGE + 1, 0, b"", False, 0, False, False),
@@ -197,24 +232,54 @@ class Receiving(unittest.TestCase):
             self.assertEqual((client.acked, len(client.accepted)), (0, 0))
 
 
+class Copies(unittest.TestCase):
+    """What a turn tells the log of text that was held."""
+
+    def told(self, *came, answered=0):
+        place = Connection(KEY, 1000, 5000, 536, "meter")
+        place.turn("start")
+        place.answered = answered
+        for segment in came:
+            _, said = place.turn("segment", segment)
+        return [(it["offset"], len(it["bytes"]), it["fin"]) for name, it in said if name == "Data"]
+
+    def test_pieces(self):
+        self.assertEqual(self.told(text(2, bytes(1460)), text(1462, bytes(1460)), text(0, b"ab")), [(0, 2, 0), (2, 1460, 0), (1462, 1460, 0)])
+        self.assertEqual(self.told(text(2, bytes(1460)), text(1462, b"x"), text(0, b"abcd")), [(0, 4, 0), (4, 1459, 0)])
+        self.assertEqual(self.told(text(2, b"cd"), text(0, b"a"), text(1, b"b")), [(1, 1, 0), (2, 2, 0)])
+
+    def test_fins(self):
+        fin = Segment("AF", 1003, 5001, 65535, None, b"")
+        self.assertEqual(self.told(fin, text(0, b"ab")), [(0, 2, 0), (2, 0, 1)])
+        self.assertEqual(self.told(fin._replace(text=b"cd"), text(0, b"ab")), [(0, 2, 0), (2, 2, 1)])
+        self.assertEqual(self.told(fin, text(0, b"abcd")), [(0, 2, 0), (2, 0, 1)])
+
+    def test_whole_window(self):
+        early = [text(at, bytes(min(1460, EDGE - at))) for at in range(1, EDGE, 1460)]
+        told = self.told(*early, text(0, b"a"))
+        self.assertEqual((len(told), told[0], told[1], told[-1]), (46, (0, 1, 0), (1, 1460, 0), (64241, 1294, 0)))
+
+
 class StoredRuns(unittest.TestCase):
+    def test_endpoint_script(self):
+        folder = pathlib.Path(__file__).parent.parent / "crates" / "endpoint_script"
+        script = (folder / "stdin").read_text(errors="replace").partition("\nscript\n")[0]
+        self.assertEqual(play_script(script)[1], [])
+        names = re.findall(r"(?m)^case (.*)$", script)
+        self.assertEqual(re.findall(r"(?m)^ok (.*)$", (folder / "stdout").read_text()), names)
+
     def test_replay_script(self):
-        folder = pathlib.Path(__file__).parent.parent / "crates" / "replay_script"
-        stored, printed = (folder / "stdin").read_text(), (folder / "stdout").read_text()
-        text, played = "", 0
-        for block in stored.removeprefix("= ").split("\n= "):
-            order, _, lines = block.removesuffix("\n").partition("\n")
-            text = re.sub(r"(?m)^\*(\d+) (.*)\n", lambda it: (it[2] + "\n") * int(it[1]), lines + "\n") if lines else text
-            what, name, *words = order.split()
-            status, _, rest = printed.partition(f"{name}: status ")[2].partition("\n")
-            if what != "play" or words[1:4] != ["0", "0", "0"] or status not in ("0", "7"):
-                continue
-            words, last = words[0].split("~"), int(words[4])
-            report, why = (summary(*map(int, words[1:])), None) if words[0] == "seed" else report_of(text)
-            wanted = ([f"ftreplay: {why}"] if why else []) + report[-last:]
-            self.assertTrue(rest.startswith("\n".join(wanted) + "\n"), name)
-            played += 1
-        self.assertEqual(played, 50)
+        stored = [(FOLDER / name).read_text() for name in ("stdin", "stdout")]
+        told = {name: (stands, wanted) for name, stands, wanted in printed(*stored)}
+        self.assertEqual(sum(wanted is not None for _, wanted in told.values()), 73)
+        for name, (stands, wanted) in told.items():
+            self.assertIn(wanted, (None, stands), name)
+
+        def client(name):
+            return [line for line in told[name][0].splitlines() if line.startswith("client 1 ") and " accepted " in line]
+
+        for name in [name for name in told if name.startswith("play reordered_")]:
+            self.assertEqual(client(name), client(name.replace("reordered", "in_order")))
 
 
 class Worlds(unittest.TestCase):
@@ -236,6 +301,10 @@ class Worlds(unittest.TestCase):
             play(world, "ack 1 65535")
             drain(world, start)
             self.assertEqual((bytes(client.accepted), world.log.entries[KEY].lengths), (b"hello", [5]), f"crash behind event {count}")
+
+    def test_segments_out_of_order(self):
+        for seed in range(100):
+            self.assertEqual(drawn(seed)[1], drawn(seed, in_order=True)[1], seed)
 
     def test_sizes(self):
         self.assertEqual(size_of(said("Data", key=KEY, offset=0, acked=0, fin=0, bytes=b"hello")), 0x24)

@@ -1,0 +1,111 @@
+#!/usr/bin/env python3
+"""The stored run of `replay_script` by the model in tools/model.py.
+
+    tools/replay_stored.py [FOLDER]   writes FOLDER/stdout anew (crates/replay_script): of each order that the model can play, what it makes of it
+
+The model plays whole schedules, seeds, and crashes. What is printed of calls that fail and of words and lines that are refused stays as it stands.
+"""
+import pathlib
+import re
+import sys
+
+from model import Client, World
+from seed_model import play, script_of, summary
+
+EVENTS = 100_000  # of a schedule, and more of them are refused
+FOLDER = pathlib.Path(__file__).parent.parent / "crates" / "replay_script"
+
+
+def orders(stored):
+    """The orders of a script, each as its words and the schedule that it plays."""
+    text = ""
+    for block in stored.removeprefix("= ").split("\n= "):
+        order, _, lines = block.removesuffix("\n").partition("\n")
+        text = re.sub(r"(?m)^\*(\d+) (.*)\n", lambda it: (it[2] + "\n") * int(it[1]), lines + "\n") if lines else text
+        yield order.split(), text
+
+
+def made(words, text):
+    """What is printed of an order, or None where the model can't tell."""
+    if words[0] == "crash":
+        return crashes(words[1], text)
+    _, name, spoken, *fails, last = words
+    spoken = spoken.split("~")
+    if fails != ["0", "0", "0"]:
+        return None
+    if spoken[0] == "seed" and len(spoken) == 4 and all(word.isdigit() for word in spoken[1:]):
+        seed, count, events = map(int, spoken[1:])
+        allowed = seed < 2**64 and max(map(len, spoken[1:])) <= 20 and 1 <= count <= 16 and 1 <= events <= 20000
+        report, why = (summary(seed, count, events), None) if allowed else (None, None)
+    elif spoken == ["run"] and text.startswith("service ") and len(text.splitlines()) - text.count("\nclient ") - 2 <= EVENTS:
+        try:
+            report, why = play(text)
+        except (IndexError, ValueError):
+            return None
+    else:
+        return None
+    if report is None or why and not why.startswith("event"):
+        return None
+    told = [f"ftreplay: {why}"] if why else []
+    return "\n".join([f"{name}: status {7 if why else 0}", *told, *report[-int(last) :]]) + "\n"
+
+
+def crashes(name, text):
+    """The first events of a schedule, for each number of them, then a crash and a restart, and the client goes on as far as it must."""
+    (_, service), (_, server), (_, _, key, isn, script), *events = [line.split() for line in text.splitlines()]
+    told = ""
+    for count in range(1, len(events) + 1):
+        client = Client(key, int(isn), script_of(script))
+        world = World(service, server, [client])
+        for verb, *words in [*events[:count], ["crash"]]:
+            world.step(verb, [int(word) for word in words])
+        go_on(world, client)
+        entry = world.log.entries[key]
+        told += f"{name}, crash after {count}: {client.accepted.decode()} in reads of {len(entry.data)} bytes, {len(entry.lengths)} reads\n"
+    return told
+
+
+def go_on(world, client):
+    def happen(verb, *words):
+        sent = len(world.packets)
+        world.step(verb, list(words))
+        while sent < len(world.packets):
+            sent += 1
+            world.step("deliver", [sent])
+
+    happen("boot", 2, 900000)
+    if client.phase in ("new", "opening"):
+        happen("open", 1, 65535)
+    happen("ack", 1, 65535)
+    if client.acked == 0:
+        happen("send", 1, 0, 5)
+    happen("ack", 1, 65535)
+
+
+def printed(stored, told):
+    """What is printed of each order, in the script's order: as it stands, `None` where nothing does, and as the model makes it or `None`."""
+    marks = []
+    for words, text in orders(stored):
+        mark = f"{words[1]}: status " if words[0] == "play" else f"{words[1]}, crash after 1: "
+        at = told.find(mark, marks[-1][0] if marks and marks[-1][0] is not None else 0)
+        marks.append((at if at >= 0 else None, words, text))
+    starts = [at for at, _, _ in marks if at is not None] + [len(told)]
+    for at, words, text in marks:
+        stands = told[at : starts[starts.index(at) + 1]] if at is not None else None
+        yield " ".join(words[:2]), stands, made(words, text)
+
+
+def main():
+    folder = pathlib.Path(sys.argv[1]) if sys.argv[1:] else FOLDER
+    written = ""
+    for name, stands, wanted in printed((folder / "stdin").read_text(), (folder / "stdout").read_text()):
+        if stands is None and wanted is None:
+            sys.exit(f"{name}: the model can't tell, and nothing stands")
+        if wanted not in (None, stands):
+            print(f"{name}: {'written' if stands else 'new'}")
+        written += stands if wanted is None else wanted
+    (folder / "stdout").write_text(written)
+
+
+if __name__ == "__main__":
+    main()
