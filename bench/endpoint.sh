@@ -1,7 +1,8 @@
 #!/usr/bin/env bash
 # Segments a second of endpoint_echo, which echoes 64 MiB between two endpoints in memory, beside packets a second of a plain C loop of a
 # packet's checks (gcc -O2), in one run: segments of 1,460 bytes beside packets of 1,500 bytes, and of 64 beside 40. Of each the least
-# processor time of 7 turns, taken in turn. A segment counts once: it is written, handed over, read, and its text echoed or compared.
+# processor time of 7 turns, taken in turn. A segment counts once: it is written, handed over, read, and its text echoed or compared. Then the same echo in
+# segments of 1,460 bytes with a whole window under way: in order, with each two segments swapped, and with one packet of 100 lost; beside the first of these.
 #     bench/endpoint.sh [OLDER]
 # With OLDER, an older endpoint_echo or a checkout that has one, that one and this one echo 1 GiB (one byte less, in segments of 1,460 bytes) 21 times in turn,
 # and the least times are compared. Status 1 where this one takes over 5 % longer.
@@ -37,5 +38,22 @@ for row in "1460 1500 6000" "64 40 120000"; do
     awk -v text="$text" -v segments="$segments" -v a="$least_echo" -v packets="$((64 * rounds))" -v b="$least_c" -v bytes="$bytes" 'BEGIN {
         printf "%d bytes: %d segments in %d ms, %d a second; C, packets of %d bytes, %d a second; ratio %.3f\n",
             text, segments, a, segments / a * 1000, bytes, packets / b * 1000, segments / a * b / packets
+    }'
+done
+
+# a whole window under way: in order, swapped, and with losses, in turn
+declare -A least segments ticks
+for _ in 1 2 3 4 5 6 7; do
+    for way in window swapped lossy; do
+        a=$(spent_in_user "$echo_program" "$all" 1460 "$way")
+        is_echoed
+        segments[$way]=$(awk '/segments/ { n += $2 } END { print n }' "$work/out")
+        ticks[$way]=$(awk '/ticks/ { n = $1 } END { print n + 0 }' "$work/out")
+        [ "${least[$way]:-999999}" -le "$a" ] || least[$way]=$a
+    done
+done
+for way in window swapped lossy; do
+    awk -v way="$way" -v segments="${segments[$way]}" -v ticks="${ticks[$way]}" -v a="${least[$way]}" -v b="${least[window]}" 'BEGIN {
+        printf "%s: %d segments in %d ms, %d a second, %d ticks; bytes a second beside those in order %.3f\n", way, segments, a, segments / a * 1000, ticks, b / a
     }'
 done

@@ -1,9 +1,11 @@
-//! A client and a server endpoint in memory, for `bench/endpoint.sh`: `endpoint_echo BYTES WRITE` has the client write so many bytes in
-//! writes of WRITE bytes, the server echo them, and the client compare the echo and close. It prints the segments that each side sent and
-//! the bytes that came back. Statuses: 0, 1 where the echo differs or doesn't come to its end, 2 for wrong words, 3 without memory.
+//! A client and a server endpoint in memory, for `bench/endpoint.sh`: `endpoint_echo BYTES WRITE [WAY]` has the client write so many bytes in
+//! writes of WRITE bytes, the server echo them, and the client compare the echo and close. One segment is under way at a time; with a WAY a
+//! window of them is, which come in order (`window`), with each two swapped (`swapped`), or with one packet of 100 lost (`lossy`). It prints
+//! the segments that each side sent and the bytes that came back, and the ticks, if there were any. Statuses: 0, 1 where the echo differs or
+//! doesn't come to its end, 2 for wrong words, 3 without memory.
 #![tactic(auto)]
 
-use exchange::Exchange;
+use exchange::{Exchange, Way};
 use ft_io::NoMemory;
 use std::alloc::Global;
 use std::process::ExitCode;
@@ -18,20 +20,32 @@ struct Work {
     bytes: u32,
     /// The bytes of a write, at most those of a segment.
     write: usize,
+    way: Way,
+}
+
+fn way_of(word: &str) -> Option<Way> {
+    match word.as_bytes() {
+        b"window" => Some(Way::Window),
+        b"swapped" => Some(Way::Swapped),
+        b"lossy" => Some(Way::Lossy),
+        _ => None,
+    }
 }
 
 fn work_of(words: &[String]) -> Option<Work> {
-    let [bytes, write] = words else {
-        return None;
+    let (bytes, write, way) = match words {
+        [bytes, write] => (bytes, write, Way::Single),
+        [bytes, write, way] => (bytes, write, way_of(way.as_str())?),
+        _ => return None,
     };
     let bytes: u32 = bytes.as_str().parse().ok()?;
     let write: usize = write.as_str().parse().ok()?;
     let fits = (1..1 << 30).contains(&bytes) && (1..=1_460).contains(&write);
-    fits.then_some(Work { bytes, write })
+    fits.then_some(Work { bytes, write, way })
 }
 
 fn run(alloc: Global, work: Work) -> Result<Exchange, NoMemory> {
-    let mut exchange = Exchange::new(alloc, work.bytes, work.write)?;
+    let mut exchange = Exchange::new(alloc, work.bytes, work.write, work.way)?;
     exchange.run();
     Ok(exchange)
 }
@@ -42,7 +56,7 @@ fn main(rt: HostRuntime) -> io::Result<ExitCode> {
     };
     let Some(work) = work_of(&words) else {
         eprintln!(rt;
-            "endpoint_echo BYTES WRITE, of 1 to 1073741823 bytes and writes of 1 to 1460"
+            "endpoint_echo BYTES WRITE [window|swapped|lossy], of 1 to 1073741823 bytes and writes of 1 to 1460"
         )?;
         return Ok(ExitCode::from(2));
     };
@@ -62,6 +76,9 @@ fn main(rt: HostRuntime) -> io::Result<ExitCode> {
         server.state().name
     )?;
     println!(rt; "echoed {} bytes", exchange.echoed)?;
+    if exchange.ticks > 0 {
+        println!(rt; "{} ticks", exchange.ticks)?;
+    }
     if exchange.is_whole() {
         return Ok(ExitCode::from(0));
     }

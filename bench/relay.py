@@ -1,0 +1,155 @@
+#!/usr/bin/env python3
+"""A way with losses and delay between two ends: relay.py LISTEN TARGET LOSS DELAY_MS SEED [SWAPPED]
+
+LOSS and SWAPPED are percents of the packets, each way: a lost one doesn't come, and a swapped one comes DELAY_MS and 2 ms later than sent, so behind later
+ones. Which ones these are follows from SEED. LISTEN and TARGET are one of these two:
+
+    ADDRESS:PORT ADDRESS:PORT   datagrams of `ftnode`: its client speaks to LISTEN in the place of the server at TARGET. As their packets name both ends, the
+                                addresses and ports are changed in them, as a network address translator does, and the sums with them
+    tun:NAME tun:NAME           packets between two TUN devices, which it makes, for sockets of the kernel in two network namespaces; it needs root
+
+It says `up` once it listens, runs until it is ended by SIGTERM, and then says how many packets came, were lost and were swapped.
+"""
+import fcntl
+import heapq
+import os
+import random
+import selectors
+import signal
+import socket
+import struct
+import sys
+import time
+
+SET_DEVICE, TUN, NO_HEADER = 0x400454CA, 0x0001, 0x1000  # TUNSETIFF, IFF_TUN, IFF_NO_PI
+BEHIND = 0.002  # seconds that a swapped packet is late
+ENDS = slice(12, 24)  # source, destination and both ports of a packet
+
+
+def changed_sum(old, before, after):
+    """A checksum once some words of what it sums are others (RFC 1624)."""
+    total = (old ^ 0xFFFF) + sum(word ^ 0xFFFF for word in before) + sum(after)
+    while total > 0xFFFF:
+        total = (total & 0xFFFF) + (total >> 16)
+    return total ^ 0xFFFF
+
+
+def between(packet, source, target):
+    """The packet between other ends; without a TCP header in IPv4 of 20 bytes it stays."""
+    if len(packet) < 40 or packet[0] != 0x45 or packet[9] != 6:
+        return packet
+    ends = source[0] + target[0] + struct.pack(">HH", source[1], target[1])
+    before, after = struct.unpack(">6H", packet[ENDS]), struct.unpack(">6H", ends)
+    ip = changed_sum(int.from_bytes(packet[10:12], "big"), before[:4], after[:4])
+    tcp = changed_sum(int.from_bytes(packet[36:38], "big"), before, after)
+    return packet[:10] + struct.pack(">H", ip) + ends + packet[24:36] + struct.pack(">H", tcp) + packet[38:]
+
+
+class Way:
+    """What is under way, by the time at which it comes."""
+
+    def __init__(self, loss, delay, seed, swapped):
+        self.dice, self.loss, self.delay, self.swapped = random.Random(seed), loss, delay, swapped
+        self.waiting, self.count, self.lost, self.late = [], 0, 0, 0
+
+    def take(self, deliver):
+        """A packet is sent: `deliver` is called when it comes."""
+        self.count += 1
+        is_lost, is_late = (self.dice.random() * 100 < share for share in (self.loss, self.swapped))
+        self.lost += is_lost
+        self.late += is_late and not is_lost
+        if not is_lost:
+            heapq.heappush(self.waiting, (time.monotonic() + self.delay + is_late * BEHIND, self.count, deliver))
+
+    def give(self):
+        """Delivers what has come by now, and answers how long the next one takes."""
+        while self.waiting and self.waiting[0][0] <= time.monotonic():
+            try:
+                heapq.heappop(self.waiting)[2]()
+            except OSError:
+                self.lost += 1  # its receiver is away
+        return max(0, self.waiting[0][0] - time.monotonic()) if self.waiting else None
+
+
+class Datagrams:
+    """Clients that speak to one address, and a socket towards the target for each of them."""
+
+    def __init__(self, listen, target, way, selector):
+        self.way, self.selector, self.target, self.clients = way, selector, target, {}
+        self.front = bound(listen)
+        selector.register(self.front, selectors.EVENT_READ, self.from_client)
+
+    def from_client(self):
+        data, client = self.front.recvfrom(65536)
+        if client not in self.clients:
+            self.clients[client] = bound((self.front.getsockname()[0], 0))
+            self.selector.register(self.clients[client], selectors.EVENT_READ, lambda: self.to_client(client))
+        back = self.clients[client]
+        data = between(data, packed(back.getsockname()), packed(self.target))
+        self.way.take(lambda: back.sendto(data, self.target))
+
+    def to_client(self, client):
+        data, _ = self.clients[client].recvfrom(65536)
+        data = between(data, packed(self.front.getsockname()), packed(client))
+        self.way.take(lambda: self.front.sendto(data, client))
+
+
+class Devices:
+    """Two devices, and what is written to one comes from the other."""
+
+    def __init__(self, one, other, way, selector):
+        self.way, devices = way, [device(one), device(other)]
+        for came, goes in (devices, devices[::-1]):
+            selector.register(came, selectors.EVENT_READ, lambda came=came, goes=goes: self.pass_on(came, goes))
+
+    def pass_on(self, came, goes):
+        packet = os.read(came, 65536)
+        self.way.take(lambda: os.write(goes, packet))
+
+
+def bound(at):
+    link = socket.socket(socket.AF_INET, socket.SOCK_DGRAM)
+    link.setsockopt(socket.SOL_SOCKET, socket.SO_RCVBUF, 1 << 22)
+    link.bind(at)
+    return link
+
+
+def packed(address):
+    return socket.inet_aton(address[0]), address[1]
+
+
+def device(name):
+    it = os.open("/dev/net/tun", os.O_RDWR)
+    fcntl.ioctl(it, SET_DEVICE, struct.pack("16sH22s", name.encode(), TUN | NO_HEADER, b""))
+    return it
+
+
+def end_of(word):
+    host, _, port = word.partition(":")
+    return host, port if host == "tun" else int(port)
+
+
+def stop(*_):
+    raise KeyboardInterrupt
+
+
+def main():
+    if len(sys.argv) not in (6, 7):
+        sys.exit("relay.py LISTEN TARGET LOSS DELAY_MS SEED [SWAPPED]")
+    (listen, target), (loss, delay, seed, *swapped) = map(end_of, sys.argv[1:3]), sys.argv[3:]
+    way, selector = Way(float(loss), float(delay) / 1000, int(seed), float(swapped[0]) if swapped else 0), selectors.DefaultSelector()
+    signal.signal(signal.SIGTERM, stop)
+    try:
+        ends = Devices(listen[1], target[1], way, selector) if listen[0] == "tun" else Datagrams(listen, target, way, selector)
+        print("up", flush=True)
+        while ends:
+            for key, _ in selector.select(way.give()):
+                key.data()
+    except OSError as why:
+        sys.exit(f"relay: {why}")
+    except KeyboardInterrupt:
+        print(f"{way.count} packets, {way.lost} lost, {way.late} swapped", flush=True)
+
+
+if __name__ == "__main__":
+    main()
