@@ -4,7 +4,7 @@
 
 pub use entry_head::EntryHead;
 pub use msg_out::MsgOut;
-pub use store::LogStore;
+pub use store::{LogStore, is_answer};
 
 mod entry_head;
 pub mod laws;

@@ -50,7 +50,7 @@ impl Model for LogStore {
 }
 
 /// Whether only the logger sends such a body.
-fn is_answer(body: &Body<'_>) -> bool
+pub fn is_answer(body: &Body<'_>) -> bool
     ensures { result ≡ is_answer (body_of body.now) }
 {
     match body {

@@ -7,9 +7,9 @@ ghost use Rattle.seq_arith.specs.MessageGrammar.{lens_in};
 
 use byteorder::{BigEndian, ByteOrder};
 use ft_io::Key;
-pub use reading::read_msg;
+pub use reading::{checksum_of, read_msg, word_at};
 pub use seq_arith::BadMsg;
-pub use writing::write_msg;
+pub use writing::{checksum_of_both, write_msg};
 
 mod reading;
 mod table;

@@ -40,8 +40,9 @@ pub fn read_msg(bytes: &[u8]) -> Result<Msg<'_>, BadMsg>
     }
 }
 
+/// The number in the two bytes at a place.
 #[tactic(auto, using(std::proofs::lemmas::List::take_rest), unfolding(seq_arith::specs::Bytes::word_at))]
-fn word_at(bytes: &[u8], at: usize) -> u16
+pub fn word_at(bytes: &[u8], at: usize) -> u16
     requires { at + 2 ≤ length bytes.now }
     ensures { result ≡ word_at_lem bytes.now at }
 {
@@ -102,7 +103,7 @@ fn boot_in(bytes: &[u8]) -> u64
 }
 
 /// The checksum of a whole message, with what stands in its checksum's place.
-pub(crate) fn checksum_of(bytes: &[u8]) -> u16
+pub fn checksum_of(bytes: &[u8]) -> u16
     requires { length bytes.now < 2 ^ 16 }
     ensures { result ≡ checksum bytes.now }
 {

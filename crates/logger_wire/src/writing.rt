@@ -276,7 +276,7 @@ fn header(kind: Kind, len: u16, check: u16, boot: u64) -> [u8; HEADER]
 }
 
 /// The checksum of two strings of bytes, one behind the other.
-fn checksum_of_both(front: &[u8], rest: &[u8]) -> u16
+pub fn checksum_of_both(front: &[u8], rest: &[u8]) -> u16
     requires { length front.now + length rest.now < 2 ^ 16 }
     ensures { result ≡ checksum (front.now ++ rest.now) }
 {

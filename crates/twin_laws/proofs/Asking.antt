@@ -29,7 +29,7 @@ length_of (Some kind) bytes ok =
     in let has : messages.has_length kind (length bytes) ≡ true = not-false _ (right_false other (not (messages.has_length kind (length bytes))) sized)
     in omega (arith, (bounded kind (length bytes) has).1, room kind)
 
-read_fits : (bytes : List ℕ) → IsOk (messages.reading bytes) → (16 ≤ length bytes) × (length bytes ≤ 1491)
+pub read_fits : (bytes : List ℕ) → IsOk (messages.reading bytes) → (16 ≤ length bytes) × (length bytes ≤ 1491)
 unfolding messages.reading
 read_fits bytes ok =
     let short : Bool = nat_lt (length bytes) 16

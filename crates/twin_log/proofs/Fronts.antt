@@ -1,0 +1,82 @@
+-- What was written at the front of some room, and what is behind it.
+use Rattle.std.proofs.Common.{◌≡◌, ◌∙◌, ℕ, zero, suc, ◌+◌, ◌<◌, ◌≤◌, sym, ap, arith, refl, subst, append_assoc, get_or, List, [], ◌∷◌, ◌++◌, length, length-append, take, drop}
+use Rattle.std.specs.Prelude.{slice_get, Some}
+use Rattle.ft_io.proofs.Choices.{same_some}
+use Rattle.ft_model.proofs.Lists.{none_is_some}
+use Rattle.std.proofs.Math.Seq.{take-append_seam}
+use Rattle.std.proofs.lemmas.List.{length-take, length-map, map-append, drop-map}
+use Rattle.std.proofs.lemmas.Option.{slice_get_read}
+use Rattle.seq_arith.specs.Checksum.{checksum}
+use Rattle.seq_arith.specs.TwinDatagram.{TwinDatagram}
+use Rattle.seq_arith.specs.TwinGrammar.{spelled, spelling, behind_of, kind_of, IsSpellable}
+use Rattle.seq_arith.specs.TwinDatagram.{TwinDatagram as datagrams}
+use Rattle.twin_laws.specs.declared.part.Side.{Side}
+use Rattle.twin_laws.specs.declared.part.Side.TheVariants as sides
+use Rattle.twin_laws.specs.Kept.{forwards_sent}
+use Rattle.seq_arith.proofs.TwinSpelling.{bounded, length_of}
+
+-- no datagram is longer than the room for one
+pub datagram_fits : (d : TwinDatagram) → IsSpellable d → 16 + length (behind_of d) ≤ 1507
+datagram_fits d spellable = bounded (kind_of d) (16 + length (behind_of d)) spellable.size
+
+-- what was written at the front is the whole datagram
+pub datagram_whole : (d : TwinDatagram) (rest : List ℕ) (len : ℕ) → len ≡ 16 + length (behind_of d) → take len (spelling d ++ rest) ≡ spelling d
+unfolding spelling
+datagram_whole d rest len is =
+    let long : length (spelling d) ≡ len = length_of d (checksum (spelled d 0)) ∙ sym is
+    in ap (λ n. take n (spelling d ++ rest)) (sym long) ∙ take-append_seam (spelling d) rest
+
+pub in_front : {A : Type 0} (n : ℕ) (xs : List A) (i : ℕ) → i < length (take n xs) → slice_get (take n xs) i ≡ slice_get xs i
+in_front zero xs i within = absurd (omega (arith, within))
+in_front (suc n) [] i within = refl
+in_front (suc n) (x ∷ xs) zero within = refl
+in_front (suc n) (x ∷ xs) (suc i) within = in_front n xs i (omega (arith, within))
+
+-- what is read in front of some room
+pub read_in_front : {A : Type 0} (n : ℕ) (xs front : List A) (i : ℕ) (x : A) → take n xs ≡ front → i < length front → x ≡ get_or xs i x → slice_get front i ≡ Some x
+read_in_front n xs front i x is within read =
+    let inside : i < length (take n xs) = subst (λ ys. i < length ys) (sym is) within
+    in let all : i < length xs = omega (arith, inside, length-take n xs)
+    in ap (λ ys. slice_get ys i) (sym is) ∙ in_front n xs i inside ∙ slice_get_read xs (length xs) i x refl all read
+
+pub at_within : {A : Type 0} (xs : List A) (i : ℕ) (x : A) → slice_get xs i ≡ Some x → i < length xs
+at_within [] i x e = none_is_some x e
+at_within (y ∷ xs) zero x e = omega arith
+at_within (y ∷ xs) (suc i) x e = let less : i < length xs = at_within xs i x e in omega (arith, less)
+
+-- one Forward more
+pub forward_more : (confirmed i : ℕ) (messages : List (List ℕ)) (message : List ℕ) → slice_get messages i ≡ Some message
+    → forwards_sent confirmed (take (i + 1) messages) ≡ forwards_sent confirmed (take i messages) ++ (sides.Other, spelling (datagrams.Forward (confirmed + i + 1) message)) ∷ []
+forward_more confirmed i messages message e =
+    let next : i + 1 ≡ suc i = omega arith
+    in ap (λ k. forwards_sent confirmed (take k messages)) next ∙ more confirmed i messages message e
+  where
+    more : (n i : ℕ) (messages : List (List ℕ)) (message : List ℕ) → slice_get messages i ≡ Some message
+        → forwards_sent n (take (suc i) messages) ≡ forwards_sent n (take i messages) ++ (sides.Other, spelling (datagrams.Forward (n + i + 1) message)) ∷ []
+    more n i [] message e = none_is_some message e
+    more n zero (x ∷ messages) message e =
+        let at : n + 1 ≡ n + 0 + 1 = omega arith
+        in ap (λ m. (sides.Other, spelling (datagrams.Forward (n + 1) m)) ∷ []) (same_some e) ∙ ap (λ k. (sides.Other, spelling (datagrams.Forward k message)) ∷ []) at
+    more n (suc i) (x ∷ messages) message e =
+        let at : n + 1 + i + 1 ≡ n + suc i + 1 = omega arith
+        in ap (λ rest. (sides.Other, spelling (datagrams.Forward (n + 1) x)) ∷ rest)
+        (more (n + 1) i messages message e ∙ ap (λ k. forwards_sent (n + 1) (take i messages) ++ (sides.Other, spelling (datagrams.Forward k message)) ∷ []) at)
+
+pub forwarded : (confirmed i : ℕ) (messages : List (List ℕ)) (message : List ℕ) (before out sent : List (Side × List ℕ))
+    → (out ≡ before ++ forwards_sent confirmed (take i messages)) × (length out ≡ length before + i)
+    → sent ≡ out ++ (sides.Other, spelling (datagrams.Forward (confirmed + i + 1) message)) ∷ [] → slice_get messages i ≡ Some message
+    → (sent ≡ before ++ forwards_sent confirmed (take (i + 1) messages)) × (length sent ≡ length before + (i + 1))
+forwarded confirmed i messages message before out sent so_far is at =
+    let one : List (Side × List ℕ) = (sides.Other, spelling (datagrams.Forward (confirmed + i + 1) message)) ∷ []
+    in (
+      is ∙ ap (λ xs. xs ++ one) so_far.0 ∙ append_assoc before (forwards_sent confirmed (take i messages)) one
+          ∙ ap (λ xs. before ++ xs) (sym (forward_more confirmed i messages message at)),
+      omega (arith, ap length is, length-append out one, so_far.1),
+    )
+
+-- what the code's tactics cite
+pub ruleset seams = (take-append_seam)
+
+pub ruleset taken = (length-take)
+
+pub ruleset mapped = (length-map, map-append, drop-map)

@@ -1,0 +1,4 @@
+mod Assembled
+pub mod Cases
+pub mod Fronts
+pub mod Outgoing

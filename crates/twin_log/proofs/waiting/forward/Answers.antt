@@ -1,0 +1,13 @@
+use Rattle.twin_log.specs.Outgoing.{texts_of}
+use Rattle.twin_log.proofs.Fronts.{forwarded}
+use Rattle.twin_log.proofs.Outgoing.{forward_fits}
+use Rattle.twin_log.proofs.waiting.forward.Goals as goal
+
+pub tell-requires-clause-spellable : goal.tell-requires-clause-spellable
+tell-requires-clause-spellable c =
+    forward_fits c.args.confirmed c.loop-i.i c.args.messages.now.items c.text_at-message.result.now c.requires.asking c.requires.numbers c.text_at-message.ensures
+
+pub loop-i-preserved : goal.loop-i-preserved
+loop-i-preserved c =
+    forwarded c.args.confirmed c.loop-i.i (texts_of c.args.messages.now.items) c.text_at-message.result.now c.args.out.now c.loop-i.out c.tell.new.self c.loop-i.invariant c.tell.ensures
+    c.text_at-message.ensures

@@ -1,0 +1,29 @@
+-- What goes out of a logger as the code holds it.
+use Rattle.std.specs.Prelude.{ℕ, Bool, true, not, List, [], ◌∷◌, ◌≡◌, map, Vec}
+use Rattle.std.specs.declared.alloc.Global.{Global}
+use Rattle.std.specs.List.{AllByRecursion}
+use Rattle.seq_arith.specs.Message.{Message, is_answer}
+use Rattle.seq_arith.specs.TwinGrammar.{is_asking}
+use Rattle.twin_laws.specs.declared.part.Side.{Side}
+use Rattle.twin_laws.specs.declared.part.Side.TheVariants as sides
+use Rattle.twin_laws.specs.Twin.{Request}
+
+-- an answer of the log goes to the server; where there is none, nothing goes out
+abbrev pub answer_out : List ℕ → List (Side × List ℕ)
+answer_out [] = []
+answer_out (byte ∷ bytes) = (sides.Server, byte ∷ bytes) ∷ []
+
+-- each is a message that a server may send to a logger
+abbrev pub AreAsking : List (List ℕ) → Type 0
+AreAsking messages = AllByRecursion (λ message. is_asking message ≡ true) messages
+
+-- the bytes of messages that are held one by one
+abbrev pub texts_of : List (Vec ℕ Global) → List (List ℕ)
+texts_of messages = map (λ message. message.items) messages
+
+-- a message with the bytes in which it came
+abbrev pub request_in : List ℕ → Message → Request
+request_in bytes message = record { bytes = bytes; message = message }
+
+abbrev pub is_asking_message : Message → Bool
+is_asking_message message = not (is_answer message.body)

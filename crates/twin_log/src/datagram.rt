@@ -1,0 +1,79 @@
+//! Room for one datagram that goes out.
+
+ghost use Rattle.std.specs.Prelude.{[], ◌≡◌, ◌≤◌, length};
+ghost use Rattle.seq_arith.specs.TwinGrammar.{spelling, IsSpellable};
+ghost use Rattle.twin_laws.specs.declared.part.Side.TheVariants as sides;
+ghost use Rattle.twin_log.specs.Value.{said_by};
+
+use crate::twin_msg::TwinMsg;
+use crate::writing::write_twin;
+use std::marker::Model;
+use twin_laws::Side;
+
+/// Bytes and to whom they go, in room for 2,048 bytes.
+#[derive(Drop)]
+pub(crate) struct Datagram {
+    to: Side,
+    /// The datagram, and room behind it.
+    bytes: [u8; 2_048],
+    /// How many of these bytes are the datagram's.
+    len: usize,
+}
+
+impl Model for Datagram {
+    ghost use Rattle.std.specs.Prelude.{ℕ, ◌≤◌, List, take};
+    ghost use Rattle.twin_laws.specs.declared.part.Side.{Side};
+
+    ghost Value = { Side × List ℕ };
+
+    ghost view = { λ d. (d.to, take d.len d.bytes) };
+
+    ghost invariant = { λ d. d.len ≤ 2048 };
+}
+
+impl Datagram {
+    /// No bytes, for the server.
+    pub(crate) fn blank() -> Datagram
+        ensures { result ≡ (sides.Server, []) }
+    {
+        Datagram {
+            to: Side::Server,
+            bytes: [0; 2_048],
+            len: 0,
+        }
+    }
+
+    /// To whom it goes.
+    pub(crate) fn to(&self) -> Side
+        ensures { result ≡ self.now.0 }
+    {
+        self.to
+    }
+
+    pub(crate) fn bytes(&self) -> &[u8]
+        ensures { result.now ≡ self.now.1 }
+    {
+        &self.bytes[..self.len]
+    }
+
+    /// Puts bytes for the server in place of what there was.
+    #[tactic(auto, using(crate::proofs::Fronts::seams))]
+    pub(crate) fn answer(&mut self, bytes: &[u8])
+        requires { length bytes.now ≤ 2048 }
+        ensures { self.new ≡ (sides.Server, bytes.now) }
+    {
+        self.to = Side::Server;
+        self.bytes[..bytes.len()].copy_from_slice(bytes);
+        self.len = bytes.len();
+    }
+
+    /// Puts a datagram for the other logger in place of what there was.
+    #[tactic(auto, using(crate::proofs::Fronts::datagram_whole, crate::proofs::Fronts::datagram_fits))]
+    pub(crate) fn tell(&mut self, m: &TwinMsg<'_>)
+        requires { IsSpellable (said_by m.now) }
+        ensures { self.new ≡ (sides.Other, spelling (said_by m.now)) }
+    {
+        self.to = Side::Other;
+        self.len = write_twin(m, &mut self.bytes);
+    }
+}

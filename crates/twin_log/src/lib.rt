@@ -1,0 +1,22 @@
+//! Two loggers that act as one: the datagrams between them, and what each of them does with what comes to it. The head takes the server's
+//! messages, numbers them and forwards them; the tail applies them in that order and answers the server. When one of them has stopped and the
+//! other is told so, that one serves alone. What each does is the definition of `twin_laws`, datagram for datagram; a call that is refused
+//! for memory changes nothing.
+#![tactic(auto)]
+
+pub use reading::read_twin;
+pub use seq_arith::BadTwin;
+pub use twin_laws::{Part, Side};
+pub use twin_msg::TwinMsg;
+pub use twin_out::TwinOut;
+pub use two_logs::TwinLog;
+pub use writing::write_twin;
+
+mod datagram;
+mod reading;
+mod table;
+mod twin_msg;
+mod twin_out;
+mod two_logs;
+mod waiting;
+mod writing;

@@ -1,0 +1,70 @@
+//! The kinds of datagrams between two loggers as the code reads them: their numbers, lengths and ranges.
+
+ghost use Rattle.std.specs.Prelude.{◌≡◌};
+ghost use Rattle.seq_arith.specs.TwinGrammar.{kind_number, kind_numbered, has_length as has_length_lem, is_asking as is_asking_lem, is_sound as is_sound_lem};
+
+use logger_store::is_answer;
+use logger_wire::read_msg;
+use seq_arith::TwinKind;
+
+/// The bytes of every header.
+pub(crate) const HEADER: usize = 16;
+
+/// What every datagram begins with: "FU", and the version behind it.
+pub(crate) const MAGIC: u16 = 0x4655;
+
+pub(crate) const VERSION: u8 = 1;
+
+const KINDS: [TwinKind; 3] = [TwinKind::Forward, TwinKind::Got, TwinKind::Alone];
+
+/// A kind's number on the wire.
+pub(crate) fn number_of(kind: TwinKind) -> u8
+    ensures { result ≡ kind_number kind }
+{
+    kind as u8
+}
+
+/// The kind with a number on the wire, if there is one.
+#[tactic(auto, unfolding(seq_arith::specs::TwinGrammar::kind_numbered))]
+pub(crate) fn kind_of_number(number: u8) -> Option<TwinKind>
+    ensures { result ≡ kind_numbered number }
+{
+    KINDS
+        .iter()
+        .copied()
+        .find(|kind| number_of(*kind) == number)
+}
+
+/// Whether a datagram of a kind may have so many bytes.
+#[tactic(auto, unfolding(seq_arith::specs::TwinGrammar::has_length))]
+pub(crate) fn has_length(kind: TwinKind, len: usize) -> bool
+    ensures { result ≡ has_length_lem kind len }
+{
+    match kind {
+        TwinKind::Forward => (32..=1_507).contains(&len),
+        TwinKind::Got | TwinKind::Alone => len == HEADER,
+    }
+}
+
+/// Whether bytes are a message that a server may send to a logger.
+#[tactic(auto, unfolding(seq_arith::specs::TwinGrammar::is_asking))]
+fn is_asking(bytes: &[u8]) -> bool
+    ensures { result ≡ is_asking_lem bytes.now }
+{
+    match read_msg(bytes) {
+        Ok(msg) => !is_answer(&msg.body),
+        Err(_) => false,
+    }
+}
+
+/// Whether what a datagram of a kind says is in its range, with this number and these bytes behind its header.
+#[tactic(auto, unfolding(seq_arith::specs::TwinGrammar::is_sound))]
+pub(crate) fn is_sound(kind: TwinKind, number: u64, behind: &[u8]) -> bool
+    ensures { result ≡ is_sound_lem kind number behind.now }
+{
+    match kind {
+        TwinKind::Forward => number >= 1 && is_asking(behind),
+        TwinKind::Got => number >= 1,
+        TwinKind::Alone => number == 0,
+    }
+}

@@ -1,0 +1,138 @@
+//! What a logger sends in one turn, in room that is made once.
+
+ghost use Rattle.std.specs.Prelude.{[], ◌≡◌, ◌≤◌, ◌<◌, ◌++◌, ◌∷◌, Some, length, option_map, slice_get, slice_set, IfOk};
+ghost use Rattle.seq_arith.specs.TwinGrammar.{spelling, IsSpellable};
+ghost use Rattle.twin_laws.specs.declared.part.Side.TheVariants as sides;
+ghost use Rattle.twin_log.specs.Value.{said_by};
+
+use crate::datagram::Datagram;
+use crate::twin_msg::TwinMsg;
+use ft_io::NoMemory;
+use std::alloc::Global;
+use std::marker::Model;
+use twin_laws::Side;
+
+/// The most datagrams that one turn sends.
+const ROOM: usize = 64;
+
+/// The datagrams that a logger sends in one turn, at most 64, in order. Contracts see their list, each with its side.
+#[derive(Drop)]
+pub struct TwinOut {
+    /// Room for 64.
+    datagrams: Vec<Datagram>,
+    /// How many of them go out.
+    count: usize,
+}
+
+impl Model for TwinOut {
+    ghost use Rattle.std.specs.Prelude.{ℕ, ◌≡◌, ◌≤◌, List, take, length};
+    ghost use Rattle.twin_laws.specs.declared.part.Side.{Side};
+
+    ghost Value = { List (Side × List ℕ) };
+
+    ghost view = { λ o. take o.count o.datagrams.items };
+
+    ghost invariant = { λ o. (o.count ≤ 64) × (length o.datagrams.items ≡ 64) };
+}
+
+/// Makes room for so many datagrams.
+fn make_room(alloc: Global, count: usize) -> Result<Vec<Datagram>, NoMemory>
+    ensures { IfOk result (λ datagrams. length datagrams.items ≡ count) }
+{
+    let mut datagrams = Vec::with_capacity(alloc, count)?;
+    for _more in 0..count {
+        datagrams.push(Datagram::blank())?;
+    }
+    Ok(datagrams)
+}
+
+/// Puts an answer at a place.
+fn answer_at(datagrams: &mut [Datagram], i: usize, bytes: &[u8])
+    requires within { i < length datagrams.old }
+    requires size { length bytes.now ≤ 2048 }
+    ensures { datagrams.new ≡ slice_set datagrams.old i (sides.Server, bytes.now) }
+{
+    datagrams[i].answer(bytes);
+}
+
+/// Puts a datagram for the other logger at a place.
+fn tell_at(datagrams: &mut [Datagram], i: usize, m: &TwinMsg<'_>)
+    requires within { i < length datagrams.old }
+    requires spellable { IsSpellable (said_by m.now) }
+    ensures { datagrams.new ≡ slice_set datagrams.old i (sides.Other, spelling (said_by m.now)) }
+{
+    datagrams[i].tell(m);
+}
+
+impl TwinOut {
+    /// Room for 64 datagrams, with none in it.
+    pub fn new(alloc: Global) -> Result<TwinOut, NoMemory>
+        ensures { IfOk result (λ out. out ≡ []) }
+    {
+        Ok(TwinOut {
+            datagrams: make_room(alloc, ROOM)?,
+            count: 0,
+        })
+    }
+
+    /// How many datagrams there are.
+    #[tactic(auto, using(crate::proofs::Fronts::taken))]
+    pub fn len(&self) -> usize
+        ensures { result ≡ length self.now }
+    {
+        self.count
+    }
+
+    /// Datagram `i`, from 0.
+    fn at(&self, i: usize) -> &Datagram
+        requires { i < length self.now }
+        ensures { slice_get self.now i ≡ Some result.now }
+    {
+        &self.datagrams[i]
+    }
+
+    /// To whom datagram `i`, from 0, goes.
+    pub fn to(&self, i: usize) -> Side
+        requires { i < length self.now }
+        ensures { option_map (λ d. d.0) (slice_get self.now i) ≡ Some result }
+    {
+        self.at(i).to()
+    }
+
+    /// The bytes of datagram `i`, from 0.
+    pub fn bytes(&self, i: usize) -> &[u8]
+        requires { i < length self.now }
+        ensures { option_map (λ d. d.1) (slice_get self.now i) ≡ Some result.now }
+    {
+        self.at(i).bytes()
+    }
+
+    /// Takes all datagrams out.
+    pub fn clear(&mut self)
+        ensures { self.new ≡ [] }
+    {
+        self.count = 0;
+    }
+
+    /// Sends an answer to the server.
+    #[tactic(auto, using(std::proofs::lemmas::List::take_more_set))]
+    pub(crate) fn answer(&mut self, bytes: &[u8])
+        requires room { length self.old < 64 }
+        requires size { length bytes.now ≤ 2048 }
+        ensures { self.new ≡ self.old ++ (sides.Server, bytes.now) ∷ [] }
+    {
+        answer_at(&mut self.datagrams, self.count, bytes);
+        self.count += 1;
+    }
+
+    /// Sends a datagram to the other logger.
+    #[tactic(auto, using(std::proofs::lemmas::List::take_more_set))]
+    pub(crate) fn tell(&mut self, m: &TwinMsg<'_>)
+        requires room { length self.old < 64 }
+        requires spellable { IsSpellable (said_by m.now) }
+        ensures { self.new ≡ self.old ++ (sides.Other, spelling (said_by m.now)) ∷ [] }
+    {
+        tell_at(&mut self.datagrams, self.count, m);
+        self.count += 1;
+    }
+}

@@ -1,0 +1,375 @@
+//! One logger of two.
+
+ghost use Rattle.std.specs.Prelude.{[], ◌∷◌, ◌++◌, ◌≡◌, ◌≤◌, ◌<◌, ◌+◌, ◌^◌, true, false, Ok, OnOk, OnErr, IfOk, length};
+ghost use Rattle.seq_arith.specs.MessageGrammar.{reading};
+ghost use Rattle.seq_arith.specs.TwinGrammar.{reading as twin_reading};
+ghost use Rattle.logger_wire.specs.Value.{message_of, IsSendable};
+ghost use Rattle.twin_laws.specs.Twin.{asked, forwarded_as, told};
+ghost use Rattle.twin_laws.specs.Twin.Between.{Got};
+ghost use Rattle.twin_laws.specs.Twin.Comes.{Tells};
+ghost use Rattle.twin_laws.specs.Kept.{kept_does, paired_does, new_kept, left_alone, serves_alone, kept_head_asked, kept_tail_told, keeps_request, keeps_too, has_kept_room, kept_confirmed, sends_kept, sent_to_other, applies_kept};
+ghost use Rattle.twin_laws.specs.declared.part.Side.TheVariants as sides;
+ghost use Rattle.twin_log.specs.Outgoing.{answer_out, request_in, is_asking_message};
+
+use crate::reading::read_twin;
+use crate::twin_msg::TwinMsg;
+use crate::twin_out::TwinOut;
+use crate::waiting::{WAITING, Waiting};
+use ft_io::NoMemory;
+use logger_store::{LogStore, MsgOut, is_answer};
+use logger_wire::{Msg, read_msg};
+use std::alloc::Global;
+use std::marker::Model;
+use twin_laws::{Part, Side};
+
+/// A head or a tail: its log, and how far it is with the other. A head keeps besides the messages that the tail hasn't confirmed, at most 64.
+#[derive(Drop)]
+pub struct TwinLog {
+    part: Part,
+    /// Whether the other has stopped.
+    alone: bool,
+    log: LogStore,
+    /// A head: how many messages it took. A tail: how many it applied.
+    number: u64,
+    /// The last of these that aren't confirmed; none of a tail.
+    waiting: Waiting,
+}
+
+impl Model for TwinLog {
+    ghost use Rattle.std.specs.Prelude.{◌≤◌, length};
+    ghost use Rattle.twin_laws.specs.Kept.{Kept};
+
+    ghost Value = { Kept };
+
+    ghost view = { λ l. record { part = l.part; alone = l.alone; log = l.log; number = l.number; waiting = l.waiting } };
+
+    ghost invariant = { λ l. length l.waiting ≤ l.number };
+}
+
+impl TwinLog {
+    /// A logger of a pair, with an empty log.
+    pub fn new(alloc: Global, part: Part) -> Result<TwinLog, NoMemory>
+        ensures { IfOk result (λ l. l ≡ new_kept part) }
+    {
+        Ok(TwinLog {
+            part,
+            alone: false,
+            log: LogStore::new(alloc),
+            number: 0,
+            waiting: Waiting::new(alloc)?,
+        })
+    }
+
+    /// Its log.
+    pub fn log(&self) -> &LogStore
+        ensures { result.now ≡ self.now.log }
+    {
+        &self.log
+    }
+
+    /// How many messages a head has taken, or a tail applied.
+    pub fn number(&self) -> u64
+        ensures { result ≡ self.now.number }
+    {
+        self.number
+    }
+
+    /// Whether it serves alone.
+    pub fn is_alone(&self) -> bool
+        ensures { result ≡ self.now.alone }
+    {
+        self.alone
+    }
+
+    /// The other logger has stopped: this one serves alone from now on.
+    pub fn alone(&mut self)
+        requires { self.old.alone ≡ false }
+        ensures { self.new ≡ left_alone self.old }
+    {
+        self.alone = true;
+    }
+
+    /// Takes a datagram that came from a side, and puts what goes out in the place of what `out` held. Without memory all is as it was, and
+    /// `out` is empty.
+    pub fn deliver(
+        &mut self,
+        alloc: Global,
+        from: Side,
+        bytes: &[u8],
+        out: &mut TwinOut,
+    ) -> Result<(), NoMemory>
+        ensures next { OnOk result (self.new ≡ (kept_does from bytes.now self.old).next) }
+        ensures sent { OnOk result (out.new ≡ (kept_does from bytes.now self.old).sent) }
+        ensures refused { OnErr result (self.new ≡ self.old) }
+        ensures empty { OnErr result (out.new ≡ []) }
+    {
+        out.clear();
+        match from {
+            Side::Server => self.on_server(alloc, bytes, out),
+            Side::Other => self.on_other(alloc, bytes, out),
+        }
+    }
+
+    /// Takes a datagram of the server.
+    #[tactic(auto, using(crate::proofs::Cases::noise_in_pair), unfolding(twin_laws::specs::Kept::kept_does))]
+    fn on_server(&mut self, alloc: Global, bytes: &[u8], out: &mut TwinOut) -> Result<(), NoMemory>
+        requires empty { out.old ≡ [] }
+        ensures next { OnOk result (self.new ≡ (kept_does sides.Server bytes.now self.old).next) }
+        ensures sent { OnOk result (out.new ≡ (kept_does sides.Server bytes.now self.old).sent) }
+        ensures refused { OnErr result (self.new ≡ self.old) }
+        ensures empty { OnErr result (out.new ≡ []) }
+    {
+        let Ok(msg) = read_msg(bytes) else {
+            return Ok(());
+        };
+        if self.alone {
+            return self.serve(alloc, &msg, out);
+        }
+        match self.part {
+            Part::Head => self.take(alloc, &msg, bytes, out),
+            Part::Tail => Ok(()),
+        }
+    }
+
+    /// Takes a datagram of the other logger. One that is alone passes over it.
+    #[tactic(auto, using(crate::proofs::Cases::told_alone), unfolding(twin_laws::specs::Kept::kept_does))]
+    fn on_other(&mut self, alloc: Global, bytes: &[u8], out: &mut TwinOut) -> Result<(), NoMemory>
+        requires empty { out.old ≡ [] }
+        ensures next { OnOk result (self.new ≡ (kept_does sides.Other bytes.now self.old).next) }
+        ensures sent { OnOk result (out.new ≡ (kept_does sides.Other bytes.now self.old).sent) }
+        ensures refused { OnErr result (self.new ≡ self.old) }
+        ensures empty { OnErr result (out.new ≡ []) }
+    {
+        if !self.alone {
+            return self.on_told(alloc, bytes, out);
+        }
+        Ok(())
+    }
+
+    /// Takes a datagram of the other logger as one of a pair.
+    #[tactic(auto, using(crate::proofs::Cases::noise_in_pair, crate::proofs::Cases::some_number))]
+    fn on_told(&mut self, alloc: Global, bytes: &[u8], out: &mut TwinOut) -> Result<(), NoMemory>
+        requires empty { out.old ≡ [] }
+        ensures next { OnOk result (self.new ≡ (paired_does self.old.part (told (twin_reading bytes.now)) self.old).next) }
+        ensures sent { OnOk result (out.new ≡ (paired_does self.old.part (told (twin_reading bytes.now)) self.old).sent) }
+        ensures refused { OnErr result (self.new ≡ self.old) }
+        ensures empty { OnErr result (out.new ≡ []) }
+    {
+        let Ok(said) = read_twin(bytes) else {
+            return Ok(());
+        };
+        match said {
+            TwinMsg::Forward { number, message } => self.on_forward(alloc, number, message, out),
+            TwinMsg::Got { number } => {
+                self.on_got(number);
+                Ok(())
+            }
+            TwinMsg::Alone => Ok(()),
+        }
+    }
+
+    /// Takes a forwarded message as one of a pair. The head passes over it.
+    #[tactic(auto, using(crate::proofs::Cases::noise_in_pair))]
+    fn on_forward(
+        &mut self,
+        alloc: Global,
+        number: u64,
+        message: &[u8],
+        out: &mut TwinOut,
+    ) -> Result<(), NoMemory>
+        requires some { 1 ≤ number }
+        requires empty { out.old ≡ [] }
+        ensures next { OnOk result (self.new ≡ (paired_does self.old.part (forwarded_as number (asked message.now (reading message.now))) self.old).next) }
+        ensures sent { OnOk result (out.new ≡ (paired_does self.old.part (forwarded_as number (asked message.now (reading message.now))) self.old).sent) }
+        ensures refused { OnErr result (self.new ≡ self.old) }
+        ensures empty { OnErr result (out.new ≡ []) }
+    {
+        let Ok(msg) = read_msg(message) else {
+            return Ok(());
+        };
+        match self.part {
+            Part::Head => Ok(()),
+            Part::Tail => self.apply(alloc, number, &msg, out),
+        }
+    }
+
+    /// Takes a Got as one of a pair. The tail passes over it.
+    fn on_got(&mut self, number: u64)
+        ensures { self.new ≡ (paired_does self.old.part (Tells (Got number)) self.old).next }
+    {
+        match self.part {
+            Part::Head => self.confirm(number),
+            Part::Tail => (),
+        }
+    }
+
+    /// Gives a message to the log, whose answer goes to the server: all that a logger does that is alone.
+    #[tactic(auto, using(crate::proofs::Outgoing::answer_is))]
+    fn serve(&mut self, alloc: Global, msg: &Msg<'_>, out: &mut TwinOut) -> Result<(), NoMemory>
+        requires sendable { IsSendable msg.now }
+        requires empty { out.old ≡ [] }
+        ensures next { OnOk result (self.new ≡ (serves_alone (message_of msg.now) self.old).next) }
+        ensures sent { OnOk result (out.new ≡ (serves_alone (message_of msg.now) self.old).sent) }
+        ensures refused { OnErr result (self.new ≡ self.old) }
+        ensures empty { OnErr result (out.new ≡ []) }
+    {
+        let mut answer = MsgOut::new();
+        self.log.answer(alloc, msg, &mut answer)?;
+        send_answer(&answer, out);
+        Ok(())
+    }
+
+    /// Takes a message as the head of a pair, and forwards all that is unconfirmed.
+    fn take(
+        &mut self,
+        alloc: Global,
+        msg: &Msg<'_>,
+        bytes: &[u8],
+        out: &mut TwinOut,
+    ) -> Result<(), NoMemory>
+        requires sendable { IsSendable msg.now }
+        requires read { reading bytes.now ≡ Ok (message_of msg.now) }
+        requires empty { out.old ≡ [] }
+        ensures next { OnOk result (self.new ≡ (kept_head_asked (request_in bytes.now (message_of msg.now)) self.old).next) }
+        ensures sent { OnOk result (out.new ≡ (kept_head_asked (request_in bytes.now (message_of msg.now)) self.old).sent) }
+        ensures refused { OnErr result (self.new ≡ self.old) }
+        ensures empty { OnErr result (out.new ≡ []) }
+    {
+        if is_answer(&msg.body) {
+            return Ok(());
+        }
+        self.keep(alloc, msg, bytes)?;
+        self.forward(out);
+        Ok(())
+    }
+
+    /// Adds a message to those that a head took, if there is room.
+    fn keep(&mut self, alloc: Global, msg: &Msg<'_>, bytes: &[u8]) -> Result<(), NoMemory>
+        requires sendable { IsSendable msg.now }
+        requires read { reading bytes.now ≡ Ok (message_of msg.now) }
+        requires asking { is_asking_message (message_of msg.now) ≡ true }
+        ensures next { OnOk result (self.new ≡ keeps_request (request_in bytes.now (message_of msg.now)) self.old) }
+        ensures refused { OnErr result (self.new ≡ self.old) }
+    {
+        if !self.has_room() {
+            return Ok(());
+        }
+        self.add(alloc, msg, bytes)
+    }
+
+    /// Whether a head takes a further message.
+    fn has_room(&self) -> bool
+        ensures { result ≡ has_kept_room self.now }
+    {
+        self.waiting.len() < WAITING && self.number < u64::MAX
+    }
+
+    /// Adds a message to those that a head took. Its log's answer is dropped.
+    #[tactic(auto, unfolding(seq_arith::specs::TwinGrammar::is_asking))]
+    fn add(&mut self, alloc: Global, msg: &Msg<'_>, bytes: &[u8]) -> Result<(), NoMemory>
+        requires sendable { IsSendable msg.now }
+        requires read { reading bytes.now ≡ Ok (message_of msg.now) }
+        requires asking { is_asking_message (message_of msg.now) ≡ true }
+        requires room { has_kept_room self.old ≡ true }
+        ensures next { OnOk result (self.new ≡ keeps_too (request_in bytes.now (message_of msg.now)) self.old) }
+        ensures refused { OnErr result (self.new ≡ self.old) }
+    {
+        let message = bytes.to_vec(alloc)?;
+        let mut answer = MsgOut::new();
+        self.log.answer(alloc, msg, &mut answer)?;
+        self.waiting.push(message);
+        self.number += 1;
+        Ok(())
+    }
+
+    /// Forwards all that is unconfirmed, in order.
+    fn forward(&self, out: &mut TwinOut)
+        requires { out.old ≡ [] }
+        ensures { out.new ≡ (sends_kept self.now).sent }
+    {
+        let confirmed = self.number - self.waiting.len() as u64;
+        self.waiting.forward(confirmed, out);
+    }
+
+    /// All messages up to this number are confirmed, if they were forwarded.
+    fn confirm(&mut self, number: u64)
+        ensures { self.new ≡ kept_confirmed number self.old }
+    {
+        let confirmed = self.number - self.waiting.len() as u64;
+        if confirmed < number && number <= self.number {
+            self.waiting.drop_front((number - confirmed) as usize);
+        }
+    }
+
+    /// Takes a forwarded message as the tail of a pair: the next one is applied, an earlier one confirmed once more, and one behind a gap
+    /// passed over.
+    fn apply(
+        &mut self,
+        alloc: Global,
+        number: u64,
+        msg: &Msg<'_>,
+        out: &mut TwinOut,
+    ) -> Result<(), NoMemory>
+        requires sendable { IsSendable msg.now }
+        requires some { 1 ≤ number }
+        requires empty { out.old ≡ [] }
+        ensures next { OnOk result (self.new ≡ (kept_tail_told number (message_of msg.now) self.old).next) }
+        ensures sent { OnOk result (out.new ≡ (kept_tail_told number (message_of msg.now) self.old).sent) }
+        ensures refused { OnErr result (self.new ≡ self.old) }
+        ensures empty { OnErr result (out.new ≡ []) }
+    {
+        if number <= self.number {
+            send_got(self.number, out);
+            return Ok(());
+        }
+        if number - self.number > 1 {
+            return Ok(());
+        }
+        self.apply_next(alloc, msg, out)
+    }
+
+    /// Applies the next message, answers it and then confirms it.
+    #[tactic(auto, using(crate::proofs::Outgoing::few_sent))]
+    fn apply_next(
+        &mut self,
+        alloc: Global,
+        msg: &Msg<'_>,
+        out: &mut TwinOut,
+    ) -> Result<(), NoMemory>
+        requires sendable { IsSendable msg.now }
+        requires room { self.old.number + 1 < 2 ^ 64 }
+        requires empty { out.old ≡ [] }
+        ensures next { OnOk result (self.new ≡ (applies_kept (message_of msg.now) self.old).next) }
+        ensures sent { OnOk result (out.new ≡ (applies_kept (message_of msg.now) self.old).sent) }
+        ensures refused { OnErr result (self.new ≡ self.old) }
+        ensures empty { OnErr result (out.new ≡ []) }
+    {
+        self.serve(alloc, msg, out)?;
+        self.number += 1;
+        send_got(self.number, out);
+        Ok(())
+    }
+}
+
+/// Sends the log's answer to the server, if there is one.
+#[tactic(auto, using(crate::proofs::Outgoing::answer_fits, crate::proofs::Outgoing::answer_some, crate::proofs::Outgoing::answer_none))]
+fn send_answer(answer: &MsgOut, out: &mut TwinOut)
+    requires { out.old ≡ [] }
+    ensures { out.new ≡ answer_out answer.now }
+{
+    let bytes = answer.bytes();
+    if bytes.is_empty() {
+        return;
+    }
+    out.answer(bytes);
+}
+
+/// Confirms to the head all messages up to this number.
+#[tactic(auto, unfolding(twin_laws::specs::Twin::bytes_of))]
+fn send_got(number: u64, out: &mut TwinOut)
+    requires some { 1 ≤ number }
+    requires room { length out.old < 64 }
+    ensures { out.new ≡ out.old ++ sent_to_other (Got number ∷ []) }
+{
+    out.tell(&TwinMsg::Got { number });
+}

@@ -1,0 +1,115 @@
+//! The messages that the head has forwarded and the tail hasn't confirmed.
+
+ghost use Rattle.std.specs.Prelude.{[], ◌≡◌, ◌≤◌, ◌<◌, ◌+◌, ◌^◌, ◌++◌, ◌∷◌, true, Some, length, map, drop, slice_get, IfOk};
+ghost use Rattle.std.specs.VecDeque.{deque_capacity};
+ghost use Rattle.seq_arith.specs.TwinGrammar.{is_asking};
+ghost use Rattle.twin_laws.specs.Kept.{forwards_sent};
+ghost use Rattle.twin_log.specs.Outgoing.{AreAsking, texts_of};
+
+use crate::twin_msg::TwinMsg;
+use crate::twin_out::TwinOut;
+use ft_io::NoMemory;
+use std::alloc::Global;
+use std::collections::VecDeque;
+use std::marker::Model;
+
+/// The most messages that wait.
+pub(crate) const WAITING: usize = 64;
+
+/// At most 64 messages in their order, as the bytes in which they came, in a row whose room is made once.
+#[derive(Drop)]
+pub(crate) struct Waiting {
+    messages: VecDeque<Vec<u8>>,
+}
+
+impl Model for Waiting {
+    ghost use Rattle.std.specs.Prelude.{ℕ, ◌≤◌, List, length};
+    ghost use Rattle.std.specs.VecDeque.{deque_capacity};
+    ghost use Rattle.twin_log.specs.Outgoing.{AreAsking, texts_of};
+
+    ghost Value = { List (List ℕ) };
+
+    ghost view = { λ w. texts_of w.messages.items };
+
+    ghost invariant = { λ w. (length w.messages.items ≤ 64) × (64 ≤ deque_capacity w.messages) × AreAsking (texts_of w.messages.items) };
+}
+
+/// Takes the first messages away.
+fn drop_messages(messages: &mut VecDeque<Vec<u8>>, count: usize)
+    ensures items { messages.new.items ≡ drop count messages.old.items }
+    ensures capacity { deque_capacity messages.new ≡ deque_capacity messages.old }
+{
+    for _more in 0..count {
+        messages.pop_front();
+    }
+}
+
+/// A message, by its place.
+fn text_at(messages: &VecDeque<Vec<u8>>, i: usize) -> &[u8]
+    requires { i < length messages.now.items }
+    ensures { slice_get (texts_of messages.now.items) i ≡ Some result.now }
+{
+    &messages[i]
+}
+
+/// Forwards each message, the first with the number after this.
+fn forward(messages: &VecDeque<Vec<u8>>, confirmed: u64, out: &mut TwinOut)
+    requires asking { AreAsking (texts_of messages.now.items) }
+    requires room { length out.old + length messages.now.items ≤ 64 }
+    requires numbers { confirmed + length messages.now.items < 2 ^ 64 }
+    ensures { out.new ≡ out.old ++ forwards_sent confirmed (texts_of messages.now.items) }
+{
+    for i in 0..messages.len() {
+        let message = text_at(messages, i);
+        let number = confirmed + i as u64 + 1;
+        out.tell(&TwinMsg::Forward { number, message });
+    }
+}
+
+impl Waiting {
+    /// No messages, and room for 64.
+    pub(crate) fn new(alloc: Global) -> Result<Waiting, NoMemory>
+        ensures { IfOk result (λ w. w ≡ []) }
+    {
+        Ok(Waiting {
+            messages: VecDeque::with_capacity(alloc, WAITING)?,
+        })
+    }
+
+    /// How many messages wait.
+    #[tactic(auto, using(crate::proofs::Fronts::mapped))]
+    pub(crate) fn len(&self) -> usize
+        ensures value { result ≡ length self.now }
+        ensures most { result ≤ 64 }
+    {
+        self.messages.len()
+    }
+
+    /// Puts a message behind the others.
+    #[tactic(auto, using(crate::proofs::Fronts::mapped))]
+    pub(crate) fn push(&mut self, message: Vec<u8>)
+        requires asking { is_asking message.items ≡ true }
+        requires room { length self.old < 64 }
+        ensures { self.new ≡ self.old ++ message.items ∷ [] }
+    {
+        self.messages.push_back(message).unwrap();
+    }
+
+    /// Takes the first messages away.
+    #[tactic(auto, using(crate::proofs::Fronts::mapped))]
+    pub(crate) fn drop_front(&mut self, count: usize)
+        ensures { self.new ≡ drop count self.old }
+    {
+        drop_messages(&mut self.messages, count);
+    }
+
+    /// Forwards each message, the first with the number after this.
+    #[tactic(auto, using(crate::proofs::Fronts::mapped))]
+    pub(crate) fn forward(&self, confirmed: u64, out: &mut TwinOut)
+        requires empty { out.old ≡ [] }
+        requires numbers { confirmed + length self.now < 2 ^ 64 }
+        ensures { out.new ≡ forwards_sent confirmed self.now }
+    {
+        forward(&self.messages, confirmed, out);
+    }
+}

@@ -1,0 +1,361 @@
+"""Two loggers that act as one, in plain Python, by the rules and not by the program: what a head and a tail do with each datagram.
+
+twin_model.py lines      reads a script of `twin_script` from standard input, and writes what it must print
+twin_model.py cases      writes the script that is stored beside the program
+
+It keeps a head's whole history and spells each datagram anew, where the program keeps what is unconfirmed; the log is that of model.py.
+"""
+import sys
+from struct import pack, unpack
+
+from model import Log, Message
+
+KINDS = "Hello Summary List Entry Bytes Part Cuts Lens Open Opened Data Stable Read Reads Done Ended Stale Full".split()
+ANSWERS = {"Summary", "Entry", "Part", "Lens", "Opened", "Stable", "Reads", "Ended", "Stale", "Full"}
+LIMIT = 1 << 24
+KEY, OPEN, KEPT = [("key", 6)], [("key", 6), ("cisn", 4), ("sisn", 4), ("mss", 2)], [("key", 6), ("length", 4), ("fin", 1), ("reads", 4)]
+FIELDS = {
+    "Hello": [],
+    "Summary": [("count", 2)],
+    "List": [("index", 2)],
+    "Entry": [("index", 2), *OPEN, ("length", 4), ("fin", 1), ("done", 1), ("reads", 4), ("acked", 4)],
+    "Bytes": [("key", 6), ("offset", 4)],
+    "Part": [("key", 6), ("offset", 4)],
+    "Cuts": [("key", 6), ("first", 4)],
+    "Lens": [("key", 6), ("first", 4)],
+    "Open": OPEN,
+    "Opened": OPEN,
+    "Data": [("key", 6), ("offset", 4), ("acked", 4), ("fin", 1)],
+    "Stable": KEPT,
+    "Read": [("key", 6), ("index", 4), ("length", 2)],
+    "Reads": KEPT,
+    "Done": KEY,
+    "Ended": KEY,
+    "Stale": [("newer", 8)],
+    "Full": KEY,
+}
+BEHIND = {"Part": (1, 1024), "Lens": (2, 1024), "Data": (0, 1460)}  # bytes behind the fields, at least and at most
+
+
+def folded(data):
+    """The one's complement sum of the words of a string, an odd end padded with a zero byte (RFC 1071)."""
+    total = sum(unpack(f">{(len(data) + 1) // 2}H", data + b"\0" * (len(data) % 2)))
+    while total >> 16:
+        total = (total & 0xFFFF) + (total >> 16)
+    return total
+
+
+def spelled(magic, kind, number, behind):
+    """A datagram with its length and checksum."""
+    head = lambda check: pack(">2sBBHHQ", magic, 1, kind, 16 + len(behind), check, number)
+    return head(0xFFFF - folded(head(0) + behind)) + behind
+
+
+def header(data, magic, kinds):
+    """The kind and the number of a datagram, or None where its header is wrong."""
+    if len(data) < 16 or data[:2] != magic or data[2] != 1 or data[3] not in range(1, kinds + 1):
+        return None
+    return data[3], unpack(">Q", data[8:16])[0]
+
+
+def whole(data):
+    return unpack(">H", data[4:6])[0] == len(data) and folded(data) == 0xFFFF
+
+
+def in_range(name, boot, said, behind):
+    most = {"count": 64, "index": 63 if name in ("List", "Entry") else LIMIT + 1, "first": LIMIT + 1, "reads": LIMIT + 1, "acked": LIMIT + 1}
+    most |= {"fin": 1, "done": 1, "mss": 1460, "length": 2048 if name == "Read" else LIMIT, "offset": LIMIT - len(behind)}
+    ok = boot >= 1 and all(said[field] <= most[field] for field in said if field in most)
+    return ok and said.get("mss", 64) >= 64 and said.get("newer", boot + 1) > boot
+
+
+def read_message(data):
+    """The message that bytes are, or None."""
+    front = header(data, b"FT", 18)
+    if front is None or not whole(data):
+        return None
+    name, boot = KINDS[front[0] - 1], front[1]
+    least, most = BEHIND.get(name, (0, 0))
+    size = 16 + sum(width for _, width in FIELDS[name])
+    behind = data[size:]
+    if len(data) < size or not least <= len(behind) <= most or (name == "Lens" and len(behind) % 2):
+        return None
+    said, at = {}, 16
+    for field, width in FIELDS[name]:
+        said[field] = int.from_bytes(data[at : at + width], "big")
+        at += width
+    lens = [unpack(">H", behind[i : i + 2])[0] for i in range(0, len(behind), 2)] if name == "Lens" else []
+    if not in_range(name, boot, said, behind) or any(length > 2048 for length in lens):
+        return None
+    return Message(name, boot, {**said, "bytes": behind, "lens": lens})
+
+
+def spell_message(message):
+    said = message.fields
+    body = b"".join(int(said[field]).to_bytes(width, "big") for field, width in FIELDS[message.name])
+    behind = b"".join(pack(">H", n) for n in said["lens"]) if message.name == "Lens" else said.get("bytes", b"")
+    return spelled(b"FT", KINDS.index(message.name) + 1, message.boot, body + bytes(behind))
+
+
+def is_asking(data):
+    message = read_message(data)
+    return message is not None and message.name not in ANSWERS
+
+
+def read_twin(data):
+    """("Forward", number, message), ("Got", number), ("Alone",) or None."""
+    front = header(data, b"FU", 3)
+    if front is None or not whole(data):
+        return None
+    kind, number = front
+    if kind == 1:
+        return ("Forward", number, data[16:]) if 32 <= len(data) <= 1507 and number >= 1 and is_asking(data[16:]) else None
+    if len(data) != 16:
+        return None
+    if kind == 2:
+        return ("Got", number) if number >= 1 else None
+    return ("Alone",) if number == 0 else None
+
+
+def answered(log, message):
+    """What goes to the server where a log takes a message."""
+    answer = None if message.name in ANSWERS else log.answer(message)
+    return [] if answer is None else [("server", spell_message(answer))]
+
+
+class Head:
+    """The log, all that was taken, in order, and how much of it is confirmed."""
+
+    def __init__(self):
+        self.log, self.taken, self.confirmed, self.alone = Log(), [], 0, False
+
+    def number(self):
+        return len(self.taken)
+
+    def server(self, data):
+        message = read_message(data)
+        if message is None:
+            return []
+        if self.alone:
+            return answered(self.log, message)
+        if message.name in ANSWERS:
+            return []
+        if len(self.taken) - self.confirmed < 64:
+            self.taken.append(data)
+            self.log.answer(message)
+        waiting = range(self.confirmed, len(self.taken))
+        return [("other", spelled(b"FU", 1, i + 1, self.taken[i])) for i in waiting]
+
+    def other(self, data):
+        said = read_twin(data)
+        if not self.alone and said and said[0] == "Got" and self.confirmed < said[1] <= len(self.taken):
+            self.confirmed = said[1]
+        return []
+
+
+class Tail:
+    """The log, and how many messages it has applied."""
+
+    def __init__(self):
+        self.log, self.applied, self.alone = Log(), 0, False
+
+    def number(self):
+        return self.applied
+
+    def server(self, data):
+        message = read_message(data)
+        return answered(self.log, message) if self.alone and message else []
+
+    def other(self, data):
+        said = read_twin(data)
+        if self.alone or said is None or said[0] != "Forward" or said[1] > self.applied + 1:
+            return []
+        answers = []
+        if said[1] == self.applied + 1:
+            answers = answered(self.log, read_message(said[2]))
+            self.applied += 1
+        return answers + [("other", spelled(b"FU", 2, self.applied, b""))]
+
+
+class Pair:
+    """A head and a tail, with what each of them ever sent to the other."""
+
+    def __init__(self):
+        self.parts, self.sent, self.stopped = {"head": Head(), "tail": Tail()}, {"head": [], "tail": []}, None
+        self.passed = {"head": 0, "tail": 0}  # how much of what was sent to each has come in order
+
+    def deliver(self, part, side, data):
+        """What goes out; nothing of a part that has stopped."""
+        if self.stopped == part:
+            return []
+        out = getattr(self.parts[part], side)(data)
+        self.sent[part] += [bytes_ for to, bytes_ in out if to == "other"]
+        return out
+
+    def stop(self, part):
+        if self.stopped is None:
+            self.stopped = part
+            self.parts[other_of(part)].alone = True
+
+
+def other_of(part):
+    return "tail" if part == "head" else "head"
+
+
+class Draws:
+    """The numbers that `Generator` of seq_arith draws (docs/FORMATS.md)."""
+
+    def __init__(self, seed):
+        self.state = seed
+
+    def below(self, bound):
+        self.state = (self.state * 6364136223846793005 + 1442695040888963407) % (1 << 64)
+        return (self.state >> 33) % bound
+
+
+DRAWN = [1, 1, 1, 9, 9, 9, 13, 13, 15, 5, 7, 16, 11, 11, 11, 11]  # kinds, each as often as it is drawn
+
+
+def drawn_message(draws, boot):
+    """A message of a server, or now and then one that only a logger sends."""
+    kind = DRAWN[draws.below(16)]
+    key = pack(">IH", 0xC0000201, 40000 + draws.below(3))
+    if kind == 1:
+        return spelled(b"FT", 1, boot + draws.below(8) // 7, b"")
+    if kind == 9:
+        return spelled(b"FT", 9, boot, key + pack(">IIH", draws.below(256), draws.below(256), 536))
+    if kind == 13:
+        return spelled(b"FT", 13, boot, key + pack(">IH", draws.below(4), draws.below(8)))
+    if kind == 5:
+        return spelled(b"FT", 5, boot, key + pack(">I", draws.below(16)))
+    if kind == 7:
+        return spelled(b"FT", 7, boot, key + pack(">I", draws.below(4)))
+    if kind in (15, 16):
+        return spelled(b"FT", kind, boot, key)
+    offset, acked, fin, size = draws.below(16), draws.below(64), draws.below(8) // 7, draws.below(12)
+    return spelled(b"FT", 11, boot, key + pack(">IIB", offset, acked, fin) + bytes(97 + draws.below(26) for _ in range(size)))
+
+
+def drawn_delivery(draws, pair):
+    """One delivery, and what goes out."""
+    kind = draws.below(40)
+    if kind == 0 and draws.below(4) == 0:
+        pair.stop("head" if draws.below(2) == 0 else "tail")
+        return []
+    if kind < 8:
+        part = "tail" if pair.stopped == "head" or draws.below(16) == 0 else "head"
+        return pair.deliver(part, "server", drawn_message(draws, 1))
+    part = "head" if kind < 16 else "tail"
+    sent = pair.sent[other_of(part)]
+    if not sent:
+        return []
+    if draws.below(4) == 0:
+        place = draws.below(len(sent))
+    else:
+        place = min(pair.passed[part] + draws.below(8) // 7, len(sent) - 1)
+        pair.passed[part] = place + 1
+    data = sent[place]
+    if kind == 39:
+        bit = draws.below(8 * len(data))
+        data = data[: bit // 8] + bytes([data[bit // 8] ^ (1 << bit % 8)]) + data[bit // 8 + 1 :]
+    return pair.deliver(part, "other", data)
+
+
+def tally(count, length, seed):
+    """What `random` prints: what went to the server and to the other, the numbers at the end, and a number that follows from all bytes."""
+    draws, answers, others, numbers, sum_ = Draws(seed), 0, 0, 0, 0
+    for _ in range(count):
+        pair = Pair()
+        for _ in range(length):
+            for to, data in drawn_delivery(draws, pair):
+                answers, others = answers + (to == "server"), others + (to == "other")
+                for byte in data:
+                    sum_ = (sum_ * 31 + byte) % (1 << 32)
+        numbers += pair.parts["head"].number() + pair.parts["tail"].number()
+    return f"random {count}: answers {answers} others {others} numbers {numbers} bytes {sum_}"
+
+
+def line_of(out):
+    return " ".join(f"{to} {data.hex()}" for to, data in out) or "-"
+
+
+def played(pair, line):
+    """What a line prints."""
+    words = line.split()
+    if words[0] == "pair":
+        pair.__init__()
+        return "pair"
+    if words[0] == "random":
+        return tally(*(int(word) for word in words[1:]))
+    if words[0] == "stop":
+        pair.stop({"1": "head", "2": "tail"}[words[1]])
+        return line
+    part, side = words[0], words[1]
+    if side == "log":
+        logger = pair.parts[part]
+        return f"{line} number {logger.number()} boot {logger.log.boot} count {len(logger.log.entries)}"
+    if side == "sent":
+        sent = pair.sent[other_of(part)]
+        data = sent[int(words[2]) - 1] if 1 <= int(words[2]) <= len(sent) else None
+        return f"{part} -" if data is None else f"{part} {line_of(pair.deliver(part, 'other', data))}"
+    return f"{part} {line_of(pair.deliver(part, side, bytes.fromhex(words[2])))}"
+
+
+def lines():
+    pair = Pair()
+    for line in sys.stdin.read().split("\n")[:-1]:
+        print(line if line.startswith("#") else played(pair, line))
+
+
+def cases():
+    """The stored script: the worked run, each refusal, a head that is full, both stops, hostile datagrams, and random lists."""
+    key = pack(">IH", 0xC0000201, 40000)
+    hello, opening = spelled(b"FT", 1, 1, b""), spelled(b"FT", 9, 1, key + pack(">IIH", 1000, 5000, 536))
+    data = lambda at, text: spelled(b"FT", 11, 1, key + pack(">IIB", at, 0, 0) + text)
+    summary = spelled(b"FT", 2, 1, b"\0\0")
+    print("# The head takes, numbers and forwards; the tail applies, answers and confirms.")
+    print("pair")
+    print(f"head server {hello.hex()}\ntail sent 1\nhead sent 1\nhead server {opening.hex()}")
+    print("head log\ntail log\nstop 1")
+    print(f"# The head has stopped with the Open unapplied: the server sends it again, and the tail answers.\ntail sent 2\ntail server {opening.hex()}\ntail log")
+    print("# The tail stops instead: the head has all that it took.")
+    print(f"pair\nhead server {hello.hex()}\ntail sent 1\nhead server {opening.hex()}\nstop 2\nhead sent 1\nhead log\nhead server {opening.hex()}")
+    print("# Out of order nothing is applied; what is applied is confirmed once more, with the newest number.")
+    print(f"pair\nhead server {hello.hex()}\nhead server {opening.hex()}\nhead server {data(0, b'abc').hex()}")
+    print("tail sent 3\ntail sent 6\ntail sent 1\ntail sent 1\ntail sent 3\ntail sent 6\ntail sent 2\nhead sent 4\nhead sent 1\nhead log")
+    print("# What only a logger sends is neither taken nor forwarded, and a tail of a pair doesn't hear the server.")
+    print(f"head server {summary.hex()}\ntail server {hello.hex()}\nhead server 00\nhead server {spelled(b'FU', 3, 0, b'').hex()}")
+    print("# Refusals: short, magic, version, kind, length, sum, number, and a Forward of what no server sends.")
+    forward = spelled(b"FU", 1, 4, data(3, b"d"))
+    wrong = [forward[:15], b"FT" + forward[2:], forward[:2] + b"\2" + forward[3:], forward[:3] + b"\4" + forward[4:], forward[:-1], forward + b"\0"]
+    wrong += [forward[:-1] + b"e", spelled(b"FU", 1, 0, data(3, b"d")), spelled(b"FU", 1, 4, summary), spelled(b"FU", 1, 4, b"\0" * 16)]
+    wrong += [spelled(b"FU", 1, 4, data(3, b"d")[:-1]), spelled(b"FU", 2, 4, b"\0"), spelled(b"FU", 3, 0, b""), spelled(b"FU", 3, 1, b"")]
+    for datagram in wrong:
+        print(f"tail other {datagram.hex()}\nhead other {datagram.hex()}")
+    print(f"tail other {forward.hex()}")
+    print("# Numbers: 0, above what was taken, and the largest.")
+    for number in (0, 4, 5, 2**64 - 1):
+        print(f"head other {spelled(b'FU', 2, number, b'').hex()}")
+    for number in (0, 6, 2**64 - 1):
+        print(f"tail other {spelled(b'FU', 1, number, hello).hex()}")
+    print("head log\ntail log")
+    print("# A head that is full forwards all 64 and takes no further message, until some are confirmed.")
+    print("pair")
+    for i in range(66):
+        print(f"head server {(hello if i == 0 else opening if i == 1 else data(i - 2, b'x')).hex()}")
+    print("head log")
+    print(f"head other {spelled(b'FU', 2, 2, b'').hex()}\nhead server {data(64, b'y').hex()}\nhead log")
+    print("# The largest Data, and a message whose checksum folds to zero, which goes on in the bytes in which it came.")
+    print(f"pair\nhead server {hello.hex()}\nhead server {opening.hex()}\nhead server {data(0, bytes(range(256)) * 5 + bytes(180)).hex()}\ntail sent 1\ntail sent 5\ntail sent 6")
+    zero = bytearray(spelled(b"FT", 11, 1, key + pack(">IIB", 0, 0, 0) + b"\0\0\0"))
+    rest = folded(bytes(zero[:6] + b"\0\0" + zero[8:]))
+    zero[-2:] = pack(">H", 0xFFFF - rest)
+    zero[6:8] = b"\xff\xff" if zero[6:8] != b"\xff\xff" else b"\0\0"
+    print(f"head server {bytes(zero).hex()}")
+    print("# Random lists of deliveries with losses, repeats, flipped bits and stops.")
+    for seed in range(1, 11):
+        print(f"random 1000 60 {seed}")
+
+
+if __name__ == "__main__":
+    {"lines": lines, "cases": cases}[sys.argv[1]]()
