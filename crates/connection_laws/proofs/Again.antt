@@ -85,8 +85,8 @@ same i (Logged kept) p h = record { syn_acked = h; taken = refl; fin = refl; ear
 same i Ticks p h = record { syn_acked = h; taken = refl; fin = refl; early = refl; edge = refl }
 same i Begins p h = record { syn_acked = h; taken = refl; fin = refl; early = refl; edge = refl }
 
-pub none_sent : (t : ℕ) → max 0 (min t 0) + 0 ≡ 0
-none_sent t = omega arith
+pub none_sent : (t e : ℕ) → max 0 (min t (min 0 e)) + 0 ≡ 0
+none_sent t e = omega arith
 
 pub goes_on_again : {State : Type 0} (service : Machine State) (server : Addr) (boot u i delta : ℕ) (news : News) (p q : Point) (sent : List Packet)
     → GoesOn u i delta p → NewsFit p news → LiveTurn service server boot news p q sent → q.sent ≤ 2 ^ 25 + 1 → GoesOn u i delta q
@@ -110,7 +110,8 @@ goes_on_again service server boot u i delta news p q sent g f l few =
           let edge : q.edge ≡ 0 = l.edge ∙ k.edge ∙ o.2 in
           let probe : probes news p ≡ false = middle_false (expires news p) p.syn_acked (not (nat_lt p.una p.sent)) k.syn_acked in (
             o.0,
-            l.sent_units ∙ (λ j. max (o.1 j) (min (target service q) (edge j)) + (if probe j then 1 else 0)) ∙ none_sent (target service q),
+            l.sent_units ∙ (λ j. max (o.1 j) (min (target service q) (min (edge j) (q.una + q.congestion.cwnd))) + (if probe j then 1 else 0))
+                ∙ none_sent (target service q) (q.una + q.congestion.cwnd),
             edge,
             l.taken ∙ k.taken ∙ o.3,
             l.fin ∙ k.fin ∙ o.4,

@@ -2,6 +2,7 @@
 use Rattle.std.proofs.Common.{◌≡◌, ℕ, ◌<◌, ◌+◌, ◌-◌, ◌%◌, ◌^◌, not, List, [], ◌∷◌, ◌++◌, length, min, max, Some, refl, sym, ap, subst, arith, ◌∙◌}
 use Rattle.std.specs.Prelude.{◌&&◌, ◌||◌, nat_lt, nat_le, if◌then◌else◌}
 use Rattle.ft_io.specs.declared.Addr.{Addr}
+use Rattle.seq_arith.specs.Congestion.{initial_congestion, initial_window}
 use Rattle.seq_arith.specs.Message.{Numbers}
 use Rattle.seq_arith.specs.Number.{number_at}
 use Rattle.seq_arith.specs.Packet.{Segment}
@@ -14,7 +15,7 @@ use Rattle.ft_model.specs.News.News.{Comes, Begins}
 use Rattle.ft_model.specs.Opening.{point_opened}
 use Rattle.ft_model.specs.Point.{Point, acknowledgement, released, target}
 use Rattle.ft_model.specs.Segments.{syn_ack, window, segments_of, full_segments, resent, new_texts, new_fin, new_length, texts, fin_if_closed}
-use Rattle.ft_model.specs.Sending.{syn_acked_after, acknowledged_after, edge_after, wl1_after, wl2_after, sent_after, sent_at_once}
+use Rattle.ft_model.specs.Sending.{syn_acked_after, acknowledged_after, edge_after, wl1_after, wl2_after, is_third_duplicate, congestion_after, sent_after, sent_at_once}
 use Rattle.ft_model.specs.Taken.{taken_after, early_after, fin_after}
 use Rattle.ft_model.specs.Timer.{must_run, interval_after, rest_after}
 use Rattle.tcp_endpoint.specs.Arrival.{received}
@@ -39,10 +40,10 @@ begun numbers = record (point_opened numbers) { rest = 1 }
 
 begun_is : {State : Type 0} (service : Machine State) (server : Addr) (boot : ℕ) (numbers : Numbers) (q : Point) (sent : List Packet)
     → LiveTurn service server boot Begins (point_opened numbers) q sent → q ≡ begun numbers
-unfolding taken_after early_after fin_after answered_after reads_answered_after syn_acked_after acknowledged_after edge_after wl1_after wl2_after sent_after sent_at_once interval_after rest_after must_run end_ticks_after
+unfolding taken_after early_after fin_after answered_after reads_answered_after syn_acked_after acknowledged_after edge_after wl1_after wl2_after congestion_after sent_after sent_at_once interval_after rest_after must_run end_ticks_after
 begun_is service server boot numbers q sent l =
     let lengths : q.lengths ≡ [] = same_lengths service (point_opened numbers) q l.reads (ap length l.taken) l.same.fetched l.fin in
-    let sent_is : q.sent ≡ 0 = l.sent_units ∙ (λ j. max 0 (min (target service q) (l.edge j)) + 0) ∙ none_sent (target service q) in
+    let sent_is : q.sent ≡ 0 = l.sent_units ∙ (λ j. max 0 (min (target service q) (min (l.edge j) (q.una + q.congestion.cwnd))) + 0) ∙ none_sent (target service q) (q.una + q.congestion.cwnd) in
     let rest_is : q.rest ≡ 1 = l.rest ∙ (λ j. if not (l.syn_acked j) || nat_lt q.una (max q.sent (target service q)) then 1 else 0) in
     λ j. record {
       key = l.same.key j;
@@ -61,6 +62,7 @@ begun_is service server boot numbers q sent l =
       edge = l.edge j;
       wl1 = l.wl1 j;
       wl2 = l.wl2 j;
+      congestion = l.congestion j;
       syn_acked = l.syn_acked j;
       interval = l.interval j;
       rest = rest_is j;
@@ -70,7 +72,8 @@ begun_is service server boot numbers q sent l =
 
 -- it is the one to which the SYN leads
 led_to : (local : Addr) (numbers : Numbers) → MayOpen numbers → begun numbers ≡ point_begun [] (numbers_with numbers.cisn numbers.sisn (opened_syn local numbers))
-led_to local numbers o = λ j. record (begun numbers) { mss = size_stays numbers.mss o.least o.most j }
+led_to local numbers o =
+    λ j. record (begun numbers) { mss = size_stays numbers.mss o.least o.most j; congestion = initial_congestion (size_stays numbers.mss o.least o.most j) }
 
 goes_on : (numbers : Numbers) → MayOpen numbers → GoesOn 0 numbers.sisn 0 (begun numbers)
 goes_on numbers o = record {
@@ -107,11 +110,11 @@ syn_ack_is local numbers p fits same =
     }
 
 syn_ack_alone : {State : Type 0} (service : Machine State) (local : Addr) (numbers : Numbers) → segments_of service local Begins (point_opened numbers) (begun numbers) ≡ syn_ack local (begun numbers) ∷ []
-unfolding segments_of full_segments resent new_texts new_fin sent_at_once
+unfolding segments_of full_segments resent new_texts new_fin is_third_duplicate sent_at_once
 syn_ack_alone service local numbers =
     let p : Point = point_opened numbers in
     let q : Point = begun numbers in
-    let once : sent_at_once service p q ≡ 0 = nothing_at_once (target service q) in
+    let once : sent_at_once service p q ≡ 0 = nothing_at_once (target service q) (0 + initial_window numbers.mss) in
     let long : new_length service p q ≡ 0 = (λ j. min (once j) (released service q) - 0) ∙ nothing_long (released service q) in
     (λ j. syn_ack local q ∷ (texts service local q (long j) 0 (long j) ++ (if nat_lt (released service q) (once j) && nat_le 0 (released service q) then fin_if_closed service local q else [])))
     ∙ (λ j. syn_ack local q ∷ (if never (released service q) j && nat_le 0 (released service q) then fin_if_closed service local q else []))

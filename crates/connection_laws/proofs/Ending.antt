@@ -39,7 +39,7 @@ use Rattle.connection_laws.proofs.Meets.{laws_inside}
 use Rattle.connection_laws.proofs.Again.{stays}
 use Rattle.connection_laws.proofs.Resetting.{resets_is}
 use Rattle.connection_laws.proofs.Whole.{usual_news, above}
-use Rattle.connection_laws.proofs.Quiet.{quiet_sends}
+use Rattle.connection_laws.proofs.Quiet.{no_third, quiet_sends}
 use Rattle.connection_laws.proofs.Outliving.{rest_stops, taken_stays, closed_sent}
 use Rattle.connection_laws.proofs.Taking.{taken_before}
 use Rattle.connection_laws.proofs.Keeping.{news_keep}
@@ -239,6 +239,7 @@ ends_inside service boot u i delta news p q calls e sent st named unreset_p off 
       segments = quiet_sends service e.local news p q (record {
         opens = opens_not u i delta p e news calls t.later st.begun l.may l.ended;
         expires = expires_not news p at_tick;
+        third = no_third news p (sym t.goes.una ∙ acknowledged ∙ sym before);
         past = omega (arith, past, acknowledged, before);
       });
     }

@@ -4,7 +4,7 @@ use Rattle.std.specs.Prelude.{◌==◌, ◌&&◌, nat_lt, if◌then◌else◌}
 use Rattle.std.proofs.lemmas.Bool.{false≢true}
 use Rattle.seq_arith.specs.Offset.{one_if}
 use Rattle.tcp_endpoint.specs.States.{has_begun}
-use Rattle.tcp_endpoint.specs.Sending.{Sending, bytes_end, timed, sendable, sends_fin, with_sent, with_fin_sent}
+use Rattle.tcp_endpoint.specs.Sending.{Sending, bytes_end, timed, send_edge, sendable, sends_fin, with_sent, with_fin_sent}
 use Rattle.tcp_endpoint.specs.Tcb.{Tcb}
 use Rattle.tcp_endpoint.specs.Leaving.{probes_text, probes_fin, with_probe, with_text_sent, with_fin_out, after_full, announced, with_turn_ended, flushed}
 use Rattle.endpoint_laws.specs.Laws.{IsBounded}
@@ -44,10 +44,10 @@ end_steps begun pt pf s unsent ends =
     (λ h. same_if pf (with_fin_sent s) s (bytes_end s) (λ k. fin_end s.fin_sent s.sent (s.una + length s.held) (ends k).0 (ends k).1) (λ k. refl)) in
     let texted_end : bytes_end texted ≡ bytes_end probed =
     sent_end probed.fin_sent probed.sent (if begun then sendable probed else 0) (probed.una + length probed.held)
-    (λ h. none_behind begun probed.syn_acked probed.fin_sent (min (probed.una + length probed.held) probed.edge - probed.sent) h) in
+    (λ h. none_behind begun probed.syn_acked probed.fin_sent (min (probed.una + length probed.held) (send_edge probed) - probed.sent) h) in
     same_if (begun && sends_fin texted) (with_fin_sent texted) texted (bytes_end s)
     (λ h.
-    let test = fin_test begun texted.syn_acked texted.closed texted.fin_sent (nat_lt texted.sent texted.edge) texted.sent (texted.una + length texted.held) h in
+    let test = fin_test begun texted.syn_acked texted.closed texted.fin_sent (nat_lt texted.sent (send_edge texted)) texted.sent (texted.una + length texted.held) h in
     fin_end texted.fin_sent texted.sent (texted.una + length texted.held) test.0 test.1 ∙ texted_end ∙ probed_end)
     (λ h. texted_end ∙ probed_end)
 

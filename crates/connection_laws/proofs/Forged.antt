@@ -2,9 +2,10 @@
 use Rattle.std.proofs.Common.{◌≡◌, ℕ, zero, suc, ◌<◌, ◌+◌, ◌-◌, ◌^◌, Bool, true, false, not, [], ◌++◌, length, take, drop, sum, min, max, refl, sym, ap, subst, arith, append-nil, ◌∙◌}
 use Rattle.std.specs.Prelude.{ℤ, pos, ◌+ℤ◌, ◌==◌, ◌&&◌, ◌||◌, nat_abs, nat_lt, int_lt, int_le, if◌then◌else◌}
 use Rattle.std.proofs.lemmas.Int.{ints}
-use Rattle.std.proofs.lemmas.Bool.{false≢true}
+use Rattle.std.proofs.lemmas.Bool.{false≢true, and_right}
 use Rattle.seq_arith.specs.Arrival.{int_eq, is_acceptable, is_at_right_edge, is_allowed_at_zero, is_usable, una_after, updates_window}
 use Rattle.seq_arith.specs.Coming.{nothing_came, nothing_early, comes}
+use Rattle.seq_arith.specs.Congestion.{with_new_data, with_duplicate}
 use Rattle.seq_arith.proofs.Coming.{in_order, ComesAlone, comes_alone}
 use Rattle.seq_arith.specs.Packet.{Segment, has_fin, has_syn, has_rst, has_ack}
 use Rattle.server_trait.specs.Service.{Machine, reference}
@@ -12,11 +13,11 @@ use Rattle.ft_model.specs.Offset.{one_if, first_of, ack_of, text_of, fin_of, len
 use Rattle.ft_model.specs.Point.{Point, taken_units, receive_edge, room, target}
 use Rattle.ft_model.specs.News.News.{Comes}
 use Rattle.ft_model.specs.Taken.{uses, counts, came, taken_after, early_after, fin_after}
-use Rattle.ft_model.specs.Sending.{syn_acked_after, acknowledged_after, edge_after, wl1_after, wl2_after, sent_at_once, sent_after, acknowledged_by}
+use Rattle.ft_model.specs.Sending.{syn_acked_after, acknowledged_after, edge_after, wl1_after, wl2_after, is_duplicate, congestion_after, flight, sent_at_once, sent_after, acknowledged_by, window_by}
 use Rattle.ft_model.specs.Timer.{must_run, interval_after, rest_after}
 use Rattle.endpoint_laws.specs.Standing.{MeetsLaws}
 use Rattle.connection_laws.proofs.Swallowed.{drop_none}
-use Rattle.ft_io.proofs.Booleans.{or_true, and_true}
+use Rattle.ft_io.proofs.Booleans.{or_true, and_true, middle_false}
 use Rattle.endpoint_laws.proofs.Beginning.{none_more}
 
 -- a service that writes nothing
@@ -144,8 +145,8 @@ starts_by : (c : Bool) (rest una : ℕ) → (c ≡ true → rest ≡ 0) → true
 starts_by true rest una h = sym (λ j. (h refl j == 0) || (nat_lt una una || false))
 starts_by false rest una h = or_true (rest == 0) ∙ ap (λ b. (rest == 0) || b) (or_true (nat_lt una una))
 
-at_once_none : (t : ℕ) → 0 ≡ max 0 (min t 0) + 0
-at_once_none t = omega arith
+at_once_none : (t cwnd : ℕ) → 0 ≡ max 0 (min t (min 0 (0 + cwnd))) + 0
+at_once_none t cwnd = omega arith
 
 pub run_is : (p : Point) → p.lengths ≡ [] → reference silent p.taken (take p.reads_answered p.lengths) ≡ record { state = 0; output = []; closed = false }
 unfolding reference
@@ -165,7 +166,7 @@ wl2_none false = refl
 
 pub forged_laws : (p : Point) (segment : Segment) (fin : Bool) → IsFresh p → IsForged p segment fin → (fin ≡ true → length p.taken < 2 ^ 24)
     → MeetsLaws silent (Comes segment) p (after_forged fin p)
-unfolding taken_after early_after fin_after syn_acked_after acknowledged_after edge_after wl1_after wl2_after sent_after sent_at_once interval_after rest_after must_run
+unfolding taken_after early_after fin_after syn_acked_after acknowledged_after edge_after wl1_after wl2_after is_duplicate congestion_after sent_after sent_at_once interval_after rest_after must_run
 forged_laws p segment fin f s few =
     let k : came p segment ≡ nothing_came nothing_early fin = forged_came p segment fin f s few in
     let c : counts p segment ≡ true = forged_counts p segment fin f s few in
@@ -174,6 +175,12 @@ forged_laws p segment fin f s few =
     let w : Bool = updates_window p.una p.wl1 p.wl2 (first_of p.cisn segment) (acknowledged_by p segment) in
     let moves : Bool = (counts p segment && int_le (pos 0) (ack_of p.sisn segment)) && (not p.syn_acked || w) in
     let anew : true ≡ (p.rest == 0 || (nat_lt p.una p.una || (true && not p.syn_acked))) = starts_by p.syn_acked p.rest p.una (λ h. (f.timer.0 h).0) in
+    let used : Bool = counts p segment && int_le (pos 0) (ack_of p.sisn segment) in
+    let fresh : (used && nat_lt p.una (acknowledged_by p segment)) ≡ false =
+    and_right used (nat_lt p.una (acknowledged_by p segment)) (λ j. nat_lt (f.una j) (min (nat_abs (s.back j)) (f.sent j))) in
+    let single : is_duplicate p segment ≡ false =
+    middle_false (used && length (text_of segment) == 0 && not (fin_of segment) && acknowledged_by p segment == p.una) (nat_lt p.una p.sent)
+    (acknowledged_by p segment + window_by p segment == p.edge) (λ j. nat_lt (f.una j) (f.sent j)) in
     record {
       same = record { key = refl; cisn = refl; sisn = refl; mss = refl; fetched = refl };
       taken = sym (ap (λ x. p.taken ++ x.added) k ∙ append-nil p.taken);
@@ -186,7 +193,10 @@ forged_laws p segment fin f s few =
           ∙ edge_none moves);
       wl1 = sym (wl1_by p.syn_acked (first_of p.cisn segment) p.wl1 (pos (length p.taken)) (counts p segment && int_le (pos 0) (ack_of p.sisn segment)) w s.first f.wl1 m);
       wl2 = f.wl2 ∙ sym ((λ j. if moves then min (nat_abs (s.back j)) (f.sent j) else f.wl2 j) ∙ wl2_none moves);
-      sent = f.sent ∙ at_once_none (target silent (after_forged fin p)) ∙ sym (λ j. max (f.sent j) (min (target silent (after_forged fin p)) (f.edge j)) + 0);
+      congestion = sym (λ j. if fresh j then with_new_data p.mss (acknowledged_by p segment - p.una) p.congestion
+          else (if single j then with_duplicate p.mss (flight p) p.congestion else p.congestion));
+      sent = f.sent ∙ at_once_none (target silent (after_forged fin p)) p.congestion.cwnd
+          ∙ sym (λ j. max (f.sent j) (min (target silent (after_forged fin p)) (min (f.edge j) (f.una j + p.congestion.cwnd))) + 0);
       interval = λ j. if anew j then 1 else p.interval;
       rest = sym (λ j. if nat_lt (f.una j) (max (f.sent j) (length (run_is p f.lengths j).output + (if (run_is p f.lengths j).closed then 1 else 0)))
           then (if (p.rest == 0 || (nat_lt p.una p.una || (true && not p.syn_acked))) || false then interval_after (Comes segment) p (after_forged fin p) else p.rest) else 0);

@@ -9,14 +9,14 @@ use Rattle.seq_arith.specs.Packet.{Segment, has_rst}
 use Rattle.server_trait.specs.Service.{Machine}
 use Rattle.ft_model.specs.Point.{Point, acknowledgement, answered_run, released, target}
 use Rattle.ft_model.specs.News.{News}
-use Rattle.ft_model.specs.Sending.{sent_at_once}
+use Rattle.ft_model.specs.Sending.{is_third_duplicate, sent_at_once}
 use Rattle.ft_model.specs.Timer.{expires}
 use Rattle.ft_model.specs.Segments.{window, segment_at, syn_ack, text_at, fin_segment, fin_if_closed, bare_segment, texts, resent_length, first_unacknowledged, probe, resent, new_length, new_texts, new_fin, or_bare}
 use Rattle.connection_laws.specs.Inside.{swallowing, inside}
 use Rattle.connection_laws.specs.Passing.{passed}
 use Rattle.south_wrap.specs.Patching.{outward}
 use Rattle.south_wrap.specs.Standing.{south_at}
-use Rattle.connection_laws.proofs.Meets.{lt_less}
+use Rattle.connection_laws.proofs.Meets.{lt_less, once_less}
 use Rattle.connection_laws.proofs.Swallowed.{inside_runs, inside_target, inside_released}
 use Rattle.ft_io.proofs.Booleans.{not_true, left_false, right_false}
 
@@ -73,20 +73,19 @@ pub record Sends {State : Type 0} (service : Machine State) (news inner : News) 
   pub shift : (i + delta) % 2 ^ 32 ≡ (q.sisn + u) % 2 ^ 32
   pub sisn : q.sisn < 2 ^ 32
   pub expires : expires inner (inside u i p) ≡ expires news p
+  pub third : is_third_duplicate inner (inside u i p) ≡ is_third_duplicate news p
   pub sent : u ≤ p.sent
   pub una : u ≤ q.una
   pub edge : u ≤ q.edge
   pub given : u ≤ released service q
   pub syn_unacked : q.syn_acked ≡ false → u ≡ 0
 
-at_once : (u a t e : ℕ) → u ≤ a → max (a - u) (min (t - u) (e - u)) ≡ max a (min t e) - u
-at_once u a t e h = omega (arith, h)
-
 once_is : {State : Type 0} (service : Machine State) (news inner : News) (p q : Point) (u i delta : ℕ) → Sends service news inner p q u i delta
     → sent_at_once (swallowing u service) (inside u i p) (inside u i q) ≡ sent_at_once service p q - u
 unfolding sent_at_once
 once_is service news inner p q u i delta s =
-    (λ j. max (p.sent - u) (min (inside_target service u i q s.given j) (q.edge - u))) ∙ at_once u p.sent (target service q) q.edge s.sent
+    (λ j. max (p.sent - u) (min (inside_target service u i q s.given j) (min (q.edge - u) (q.una - u + q.congestion.cwnd))))
+    ∙ once_less u p.sent (target service q) q.edge q.una q.congestion.cwnd s.sent s.una
 
 flight_less : (u s r a : ℕ) → u ≤ a → u ≤ r → u ≤ s → min (s - u) (r - u) - (a - u) ≡ min s r - a
 flight_less u s r a x y z = omega (arith, x, y, z)
@@ -175,9 +174,9 @@ unfolding resent
 resent_is service server news inner p q u i delta s =
     let out : Segment → Segment = outward (south_at delta q) in
     let waits : (not q.syn_acked || nat_lt (q.una - u) (p.sent - u)) ≡ (not q.syn_acked || nat_lt q.una p.sent) = ap (λ b. not q.syn_acked || b) (lt_less u q.una p.sent s.una) in
-    (λ j. map out (if s.expires j then (if waits j then first_unacknowledged (swallowing u service) server (inside u i p) (inside u i q)
+    (λ j. map out (if s.expires j || s.third j then (if waits j then first_unacknowledged (swallowing u service) server (inside u i p) (inside u i q)
     else probe (swallowing u service) server (inside u i p) (inside u i q)) else []))
-    ∙ choose out (expires news p) _ [] _ []
+    ∙ choose out (expires news p || is_third_duplicate news p) _ [] _ []
     (λ h. choose out (not q.syn_acked || nat_lt q.una p.sent) _ _ _ _ (λ k. first_is service server news inner p q u i delta s) (λ k. probe_is service server news inner p q u i delta s))
     (λ h. refl)
 
@@ -241,7 +240,7 @@ full_quiet : {State : Type 0} (service : Machine State) (server : Addr) (news : 
 unfolding resent new_texts new_fin
 full_quiet service server news p q =
     append_quiet (resent service server news p q) (new_texts service server p q ++ new_fin service server p q)
-    (either_quiet (expires news p) _ []
+    (either_quiet (expires news p || is_third_duplicate news p) _ []
     (either_quiet (not q.syn_acked || nat_lt q.una p.sent) _ _
     (either_quiet (not q.syn_acked) _ _ refl (either_quiet (q.una == released service q) _ _ (fin_quiet service server q) refl))
     (either_quiet (nat_lt p.sent (released service q)) _ _ refl (fin_quiet service server q))) refl)

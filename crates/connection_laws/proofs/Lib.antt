@@ -1,5 +1,6 @@
 pub mod Swallowed
 pub mod Lowered
+pub mod Duplicates
 pub mod Meets
 pub mod Leaving
 pub mod Sent

@@ -5,6 +5,7 @@ use Rattle.std.proofs.lemmas.Bool.{false≢true}
 use Rattle.ft_io.specs.declared.Addr.{Addr}
 use Rattle.seq_arith.specs.Arrival.{una_after}
 use Rattle.seq_arith.specs.Coming.{nothing_came, comes}
+use Rattle.seq_arith.specs.Congestion.{with_new_data, is_third, with_duplicate, with_expiry}
 use Rattle.seq_arith.specs.Packet.{Segment, has_syn, has_rst, has_ack}
 use Rattle.server_trait.specs.Service.{Machine}
 use Rattle.ft_model.specs.Offset.{first_of, ack_of, text_of, fin_of}
@@ -13,7 +14,7 @@ use Rattle.ft_model.specs.News.{News}
 use Rattle.ft_model.specs.News.News.{Comes, Logged, Ticks, Begins}
 use Rattle.ft_model.specs.Network.{Packet}
 use Rattle.ft_model.specs.Taken.{uses, counts, came, taken_after, early_after, fin_after}
-use Rattle.ft_model.specs.Sending.{syn_acked_after, acknowledged_after, edge_after, wl1_after, wl2_after, sent_at_once, sent_after, acknowledged_by, window_by}
+use Rattle.ft_model.specs.Sending.{syn_acked_after, acknowledged_after, edge_after, wl1_after, wl2_after, is_duplicate, is_third_duplicate, flight, congestion_after, sent_at_once, sent_after, acknowledged_by, window_by}
 use Rattle.ft_model.specs.Timer.{must_run, interval_after, rest_after, is_tick, expires, probes, is_set_anew}
 use Rattle.ft_model.specs.Segments.{repeats_syn}
 use Rattle.ft_model.specs.Connection.{LiveTurn}
@@ -25,6 +26,7 @@ use Rattle.endpoint_laws.specs.Standing.{MeetsLaws}
 use Rattle.connection_laws.specs.Turning.{Fits, NewsFit}
 use Rattle.connection_laws.proofs.Swallowed.{inside_target}
 use Rattle.connection_laws.proofs.Lowered.{Lowers, lowers, moves, una_inside, moves_inside, edge_inside, wl2_inside, counts_inside}
+use Rattle.connection_laws.proofs.Duplicates.{duplicates, duplicates_inside, flight_inside, congestion_inside}
 use Rattle.ft_io.proofs.Booleans.{or_false}
 
 -- the fields of a point that an arriving segment moves
@@ -37,6 +39,8 @@ pub record Moves (news : News) (p : Point) (u i : ℕ) (inner : News) : Type 0 w
   pub edge : edge_after inner (inside u i p) ≡ edge_after news p - u
   pub wl1 : wl1_after inner (inside u i p) ≡ wl1_after news p
   pub wl2 : wl2_after inner (inside u i p) ≡ wl2_after news p - u
+  pub congestion : congestion_after inner (inside u i p) ≡ congestion_after news p
+  pub third : is_third_duplicate inner (inside u i p) ≡ is_third_duplicate news p
   pub expires : expires inner (inside u i p) ≡ expires news p
   pub ticks : is_tick inner ≡ is_tick news
 
@@ -58,11 +62,13 @@ came_is u i delta p segment g l =
 
 comes_inside : (u i delta : ℕ) (p : Point) (segment : Segment) → GoesOn u i delta p
     → Lowers u p.sent (ack_of p.sisn segment) (ack_of i (inward (south_at delta p) segment)) → Moves (Comes segment) p u i (Comes (inward (south_at delta p) segment))
-unfolding taken_after early_after fin_after syn_acked_after acknowledged_after edge_after wl1_after wl2_after
+unfolding taken_after early_after fin_after syn_acked_after acknowledged_after edge_after wl1_after wl2_after is_duplicate is_third_duplicate congestion_after
 comes_inside u i delta p segment g l =
     let inner : Segment = inward (south_at delta p) segment in
     let ack : ℤ = ack_of p.sisn segment in
     let first : ℤ = first_of p.cisn segment in
+    let textless : Bool = length (text_of segment) == 0 in
+    let finless : Bool = not (fin_of segment) in
     let c : counts (inside u i p) inner ≡ counts p segment = counts_is u i delta p segment g l in
     let o : p.syn_acked ≡ false → u ≡ 0 = λ h. (g.syn_unacked h).0 in
     let k : came (inside u i p) inner ≡ came p segment = came_is u i delta p segment g l in
@@ -82,6 +88,15 @@ comes_inside u i delta p segment g l =
       wl1 = λ j. if m j then first else p.wl1;
       wl2 = (λ j. if m j then acknowledged_by (inside u i p) inner else p.wl2 - u)
           ∙ wl2_inside u p.una p.sent (counts p segment) p.syn_acked p.wl1 p.wl2 first ack (ack_of i inner) g.una g.order o l;
+      congestion = (λ j. if (c j && int_le (pos 0) (ack_of i inner)) && nat_lt (p.una - u) (acknowledged_by (inside u i p) inner)
+          then with_new_data p.mss (acknowledged_by (inside u i p) inner - (p.una - u)) p.congestion
+          else (if duplicates (p.una - u) (p.sent - u) (p.edge - u) inner.head.window (c j) textless finless (ack_of i inner)
+          then with_duplicate p.mss (flight (inside u i p)) p.congestion else p.congestion))
+          ∙ congestion_inside u p.una p.sent p.edge segment.head.window p.mss (counts p segment) textless finless ack (ack_of i inner) p.congestion
+          g.una g.order g.edge l;
+      third = ap (λ b. b && is_third p.congestion)
+          ((λ j. duplicates (p.una - u) (p.sent - u) (p.edge - u) inner.head.window (c j) textless finless (ack_of i inner))
+          ∙ duplicates_inside u p.una p.sent p.edge segment.head.window (counts p segment) textless finless ack (ack_of i inner) g.una g.order g.edge l);
       expires = refl;
       ticks = refl;
     }
@@ -103,7 +118,7 @@ nothing_comes p segment c =
     ap (λ b. if b then comes (length p.taken) (receive_edge p) p.fin p.early (first_of p.cisn segment) (text_of segment) (fin_of segment) else nothing_came p.early p.fin) c
 
 pub stays_inside : (u i : ℕ) (p : Point) (segment : Segment) → counts p segment ≡ false → Moves (Comes segment) p u i Begins
-unfolding taken_after early_after fin_after syn_acked_after acknowledged_after edge_after wl1_after wl2_after
+unfolding taken_after early_after fin_after syn_acked_after acknowledged_after edge_after wl1_after wl2_after is_duplicate is_third_duplicate congestion_after
 stays_inside u i p segment c =
     let none : ℤ = first_of p.cisn segment in
     let k : came p segment ≡ nothing_came p.early p.fin = nothing_comes p segment c in
@@ -116,6 +131,12 @@ stays_inside u i p segment c =
       edge = sym (λ j. (if moves (c j) p.syn_acked p.una p.wl1 p.wl2 none (ack_of p.sisn segment) p.sent then acknowledged_by p segment + window_by p segment else p.edge) - u);
       wl1 = sym (λ j. if moves (c j) p.syn_acked p.una p.wl1 p.wl2 none (ack_of p.sisn segment) p.sent then none else p.wl1);
       wl2 = sym (λ j. (if moves (c j) p.syn_acked p.una p.wl1 p.wl2 none (ack_of p.sisn segment) p.sent then acknowledged_by p segment else p.wl2) - u);
+      congestion = sym (λ j. if (c j && int_le (pos 0) (ack_of p.sisn segment)) && nat_lt p.una (acknowledged_by p segment)
+          then with_new_data p.mss (acknowledged_by p segment - p.una) p.congestion
+          else (if duplicates p.una p.sent p.edge segment.head.window (c j) (length (text_of segment) == 0) (not (fin_of segment)) (ack_of p.sisn segment)
+          then with_duplicate p.mss (flight p) p.congestion else p.congestion));
+      third = sym (λ j. duplicates p.una p.sent p.edge segment.head.window (c j) (length (text_of segment) == 0) (not (fin_of segment)) (ack_of p.sisn segment)
+          && is_third p.congestion);
       expires = refl;
       ticks = refl;
     }
@@ -138,7 +159,7 @@ pub minus_none : (a b : ℕ) → a - 0 ≡ b - 0 → a ≡ b
 minus_none a b h = omega (arith, h)
 
 idle_inside : (u i delta : ℕ) (p : Point) (segment : Segment) → has_ack segment ≡ false → Moves (Comes segment) p u i (Comes (inward (south_at delta p) segment))
-unfolding taken_after early_after fin_after syn_acked_after acknowledged_after edge_after wl1_after wl2_after
+unfolding taken_after early_after fin_after syn_acked_after acknowledged_after edge_after wl1_after wl2_after is_duplicate is_third_duplicate congestion_after
 idle_inside u i delta p segment h =
     let q : Point = inside u i p in
     let a : Moves (Comes segment) p u i Begins = stays_inside u i p segment (unacknowledged p segment h) in
@@ -152,6 +173,8 @@ idle_inside u i delta p segment h =
       edge = minus_none _ (p.edge - u) (sym b.edge) ∙ a.edge;
       wl1 = sym b.wl1 ∙ a.wl1;
       wl2 = minus_none _ (p.wl2 - u) (sym b.wl2) ∙ a.wl2;
+      congestion = sym b.congestion ∙ a.congestion;
+      third = sym b.third ∙ a.third;
       expires = refl;
       ticks = refl;
     }
@@ -168,20 +191,72 @@ by_repeat u i delta p segment true h g f =
     (is_syn_has (has_syn segment) (has_ack segment) (has_rst segment) (segment.head.seq == p.cisn) (taken_units p == 0) (p.una == 0) h))
 by_repeat u i delta p segment false h g f = comes_any u i delta p segment (has_ack segment) refl g f
 
-pub moves_inside_all : (u i delta : ℕ) (p : Point) (news : News) → GoesOn u i delta p → NewsFit p news → Moves news p u i (news_inside delta p news)
-unfolding taken_after early_after fin_after syn_acked_after acknowledged_after edge_after wl1_after wl2_after
-moves_inside_all u i delta p (Comes segment) g f = by_repeat u i delta p segment (repeats_syn p segment) refl g f
-moves_inside_all u i delta p (Logged kept) g f = record { taken = refl; fin = refl; early = refl; syn_acked = refl; una = refl; edge = refl; wl1 = refl; wl2 = refl; expires = refl; ticks = refl }
-moves_inside_all u i delta p Ticks g f = record { taken = refl; fin = refl; early = refl; syn_acked = refl; una = refl; edge = refl; wl1 = refl; wl2 = refl; expires = refl; ticks = refl }
-moves_inside_all u i delta p Begins g f = record { taken = refl; fin = refl; early = refl; syn_acked = refl; una = refl; edge = refl; wl1 = refl; wl2 = refl; expires = refl; ticks = refl }
-
 -- differences
 pub lt_less : (u a b : ℕ) → u ≤ a → nat_lt (a - u) (b - u) ≡ nat_lt a b
 lt_less u a b h = grind (arith, h)
 
-sent_less : (u a t e : ℕ) (b : Bool) → u ≤ a → max (a - u) (min (t - u) (e - u)) + (if b then 1 else 0) ≡ max a (min t e) + (if b then 1 else 0) - u
-sent_less u a t e true h = omega (arith, h)
-sent_less u a t e false h = omega (arith, h)
+-- at a tick as much is lost
+ticks_same : (u i : ℕ) (p : Point) → u ≤ p.una → congestion_after Ticks (inside u i p) ≡ congestion_after Ticks p
+unfolding congestion_after
+ticks_same u i p a =
+    λ j. if p.rest == 1 && lt_less u p.una p.sent a j && lt_less u p.una p.edge a j
+    then with_expiry p.mss (flight_inside u p.una p.sent a j) (p.interval == 1) p.congestion
+    else p.congestion
+
+pub moves_inside_all : (u i delta : ℕ) (p : Point) (news : News) → GoesOn u i delta p → NewsFit p news → Moves news p u i (news_inside delta p news)
+unfolding taken_after early_after fin_after syn_acked_after acknowledged_after edge_after wl1_after wl2_after is_duplicate is_third_duplicate congestion_after
+moves_inside_all u i delta p (Comes segment) g f = by_repeat u i delta p segment (repeats_syn p segment) refl g f
+moves_inside_all u i delta p (Logged kept) g f = record {
+  taken = refl;
+  fin = refl;
+  early = refl;
+  syn_acked = refl;
+  una = refl;
+  edge = refl;
+  wl1 = refl;
+  wl2 = refl;
+  congestion = refl;
+  third = refl;
+  expires = refl;
+  ticks = refl;
+}
+moves_inside_all u i delta p Ticks g f = record {
+  taken = refl;
+  fin = refl;
+  early = refl;
+  syn_acked = refl;
+  una = refl;
+  edge = refl;
+  wl1 = refl;
+  wl2 = refl;
+  congestion = ticks_same u i p g.una;
+  third = refl;
+  expires = refl;
+  ticks = refl;
+}
+moves_inside_all u i delta p Begins g f = record {
+  taken = refl;
+  fin = refl;
+  early = refl;
+  syn_acked = refl;
+  una = refl;
+  edge = refl;
+  wl1 = refl;
+  wl2 = refl;
+  congestion = refl;
+  third = refl;
+  expires = refl;
+  ticks = refl;
+}
+
+-- the end of what may be sent is u less, whether that is the right edge or the end of the congestion window
+pub once_less : (u a t e una cwnd : ℕ) → u ≤ a → u ≤ una → max (a - u) (min (t - u) (min (e - u) (una - u + cwnd))) ≡ max a (min t (min e (una + cwnd))) - u
+once_less u a t e una cwnd h k = omega (arith, h, k)
+
+sent_less : (u a t e una cwnd : ℕ) (b : Bool) → u ≤ a → u ≤ una
+    → max (a - u) (min (t - u) (min (e - u) (una - u + cwnd))) + (if b then 1 else 0) ≡ max a (min t (min e (una + cwnd))) + (if b then 1 else 0) - u
+sent_less u a t e una cwnd true h k = omega (arith, h, k)
+sent_less u a t e una cwnd false h k = omega (arith, h, k)
 
 runs_less : (u a s t : ℕ) → u ≤ a → nat_lt (a - u) (max (s - u) (t - u)) ≡ nat_lt a (max s t)
 runs_less u a s t h = grind (arith, h)
@@ -210,9 +285,10 @@ laws_inside service server boot u i delta news p q sent g f above given l =
       edge = ap (λ n. n - u) l.edge ∙ sym m.edge;
       wl1 = l.wl1 ∙ sym m.wl1;
       wl2 = ap (λ n. n - u) l.wl2 ∙ sym m.wl2;
+      congestion = l.congestion ∙ sym m.congestion;
       sent = ap (λ n. n - u) l.sent_units
-          ∙ sym ((λ j. max (p.sent - u) (min (target_is j) (q.edge - u)) + (if probe j then 1 else 0))
-          ∙ sent_less u p.sent (target service q) q.edge (probes news p) (omega (arith, g.una, g.order)));
+          ∙ sym ((λ j. max (p.sent - u) (min (target_is j) (min (q.edge - u) (q.una - u + q.congestion.cwnd))) + (if probe j then 1 else 0))
+          ∙ sent_less u p.sent (target service q) q.edge q.una q.congestion.cwnd (probes news p) (omega (arith, g.una, g.order)) above);
       interval = l.interval ∙ sym ticks;
       rest = l.rest ∙ sym (λ j. if runs j
           then (if anew j || m.expires j then ticks j else (if m.ticks j then p.rest - 1 else p.rest))

@@ -5,6 +5,7 @@ use Rattle.std.proofs.lemmas.Bool.{false≢true, and_parts}
 use Rattle.ft_io.specs.declared.Addr.{Addr}
 use Rattle.seq_arith.specs.Arrival.{una_after}
 use Rattle.seq_arith.specs.Coming.{nothing_came, comes, early_from, StandsBehind}
+use Rattle.seq_arith.specs.Congestion.{Congestion}
 use Rattle.seq_arith.proofs.Coming.{comes_ended}
 use Rattle.seq_arith.specs.Packet.{Segment, has_rst, has_ack}
 use Rattle.server_trait.specs.Service.{Machine, reference}
@@ -16,7 +17,7 @@ use Rattle.ft_model.specs.News.{News}
 use Rattle.ft_model.specs.News.News.{Comes, Logged, Ticks, Begins}
 use Rattle.ft_model.specs.Answered.{reads_answered_after}
 use Rattle.ft_model.specs.Taken.{counts, came, taken_after, early_after, fin_after}
-use Rattle.ft_model.specs.Sending.{syn_acked_after, acknowledges, acknowledged_after, sent_at_once, sent_after}
+use Rattle.ft_model.specs.Sending.{syn_acked_after, acknowledges, acknowledged_after, is_third_duplicate, send_edge, sent_at_once, sent_after}
 use Rattle.ft_model.specs.Timer.{is_tick, must_run, expires, rest_after, interval_after, is_set_anew}
 use Rattle.ft_model.specs.Segments.{opens_with}
 use Rattle.ft_model.specs.Opening.{is_syn}
@@ -49,7 +50,7 @@ use Rattle.endpoint_laws.specs.Standing.{ReceivesAt}
 use Rattle.endpoint_laws.proofs.Calls.{FinIsLast, IsUsed, used_is, bounded_used, last_used}
 use Rattle.connection_laws.specs.Closing.{StandsClosed, ReadsOn, GoesOnClosed}
 use Rattle.connection_laws.proofs.Keeping.{Keeps, kept_same, kept_ticked}
-use Rattle.connection_laws.proofs.Quiet.{quiet_sends}
+use Rattle.connection_laws.proofs.Quiet.{no_third, quiet_sends}
 use Rattle.connection_laws.proofs.Forged.{plus_none, either}
 use Rattle.connection_laws.proofs.Held.{behind_at}
 
@@ -184,15 +185,16 @@ still_halves e m r s k = record {
   last = λ l. subst FinIsLast (sym s) l;
 }
 
-last_ticked : (s : Sending) (b : Bool) → FinIsLast s
-    → FinIsLast (if b then record s { interval = min 64 (2 * s.interval); rest = min 64 (2 * s.interval) } else record s { rest = s.rest - 1 })
-last_ticked s true l = l
-last_ticked s false l = l
+last_ticked : (s : Sending) (b : Bool) (c : Congestion) → FinIsLast s
+    → FinIsLast (if b then record s { congestion = c; interval = min 64 (2 * s.interval); rest = min 64 (2 * s.interval) } else record s { rest = s.rest - 1 })
+last_ticked s true c l = l
+last_ticked s false c l = l
 
-part_ticked : {X : Type 0} (f : Sending → X) (s : Sending) (b : Bool) → ((interval rest : ℕ) → f (record s { interval = interval; rest = rest }) ≡ f s)
-    → f (if b then record s { interval = min 64 (2 * s.interval); rest = min 64 (2 * s.interval) } else record s { rest = s.rest - 1 }) ≡ f s
-part_ticked f s true h = h (min 64 (2 * s.interval)) (min 64 (2 * s.interval))
-part_ticked f s false h = h s.interval (s.rest - 1)
+part_ticked : {X : Type 0} (f : Sending → X) (s : Sending) (b : Bool) (c : Congestion)
+    → ((c : Congestion) (interval rest : ℕ) → f (record s { congestion = c; interval = interval; rest = rest }) ≡ f s)
+    → f (if b then record s { congestion = c; interval = min 64 (2 * s.interval); rest = min 64 (2 * s.interval) } else record s { rest = s.rest - 1 }) ≡ f s
+part_ticked f s true c h = h c (min 64 (2 * s.interval)) (min 64 (2 * s.interval))
+part_ticked f s false c h = h s.congestion s.interval (s.rest - 1)
 
 pub still : (news : News) (e : Tcb) → e.name ≡ Closed → IsStill e (arrived news e)
 unfolding after_tick timer_ticked waited refusing refusing_without_ack
@@ -202,13 +204,13 @@ still (Comes p) e closed =
 still (Logged kept) e closed = still_halves e e refl refl refl
 still Ticks e closed = record {
   receiving = refl;
-  iss = part_ticked (λ x. x.iss) e.sending (sending.expires e.sending) (λ a b. refl);
-  syn_acked = part_ticked (λ x. x.syn_acked) e.sending (sending.expires e.sending) (λ a b. refl);
-  una = part_ticked (λ x. x.una) e.sending (sending.expires e.sending) (λ a b. refl);
+  iss = part_ticked (λ x. x.iss) e.sending (sending.expires e.sending) (sending.congestion_expired e.sending) (λ c a b. refl);
+  syn_acked = part_ticked (λ x. x.syn_acked) e.sending (sending.expires e.sending) (sending.congestion_expired e.sending) (λ c a b. refl);
+  una = part_ticked (λ x. x.una) e.sending (sending.expires e.sending) (sending.congestion_expired e.sending) (λ c a b. refl);
   keeps = kept_ticked e.sending;
   kept = refl;
   bounds = λ b. bounded_by_tick e b;
-  last = λ l. last_ticked e.sending (sending.expires e.sending) l;
+  last = λ l. last_ticked e.sending (sending.expires e.sending) (sending.congestion_expired e.sending) l;
 }
 still Begins e closed = still_halves e e refl refl refl
 
@@ -259,10 +261,12 @@ outlives service server boot u i delta news p q calls e sent st l reads =
     let all : target service q ≡ target service p = λ j. out j + one_if ((closed_then ∙ sym closed) j) in
     let still_p : expires news p ≡ false = stands_still news p st.still in
     let sent_is : q.sent ≡ p.sent =
-    l.sent_units ∙ (λ j. max p.sent (min (all j) q.edge) + one_if (still_p j && p.syn_acked && not (nat_lt p.una p.sent))) ∙ sent_same p.sent (target service p) q.edge st.all_sent in
+    l.sent_units ∙ (λ j. max p.sent (min (all j) (send_edge q)) + one_if (still_p j && p.syn_acked && not (nat_lt p.una p.sent)))
+    ∙ sent_same p.sent (target service p) (send_edge q) st.all_sent in
     let una_sent : q.una ≡ q.sent = una ∙ st.acknowledged ∙ sym sent_is in
     let sent_all : q.sent ≡ target service q = sent_is ∙ st.all_sent ∙ sym all in
     let past : released service q + 1 ≤ p.sent = grind (arith, out, over.1, st.acknowledged) in
+    let third : is_third_duplicate news p ≡ false = no_third news p (una_stays news p st.acknowledged ∙ st.acknowledged) in
     let inner : News = news_inside delta p news in
     let m : Tcb = arrived inner e in
     let w : Tcb = used calls m in
@@ -312,5 +316,5 @@ outlives service server boot u i delta news p q calls e sent st l reads =
       silent = ap (passed delta q) (closed_answers_law inner calls e st.name st.answer) ∙ refusals_stay delta q e.local inner;
       syn_acked = st.syn_acked;
       taken = λ j. length (taken j) + one_if ((fin ∙ sym over.0) j);
-      segments = quiet_sends service server news p q (record { opens = opens_not news p over.0 st.syn_acked; expires = still_p; past = past });
+      segments = quiet_sends service server news p q (record { opens = opens_not news p over.0 st.syn_acked; expires = still_p; third = third; past = past });
     }

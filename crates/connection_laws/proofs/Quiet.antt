@@ -1,13 +1,17 @@
--- Where all output and the FIN behind it were sent before the turn, and the timer doesn't expire, nothing but a segment without data leaves.
-use Rattle.std.proofs.Common.{◌≡◌, ℕ, ◌≤◌, ◌+◌, ◌-◌, false, [], ◌∷◌, ◌++◌, min, ap, arith}
-use Rattle.std.specs.Prelude.{◌&&◌, nat_lt, nat_le, if◌then◌else◌}
+-- Where all output and the FIN behind it were sent before the turn, and nothing of it is sent again, nothing but a segment without data leaves.
+use Rattle.std.proofs.Common.{◌≡◌, ℕ, ◌≤◌, ◌+◌, ◌-◌, Bool, true, false, not, [], ◌∷◌, ◌++◌, length, min, refl, ap, arith}
+use Rattle.std.specs.Prelude.{◌==◌, ◌&&◌, ◌||◌, nat_lt, nat_le, if◌then◌else◌}
 use Rattle.std.proofs.lemmas.Bool.{and_right}
+use Rattle.seq_arith.specs.Arrival.{una_after}
+use Rattle.seq_arith.specs.Congestion.{is_third}
 use Rattle.ft_io.specs.declared.Addr.{Addr}
 use Rattle.server_trait.specs.Service.{Machine}
 use Rattle.ft_model.specs.Point.{Point, released}
 use Rattle.ft_model.specs.News.{News}
+use Rattle.ft_model.specs.News.News.{Comes, Logged, Ticks, Begins}
+use Rattle.ft_model.specs.Offset.{text_of, fin_of}
 use Rattle.ft_model.specs.Owed.{is_owed}
-use Rattle.ft_model.specs.Sending.{sent_at_once}
+use Rattle.ft_model.specs.Sending.{acknowledges, acknowledged_by, window_by, acknowledged_after, is_duplicate, is_third_duplicate, sent_at_once}
 use Rattle.ft_model.specs.Timer.{expires}
 use Rattle.ft_model.specs.Segments.{syn_ack, opens_with, full_segments, segments_of, resent, new_texts, new_fin, new_length, texts, bare_segment, or_bare, fin_if_closed, is_unacknowledged, first_unacknowledged, probe}
 use Rattle.connection_laws.specs.Closing.{SendsAlone}
@@ -15,7 +19,31 @@ use Rattle.connection_laws.specs.Closing.{SendsAlone}
 pub record IsQuiet {State : Type 0} (service : Machine State) (news : News) (p q : Point) : Type 0 where
   pub opens : opens_with news p ≡ false
   pub expires : expires news p ≡ false
+  pub third : is_third_duplicate news p ≡ false
   pub past : released service q + 1 ≤ p.sent
+
+-- where all that was sent is acknowledged after the turn, no duplicate comes in it
+none_in_flight : (una sent n : ℕ) → una_after una n ≡ sent → (n == una && nat_lt una sent) ≡ false
+none_in_flight una sent n h = grind (arith, h)
+
+off_pair : (t f x y z w : Bool) → (x && y) ≡ false → ((true && t && f && x && y && z) && w) ≡ false
+off_pair true true x y z w h = ap (λ v. (v && z) && w) h
+off_pair true false x y z w h = refl
+off_pair false f x y z w h = refl
+
+none_third : (a t f z w : Bool) (una sent n : ℕ) → (if a then una_after una n else una) ≡ sent → ((a && t && f && n == una && nat_lt una sent && z) && w) ≡ false
+none_third true t f z w una sent n h = off_pair t f (n == una) (nat_lt una sent) z w (none_in_flight una sent n h)
+none_third false t f z w una sent n h = refl
+
+pub no_third : (news : News) (p : Point) → acknowledged_after news p ≡ p.sent → is_third_duplicate news p ≡ false
+unfolding acknowledged_after is_duplicate is_third_duplicate
+no_third (Comes segment) p h =
+    none_third (acknowledges p segment) (length (text_of segment) == 0) (not (fin_of segment))
+    (acknowledged_by p segment + window_by p segment == p.edge) (is_third p.congestion)
+    p.una p.sent (acknowledged_by p segment) h
+no_third (Logged kept) p h = refl
+no_third Ticks p h = refl
+no_third Begins p h = refl
 
 none_long : (a r s : ℕ) → r + 1 ≤ s → min a r - s ≡ 0
 none_long a r s h = omega (arith, h)
@@ -30,7 +58,7 @@ nothing_full service server news p q h =
     let fin : (nat_lt (released service q) (sent_at_once service p q) && nat_le p.sent (released service q)) ≡ false =
     and_right (nat_lt (released service q) (sent_at_once service p q)) (nat_le p.sent (released service q)) (past_it (released service q) p.sent h.past) in
     λ j. (if h.opens j then syn_ack server q ∷ [] else [])
-    ++ ((if h.expires j then (if is_unacknowledged p q then first_unacknowledged service server p q else probe service server p q) else [])
+    ++ ((if h.expires j || h.third j then (if is_unacknowledged p q then first_unacknowledged service server p q else probe service server p q) else [])
     ++ (texts service server q (long j) p.sent (long j) ++ (if fin j then fin_if_closed service server q else [])))
 
 pub quiet_sends : {State : Type 0} (service : Machine State) (server : Addr) (news : News) (p q : Point) → IsQuiet service news p q → SendsAlone service server news p q

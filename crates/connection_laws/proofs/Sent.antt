@@ -19,11 +19,11 @@ use Rattle.ft_model.specs.Taken.{accepts, uses, counts, taken_after, fin_after}
 use Rattle.ft_model.specs.Owed.{is_refused, owes, asks}
 use Rattle.ft_model.specs.Owed as outer
 use Rattle.ft_model.specs.Reads.{Makes, MakesReads, next_read, next_length, may_read}
-use Rattle.ft_model.specs.Sending.{edge_after, sent_at_once, syn_acked_after}
+use Rattle.ft_model.specs.Sending.{edge_after, is_third_duplicate, sent_at_once, syn_acked_after}
 use Rattle.ft_model.specs.Segments.{texts, new_length, fin_if_closed}
 use Rattle.ft_model.specs.Refusal.{rst_at_ack}
 use Rattle.ft_model.specs.Opening.{is_syn}
-use Rattle.ft_model.specs.Segments.{syn_ack, repeats_syn, opens_with, full_segments, segments_of, or_bare, bare_segment, resent, new_texts, new_fin}
+use Rattle.ft_model.specs.Segments.{syn_ack, repeats_syn, opens_with, full_segments, segments_of, or_bare, bare_segment, resent, new_texts, new_fin, is_unacknowledged, first_unacknowledged, probe}
 use Rattle.ft_model.specs.Connection.{LiveTurn}
 use Rattle.connection_laws.specs.Inside.{swallowing, inside, GoesOn}
 use Rattle.connection_laws.specs.Passing.{news_inside, passed, asks_besides, owes_besides, leaves}
@@ -199,8 +199,8 @@ off_last false b c d e h = refl
 pub less_itself : (n : ℕ) → nat_lt n n ≡ false
 less_itself n = grind arith
 
-pub nothing_at_once : (t : ℕ) → max 0 (min t 0) ≡ 0
-nothing_at_once t = omega arith
+pub nothing_at_once : (t e : ℕ) → max 0 (min t (min 0 e)) ≡ 0
+nothing_at_once t e = omega arith
 
 pub nothing_long : (r : ℕ) → min 0 r - 0 ≡ 0
 nothing_long r = omega arith
@@ -214,10 +214,11 @@ record IsRefused (p q : Point) (segment : Segment) : Type 0 where
   new : (not (taken_units p == taken_units q) || not (announced_edge p == announced_edge q)) ≡ false
   sent : p.sent ≡ 0
   edge : q.edge ≡ 0
+  third : is_third_duplicate (Comes segment) p ≡ false
 
 refused_turn : {State : Type 0} (service : Machine State) (server : Addr) (boot : ℕ) (segment : Segment) (p q : Point) (sent : List Packet) (u i delta : ℕ)
     → GoesOn u i delta p → refuses p segment ≡ true → LiveTurn service server boot (Comes segment) p q sent → IsRefused p q segment
-unfolding owes counts answered_after taken_after fin_after edge_after
+unfolding owes counts answered_after taken_after fin_after edge_after is_third_duplicate
 refused_turn service server boot segment p q sent u i delta g r l =
     let f = four_of (accepts p segment) (has_rst segment) (has_syn segment) (is_refused p segment) r in
     let k = three_of p.syn_acked (has_ack segment) (int_lt (ack_of p.sisn segment) (pos 0)) f.3 in
@@ -241,6 +242,7 @@ refused_turn service server boot segment p q sent u i delta g r l =
       new = nothing_new p q taken fin l.same.fetched lens;
       sent = o.1;
       edge = l.edge ∙ minus_none (edge_after (Comes segment) p) p.edge (sym m.edge) ∙ o.2;
+      third = sym m.third;
     }
 
 refused : {State : Type 0} (service : Machine State) (server : Addr) (boot : ℕ) (segment inner : Segment) (p q : Point) (sent : List Packet) (u i delta : ℕ)
@@ -250,12 +252,14 @@ refused : {State : Type 0} (service : Machine State) (server : Addr) (boot : ℕ
 unfolding segments_of full_segments outer.is_owed resent new_texts new_fin sent_at_once
 refused service server boot segment inner p q sent u i delta g r s l =
     let t : IsRefused p q segment = refused_turn service server boot segment p q sent u i delta g r l in
-    let once : sent_at_once service p q ≡ 0 = (λ j. max (t.sent j) (min (point.target service q) (t.edge j))) ∙ nothing_at_once (point.target service q) in
+    let once : sent_at_once service p q ≡ 0 = (λ j. max (t.sent j) (min (point.target service q) (min (t.edge j) (q.una + q.congestion.cwnd))))
+    ∙ nothing_at_once (point.target service q) (q.una + q.congestion.cwnd) in
     let long : new_length service p q ≡ 0 = (λ j. min (once j) (released service q) - t.sent j) ∙ nothing_long (released service q) in
     let rose : nat_lt p.answered q.answered ≡ false = ap (nat_lt p.answered) t.answered ∙ less_itself p.answered in
     let besides : owes_besides service (Comes segment) p q ≡ false = λ j. (t.fin j && nat_lt (released service p) p.una && not (has_rst segment)) || rose j in
     let rest : full service server (Comes segment) p q ≡ [] =
-    (λ j. texts service server q (long j) p.sent (long j) ++ (if nat_lt (released service q) (once j) && nat_le p.sent (released service q) then fin_if_closed service server q else []))
+    (λ j. (if t.third j then (if is_unacknowledged p q then first_unacknowledged service server p q else probe service server p q) else [])
+    ++ (texts service server q (long j) p.sent (long j) ++ (if nat_lt (released service q) (once j) && nat_le p.sent (released service q) then fin_if_closed service server q else [])))
     ∙ (λ j. if never (released service q) j && nat_le p.sent (released service q) then fin_if_closed service server q else []) in
     let owed : outer.is_owed service (Comes segment) p q ≡ false =
     (λ j. ((t.owed j || (t.fin j && nat_lt (released service p) p.una && not (has_rst segment))) || rose j || not (taken_units p == taken_units q)) || not (announced_edge p == announced_edge q)) ∙ t.new in
@@ -278,6 +282,7 @@ sends service server boot news p q sent u i delta t before after = record {
   shift = after.shift;
   sisn = after.sisn;
   expires = (moves_inside_all u i delta p news before t.fits).expires;
+  third = (moves_inside_all u i delta p news before t.fits).third;
   sent = omega (arith, before.una, before.order);
   una = after.una;
   edge = after.edge;

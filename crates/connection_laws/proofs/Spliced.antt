@@ -7,6 +7,7 @@ use Rattle.ft_io.specs.declared.Addr.{Addr}
 use Rattle.ft_io.specs.declared.Key.{Key}
 use Rattle.seq_arith.specs.Number.{number_at}
 use Rattle.seq_arith.specs.Arrival.{int_eq}
+use Rattle.seq_arith.specs.Congestion.{initial_congestion}
 use Rattle.tcp_endpoint.specs.Receiving.{next}
 use Rattle.seq_arith.specs.Packet.{Segment}
 use Rattle.seq_arith.proofs.Shifts.{offset_of_number}
@@ -255,6 +256,7 @@ at_entry service local e i t g st =
         edge = less_self u ∙ st.sends.edge;
         wl1 = st.sends.wl1;
         wl2 = less_self u ∙ st.sends.wl2;
+        congestion = ap initial_congestion (size_stays e.mss g.least g.most) ∙ st.sends.congestion;
       };
       sent = less_self u ∙ st.sent;
       interval = st.interval;

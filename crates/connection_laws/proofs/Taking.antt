@@ -12,9 +12,9 @@ use Rattle.tcp_endpoint.specs.declared.states.StateName.{StateName}
 use Rattle.tcp_endpoint.specs.declared.states.StateName.TheVariants.{Closed, Listen, SynSent, SynReceived, Established, FinWait1, FinWait2, CloseWait, Closing, LastAck, TimeWait}
 use Rattle.tcp_endpoint.specs.States.{after_syn_acked, after_fin, after_fin_acked, has_begun}
 use Rattle.tcp_endpoint.specs.Receiving.{next, with_segment}
-use Rattle.tcp_endpoint.specs.Sending.{acknowledged, with_syn_acked, fin_acked}
+use Rattle.tcp_endpoint.specs.Sending.{with_syn_acked, fin_acked}
 use Rattle.tcp_endpoint.specs.Tcb.{Tcb}
-use Rattle.tcp_endpoint.specs.Arrival.{first, ack_at, owing_if, killed, entering, refusing, with_text_and_fin, with_fin_acked, with_first_ack, with_ack, check_ack, check_syn, check_rst, waiting_again, accepts, is_allowed, check_place, in_others, received}
+use Rattle.tcp_endpoint.specs.Arrival.{first, ack_at, owing_if, killed, entering, refusing, with_text_and_fin, with_fin_acked, with_first_ack, with_ack_used, with_ack, check_ack, check_syn, check_rst, waiting_again, accepts, is_allowed, check_place, in_others, received}
 use Rattle.tcp_endpoint.specs.Turning.{after_tick, timer_ticked, waited}
 use Rattle.endpoint_laws.specs.Turn.{Call, MayUse, arrived, used}
 use Rattle.endpoint_laws.specs.Ending.{IsNamed, IsNamedRightly}
@@ -73,9 +73,9 @@ text_opens e p begun off =
     (λ h k. fin_begun e.name begun) (λ h. not_taken taking (newly taking.receiving.fin e.receiving.fin off h))
 
 later_opens : (e : Tcb) (p : Segment) → has_begun e.name ≡ true → has_begun (after_fin_acked e.name) ≡ true → e.receiving.fin ≡ false → IsOpenWith (with_ack e p)
-unfolding with_ack with_fin_acked
+unfolding with_ack with_ack_used with_fin_acked
 later_opens e p begun acked off =
-    let m : Tcb = record e { sending = acknowledged e.sending p.head.seq (ack_at e p) p.head.window } in
+    let m : Tcb = with_ack_used e p in
     holds_if IsOpenWith (is_ahead e.sending.sent (ack_at e p)) (owing_if true e) (with_text_and_fin (with_fin_acked m) p)
     (λ h. not_taken (owing_if true e) off)
     (λ h. holds_if (λ (t : Tcb). IsOpenWith (with_text_and_fin t p)) (fin_acked m.sending) (entering (after_fin_acked m.name) m) m

@@ -3,6 +3,7 @@ use Rattle.std.proofs.Common.{◌≡◌, ℕ, ◌≤◌, ◌+◌, ◌-◌, ◌*�
 use Rattle.std.specs.Prelude.{◌==◌, ◌&&◌, ◌||◌, nat_lt, nat_le, if◌then◌else◌}
 use Rattle.std.proofs.lemmas.Bool.{false≢true, and_parts, and_right}
 use Rattle.ft_io.specs.declared.Addr.{Addr}
+use Rattle.seq_arith.specs.Congestion.{Congestion}
 use Rattle.seq_arith.specs.Packet.{Segment, has_syn, has_ack, has_rst}
 use Rattle.seq_arith.specs.Offset.{one_if}
 use Rattle.server_trait.specs.Service.{Machine, reference}
@@ -15,8 +16,8 @@ use Rattle.ft_model.specs.News.News.{Comes, Logged, Ticks, Begins}
 use Rattle.ft_model.specs.Owed.{is_owed, owes}
 use Rattle.ft_model.specs.Point.{Point, taken_units, announced_edge, answered_run, released, target, made, is_over, HoldsBehind}
 use Rattle.ft_model.specs.Reads.{Makes, next_read, next_length, may_read}
-use Rattle.ft_model.specs.Segments.{opens_with, repeats_syn, syn_ack, bare_segment, or_bare, segments_of, full_segments, resent, new_texts, new_fin, new_length, texts, fin_if_closed}
-use Rattle.ft_model.specs.Sending.{acknowledged_after, edge_after, sent_at_once, sent_after}
+use Rattle.ft_model.specs.Segments.{opens_with, repeats_syn, syn_ack, bare_segment, or_bare, segments_of, full_segments, resent, new_texts, new_fin, new_length, texts, fin_if_closed, is_unacknowledged, first_unacknowledged, probe}
+use Rattle.ft_model.specs.Sending.{acknowledged_after, edge_after, congestion_after, is_third_duplicate, send_edge, sent_at_once, sent_after}
 use Rattle.ft_model.specs.Taken.{taken_after, fin_after}
 use Rattle.ft_model.specs.Timer.{interval_after, rest_after, must_run, probes}
 use Rattle.ft_model.proofs.Settled.{settled}
@@ -25,7 +26,7 @@ use Rattle.tcp_endpoint.specs.declared.states.StateName.TheVariants.{Closed}
 use Rattle.tcp_endpoint.specs.Leaving.{leaving, flushed}
 use Rattle.tcp_endpoint.specs.Receiving as receiver
 use Rattle.tcp_endpoint.specs.States.{has_begun, is_closed}
-use Rattle.tcp_endpoint.specs.Sending.{Sending, bytes_end, expires}
+use Rattle.tcp_endpoint.specs.Sending.{Sending, bytes_end, expires, congestion_expired}
 use Rattle.tcp_endpoint.specs.Tcb.{Tcb}
 use Rattle.tcp_endpoint.specs.Turning.{after_tick, timer_ticked, waited, write_room, is_ended}
 use Rattle.endpoint_laws.specs.Laws.{IsBounded}
@@ -75,6 +76,7 @@ goes service server boot news p ks makes = record {
   edge = refl;
   wl1 = refl;
   wl2 = refl;
+  congestion = refl;
   sent_units = refl;
   interval = refl;
   rest = refl;
@@ -87,9 +89,11 @@ goes service server boot news p ks makes = record {
 up_to : (s t e n : ℕ) → min t e ≤ max s (min t e) + n
 up_to s t e n = omega arith
 
-pub sends_all : {S : Type 0} (service : Machine S) (server : Addr) (boot : ℕ) (news : News) (p q : Point) (sent : List Packet) → LiveTurn service server boot news p q sent → min (target service q) q.edge ≤ q.sent
+pub sends_all : {S : Type 0} (service : Machine S) (server : Addr) (boot : ℕ) (news : News) (p q : Point) (sent : List Packet) → LiveTurn service server boot news p q sent
+    → min (target service q) (send_edge q) ≤ q.sent
 unfolding sent_after sent_at_once
-sends_all service server boot news p q sent l = subst (λ n. min (target service q) q.edge ≤ n) (sym l.sent_units) (up_to p.sent (target service q) q.edge (one_if (probes news p)))
+sends_all service server boot news p q sent l =
+    subst (λ n. min (target service q) (send_edge q) ≤ n) (sym l.sent_units) (up_to p.sent (target service q) (send_edge q) (one_if (probes news p)))
 
 or_off : (a c o : Bool) → c ≡ false → (a || (c && o)) ≡ a
 or_off true c o h = refl
@@ -148,33 +152,39 @@ no_fin s t e t' e' r h a b = let m : max s (min t' e') ≡ s = omega (arith, h, 
     apart r s = grind arith
 
 repeated_alone : {S : Type 0} (service : Machine S) (server : Addr) (boot : ℕ) (segment : Segment) (p q : Point) (sent : List Packet) (xs : List Segment) → p.fetched ≤ length p.taken
-    → min (target service p) p.edge ≤ p.sent → repeats_syn p segment ≡ true → LiveTurn service server boot (Comes segment) p q sent
+    → min (target service p) (send_edge p) ≤ p.sent → repeats_syn p segment ≡ true → LiveTurn service server boot (Comes segment) p q sent
     → leaves service server (Comes segment) p q xs ≡ segments_of service server (Comes segment) p q → xs ≡ []
-unfolding segments_of full_segments resent new_texts new_fin taken_after fin_after sent_at_once reads_answered_after edge_after
+unfolding segments_of full_segments resent new_texts new_fin taken_after fin_after sent_at_once reads_answered_after acknowledged_after edge_after congestion_after is_third_duplicate
 repeated_alone service server boot segment p q sent xs few rest opens l same =
     let none = nothing_counts p segment (is_syn_has (has_syn segment) (has_ack segment) (has_rst segment) (segment.head.seq == p.cisn) (taken_units p == 0) (p.una == 0) opens) in
     let m : Moves (Comes segment) p 0 0 Begins = stays_inside 0 0 p segment none in
     let units = units_none (length p.taken) p.fin (second_of_three (syn_at p segment) (taken_units p == 0) (p.una == 0) opens) in
     let taken : q.taken ≡ p.taken = l.taken ∙ sym m.taken in
     let fin : q.fin ≡ p.fin = l.fin ∙ sym m.fin in
-    let edge : q.edge ≡ p.edge = l.edge ∙ minus_none (edge_after (Comes segment) p) p.edge (sym m.edge) in
+    let right : q.edge ≡ p.edge = l.edge ∙ minus_none (edge_after (Comes segment) p) p.edge (sym m.edge) in
+    let una : q.una ≡ p.una = l.una ∙ minus_none (acknowledged_after (Comes segment) p) p.una (sym m.una) in
+    let congestion : q.congestion ≡ p.congestion = l.congestion ∙ sym m.congestion in
+    let edge : send_edge q ≡ send_edge p = λ j. min (right j) (una j + (congestion j).cwnd) in
+    let third : is_third_duplicate (Comes segment) p ≡ false = sym m.third in
     let lens : q.lengths ≡ p.lengths = same_lengths service p q l.reads (ap length taken ∙ units.0) (l.same.fetched ∙ omega (arith, few, units.0)) (fin ∙ units.1) in
     let run : answered_run service q ≡ answered_run service p = λ j. reference service (taken j) (take (l.reads_answered j) (lens j)) in
     let target_is : target service q ≡ target service p = ap (λ r. length r.output + one_if r.closed) run in
-    let long : new_length service p q ≡ 0 = none_new p.sent (target service p) p.edge (target service q) q.edge (released service q) rest target_is edge in
+    let long : new_length service p q ≡ 0 = none_new p.sent (target service p) (send_edge p) (target service q) (send_edge q) (released service q) rest target_is edge in
     let off : (nat_lt (released service q) (sent_at_once service p q) && nat_le p.sent (released service q)) ≡ false =
-    no_fin p.sent (target service p) p.edge (target service q) q.edge (released service q) rest target_is edge in
+    no_fin p.sent (target service p) (send_edge p) (target service q) (send_edge q) (released service q) rest target_is edge in
     ap tail_of ((λ j. or_bare (owes_besides service (Comes segment) p q) (bare_segment server q) ((if sym opens j then syn_ack server q ∷ [] else []) ++ xs))
     ∙ same
     ∙ (λ j. or_bare (is_owed service (Comes segment) p q) (bare_segment server q)
-    ((if opens j then syn_ack server q ∷ [] else []) ++ (texts service server q (long j) p.sent (long j) ++ (if off j then fin_if_closed service server q else [])))))
+    ((if opens j then syn_ack server q ∷ [] else [])
+    ++ ((if third j then (if is_unacknowledged p q then first_unacknowledged service server p q else probe service server p q) else [])
+    ++ (texts service server q (long j) p.sent (long j) ++ (if off j then fin_if_closed service server q else []))))))
 
 -- TCP open: what it sends, passed on, is the law's but for what the connection adds
 nothing_behind : (xs : List Segment) → xs ++ [] ≡ xs
 nothing_behind xs = append-nil xs
 
 by_repeat : {S : Type 0} (service : Machine S) (server : Addr) (boot delta : ℕ) (segment : Segment) (p q : Point) (sent : List Packet) (xs : List Segment) (b : Bool) → repeats_syn p segment ≡ b
-    → p.fetched ≤ length p.taken → min (target service p) p.edge ≤ p.sent → LiveTurn service server boot (Comes segment) p q sent
+    → p.fetched ≤ length p.taken → min (target service p) (send_edge p) ≤ p.sent → LiveTurn service server boot (Comes segment) p q sent
     → leaves service server (Comes segment) p q xs ≡ segments_of service server (Comes segment) p q
     → or_bare (owes_besides service (Comes segment) p q) (bare_segment server q) (xs ++ (if repeats_syn p segment then syn_ack server q ∷ [] else []))
     ≡ segments_of service server (Comes segment) p q
@@ -188,7 +198,7 @@ by_repeat service server boot delta segment p q sent xs false is few rest l same
     ∙ (λ j. or_bare (owes_besides service (Comes segment) p q) (bare_segment server q) ((if sym is j then syn_ack server q ∷ [] else []) ++ xs)) ∙ same
 
 by_news : {S : Type 0} (service : Machine S) (server : Addr) (boot delta : ℕ) (news : News) (p q : Point) (sent : List Packet) (xs : List Segment) → IsLater news p
-    → p.fetched ≤ length p.taken → min (target service p) p.edge ≤ p.sent → LiveTurn service server boot news p q sent
+    → p.fetched ≤ length p.taken → min (target service p) (send_edge p) ≤ p.sent → LiveTurn service server boot news p q sent
     → leaves service server news p q xs ≡ segments_of service server news p q
     → or_bare (owes_besides service news p q) (bare_segment server q) (xs ++ (if repeats news p then syn_ack server q ∷ [] else [])) ≡ segments_of service server news p q
 by_news service server boot delta (Comes segment) p q sent xs later few rest l same = by_repeat service server boot delta segment p q sent xs (repeats_syn p segment) refl few rest l same
@@ -199,7 +209,7 @@ by_news service server boot delta Begins p q sent xs later few rest l same =
     ∙ (λ j. or_bare true (bare_segment server q) ((if not (sym later j) then syn_ack server q ∷ [] else []) ++ xs)) ∙ same
 
 open_leaves : {S : Type 0} (service : Machine S) (server : Addr) (boot delta : ℕ) (news : News) (p q : Point) (sent : List Packet) (t : Tcb) → has_begun t.name ≡ true → IsLater news p
-    → p.fetched ≤ length p.taken → min (target service p) p.edge ≤ p.sent → LiveTurn service server boot news p q sent
+    → p.fetched ≤ length p.taken → min (target service p) (send_edge p) ≤ p.sent → LiveTurn service server boot news p q sent
     → leaves service server news p q (passed delta q (leaving t)) ≡ segments_of service server news p q
     → leaves_with service server delta news p q t ≡ segments_of service server news p q
 open_leaves service server boot delta news p q sent t begun later few rest l same =
@@ -410,13 +420,14 @@ turns_together service boot u i delta given news p old new reads e t st fits lat
     }) refl (goes service e.local boot news p ks turn.makes)
 
 -- a tick
-held_ticked : (s : Sending) (b : Bool) → (if b then record s { interval = min 64 (2 * s.interval); rest = min 64 (2 * s.interval) } else record s { rest = s.rest - 1 }).held ≡ s.held
-held_ticked s true = refl
-held_ticked s false = refl
+held_ticked : (s : Sending) (b : Bool) (c : Congestion)
+    → (if b then record s { congestion = c; interval = min 64 (2 * s.interval); rest = min 64 (2 * s.interval) } else record s { rest = s.rest - 1 }).held ≡ s.held
+held_ticked s true c = refl
+held_ticked s false c = refl
 
 tick_holds : (e : Tcb) → (after_tick e).sending.held ≡ e.sending.held
 unfolding after_tick timer_ticked waited
-tick_holds e = held_ticked e.sending (expires e.sending)
+tick_holds e = held_ticked e.sending (expires e.sending) (congestion_expired e.sending)
 
 no_more : {S : Type 0} (service : Machine S) (p : Point) (lengths : List ℕ) → next_read service p ≡ None → Makes service (reading p.lengths (settled service Ticks p lengths)) []
 unfolding taken_after fin_after acknowledged_after reads_answered_after next_length may_read

@@ -1,4 +1,4 @@
--- A wrapped connection whose TCP is CLOSED, since both FINs are through: TCP sends nothing to the client any more, and the connection itself answers.
+-- A wrapped connection whose TCP is CLOSED, since both FINs are through: TCP sends the client nothing any more, and the connection itself answers.
 use Rattle.std.specs.Prelude.{◌≡◌, ◌^◌, ◌%◌, ◌<◌, ℕ, true, false, ◌+◌, ◌-◌, ◌≤◌, length, max, sum, List, [], None}
 use Rattle.ft_io.specs.declared.Addr.{Addr}
 use Rattle.server_trait.specs.Service.{Machine}
@@ -15,7 +15,7 @@ use Rattle.endpoint_laws.specs.Standing.{ReceivesAt, IsUsedAt}
 use Rattle.connection_laws.specs.Inside.{swallowing, inside}
 use Rattle.connection_laws.specs.Passing.{news_inside, passed}
 
--- TCP counts its output from u on, under the initial number i, which is delta below the client's number of the same unit
+-- TCP counts its output from u on, under the initial number i. Its number of a unit is delta below the client's
 pub record CountsFrom (u i delta : ℕ) (p : Point) (e : Tcb) : Type 0 where
   pub iss : e.sending.iss ≡ i
   pub syn_acked : e.sending.syn_acked ≡ true
@@ -27,8 +27,8 @@ pub record CountsFrom (u i delta : ℕ) (p : Point) (e : Tcb) : Type 0 where
   pub shift : (i + delta) % 2 ^ 32 ≡ (p.sisn + u) % 2 ^ 32
   pub delta_fits : delta < 2 ^ 32
 
--- The point is over, and TCP with it: all output and the FIN behind it are sent and acknowledged, so the timer stands still. What TCP took may still
--- be read; nothing can be written
+-- The point is over, and so is TCP: all output and the FIN after it are sent and acknowledged, so the timer doesn't run. What TCP took may still be read.
+-- Nothing can be written
 pub record StandsClosed {State : Type 0} (service : Machine State) (u i delta : ℕ) (p : Point) (e : Tcb) : Type 0 where
   pub name : e.name ≡ Closed
   pub kept : e.reset ≡ false
@@ -44,7 +44,7 @@ pub record StandsClosed {State : Type 0} (service : Machine State) (u i delta : 
   pub all_sent : p.sent ≡ target service p
   pub still : p.rest ≡ 0
 
--- what leaves is a segment without data, where the law owes one, and nothing else
+-- what is sent is a segment without data, where the law owes one, and nothing else
 abbrev pub SendsAlone : {State : Type 0} → Machine State → Addr → News → (before after : Point) → Type 0
 SendsAlone service server news before after =
     segments_of service server news before after ≡ or_bare (is_owed service news before after) (bare_segment server after) []
@@ -63,12 +63,12 @@ pub record EndsInside {State : Type 0} (service : Machine State) (u i delta : �
   pub taken : taken_units q ≡ taken_units p
   pub segments : SendsAlone service e.local news p q
 
--- in later turns its user reads on
+-- in later turns its user continues to read
 pub record ReadsOn (delta : ℕ) (news : News) (p q : Point) (calls : List Call) (e : Tcb) : Type 0 where
   pub may : MayUse calls (arrived (news_inside delta p news) e)
   pub read : max q.fetched (sum q.lengths) ≡ (before_flush (news_inside delta p news) calls e).receiving.read + q.fetched
 
--- TCP answers at most with a RST then, which stays inside
+-- TCP then answers at most with a RST, which isn't passed on
 pub record GoesOnClosed {State : Type 0} (service : Machine State) (server : Addr) (u i delta : ℕ) (news : News) (p q : Point) (calls : List Call) (e : Tcb) : Type 0 where
   pub stands : StandsClosed service u i delta q (turned (news_inside delta p news) calls e)
   pub silent : passed delta q (sent_in (news_inside delta p news) calls e) ≡ []

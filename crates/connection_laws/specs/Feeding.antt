@@ -1,4 +1,4 @@
--- How the north wrapper's output comes into the TCP inside.
+-- How the north wrapper's output gets to the inner TCP.
 use Rattle.std.specs.Prelude.{◌⊎◌, ◌≡◌, ℕ, Bool, false, ◌+◌, ◌≤◌, ◌^◌, List, [], ◌∷◌, ◌++◌, map, length, if◌then◌else◌}
 use Rattle.server_trait.specs.Service.{Machine}
 use Rattle.ft_model.specs.Network.{Packet}
@@ -28,7 +28,7 @@ tcp_reader = reader (λ e. e.receiving.unread) (λ e. e.receiving.fin) after_rea
 abbrev pub tcp_writer : Writer Tcb
 tcp_writer = writer write_room is_ended after_write closing
 
--- so many bytes of the output that may leave are given to TCP, the swallowed ones among them: it holds those that aren't acknowledged
+-- `given` bytes of the output that may be sent are given to TCP, counting those that are swallowed: TCP holds those that aren't acknowledged
 pub record Feeds {State : Type 0} (service : Machine State) (u : ℕ) (p : Point) (given : ℕ) (e : Tcb) : Type 0 where
   pub holds : HoldsUpTo (answered_run service p).output (e.sending.una + u) given e.sending.held
   pub until : bytes_end e.sending + u ≡ given
@@ -57,11 +57,11 @@ pub record TurnsNorth {S : Type 0} (service : Machine S) (boot u i delta : ℕ) 
   pub stands : NorthStands service (before_reads p q) given old
   pub turn : NorthTurn service tcp_reader tcp_writer (before_reads p q) given old (arrived (news_inside delta p news) e) reads new t
 
--- how much it gives then, in all
+-- how much it has given then, in all
 abbrev pub given_after : {S : Type 0} → Machine S → (p q : Point) → (given : ℕ) → Tcb → ℕ
 given_after service p q given arrived_tcp = given + given_more service (before_reads p q) (write_room arrived_tcp) given
 
--- TCP, before the flush, after these calls: its user is the service behind what is swallowed, and so much is given to it in all
+-- TCP, before the flush, after these calls: its user is the service after what is swallowed, and this much is given to it in all
 pub record FedBy {S : Type 0} (service : Machine S) (u i : ℕ) (q : Point) (given : ℕ) (new : NorthState S) (calls : List Call) (m : Tcb) : Type 0 where
   pub may : MayUse calls m
   pub is_used : IsUsedAt (swallowing u service) (inside u i q) (used calls m)

@@ -1,4 +1,4 @@
--- How a fresh endpoint is brought to where a restart goes on: the segments that are forged to it.
+-- How a fresh endpoint is brought to where a restart continues: by segments that are forged to it.
 use Rattle.std.specs.Prelude.{false, ◌≡◌, ◌≤◌, ◌<◌, true, length, sum, ℕ, Bool, ◌+◌, ◌-◌, ◌%◌, ◌^◌, Option, Some, None, [], if◌then◌else◌}
 use Rattle.ft_io.specs.declared.Addr.{Addr}
 use Rattle.ft_io.specs.declared.Key.{Key}
@@ -21,7 +21,7 @@ forged key local seq ack flags mss = record {
   payload = [];
 }
 
--- its SYN stands before the bytes that are still to come, ..
+-- its SYN comes before the bytes that are still to come, ..
 abbrev pub forged_syn : Key → Addr → (cisn fetched mss : ℕ) → Segment
 forged_syn key local cisn fetched mss = forged key local ((cisn + fetched) % 2 ^ 32) 0 SYN (Some mss)
 
@@ -29,7 +29,7 @@ forged_syn key local cisn fetched mss = forged key local ((cisn + fetched) % 2 ^
 abbrev pub forged_ack : Key → Addr → (cisn fetched i : ℕ) → Segment
 forged_ack key local cisn fetched i = forged key local (number_at cisn fetched) (number_at i 0) ACK None
 
--- .. and where its FIN is logged it ends
+-- .. and ends its stream where its FIN is logged
 abbrev pub forged_fin : Key → Addr → (cisn fetched i : ℕ) → Segment
 forged_fin key local cisn fetched i = forged key local (number_at cisn fetched) (number_at i 0) (FIN + ACK) None
 
@@ -44,7 +44,7 @@ spliced key local cisn fetched mss i fin =
     if fin then turned (Comes (forged_fin key local cisn fetched i)) [] (connected key local cisn fetched mss i)
     else connected key local cisn fetched mss i
 
--- the entry and the initial number with which it goes on
+-- the entry and the initial number from which a restart continues
 pub record GoesOnFrom {State : Type 0} (service : Machine State) (e : Entry) (i : ℕ) : Type 0 where
   pub least : 64 ≤ e.mss
   pub most : e.mss ≤ 1460
@@ -55,11 +55,11 @@ pub record GoesOnFrom {State : Type 0} (service : Machine State) (e : Entry) (i 
   pub sisn : e.sisn < 2 ^ 32
   pub i_fits : i < 2 ^ 32
 
--- the number of the unit with which output goes on, less the initial number
+-- the number of the unit at which output continues, less the initial number
 abbrev pub delta_from : {State : Type 0} → Machine State → Entry → (i : ℕ) → ℕ
 delta_from service e i = distance ((e.sisn + resumed_at service e) % 2 ^ 32) i
 
--- the result stands inside the point of the entry. Nothing is written to it yet, so that it holds nothing of the output
+-- the result is at the point inside that of the entry. Nothing is written to it yet, so it holds nothing of the output
 pub record StandsAtEntry {State : Type 0} (service : Machine State) (e : Entry) (i : ℕ) (t : Tcb) : Type 0 where
   pub tcp : StandsOpen (resumed_at service e) i (delta_from service e i) (point_of service e) t
   pub feeds : Feeds service (resumed_at service e) (point_of service e) (resumed_at service e) t

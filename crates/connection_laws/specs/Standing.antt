@@ -8,6 +8,7 @@ use Rattle.ft_model.specs.News.News.{Comes, Logged}
 use Rattle.ft_model.specs.Owed.{is_owed}
 use Rattle.ft_model.specs.Point.{Point, taken_units, released, target}
 use Rattle.ft_model.specs.Reads.{next_read}
+use Rattle.ft_model.specs.Sending.{send_edge}
 use Rattle.ft_model.specs.Segments.{repeats_syn, syn_ack, bare_segment, or_bare, segments_of}
 use Rattle.seq_arith.specs.Packet.{Segment}
 use Rattle.tcp_endpoint.specs.Leaving.{leaving, flushed}
@@ -21,7 +22,7 @@ use Rattle.connection_laws.specs.Turning.{StandsInside}
 use Rattle.connection_laws.specs.Closing.{StandsClosed}
 use Rattle.connection_laws.specs.Feeding.{Feeds}
 
--- TCP at the point inside, in the state that its halves tell of
+-- TCP at the point inside, in the state that its halves imply
 pub record StandsOpen (u i delta : ℕ) (p : Point) (e : Tcb) : Type 0 where
   pub stands : StandsInside u i delta p e
   pub named : IsNamedRightly e
@@ -34,8 +35,8 @@ pub record PartsStand {S : Type 0} (service : Machine S) (u i delta given : ℕ)
   pub unreset : p.reset ≡ false
   pub kept : e.reset ≡ false
   pub shut : e.sending.closed ≡ n.shut
-  -- nothing may be sent that isn't
-  pub all_sent : min (target service p) p.edge ≤ p.sent
+  -- all that may be sent is sent
+  pub all_sent : min (target service p) (send_edge p) ≤ p.sent
 
 -- between two turns nothing is due: no read, and no byte that may be given
 pub record PartsRest {S : Type 0} (service : Machine S) (u i delta given : ℕ) (p : Point) (n : NorthState S) (e : Tcb) : Type 0 where
@@ -44,27 +45,27 @@ pub record PartsRest {S : Type 0} (service : Machine S) (u i delta given : ℕ) 
   pub exact : n.shut ≡ is_all_given service p given
   pub all_or_full : (given ≡ released service p) ⊎ (length e.sending.held ≡ 65535)
 
--- what the north wrapper hears before its turn
+-- what the north wrapper learns before its turn
 abbrev pub heard : {S : Type 0} → News → NorthState S → NorthState S
 heard (Logged kept) n = answered_on kept.reads n
 heard _ n = n
 
--- the client's SYN came again
+-- the client repeated its SYN
 abbrev pub repeats : News → Point → Bool
 repeats (Comes segment) before = repeats_syn before segment
 repeats _ before = false
 
--- the connection adds a segment without data where one is owed that TCP doesn't know of, and where one is owed and TCP is CLOSED
+-- the connection adds a segment without data where one is owed of which TCP doesn't know, and where one is owed and TCP is CLOSED
 abbrev pub adds : {S : Type 0} → Machine S → News → (before after : Point) → Tcb → Bool
 adds service news before after t = owes_besides service news before after || (is_closed t.name && is_owed service news before after)
 
--- all that leaves, where TCP is t before its flush: what TCP sends, passed outward, and the kept SYN-ACK; or else that segment
+-- all that is sent, where TCP is t before its flush: what TCP sends, as the client gets it, and the kept SYN-ACK; or else that segment
 abbrev pub leaves_with : {S : Type 0} → Machine S → Addr → (delta : ℕ) → News → (before after : Point) → Tcb → List Segment
 leaves_with service server delta news before after t =
     or_bare (adds service news before after t) (bare_segment server after)
     (passed delta after (leaving t) ++ (if repeats news before then syn_ack server after ∷ [] else []))
 
--- a turn with these reads: it leads to a point after it by the laws, at which the parts stand again, and what leaves is what the laws say
+-- a turn with these reads: it leads to a point after it by the laws, at which the parts then are, and what is sent is what the laws say
 pub record PartsTurn {S : Type 0} (service : Machine S) (server : Addr) (boot u i delta : ℕ) (news : News) (before : Point) (reads : List ℕ) (new : NorthState S) (t : Tcb) : Type 0 where
   pub after : Point
   pub given : ℕ

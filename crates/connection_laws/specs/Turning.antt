@@ -17,7 +17,7 @@ use Rattle.endpoint_laws.specs.Standing.{StandsAt, IsUsedAt}
 use Rattle.connection_laws.specs.Inside.{swallowing, inside, GoesOn}
 use Rattle.connection_laws.specs.Passing.{news_inside, passed, leaves}
 
--- a segment whose fields fit their bytes, and which acknowledges nothing far behind
+-- a segment whose fields fit their bytes, and which acknowledges nothing far before the stream
 pub record Fits (p : Point) (segment : Segment) : Type 0 where
   pub ack : segment.head.ack < 2 ^ 32
   pub seq : segment.head.seq < 2 ^ 32
@@ -29,12 +29,12 @@ abbrev pub NewsFit : Point → News → Type 0
 NewsFit p (Comes segment) = Fits p segment
 NewsFit p _ = Unit {0}
 
--- a connection that becomes live in this turn does so at the end of a restart; a new one begins by its SYN
+-- a connection that becomes live in this turn does so at the end of a restart. A new one begins with its SYN
 abbrev pub IsLater : News → Point → Type 0
 IsLater Begins p = p.syn_acked ≡ true
 IsLater _ p = Unit {0}
 
--- a turn outside: it is lawful, and no output that may leave after it was taken back
+-- a turn outside: it is lawful, and after it at least u bytes of output may be sent
 pub record Turns {State : Type 0} (service : Machine State) (server : Addr) (boot : ℕ) (news : News) (p q : Point) (sent : List Packet) (u i delta : ℕ) : Type 0 where
   pub fits : NewsFit p news
   pub later : IsLater news p
@@ -42,20 +42,20 @@ pub record Turns {State : Type 0} (service : Machine State) (server : Addr) (boo
   pub few : p.fetched ≤ length p.taken
   pub goes : LiveTurn service server boot news p q sent
 
--- the inner TCP stands, between two turns, at the point inside
+-- the inner TCP, between two turns, at the point inside
 pub record StandsInside (u i delta : ℕ) (p : Point) (e : Tcb) : Type 0 where
   pub begun : has_begun e.name ≡ true
   pub between : IsBetweenTurns e
   pub stands : StandsAt (inside u i p) e
   pub goes_on : GoesOn u i delta p
 
--- what the connection does with it in a turn: its user reads and writes as the service does behind what is swallowed, and the turn doesn't end it
+-- what the connection does with it in a turn: its user reads and writes as the service does after what is swallowed, and the turn doesn't end it
 pub record UsesInside {State : Type 0} (service : Machine State) (u i delta : ℕ) (news : News) (p q : Point) (calls : List Call) (e : Tcb) : Type 0 where
   pub may : MayUse calls (arrived (news_inside delta p news) e)
   pub begun : has_begun (before_flush (news_inside delta p news) calls e).name ≡ true
   pub used : IsUsedAt (swallowing u service) (inside u i q) (before_flush (news_inside delta p news) calls e)
 
--- it stands at the point inside again, and what it sent is, passed outward and with what the connection adds, what the law says
+-- it is then at the point inside, and what it sent is, as the client gets it and with what the connection adds, what the law says
 pub record TurnsInside {State : Type 0} (service : Machine State) (u i delta : ℕ) (news : News) (p q : Point) (calls : List Call) (e : Tcb) : Type 0 where
   pub stands : StandsInside u i delta q (turned (news_inside delta p news) calls e)
   pub segments : leaves service e.local news p q (passed delta q (sent_in (news_inside delta p news) calls e)) ≡ segments_of service e.local news p q

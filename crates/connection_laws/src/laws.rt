@@ -34,8 +34,8 @@ ghost use Rattle.connection_laws.specs.Splicing.{GoesOnFrom, delta_from, StandsA
 
 use server_trait::Service;
 
-/// A lawful turn of a connection is one of the TCP inside it: where it stands at the point inside before the turn, and its user is the service
-/// behind what is swallowed, it stands there after the turn, and its segments, passed outward and with what the connection adds, are the law's.
+/// A lawful turn of a connection is one of its inner TCP: where that is at the point inside before the turn, and its user is the service after what is
+/// swallowed, it is at the point inside after the turn. Its segments, as the client gets them and with what the connection adds, are the law's.
 pub fn connections_turn_by_their_tcp<S: Service>()
     ensures { (fresh : S) (boot u i delta : ℕ) (news : News) (before after : Point) (calls : List Call) (e : Tcb) (sent : List Packet)
         → StandsInside u i delta before e → Turns (machine fresh S.after) e.local boot news before after sent u i delta
@@ -43,8 +43,8 @@ pub fn connections_turn_by_their_tcp<S: Service>()
         → TurnsInside (machine fresh S.after) u i delta news before after calls e }
 {}
 
-/// A fresh endpoint to which an entry's segments are forged stands, inside, at the point of the entry; and so do the parts of a connection, where
-/// the north wrapper beside it was replayed.
+/// A fresh endpoint to which an entry's segments are forged is, inside, at the point of the entry. So are the parts of a connection, where its north wrapper
+/// was replayed.
 pub fn splices_stand_at_the_entry<S: Service>()
     ensures tcp { (fresh : S) (i : ℕ) (local : Addr) (e : Entry) → GoesOnFrom (machine fresh S.after) e i
         → StandsAtEntry (machine fresh S.after) e i (spliced e.key local e.cisn (length e.bytes) e.mss i e.fin) }
@@ -54,7 +54,7 @@ pub fn splices_stand_at_the_entry<S: Service>()
         (resumed_at (machine fresh S.after) e) (point_of (machine fresh S.after) e) n (spliced e.key local e.cisn (length e.bytes) e.mss i e.fin) }
 {}
 
-/// A new connection begins with its SYN: its TCP stands at the point inside, with nothing between the numbers, and sends the law's SYN-ACK alone.
+/// A new connection begins with its SYN: its TCP is at the point inside, with no difference between the numbers, and sends only the law's SYN-ACK.
 pub fn new_connections_begin_by_their_syn<S: Service>()
     ensures { (fresh : S) (boot : ℕ) (local : Addr) (numbers : Numbers) (after : Point) (calls : List Call) (sent : List Packet) → MayOpen numbers
         → MayUse calls (received (listens_with local numbers) (opened_syn local numbers))
@@ -62,8 +62,8 @@ pub fn new_connections_begin_by_their_syn<S: Service>()
         → BeginsInside (machine fresh S.after) local numbers after calls }
 {}
 
-/// In the turn that leaves its TCP CLOSED, since both FINs are through, TCP sends nothing, the connection is over, and what leaves is a segment
-/// without data where one is owed.
+/// In the turn that leaves its TCP CLOSED, since both FINs are through, TCP sends nothing, the connection is over, and what is sent is a segment without data
+/// where one is owed.
 pub fn connections_end_with_their_tcp<S: Service>()
     ensures { (fresh : S) (boot u i delta : ℕ) (news : News) (before after : Point) (calls : List Call) (e : Tcb) (sent : List Packet)
         → StandsInside u i delta before e → IsNamedRightly e → before.reset ≡ false → reset_after news before ≡ false → e.reset ≡ false
@@ -72,7 +72,7 @@ pub fn connections_end_with_their_tcp<S: Service>()
         → EndsInside (machine fresh S.after) u i delta news before after calls e }
 {}
 
-/// From then on the connection goes on beside it: TCP answers at most with a RST, which stays inside, and only its user's reads change it.
+/// From then on the connection continues without it: TCP answers at most with a RST, which isn't passed on, and only its user's reads change it.
 pub fn connections_outlive_their_tcp<S: Service>()
     ensures { (fresh : S) (boot u i delta : ℕ) (server : Addr) (news : News) (before after : Point) (calls : List Call) (e : Tcb) (sent : List Packet)
         → StandsClosed (machine fresh S.after) u i delta before e → LiveTurn (machine fresh S.after) server boot news before after sent
@@ -86,9 +86,9 @@ pub fn connections_are_reset_at_the_next_number()
         → resets (news_inside delta p (Comes segment)) e ≡ reset_after (Comes segment) p }
 {}
 
-/// From the parts at a point to the parts at the point after it: whatever comes, but for a RST at the next number, and whatever the north wrapper
-/// reads then, the turn is a lawful one of the connection, and what leaves is what the laws say. So in every incarnation, from the turn in which a
-/// connection becomes live at the end of a restart on, with its TCP open or CLOSED.
+/// From the parts at a point to the parts at the point after it: whatever arrives, except a RST at the next number, and whatever the north wrapper then reads,
+/// the turn is a lawful one of the connection, and what is sent is what the laws say. This holds in every incarnation, from the turn on in which a connection
+/// becomes live at the end of a restart, with its TCP open or CLOSED.
 pub fn connections_turn_by_their_parts<S: Service>()
     ensures { (fresh : S) (boot u i delta given : ℕ) (news : News) (before : Point) (old new : NorthState S) (reads : List ReadRecord) (e t : Tcb)
         → PartsStand (machine fresh S.after) u i delta given before old e → NewsFit before news → IsLater news before → reset_after news before ≡ false
@@ -97,7 +97,7 @@ pub fn connections_turn_by_their_parts<S: Service>()
         → PartsTurn (machine fresh S.after) e.local boot u i delta news before (lengths_of reads) new t }
 {}
 
-/// A new connection starts so too, from the SYN that has come to its TCP: its SYN-ACK is all that leaves.
+/// A new connection starts in the same way, from the SYN that its TCP has received: only its SYN-ACK is sent.
 pub fn new_connections_start_with_their_parts<S: Service>()
     ensures { (fresh : S) (boot : ℕ) (local : Addr) (numbers : Numbers) (old new : NorthState S) (reads : List ReadRecord) (t : Tcb) → MayOpen numbers
         → NorthStands (machine fresh S.after) (point_opened numbers) 0 old → old.shut ≡ false
@@ -115,7 +115,7 @@ pub fn connections_tick_by_their_tcp<S: Service>()
         → adds (machine fresh S.after) Ticks before after t ≡ false }
 {}
 
-/// Where the north wrapper makes its calls of TCP in a lawful turn, TCP is used as `connections_turn_by_their_tcp` asks, and fed as before.
+/// Where the north wrapper makes its calls of TCP in a lawful turn, TCP is used as `connections_turn_by_their_tcp` requires, and fed as before.
 pub fn north_feeds_tcp<S: Service>()
     ensures { (fresh : S) (boot u i delta given : ℕ) (news : News) (before after : Point) (sent : List Packet) (old new : NorthState S)
         (reads : List ReadRecord) (e t : Tcb)
@@ -129,21 +129,21 @@ pub fn north_feeds_tcp<S: Service>()
         e t }
 {}
 
-/// Between two turns the parts of a connection tell its numbers: the bytes taken, the FIN, whether it is over, and what is sent and acknowledged.
-/// TCP's numbers are the client's, less delta; it is in TIME-WAIT or CLOSED exactly where the connection is over.
+/// Between two turns the parts of a connection show its numbers: the bytes taken, the FIN, whether it is over, and what is sent and acknowledged. TCP's numbers
+/// are the client's, less delta. It is in TIME-WAIT or CLOSED exactly where the connection is over.
 pub fn parts_tell_the_point<S: Service>()
     ensures { (fresh : S) (u i delta given : ℕ) (p : Point) (n : NorthState S) (e : Tcb) → PartsStand (machine fresh S.after) u i delta given p n e
         → PartsTell (machine fresh S.after) delta p n e }
 {}
 
-/// Once the news of a turn have come they tell what the laws on taking and on acknowledgements lead to.
+/// Once the news of a turn has come, they show what the laws on taking and on acknowledgements lead to.
 pub fn news_tell_the_point<S: Service>()
     ensures { (fresh : S) (u i delta given : ℕ) (news : News) (p : Point) (n : NorthState S) (e : Tcb)
         → PartsStand (machine fresh S.after) u i delta given p n e
         → NewsFit p news → reset_after news p ≡ false → NewsTell delta news p n (arrived (news_inside delta p news) e) }
 {}
 
-/// A connection that its client has reset only hears what is logged, and its north wrapper with it.
+/// A connection that its client has reset only learns what is logged, and so does its north wrapper.
 pub fn reset_connections_hear_what_is_logged<S: Service>()
     ensures { (fresh : S) (boot given : ℕ) (news : News) (before after : Point) (n : NorthState S) (sent : List Packet)
         → NorthStands (machine fresh S.after) before given n → ResetTurn boot news before after sent

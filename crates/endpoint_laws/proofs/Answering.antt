@@ -9,9 +9,9 @@ use Rattle.tcp_buffers.specs.Near.{is_ahead}
 use Rattle.tcp_endpoint.specs.declared.states.StateName.{StateName}
 use Rattle.tcp_endpoint.specs.States.{after_syn_acked, after_fin, after_fin_acked, has_begun}
 use Rattle.tcp_endpoint.specs.Receiving.{Receiving, next, window}
-use Rattle.tcp_endpoint.specs.Sending.{Sending, with_syn_acked, acknowledged, fin_acked}
+use Rattle.tcp_endpoint.specs.Sending.{Sending, with_syn_acked, fin_acked}
 use Rattle.tcp_endpoint.specs.Tcb.{Tcb}
-use Rattle.tcp_endpoint.specs.Arrival.{first, ack_at, rst, killed, owing_if, entering, with_text_and_fin, with_fin_acked, with_first_ack, with_ack, waiting_again, received, refusing}
+use Rattle.tcp_endpoint.specs.Arrival.{first, ack_at, rst, killed, owing_if, entering, with_text_and_fin, with_fin_acked, with_first_ack, with_ack_used, with_ack, waiting_again, received, refusing}
 use Rattle.tcp_endpoint.specs.Arrival as check
 use Rattle.endpoint_laws.specs.Laws.{accepts, acknowledges_less, is_refused, IsBounded, IsUsual}
 use Rattle.endpoint_laws.proofs.TakenLaw.{part_of_if, same_if, if_when, begun_is, Aside, at_ack, others_part, segment_taken, accepts_same}
@@ -21,13 +21,13 @@ pub record Beside {X : Type 0} (f : Tcb → X) : Type 0 where
   pub aside : Aside f
   pub text : (e : Tcb) (p : Segment) → f (with_text_and_fin e p) ≡ f e
   pub acked : (e : Tcb) → f (with_fin_acked e) ≡ f e
-  pub using : (e : Tcb) (p : Segment) → f (record e { sending = acknowledged e.sending p.head.seq (ack_at e p) p.head.window }) ≡ f e
+  pub using : (e : Tcb) (p : Segment) → f (with_ack_used e p) ≡ f e
   pub opening : (e : Tcb) (p : Segment) → f (record e { name = after_syn_acked e.sending.closed; sending = with_syn_acked e.sending p.head.seq p.head.window }) ≡ f e
 
 pub later_part : {X : Type 0} (f : Tcb → X) (e : Tcb) (p : Segment) → Beside f → f (with_ack e p) ≡ f e
 unfolding with_ack
 later_part f e p b =
-    let used : Tcb = record e { sending = acknowledged e.sending p.head.seq (ack_at e p) p.head.window } in
+    let used : Tcb = with_ack_used e p in
     let beyond : Bool = is_ahead e.sending.sent (ack_at e p) in
     part_of_if f beyond (owing_if true e) (with_text_and_fin (with_fin_acked used) p)
     ∙ if_when beyond (f (owing_if true e)) (f e) (f (with_text_and_fin (with_fin_acked used) p)) (f e)
@@ -123,23 +123,23 @@ acked_of f e enters =
     part_of_if f (fin_acked e.sending) (entering (after_fin_acked e.name) e) e
     ∙ ap (λ x. if fin_acked e.sending then x else f e) (enters e (after_fin_acked e.name)) ∙ same_if (fin_acked e.sending) (f e)
 
--- what neither state, buffers, numbers nor the owed segment have a part in
+-- what neither state, buffers, numbers, the owed segment nor the one that is due again have a part in
 pub record IsApart {X : Type 0} (f : Tcb → X) : Type 0 where
   pub waits : (e : Tcb) (ticks : ℕ) → f (record e { wait = ticks }) ≡ f e
   pub enters : (e : Tcb) (name : StateName) (ticks : ℕ) → f (record e { name = name; wait = ticks }) ≡ f e
   pub dies : (e : Tcb) → f (killed e) ≡ f e
   pub owes : (e : Tcb) (owed : Bool) → f (record e { owed = owed }) ≡ f e
   pub takes : (e : Tcb) (receiving : Receiving) → f (record e { receiving = receiving }) ≡ f e
-  pub uses : (e : Tcb) (sending : Sending) → f (record e { sending = sending }) ≡ f e
+  pub uses : (e : Tcb) (sending : Sending) (again : Bool) → f (record e { sending = sending; again = again }) ≡ f e
   pub opens : (e : Tcb) (name : StateName) (sending : Sending) → f (record e { name = name; sending = sending }) ≡ f e
 
 pub apart_beside : {X : Type 0} (f : Tcb → X) → IsApart f → Beside f
-unfolding waiting_again
+unfolding waiting_again with_ack_used
 apart_beside f a = record {
   aside = record { killed = a.dies; owing = λ b e. a.owes e (e.owed || b); waiting = λ e p. a.waits e _ };
   text = λ e p. text_of f e p (λ r name. a.enters r name _) (a.takes e _);
   acked = λ e. acked_of f e (λ r name. a.enters r name _);
-  using = λ e p. a.uses e _;
+  using = λ e p. a.uses e _ _;
   opening = λ e p. a.opens e _ _;
 }
 
@@ -150,7 +150,7 @@ answer_apart = record {
   dies = λ e. refl;
   owes = λ e o. refl;
   takes = λ e r. refl;
-  uses = λ e s. refl;
+  uses = λ e s b. refl;
   opens = λ e m s. refl;
 }
 

@@ -33,6 +33,7 @@ point_of e = record (blank_point (record { ip = e.remote.ip; port = e.remote.por
   edge = e.sending.edge;
   wl1 = offset_of e.receiving.irs e.sending.wl1 +ℤ pos (ahead e);
   wl2 = e.sending.wl2;
+  congestion = e.sending.congestion;
   syn_acked = e.sending.syn_acked;
   interval = e.sending.interval;
   rest = e.sending.rest;
@@ -68,7 +69,7 @@ stands_somewhere e fits between =
         fin = refl;
         early = refl;
       };
-      sends = record { sisn = refl; mss = refl; syn_acked = refl; una = refl; edge = refl; wl1 = λ h. refl; wl2 = refl };
+      sends = record { sisn = refl; mss = refl; syn_acked = refl; una = refl; edge = refl; wl1 = λ h. refl; wl2 = refl; congestion = refl };
       sent = refl;
       interval = refl;
       rest = refl;

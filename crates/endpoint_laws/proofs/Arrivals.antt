@@ -1,9 +1,10 @@
 -- What a turn's news make of an endpoint that stands at a point: they lead it to where the laws lead the point, and say what is due.
 use Rattle.std.proofs.Common.{◌≡◌, ℕ, ◌≤◌, ◌+◌, ◌-◌, Bool, true, false, not, Option, Some, None, List, [], ◌∷◌, length, max, refl, sym, ap, subst, arith, ◌∙◌}
-use Rattle.std.specs.Prelude.{pos, ◌+ℤ◌, ◌==◌, ◌&&◌, nat_abs, nat_lt, int_lt, if◌then◌else◌}
+use Rattle.std.specs.Prelude.{pos, ◌+ℤ◌, ◌==◌, ◌&&◌, ◌||◌, nat_abs, nat_lt, int_lt, if◌then◌else◌}
 use Rattle.std.proofs.lemmas.Bool.{false≢true, or_left}
 use Rattle.seq_arith.specs.Number.{offset_of}
 use Rattle.seq_arith.specs.Arrival.{int_eq, una_after}
+use Rattle.seq_arith.specs.Congestion.{Congestion, with_expiry}
 use Rattle.seq_arith.specs.Packet.{Segment, has_syn, has_rst, has_ack}
 use Rattle.segment_codec.specs.declared.Head.{Head}
 use Rattle.seq_arith.specs.Offset.{one_if, first_of, length_of}
@@ -11,28 +12,29 @@ use Rattle.ft_model.specs.Point.{Point, taken_units}
 use Rattle.ft_model.specs.News.{News}
 use Rattle.ft_model.specs.News.News.{Comes, Logged, Ticks, Begins}
 use Rattle.ft_model.specs.Taken.{taken_after, early_after, fin_after}
-use Rattle.ft_model.specs.Sending.{syn_acked_after, acknowledged_after, edge_after, wl1_after, wl2_after}
+use Rattle.ft_model.specs.Sending.{syn_acked_after, acknowledged_after, edge_after, wl1_after, wl2_after, is_third_duplicate, congestion_after}
 use Rattle.ft_model.specs.Timer as timer
 use Rattle.ft_model.specs.Owed as rule
 use Rattle.tcp_endpoint.specs.States.{has_begun}
 use Rattle.tcp_endpoint.specs.Receiving.{next}
-use Rattle.tcp_endpoint.specs.Sending.{Sending, with_syn_acked, acknowledged, target, is_unacknowledged, expires, ticked}
+use Rattle.tcp_endpoint.specs.Sending.{Sending, with_syn_acked, acknowledged, congestion_expired, target, is_unacknowledged, expires, ticked}
 use Rattle.tcp_endpoint.specs.Tcb.{Tcb}
 use Rattle.tcp_endpoint.specs.Arrival.{first, ack_at, rst, received, refusing}
 use Rattle.tcp_endpoint.specs.Leaving.{answer_segments, answer_out}
 use Rattle.tcp_endpoint.specs.Turning.{after_tick, timer_ticked, waited}
-use Rattle.endpoint_laws.specs.Laws.{accepts, counts, acknowledges, acknowledges_less, is_refused, owes, IsSentBy, IsBounded, IsUsual, ProbesRightly, told}
+use Rattle.endpoint_laws.specs.Laws.{accepts, counts, acknowledges, congestion_ticked, acknowledges_less, is_refused, owes, IsSentBy, IsBounded, IsUsual, ProbesRightly, told}
 use Rattle.endpoint_laws.specs.Turn.{IsUsualNews, IsBetweenTurns, arrived}
 use Rattle.endpoint_laws.specs.Standing.{ReceivesAt, SendsAt, StandsAt, owes_to, refuses, refusals}
 use Rattle.endpoint_laws.proofs.TakenLaw.{part_of_if, same_if, if_when}
-use Rattle.endpoint_laws.proofs.SendingLaw.{used_by, sending_is, sending_law}
+use Rattle.endpoint_laws.proofs.SendingLaw.{later_by, used_by, sending_is, sending_law, again_law}
+use Rattle.endpoint_laws.proofs.SendingLaw as sending
 use Rattle.endpoint_laws.proofs.Bounding.{bounded_by_segment, bounded_by_tick}
 use Rattle.endpoint_laws.proofs.OwedLaw.{owed_law}
 use Rattle.endpoint_laws.proofs.ToldLaw.{told_by_segment, probed_by_tick}
 use Rattle.endpoint_laws.proofs.Answering.{Beside, IsApart, apart_beside, beside_is, answer_is}
 use Rattle.endpoint_laws.proofs.Calls.{FinIsLast}
-use Rattle.endpoint_laws.proofs.StandingLaw.{Meets, next_is, accepts_is, first_is, ack_is, received_receives, received_sends}
-use Rattle.ft_io.proofs.Booleans.{false_or}
+use Rattle.endpoint_laws.proofs.StandingLaw.{Meets, next_is, accepts_is, first_is, ack_is, third_is, received_receives, received_sends}
+use Rattle.ft_io.proofs.Booleans.{false_or, or_false}
 use Rattle.seq_arith.proofs.Shifts.{point_shift}
 
 -- where the laws lead a point, but for the reads, what is sent, and the timer
@@ -46,6 +48,7 @@ moved news p = record p {
   edge = edge_after news p;
   wl1 = wl1_after news p;
   wl2 = wl2_after news p;
+  congestion = congestion_after news p;
 }
 
 -- an endpoint after a turn's news
@@ -58,7 +61,7 @@ pub record Arrived (news : News) (before : Point) (e m : Tcb) : Type 0 where
   pub bounds : IsBounded m
   pub fin_last : FinIsLast m.sending
   pub told : told m ≡ told e
-  pub again : m.again ≡ (timer.expires news before && is_unacknowledged e.sending)
+  pub again : m.again ≡ ((timer.expires news before && is_unacknowledged e.sending) || is_third_duplicate news before)
   pub probe : m.probe ≡ (timer.expires news before && not (is_unacknowledged e.sending))
   pub probes : ProbesRightly m
   pub answer : answer_out m ≡ refusals e.local news before
@@ -78,39 +81,32 @@ local_is : (e : Tcb) (p : Segment) → has_begun e.name ≡ true → IsBounded e
 unfolding refusing
 local_is e p begun b usual =
     kept_is (λ t. t.local) e p
-    (record { waits = λ e n. refl; enters = λ e m n. refl; dies = λ e. refl; owes = λ e o. refl; takes = λ e r. refl; uses = λ e s. refl; opens = λ e m s. refl })
+    (record { waits = λ e n. refl; enters = λ e m n. refl; dies = λ e. refl; owes = λ e o. refl; takes = λ e r. refl; uses = λ e s b. refl; opens = λ e m s. refl })
     (λ r. refl) begun b usual
 
 remote_is : (e : Tcb) (p : Segment) → has_begun e.name ≡ true → IsBounded e → IsUsual e p → (received e p).remote ≡ e.remote
 unfolding refusing
 remote_is e p begun b usual =
     kept_is (λ t. t.remote) e p
-    (record { waits = λ e n. refl; enters = λ e m n. refl; dies = λ e. refl; owes = λ e o. refl; takes = λ e r. refl; uses = λ e s. refl; opens = λ e m s. refl })
-    (λ r. refl) begun b usual
-
-again_is : (e : Tcb) (p : Segment) → has_begun e.name ≡ true → IsBounded e → IsUsual e p → (received e p).again ≡ e.again
-unfolding refusing
-again_is e p begun b usual =
-    kept_is (λ t. t.again) e p
-    (record { waits = λ e n. refl; enters = λ e m n. refl; dies = λ e. refl; owes = λ e o. refl; takes = λ e r. refl; uses = λ e s. refl; opens = λ e m s. refl })
+    (record { waits = λ e n. refl; enters = λ e m n. refl; dies = λ e. refl; owes = λ e o. refl; takes = λ e r. refl; uses = λ e s b. refl; opens = λ e m s. refl })
     (λ r. refl) begun b usual
 
 probe_is : (e : Tcb) (p : Segment) → has_begun e.name ≡ true → IsBounded e → IsUsual e p → (received e p).probe ≡ e.probe
 unfolding refusing
 probe_is e p begun b usual =
     kept_is (λ t. t.probe) e p
-    (record { waits = λ e n. refl; enters = λ e m n. refl; dies = λ e. refl; owes = λ e o. refl; takes = λ e r. refl; uses = λ e s. refl; opens = λ e m s. refl })
+    (record { waits = λ e n. refl; enters = λ e m n. refl; dies = λ e. refl; owes = λ e o. refl; takes = λ e r. refl; uses = λ e s b. refl; opens = λ e m s. refl })
     (λ r. refl) begun b usual
 
 -- the parts of the sending half that an acknowledgement leaves
-sending_keeps : {X : Type 0} (g : Sending → X) (e : Tcb) (p : Segment) → (g (acknowledged e.sending p.head.seq (ack_at e p) p.head.window) ≡ g e.sending)
+sending_keeps : {X : Type 0} (g : Sending → X) (e : Tcb) (p : Segment) → (g (later_by e p) ≡ g e.sending)
     → (g (with_syn_acked e.sending p.head.seq p.head.window) ≡ g e.sending) → has_begun e.name ≡ true → IsBounded e → IsUsual e p
     → g (received e p).sending ≡ g e.sending
 sending_keeps g e p later first_one begun b usual =
     ap g (sending_is e p begun b usual)
     ∙ part_of_if g (counts e p) (used_by e p) e.sending
     ∙ ap (λ x. if counts e p then x else g e.sending)
-    (part_of_if g e.sending.syn_acked (acknowledged e.sending p.head.seq (ack_at e p) p.head.window) (with_syn_acked e.sending p.head.seq p.head.window)
+    (part_of_if g e.sending.syn_acked (later_by e p) (with_syn_acked e.sending p.head.seq p.head.window)
     ∙ (λ i. if e.sending.syn_acked then later i else first_one i) ∙ same_if e.sending.syn_acked (g e.sending))
     ∙ same_if (counts e p) (g e.sending)
 
@@ -258,7 +254,7 @@ segment_arrives p e segment begun between stands usual =
       fin_last = fin_last_kept e.sending (received e segment).sending (fin_sent_is e segment begun b usual) by.closed by.sent b.order una by.held
           between.fin_last;
       told = told_by_segment e segment begun;
-      again = again_is e segment begun b usual ∙ between.again;
+      again = again_law e segment begun b usual ∙ false_or e.again _ between.again ∙ sym (third_is p e segment m);
       probe = probe_is e segment begun b usual ∙ between.probe;
       probes = no_probe (received e segment) (probe_is e segment begun b usual ∙ between.probe);
       answer = segment_answer p e segment m begun between.answer;
@@ -267,9 +263,9 @@ segment_arrives p e segment begun between stands usual =
     }
 
 nothing_arrives : (news : News) (p : Point) (e : Tcb) → IsBetweenTurns e → StandsAt p e → timer.is_tick news ≡ false
-    → moved news p ≡ p → refusals e.local news p ≡ [] → Arrived news p e e
+    → is_third_duplicate news p ≡ false → moved news p ≡ p → refusals e.local news p ≡ [] → Arrived news p e e
 unfolding answer_out
-nothing_arrives news p e between stands still same quiet =
+nothing_arrives news p e between stands still none same quiet =
     let P : Point → Type 0 = λ q. ReceivesAt q e in
     let Q : Point → Type 0 = λ q. SendsAt q e in
     record {
@@ -281,7 +277,7 @@ nothing_arrives news p e between stands still same quiet =
       bounds = between.bounds;
       fin_last = between.fin_last;
       told = refl;
-      again = between.again ∙ sym (ap (λ v. v && p.rest == 1 && is_unacknowledged e.sending) still);
+      again = between.again ∙ (λ i. (sym still i && p.rest == 1 && is_unacknowledged e.sending) || sym none i);
       probe = between.probe ∙ sym (ap (λ v. v && p.rest == 1 && not (is_unacknowledged e.sending)) still);
       probes = no_probe e between.probe;
       answer = ap answer_segments between.answer ∙ sym quiet;
@@ -289,65 +285,77 @@ nothing_arrives news p e between stands still same quiet =
       una = omega arith;
     }
 
--- a tick touches the timer alone
-ticked_by : {X : Type 0} (g : Sending → X) (s : Sending) (b : Bool) (interval rest left : ℕ) → (g (record s { interval = interval; rest = rest }) ≡ g s)
-    → (g (record s { rest = left }) ≡ g s) → g (if b then record s { interval = interval; rest = rest } else record s { rest = left }) ≡ g s
-ticked_by g s true interval rest left a b = a
-ticked_by g s false interval rest left a b = b
+-- a tick touches the timer and the congestion window alone
+ticked_by : {X : Type 0} (g : Sending → X) (s : Sending) (b : Bool) (c : Congestion) (interval rest left : ℕ)
+    → (g (record s { congestion = c; interval = interval; rest = rest }) ≡ g s)
+    → (g (record s { rest = left }) ≡ g s) → g (if b then record s { congestion = c; interval = interval; rest = rest } else record s { rest = left }) ≡ g s
+ticked_by g s true c interval rest left a b = a
+ticked_by g s false c interval rest left a b = b
 
-tick_keeps : {X : Type 0} (g : Sending → X) (s : Sending) → ((interval rest : ℕ) → g (record s { interval = interval; rest = rest }) ≡ g s) → g (ticked s) ≡ g s
-tick_keeps g s same = ticked_by g s (expires s) _ _ _ (same _ _) (same s.interval (s.rest - 1))
+tick_keeps : {X : Type 0} (g : Sending → X) (s : Sending)
+    → ((c : Congestion) (interval rest : ℕ) → g (record s { congestion = c; interval = interval; rest = rest }) ≡ g s) → g (ticked s) ≡ g s
+tick_keeps g s same = ticked_by g s (expires s) (congestion_expired s) _ _ _ (same _ _ _) (same s.congestion s.interval (s.rest - 1))
 
-ticked_sends : (p : Point) (e : Tcb) → SendsAt p e → SendsAt p (after_tick e)
+ticked_sends : (p : Point) (e : Tcb) (c : Congestion) → (ticked e.sending).congestion ≡ c → SendsAt p e → SendsAt (record p { congestion = c }) (after_tick e)
 unfolding after_tick timer_ticked waited
-ticked_sends p e s =
+ticked_sends p e c congestion s =
     let t : Sending = e.sending in
-    let syn_acked : (ticked t).syn_acked ≡ t.syn_acked = tick_keeps (λ (q : Sending). q.syn_acked) t (λ i r. refl) in
+    let syn_acked : (ticked t).syn_acked ≡ t.syn_acked = tick_keeps (λ (q : Sending). q.syn_acked) t (λ c i r. refl) in
     record {
-      sisn = s.sisn ∙ sym (tick_keeps (λ (q : Sending). q.iss) t (λ i r. refl));
-      mss = s.mss ∙ sym (tick_keeps (λ (q : Sending). q.mss) t (λ i r. refl));
+      sisn = s.sisn ∙ sym (tick_keeps (λ (q : Sending). q.iss) t (λ c i r. refl));
+      mss = s.mss ∙ sym (tick_keeps (λ (q : Sending). q.mss) t (λ c i r. refl));
       syn_acked = s.syn_acked ∙ sym syn_acked;
-      una = s.una ∙ sym (tick_keeps (λ (q : Sending). q.una) t (λ i r. refl));
-      edge = s.edge ∙ sym (tick_keeps (λ (q : Sending). q.edge) t (λ i r. refl));
+      una = s.una ∙ sym (tick_keeps (λ (q : Sending). q.una) t (λ c i r. refl));
+      edge = s.edge ∙ sym (tick_keeps (λ (q : Sending). q.edge) t (λ c i r. refl));
       wl1 = λ h. s.wl1 (sym syn_acked ∙ h)
-          ∙ ap (λ n. offset_of e.receiving.irs n +ℤ pos p.fetched) (sym (tick_keeps (λ (q : Sending). q.wl1) t (λ i r. refl)));
-      wl2 = s.wl2 ∙ sym (tick_keeps (λ (q : Sending). q.wl2) t (λ i r. refl));
+          ∙ ap (λ n. offset_of e.receiving.irs n +ℤ pos p.fetched) (sym (tick_keeps (λ (q : Sending). q.wl1) t (λ c i r. refl)));
+      wl2 = s.wl2 ∙ sym (tick_keeps (λ (q : Sending). q.wl2) t (λ c i r. refl));
+      congestion = sym congestion;
     }
 
-ticked_receives : (p : Point) (e : Tcb) → ReceivesAt p e → ReceivesAt p (after_tick e)
+ticked_receives : (p : Point) (e : Tcb) (c : Congestion) → ReceivesAt p e → ReceivesAt (record p { congestion = c }) (after_tick e)
 unfolding after_tick timer_ticked waited
-ticked_receives p e r = record { cisn = r.cisn; limit = r.limit; read = r.read; long = r.long; unread = r.unread; fin = r.fin; early = r.early }
+ticked_receives p e c r = record { cisn = r.cisn; limit = r.limit; read = r.read; long = r.long; unread = r.unread; fin = r.fin; early = r.early }
+
+lost_is : (p : Point) (e : Tcb) → StandsAt p e → congestion_ticked e.sending ≡ congestion_after Ticks p
+unfolding congestion_after
+lost_is p e stands = λ i.
+    let s : SendsAt p e = stands.sends in
+    if sym stands.rest i == 1 && nat_lt (sym s.una i) (sym stands.sent i) && nat_lt (sym s.una i) (sym s.edge i)
+    then with_expiry (sym s.mss i) (sym stands.sent i - sym s.una i) (sym stands.interval i == 1) (sym s.congestion i) else sym s.congestion i
 
 tick_arrives : (p : Point) (e : Tcb) → IsBetweenTurns e → StandsAt p e → Arrived Ticks p e (after_tick e)
-unfolding after_tick timer_ticked waited taken_after early_after fin_after syn_acked_after acknowledged_after edge_after wl1_after wl2_after answer_out
+unfolding after_tick timer_ticked waited taken_after early_after fin_after syn_acked_after acknowledged_after edge_after wl1_after wl2_after congestion_after
+    is_third_duplicate answer_out
 tick_arrives p e between stands =
     let t : Sending = e.sending in
     let runs_out : expires t ≡ timer.expires Ticks p = ap (λ n. n == 1) (sym stands.rest) in
-    let sent : (ticked t).sent ≡ t.sent = tick_keeps (λ (q : Sending). q.sent) t (λ i r. refl) in
-    let una : (ticked t).una ≡ t.una = tick_keeps (λ (q : Sending). q.una) t (λ i r. refl) in
-    let held : length (ticked t).held ≡ length t.held = tick_keeps (λ (q : Sending). length q.held) t (λ i r. refl) in
+    let lost : (ticked t).congestion ≡ congestion_after Ticks p = sending.ticked_law e between.bounds ∙ lost_is p e stands in
+    let sent : (ticked t).sent ≡ t.sent = tick_keeps (λ (q : Sending). q.sent) t (λ c i r. refl) in
+    let una : (ticked t).una ≡ t.una = tick_keeps (λ (q : Sending). q.una) t (λ c i r. refl) in
+    let held : length (ticked t).held ≡ length t.held = tick_keeps (λ (q : Sending). length q.held) t (λ c i r. refl) in
     record {
       local = refl;
       remote = refl;
-      receives = ticked_receives p e stands.receives;
-      sends = ticked_sends p e stands.sends;
+      receives = ticked_receives p e _ stands.receives;
+      sends = ticked_sends p e _ lost stands.sends;
       sent = sent;
       bounds = bounded_by_tick e between.bounds;
-      fin_last = fin_last_kept t (ticked t) (tick_keeps (λ (q : Sending). q.fin_sent) t (λ i r. refl)) (tick_keeps (λ (q : Sending). q.closed) t (λ i r. refl)) sent
-          between.bounds.order (omega (arith, una)) (omega (arith, una, held)) between.fin_last;
+      fin_last = fin_last_kept t (ticked t) (tick_keeps (λ (q : Sending). q.fin_sent) t (λ c i r. refl))
+          (tick_keeps (λ (q : Sending). q.closed) t (λ c i r. refl)) sent between.bounds.order (omega (arith, una)) (omega (arith, una, held)) between.fin_last;
       told = refl;
-      again = false_or e.again _ between.again ∙ ap (λ v. v && is_unacknowledged t) runs_out;
+      again = false_or e.again _ between.again ∙ ap (λ v. v && is_unacknowledged t) runs_out ∙ or_false _;
       probe = false_or e.probe _ between.probe ∙ ap (λ v. v && not (is_unacknowledged t)) runs_out;
       probes = probed_by_tick e between.probe between.bounds between.shut;
       answer = ap answer_segments between.answer;
-      target = λ h. omega (arith, tick_keeps target t (λ i r. refl));
+      target = λ h. omega (arith, tick_keeps target t (λ c i r. refl));
       una = omega (arith, una);
     }
 
 -- all kinds
 pub arrives : (news : News) (p : Point) (e : Tcb) → has_begun e.name ≡ true → IsBetweenTurns e → StandsAt p e → IsUsualNews news e → Arrived news p e (arrived news e)
-unfolding taken_after early_after fin_after syn_acked_after acknowledged_after edge_after wl1_after wl2_after
+unfolding taken_after early_after fin_after syn_acked_after acknowledged_after edge_after wl1_after wl2_after congestion_after is_third_duplicate
 arrives (Comes segment) p e begun between stands usual = segment_arrives p e segment begun between stands usual
-arrives (Logged kept) p e begun between stands usual = nothing_arrives (Logged kept) p e between stands refl refl refl
+arrives (Logged kept) p e begun between stands usual = nothing_arrives (Logged kept) p e between stands refl refl refl refl
 arrives Ticks p e begun between stands usual = tick_arrives p e between stands
-arrives Begins p e begun between stands usual = nothing_arrives Begins p e between stands refl refl refl
+arrives Begins p e begun between stands usual = nothing_arrives Begins p e between stands refl refl refl refl

@@ -6,6 +6,7 @@ use Rattle.std.proofs.lemmas.Bool.{false≢true}
 use Rattle.std.proofs.Math.Seq.{drop-length}
 use Rattle.ft_io.specs.declared.Addr.{Addr}
 use Rattle.seq_arith.specs.Coming.{early_from, nothing_early}
+use Rattle.seq_arith.specs.Congestion.{initial_congestion}
 use Rattle.seq_arith.specs.Packet.{Segment}
 use Rattle.ft_model.specs.Opening as opening
 use Rattle.seq_arith.specs.Offset.{one_if}
@@ -14,7 +15,7 @@ use Rattle.ft_model.specs.News.News.{Comes}
 use Rattle.ft_model.specs.Segments.{syn_ack}
 use Rattle.tcp_endpoint.specs.States.{is_syn_sent, has_begun}
 use Rattle.tcp_endpoint.specs.Receiving.{Receiving, taken}
-use Rattle.tcp_endpoint.specs.Sending.{Sending, is_unacknowledged, target, resent_length}
+use Rattle.tcp_endpoint.specs.Sending.{Sending, is_unacknowledged, target, send_edge, resent_length}
 use Rattle.tcp_endpoint.specs.Tcb.{Tcb}
 use Rattle.tcp_endpoint.specs.Arrival.{source, received, begun}
 use Rattle.tcp_endpoint.specs.Leaving.{or_bare, announced, with_turn_ended, with_fin_out, fin_at, text_at, answer_segments, answer_out, again_segment, opening_segment, again_out, probe_out, with_probe, text_out, with_text_sent, fin_out, full_out, is_owed, bare_segment, leaving, after_full, is_timed, flushed}
@@ -46,6 +47,7 @@ record Opened (local : Addr) (iss limit : ℕ) (syn : Segment) (m : Tcb) : Type 
   sent : m.sending.sent ≡ 0
   edge : m.sending.edge ≡ 0
   wl2 : m.sending.wl2 ≡ 0
+  congestion : m.sending.congestion ≡ initial_congestion (opening.segment_size syn.head.mss)
   fin_sent : m.sending.fin_sent ≡ false
   interval : m.sending.interval ≡ 1
   rest : m.sending.rest ≡ 0
@@ -68,6 +70,7 @@ opened_by_syn e iss limit syn l = record {
   sent = ap (λ (s : Sending). s.sent) l.sending;
   edge = ap (λ (s : Sending). s.edge) l.sending;
   wl2 = ap (λ (s : Sending). s.wl2) l.sending;
+  congestion = refl;
   fin_sent = ap (λ (s : Sending). s.fin_sent) l.sending;
   interval = ap (λ (s : Sending). s.interval) l.sending;
   rest = ap (λ (s : Sending). s.rest) l.sending;
@@ -114,6 +117,7 @@ sends_begun local iss limit cisn fetched syn m u o a = record {
   edge = sym (a.sends.edge ∙ o.edge);
   wl1 = λ h. absurd (false≢true (sym (a.sends.syn_acked ∙ o.syn_acked) ∙ h));
   wl2 = sym (a.sends.wl2 ∙ o.wl2);
+  congestion = sym (a.sends.congestion ∙ o.congestion);
 }
 
 -- the SYN-ACK is all that leaves
@@ -182,7 +186,8 @@ opened_turn local iss limit cisn fetched syn m u o a bounds whole number =
         port = tells.port ∙ ap (λ (r : Addr). r.port) (sym (flushed_remote u));
         receives = flushed_receives p u receives;
         sends = flushed_sends p u sends;
-        sent = sent_none u.sending.sent (target u.sending) u.sending.edge u.probe (a.sends.sent ∙ o.sent) (a.sends.edge ∙ o.edge) probe ∙ sym (sent_law u begun bounds probes);
+        sent = sent_none u.sending.sent (target u.sending) (send_edge u.sending) u.probe (a.sends.sent ∙ o.sent) (omega (arith, a.sends.edge, o.edge)) probe
+            ∙ sym (sent_law u begun bounds probes);
         interval = sym interval;
         rest = sym rest;
       },

@@ -1,5 +1,5 @@
 -- The bounds on an endpoint's offsets are kept.
-use Rattle.std.proofs.Common.{◌≡◌, ℕ, ◌<◌, ◌≤◌, ◌+◌, ◌-◌, ◌^◌, Bool, true, false, not, List, ◌++◌, length, length-append, length-drop, drop, max, min, refl, sym, ap, subst, arith, ◌∙◌}
+use Rattle.std.proofs.Common.{◌≡◌, ℕ, ◌<◌, ◌≤◌, ◌+◌, ◌-◌, ◌^◌, Bool, true, false, not, List, ◌++◌, length, length-append, length-drop, drop, max, min, Option, Some, None, refl, sym, ap, subst, arith, ◌∙◌}
 use Rattle.std.specs.Prelude.{ℤ, pos, ◌==◌, ◌&&◌, nat_abs, nat_lt, int_le, if◌then◌else◌}
 use Rattle.std.proofs.lemmas.Int.{ints}
 use Rattle.std.proofs.lemmas.Bool.{false≢true}
@@ -7,7 +7,9 @@ use Rattle.seq_arith.specs.Number.{offset_of}
 use Rattle.seq_arith.specs.Arrival.{int_eq, is_new_ack}
 use Rattle.seq_arith.specs.Coming.{Came, StandsBehind}
 use Rattle.seq_arith.proofs.Gaps.{offset_leads}
-use Rattle.seq_arith.specs.Packet.{Segment, has_syn, has_rst, has_ack}
+use Rattle.seq_arith.specs.Congestion.{Congestion, with_new_data, with_duplicate, with_expiry, IsOpen}
+use Rattle.seq_arith.proofs.Congested.{opens, new_data_open, duplicate_open, expiry_open}
+use Rattle.seq_arith.specs.Packet.{Segment, segment_size, has_syn, has_rst, has_ack}
 use Rattle.ft_io.specs.declared.Addr.{Addr}
 use Rattle.seq_arith.specs.Offset.{one_if, text_of, fin_of}
 use Rattle.tcp_buffers.specs.Near.{IsNearFirst}
@@ -15,12 +17,12 @@ use Rattle.tcp_endpoint.specs.declared.states.StateName.{StateName}
 use Rattle.tcp_endpoint.specs.declared.states.StateName.TheVariants.{Listen, SynSent}
 use Rattle.tcp_endpoint.specs.States.{has_begun}
 use Rattle.tcp_endpoint.specs.Receiving.{Receiving, taken, receive_edge, came, with_came, with_segment, read_out}
-use Rattle.tcp_endpoint.specs.Sending.{Sending, with_syn_acked, acknowledged, moves_edge, sendable, expires, ticked, timed, with_sent, with_fin_sent, IsShort}
+use Rattle.tcp_endpoint.specs.Sending.{Sending, with_segment_size, with_syn_acked, acknowledged, moves_edge, send_edge, sendable, expires, is_lost, ticked, timed, with_sent, with_fin_sent, IsShort}
 use Rattle.tcp_endpoint.specs.Tcb.{Tcb, listening, connecting}
 use Rattle.tcp_endpoint.specs.Arrival.{first, ack_at, received, received_in, in_listen, begun, refusing, answered, in_syn_sent}
 use Rattle.tcp_endpoint.specs.Leaving.{probes_text, probes_fin, with_probe, with_text_sent, new_fin, with_fin_out, after_full, announced, is_timed, with_turn_ended, flushed}
 use Rattle.tcp_endpoint.specs.Turning.{after_tick, timer_ticked, waited, after_read, after_write}
-use Rattle.endpoint_laws.specs.Laws.{counts, taken_by, Bounds, IsBounded, IsUsual}
+use Rattle.endpoint_laws.specs.Laws.{counts, acknowledges, is_duplicate, congestion_by, taken_by, Bounds, IsBounded, IsUsual}
 use Rattle.endpoint_laws.proofs.TakenLaw.{taken_law}
 use Rattle.endpoint_laws.proofs.SendingLaw.{sending_is, held_field, near_of_counts}
 use Rattle.seq_arith.proofs.Coming.{stays_behind, comes_within, behind_within, behind_up, nothing_behind}
@@ -51,11 +53,18 @@ bounded_at_listen local iss limit small = record {
   wl2 = omega arith;
   edge = omega arith;
   reach = omega arith;
+  congestion = opens 536 (omega arith);
 }
 
+-- a segment has room for text, whatever the peer's SYN offers
+some_size : (mss : Option ℕ) → 1 ≤ segment_size mss
+some_size (Some mss) = omega arith
+some_size None = omega arith
+
 -- the bounds say nothing of a peer's number before the SYN is acknowledged
-syn_unacked_irs : (r : Receiving) (s : Sending) (irs mss : ℕ) → s.syn_acked ≡ false → Bounds r s → Bounds (record r { irs = irs }) (record s { mss = mss })
-syn_unacked_irs r s irs mss syn_unacked b = record {
+syn_unacked_irs : (r : Receiving) (s : Sending) (irs mss : ℕ) → 1 ≤ mss → s.syn_acked ≡ false → Bounds r s
+    → Bounds (record r { irs = irs }) (with_segment_size mss s)
+syn_unacked_irs r s irs mss some syn_unacked b = record {
   limit = b.limit;
   taken = b.taken;
   early = b.early;
@@ -70,6 +79,7 @@ syn_unacked_irs r s irs mss syn_unacked b = record {
   wl2 = b.wl2;
   edge = b.edge;
   reach = b.reach;
+  congestion = opens mss some;
 }
 
 bounded_if : (b : Bool) (x y : Tcb) → IsBounded x → IsBounded y → IsBounded (if b then x else y)
@@ -79,7 +89,8 @@ bounded_if false x y on off = off
 in_listen_bounded : (e : Tcb) (p : Segment) → e.sending.syn_acked ≡ false → IsBounded e → IsBounded (in_listen e p)
 unfolding in_listen begun refusing
 in_listen_bounded e p syn_unacked b =
-    bounded_if (has_rst p) _ _ b (bounded_if (has_ack p) _ _ b (bounded_if (has_syn p) _ _ (syn_unacked_irs e.receiving e.sending _ _ syn_unacked b) b))
+    let begins : IsBounded (begun e p) = syn_unacked_irs e.receiving e.sending _ _ (some_size p.head.mss) syn_unacked b in
+    bounded_if (has_rst p) _ _ b (bounded_if (has_ack p) _ _ b (bounded_if (has_syn p) _ _ begins b))
 
 pub bounded_in_listen : (e : Tcb) (p : Segment) → e.name ≡ Listen → e.sending.syn_acked ≡ false → IsBounded e → IsBounded (received e p)
 unfolding received
@@ -114,6 +125,20 @@ taken_within e p =
     holds_either_way (λ (r : Receiving). StaysWithin e.receiving r) (counts e p) (with_segment e.receiving (first e p) (text_of p) (fin_of p)) e.receiving
     (came_within e.receiving (first e p) (text_of p) (fin_of p)) (record { irs = refl; limit = refl; taken = λ h behind. h; behind = λ behind. behind })
 
+-- the congestion window and the threshold stay above 0
+by_duplicate_open : (duplicate : Bool) (mss flight : ℕ) (c : Congestion) → IsOpen mss c → IsOpen mss (if duplicate then with_duplicate mss flight c else c)
+by_duplicate_open true mss flight c o = duplicate_open mss flight c o
+by_duplicate_open false mss flight c o = o
+
+by_ack_open : (new duplicate : Bool) (mss units flight : ℕ) (c : Congestion) → IsOpen mss c
+    → IsOpen mss (if new then with_new_data mss units c else (if duplicate then with_duplicate mss flight c else c))
+by_ack_open true duplicate mss units flight c o = new_data_open mss units c o
+by_ack_open false duplicate mss units flight c o = by_duplicate_open duplicate mss flight c o
+
+by_segment_open : (e : Tcb) (p : Segment) → IsBounded e → IsOpen e.sending.mss (congestion_by e p)
+by_segment_open e p b =
+    by_ack_open (acknowledges e p && nat_lt e.sending.una (nat_abs (ack_at e p))) (is_duplicate e p) e.sending.mss _ _ e.sending.congestion b.congestion
+
 -- the sending half, for a later acknowledgement
 pub new_within : (una sent : ℕ) (z : ℤ) → una ≤ sent → (if is_new_ack una sent z then nat_abs z else una) ≤ sent
 new_within una sent z h = grind (arith, ints)
@@ -133,10 +158,11 @@ choice_within x y n false p q = q
 pub not_less : (una sent : ℕ) (z : ℤ) → una ≤ (if is_new_ack una sent z then nat_abs z else una)
 not_less una sent z = grind (arith, ints)
 
-later_bounds : (r : Receiving) (s : Sending) (seq window : ℕ) (z : ℤ) → Bounds r s → IsNearFirst (offset_of r.irs seq) → seq < 2 ^ 32 → window ≤ 65535 → s.syn_acked ≡ true
-    → (r' : Receiving) → r'.limit ≤ 2 ^ 24 → taken r' ≤ r'.limit → HoldsBehind r' → r'.irs ≡ r.irs → Bounds r' (acknowledged s seq z window)
+later_bounds : (r : Receiving) (s : Sending) (seq window : ℕ) (z : ℤ) (c : Congestion) → Bounds r s → IsOpen s.mss c → IsNearFirst (offset_of r.irs seq)
+    → seq < 2 ^ 32 → window ≤ 65535 → s.syn_acked ≡ true → (r' : Receiving) → r'.limit ≤ 2 ^ 24 → taken r' ≤ r'.limit → HoldsBehind r' → r'.irs ≡ r.irs
+    → Bounds r' (record (acknowledged s seq z window) { congestion = c })
 unfolding acknowledged
-later_bounds r s seq window z b near fits small is_syn_acked r' limit within behind irs =
+later_bounds r s seq window z c b wide near fits small is_syn_acked r' limit within behind irs =
     let una : ℕ = if is_new_ack s.una s.sent z then nat_abs z else s.una in
     let una_sent : una ≤ s.sent = new_within s.una s.sent z b.order in
     let kept : una + length (if is_new_ack s.una s.sent z then drop (nat_abs z - s.una) s.held else s.held) ≡ max una (s.una + length s.held) =
@@ -158,6 +184,7 @@ later_bounds r s seq window z b near fits small is_syn_acked r' limit within beh
       wl2 = choice_within (nat_abs z) s.wl2 una (moves_edge s seq z) (λ h. (moved h).0) (omega (arith, b.wl2, not_less s.una s.sent z));
       edge = choice_within (nat_abs z + window) s.edge (2 ^ 24 + 2 ^ 16 + 1) (moves_edge s seq z) (λ h. grind (arith, moved h, b.sent)) b.edge;
       reach = choice_within (nat_abs z + window) s.edge (una + 65535) (moves_edge s seq z) (λ h. omega (arith, (moved h).0, small)) (omega (arith, b.reach, not_less s.una s.sent z));
+      congestion = wide;
     }
 
 first_bounds : (r : Receiving) (s : Sending) (seq window : ℕ) → Bounds r s → IsNearFirst (offset_of r.irs seq) → seq < 2 ^ 32 → window ≤ 65535 → s.syn_acked ≡ false
@@ -179,6 +206,7 @@ first_bounds r s seq window b near fits small syn_unacked r' limit within behind
       wl2 = omega arith;
       edge = omega (arith, small);
       reach = omega (arith, small);
+      congestion = b.congestion;
     }
 
 pub other_bounds : (r : Receiving) (s : Sending) → Bounds r s → (r' : Receiving) → r'.limit ≤ 2 ^ 24 → taken r' ≤ r'.limit → HoldsBehind r' → r'.irs ≡ r.irs → Bounds r' s
@@ -197,6 +225,7 @@ other_bounds r s b r' limit within behind irs = record {
   wl2 = b.wl2;
   edge = b.edge;
   reach = b.reach;
+  congestion = b.congestion;
 }
 
 chosen_bounds : (r : Receiving) (x y z : Sending) (c o : Bool) → (c ≡ true → o ≡ true → Bounds r x) → (c ≡ true → o ≡ false → Bounds r y) → Bounds r z
@@ -213,7 +242,8 @@ bounded_by_segment e p begun b usual =
     let within : taken r' ≤ r'.limit = w.taken b.taken b.early in
     let behind : HoldsBehind r' = w.behind b.early in
     let bounds = chosen_bounds r' _ _ _ (counts e p) e.sending.syn_acked
-    (λ counted h. later_bounds e.receiving e.sending p.head.seq p.head.window (ack_at e p) b (near_of_counts e p b usual counted) usual.seq usual.window h r' limit within behind w.irs)
+    (λ counted h. later_bounds e.receiving e.sending p.head.seq p.head.window (ack_at e p) (congestion_by e p) b (by_segment_open e p b)
+    (near_of_counts e p b usual counted) usual.seq usual.window h r' limit within behind w.irs)
     (λ counted h. first_bounds e.receiving e.sending p.head.seq p.head.window b (near_of_counts e p b usual counted) usual.seq usual.window h r' limit within behind w.irs)
     (other_bounds e.receiving e.sending b r' limit within behind w.irs) in
     let P : Receiving → Type 0 = λ r. Bounds r (received e p).sending in
@@ -238,6 +268,7 @@ sent_more r s n b flight sent syn_unacked = record {
   wl2 = b.wl2;
   edge = b.edge;
   reach = b.reach;
+  congestion = b.congestion;
 }
 
 fin_more : (r : Receiving) (s : Sending) → Bounds r s → s.fin_sent ≡ false → s.syn_acked ≡ true → Bounds r (with_fin_sent s)
@@ -259,10 +290,12 @@ fin_more r s b unsent is_syn_acked =
       wl2 = b.wl2;
       edge = b.edge;
       reach = b.reach;
+      congestion = b.congestion;
     }
 
-timer_bounds : (r : Receiving) (s : Sending) (interval rest : ℕ) → Bounds r s → Bounds r (record s { interval = interval; rest = rest })
-timer_bounds r s interval rest b = record {
+timer_bounds : (r : Receiving) (s : Sending) (c : Congestion) (interval rest : ℕ) → Bounds r s → IsOpen s.mss c
+    → Bounds r (record s { congestion = c; interval = interval; rest = rest })
+timer_bounds r s c interval rest b wide = record {
   limit = b.limit;
   taken = b.taken;
   early = b.early;
@@ -277,14 +310,21 @@ timer_bounds r s interval rest b = record {
   wl2 = b.wl2;
   edge = b.edge;
   reach = b.reach;
+  congestion = wide;
 }
 
 bounds_if : (r : Receiving) (b : Bool) (x y : Sending) → (b ≡ true → Bounds r x) → (b ≡ false → Bounds r y) → Bounds r (if b then x else y)
 bounds_if r true x y p q = p refl
 bounds_if r false x y p q = q refl
 
+expired_open : (lost : Bool) (mss flight : ℕ) (first : Bool) (c : Congestion) → IsOpen mss c → IsOpen mss (if lost then with_expiry mss flight first c else c)
+expired_open true mss flight first c o = expiry_open mss flight first c o
+expired_open false mss flight first c o = o
+
 ticked_bounds : (r : Receiving) (s : Sending) → Bounds r s → Bounds r (ticked s)
-ticked_bounds r s b = bounds_if r (expires s) _ _ (λ h. timer_bounds r s _ _ b) (λ h. timer_bounds r s _ _ b)
+ticked_bounds r s b =
+    bounds_if r (expires s) _ _ (λ h. timer_bounds r s _ _ _ b (expired_open (is_lost s) s.mss _ _ s.congestion b.congestion))
+    (λ h. timer_bounds r s _ _ _ b b.congestion)
 
 pub bounded_by_tick : (e : Tcb) → IsBounded e → IsBounded (after_tick e)
 unfolding after_tick timer_ticked waited
@@ -321,6 +361,7 @@ bounded_by_more e bytes few b =
       wl2 = b.wl2;
       edge = b.edge;
       reach = b.reach;
+      congestion = b.congestion;
     }
 
 pub bounded_by_write : (e : Tcb) (bytes : List ℕ) → e.sending.una + length e.sending.held + length bytes ≤ 2 ^ 24 → IsBounded e → IsBounded (after_write e bytes)
@@ -395,8 +436,8 @@ text_bounds e b =
     let s : Sending = e.sending in
     let sent_by : Bool → Type 0 = λ v. Bounds e.receiving (with_sent s (if v then sendable s else 0)) in
     both sent_by (has_begun e.name)
-    (sent_more e.receiving s (sendable s) b (sendable_within s.syn_acked s.fin_sent s.una (length s.held) s.edge s.sent b.flight)
-    (sendable_short s.syn_acked s.fin_sent s.una (length s.held) s.edge s.sent b.written b.sent) (sendable_none s.syn_acked s.fin_sent _))
+    (sent_more e.receiving s (sendable s) b (sendable_within s.syn_acked s.fin_sent s.una (length s.held) (send_edge s) s.sent b.flight)
+    (sendable_short s.syn_acked s.fin_sent s.una (length s.held) (send_edge s) s.sent b.written b.sent) (sendable_none s.syn_acked s.fin_sent _))
     (sent_more e.receiving s 0 b (omega (arith, b.flight)) (omega (arith, b.sent)) (λ h. refl))
 
 fin_bounds : (e : Tcb) → IsBounded e → IsBounded (with_fin_out e)
@@ -404,13 +445,13 @@ unfolding with_fin_out
 fin_bounds e b =
     let s : Sending = e.sending in
     bounds_if e.receiving (new_fin e) _ _
-    (λ h. let f = new_fin_facts (has_begun e.name) s.syn_acked s.closed s.fin_sent (s.sent == s.una + length s.held) (nat_lt s.sent s.edge) h in
+    (λ h. let f = new_fin_facts (has_begun e.name) s.syn_acked s.closed s.fin_sent (s.sent == s.una + length s.held) (nat_lt s.sent (send_edge s)) h in
     fin_more e.receiving s b f.1 f.0)
     (λ h. b)
 
 timed_bounds : (r : Receiving) (s : Sending) (runs : Bool) → Bounds r s → Bounds r (timed runs s)
 timed_bounds r s runs b =
-    bounds_if r runs _ _ (λ h. bounds_if r (s.rest == 0) _ _ (λ k. timer_bounds r s _ _ b) (λ k. b)) (λ h. timer_bounds r s _ _ b)
+    bounds_if r runs _ _ (λ h. bounds_if r (s.rest == 0) _ _ (λ k. timer_bounds r s _ _ _ b b.congestion) (λ k. b)) (λ h. timer_bounds r s _ _ _ b b.congestion)
 
 pub bounded_by_flush : (e : Tcb) → IsBounded e → IsBounded (flushed e)
 unfolding flushed with_turn_ended announced after_full
@@ -428,9 +469,9 @@ bounded_at_connect local remote iss limit small = bounded_at_listen local iss li
 syn_near : (seq : ℕ) → seq < 2 ^ 32 → IsNearFirst (offset_of seq seq)
 syn_near seq fits = (omega (arith, ints, offset_leads seq seq fits), omega (arith, ints, offset_leads seq seq fits))
 
-answered_bounds : (r : Receiving) (s : Sending) (seq window mss : ℕ) → Bounds r s → seq < 2 ^ 32 → window ≤ 65535 → s.syn_acked ≡ false
-    → Bounds (record r { irs = seq }) (with_syn_acked (record s { mss = mss }) seq window)
-answered_bounds r s seq window mss b fits small syn_unacked =
+answered_bounds : (r : Receiving) (s : Sending) (seq window mss : ℕ) → Bounds r s → 1 ≤ mss → seq < 2 ^ 32 → window ≤ 65535 → s.syn_acked ≡ false
+    → Bounds (record r { irs = seq }) (with_syn_acked (with_segment_size mss s) seq window)
+answered_bounds r s seq window mss b some fits small syn_unacked =
     let una : s.una ≡ 0 = omega (arith, b.order, b.syn_unacked syn_unacked) in
     record {
       limit = b.limit;
@@ -447,12 +488,13 @@ answered_bounds r s seq window mss b fits small syn_unacked =
       wl2 = omega arith;
       edge = omega (arith, small);
       reach = omega (arith, small);
+      congestion = opens mss some;
     }
 
 in_syn_sent_bounded : (e : Tcb) (p : Segment) → e.sending.syn_acked ≡ false → IsBounded e → p.head.seq < 2 ^ 32 → p.head.window ≤ 65535 → IsBounded (in_syn_sent e p)
 unfolding in_syn_sent answered refusing
 in_syn_sent_bounded e p syn_unacked b fits small =
-    let yes : IsBounded (answered e p) = answered_bounds e.receiving e.sending p.head.seq p.head.window _ b fits small syn_unacked in
+    let yes : IsBounded (answered e p) = answered_bounds e.receiving e.sending p.head.seq p.head.window _ b (some_size p.head.mss) fits small syn_unacked in
     bounded_if (has_ack p) _ _
     (bounded_if (int_eq (ack_at e p) (pos 0)) _ _ (bounded_if (has_rst p) _ _ b (bounded_if (has_syn p) _ _ yes b)) (bounded_if (has_rst p) _ _ b b))
     b

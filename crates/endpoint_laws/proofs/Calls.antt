@@ -27,6 +27,7 @@ pub record SendsAs (m u : Sending) : Type 0 where
   pub edge : u.edge ≡ m.edge
   pub wl1 : u.wl1 ≡ m.wl1
   pub wl2 : u.wl2 ≡ m.wl2
+  pub congestion : u.congestion ≡ m.congestion
   pub fin_sent : u.fin_sent ≡ m.fin_sent
   pub mss : u.mss ≡ m.mss
   pub interval : u.interval ≡ m.interval
@@ -62,6 +63,7 @@ sends_same s = record {
   edge = refl;
   wl1 = refl;
   wl2 = refl;
+  congestion = refl;
   fin_sent = refl;
   mss = refl;
   interval = refl;
@@ -80,6 +82,7 @@ sends_on m n u a b = record {
   edge = b.edge ∙ a.edge;
   wl1 = b.wl1 ∙ a.wl1;
   wl2 = b.wl2 ∙ a.wl2;
+  congestion = b.congestion ∙ a.congestion;
   fin_sent = b.fin_sent ∙ a.fin_sent;
   mss = b.mss ∙ a.mss;
   interval = b.interval ∙ a.interval;
@@ -107,6 +110,7 @@ sends_written s held closed more keeps same = record {
   edge = refl;
   wl1 = refl;
   wl2 = refl;
+  congestion = refl;
   fin_sent = refl;
   mss = refl;
   interval = refl;
@@ -261,6 +265,7 @@ bounded_call Closes m may last b = record {
   wl2 = b.wl2;
   edge = b.edge;
   reach = b.reach;
+  congestion = b.congestion;
 }
 
 pub last_used : (m u : Sending) → SendsAs m u → FinIsLast m → FinIsLast u

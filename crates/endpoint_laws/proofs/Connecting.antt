@@ -6,15 +6,17 @@ use Rattle.std.specs.List.{AllByRecursion}
 use Rattle.std.proofs.lemmas.Bool.{false≢true}
 use Rattle.ft_io.specs.declared.Addr.{Addr}
 use Rattle.seq_arith.specs.Arrival.{int_eq}
+use Rattle.seq_arith.specs.Congestion.{initial_congestion}
 use Rattle.seq_arith.specs.Packet.{Segment, has_syn, has_rst, has_ack}
 use Rattle.seq_arith.proofs.Coming.{nothing_behind}
+use Rattle.seq_arith.proofs.Congested.{opens}
 use Rattle.ft_model.specs.News.{News}
 use Rattle.ft_model.specs.News.News.{Comes, Logged, Ticks, Begins}
 use Rattle.tcp_endpoint.specs.declared.states.StateName.{StateName}
 use Rattle.tcp_endpoint.specs.declared.states.StateName.TheVariants.{Closed, Listen, SynSent, SynReceived, Established, FinWait1, FinWait2, CloseWait, Closing, LastAck, TimeWait}
 use Rattle.tcp_endpoint.specs.States.{after_close, is_closed, is_time_wait, has_begun}
 use Rattle.tcp_endpoint.specs.Receiving.{Receiving, receiving_up_to, read_out}
-use Rattle.tcp_endpoint.specs.Sending.{Sending, sending_from, bytes_end, expires, ticked, timed}
+use Rattle.tcp_endpoint.specs.Sending.{Sending, sending_from, bytes_end, congestion_expired, expires, ticked, timed}
 use Rattle.tcp_endpoint.specs.Tcb.{Tcb, kept_limit, listening, connecting}
 use Rattle.tcp_endpoint.specs.Arrival.{ack_at, received, received_in, in_syn_sent, answered, refusing, killed}
 use Rattle.tcp_endpoint.specs.Leaving.{head_at, opening_segment, again_segment, answer_out, again_out, probe_out, text_out, texts, fin_out, full_out, is_owed, leaving, announced, with_turn_ended, with_fin_out, with_probe, with_text_sent, after_full, is_timed, flushed}
@@ -49,12 +51,22 @@ retimed iss interval rest s some u = record {
   interval = some;
 }
 
+-- no unit of the stream is in flight, so none is lost
+none_lost : (iss : ℕ) (s : Sending) → Unanswered iss s → congestion_expired s ≡ initial_congestion 536
+none_lost iss s u = ap congestion_expired u.same
+
 ticked_unanswered : (iss : ℕ) (s : Sending) → Unanswered iss s → Unanswered iss (ticked s)
 ticked_unanswered iss s u =
-    let twice : 1 ≤ min 64 (2 * s.interval) = omega (arith, u.interval) in
+    let longer : ℕ = min 64 (2 * s.interval) in
+    let twice : 1 ≤ longer = omega (arith, u.interval) in
     holds_if (λ (t : Sending). Unanswered iss t) (expires s)
-    (record s { interval = min 64 (2 * s.interval); rest = min 64 (2 * s.interval) }) (record s { rest = s.rest - 1 })
-    (λ h. retimed iss (min 64 (2 * s.interval)) (min 64 (2 * s.interval)) s twice u) (λ h. retimed iss s.interval (s.rest - 1) s u.interval u)
+    (record s { congestion = congestion_expired s; interval = longer; rest = longer }) (record s { rest = s.rest - 1 })
+    (λ h. record {
+      same = (λ i. record (u.same i) { congestion = none_lost iss s u i; interval = longer; rest = longer });
+      written = u.written;
+      interval = twice;
+    })
+    (λ h. retimed iss s.interval (s.rest - 1) s u.interval u)
 
 timed_unanswered : (iss : ℕ) (s : Sending) → Unanswered iss s → Unanswered iss (timed true s)
 timed_unanswered iss s u =
@@ -345,6 +357,7 @@ unanswered_bounds iss limit interval rest held small written = record {
   wl2 = omega arith;
   edge = omega arith;
   reach = omega arith;
+  congestion = opens 536 (omega arith);
 }
 
 bounded_connecting : (iss limit : ℕ) (e : Tcb) → limit ≤ 2 ^ 24 → IsConnecting iss limit e → IsBounded e

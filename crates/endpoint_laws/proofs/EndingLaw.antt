@@ -4,6 +4,7 @@ use Rattle.std.specs.Prelude.{ℤ, pos, ◌==◌, ◌&&◌, ◌||◌, nat_abs, n
 use Rattle.std.proofs.lemmas.Int.{ints}
 use Rattle.std.proofs.lemmas.Bool.{false≢true}
 use Rattle.seq_arith.specs.Arrival.{int_eq, is_acceptable, is_at_right_edge, is_new_ack}
+use Rattle.seq_arith.specs.Congestion.{Congestion}
 use Rattle.seq_arith.specs.Packet.{Segment, has_fin, has_syn, has_rst, has_ack}
 use Rattle.seq_arith.specs.Offset.{one_if, length_of}
 use Rattle.ft_model.specs.Opening.{is_syn}
@@ -14,9 +15,9 @@ use Rattle.tcp_endpoint.specs.declared.states.StateName.{StateName}
 use Rattle.tcp_endpoint.specs.declared.states.StateName.TheVariants.{Closed, Listen, SynSent, SynReceived, Established, FinWait1, FinWait2, CloseWait, Closing, LastAck, TimeWait}
 use Rattle.tcp_endpoint.specs.States.{after_syn_acked, after_close, after_fin, after_fin_acked, is_time_wait, has_begun}
 use Rattle.tcp_endpoint.specs.Receiving.{Receiving, next, taken, receive_edge, window, with_came, with_segment}
-use Rattle.tcp_endpoint.specs.Sending.{Sending, with_syn_acked, acknowledged, fin_acked, sendable, sends_fin, timed, expires, with_sent, with_fin_sent}
+use Rattle.tcp_endpoint.specs.Sending.{Sending, with_syn_acked, acknowledged, fin_acked, congestion_expired, send_edge, sendable, sends_fin, timed, expires, with_sent, with_fin_sent}
 use Rattle.tcp_endpoint.specs.Tcb.{Tcb}
-use Rattle.tcp_endpoint.specs.Arrival.{first, ack_at, owing_if, killed, entering, refusing, begun, with_text_and_fin, with_fin_acked, with_first_ack, with_ack, check_ack, check_syn, check_rst, waiting_again, check_place, in_others, received}
+use Rattle.tcp_endpoint.specs.Arrival.{first, ack_at, owing_if, killed, entering, refusing, begun, with_text_and_fin, with_fin_acked, with_first_ack, with_ack_used, with_ack, check_ack, check_syn, check_rst, waiting_again, check_place, in_others, received}
 use Rattle.tcp_endpoint.specs.Arrival as check
 use Rattle.tcp_endpoint.specs.Leaving.{probes_text, probes_fin, with_probe, with_text_sent, with_fin_out, after_full, announced, with_turn_ended, flushed, answer_segments}
 use Rattle.tcp_endpoint.specs.Turning.{after_tick, timer_ticked, waited}
@@ -26,6 +27,7 @@ use Rattle.endpoint_laws.specs.Ending.{IsNamed, IsNamedRightly, resets, is_over}
 use Rattle.endpoint_laws.specs.Listening.{IsListening}
 use Rattle.endpoint_laws.proofs.TakenLaw.{begun_is, goes_on}
 use Rattle.endpoint_laws.proofs.Listening.{begun_by, closed_by_calls}
+use Rattle.endpoint_laws.proofs.SendingLaw.{answered_at, used_with, used_is}
 use Rattle.endpoint_laws.proofs.TurnLaw.{after_steps}
 use Rattle.endpoint_laws.proofs.AnswersAlone.{closed_sends}
 use Rattle.seq_arith.proofs.Coming.{fin_stays}
@@ -211,12 +213,11 @@ stays_acked : (f : Bool) (una sent : ℕ) (ack : ℤ) → (f && una == sent) ≡
 stays_acked true una sent ack h = grind (arith, ints)
 stays_acked false una sent ack h = absurd (false≢true h)
 
-acked_follows : (e : Tcb) (p : Segment) → FollowsAt e
-    → FollowsAt (with_fin_acked (record e { sending = acknowledged e.sending p.head.seq (ack_at e p) p.head.window }))
+acked_follows : (e : Tcb) (p : Segment) (c : Congestion) (again : Bool) → FollowsAt e → FollowsAt (with_fin_acked (used_with e p c again))
 unfolding with_fin_acked acknowledged
-acked_follows e p h =
+acked_follows e p c again h =
     let s : Sending = e.sending in
-    let m : Tcb = record e { sending = acknowledged s p.head.seq (ack_at e p) p.head.window } in
+    let m : Tcb = used_with e p c again in
     let order : m.sending.una ≤ s.sent = new_within s.una s.sent (ack_at e p) h.order in
     let stays : fin_acked s ≡ true → fin_acked m.sending ≡ true = stays_acked s.fin_sent s.una s.sent (ack_at e p) in
     holds_if (λ (t : Tcb). FollowsAt t) (fin_acked m.sending) (entering (after_fin_acked e.name) m) m
@@ -233,19 +234,21 @@ acked_follows e p h =
       unsent = h.unsent;
     })
 
-acked_syn_acked : (e : Tcb) (p : Segment)
-    → (with_fin_acked (record e { sending = acknowledged e.sending p.head.seq (ack_at e p) p.head.window })).sending.syn_acked ≡ e.sending.syn_acked
+acked_syn_acked : (e : Tcb) (p : Segment) (c : Congestion) (again : Bool) → (with_fin_acked (used_with e p c again)).sending.syn_acked ≡ e.sending.syn_acked
 unfolding with_fin_acked acknowledged
-acked_syn_acked e p =
-    let m : Tcb = record e { sending = acknowledged e.sending p.head.seq (ack_at e p) p.head.window } in
+acked_syn_acked e p c again =
+    let m : Tcb = used_with e p c again in
     holds_if (λ (t : Tcb). t.sending.syn_acked ≡ e.sending.syn_acked) (fin_acked m.sending) (entering (after_fin_acked e.name) m) m (λ h. refl) (λ h. refl)
 
 later_follows : (e : Tcb) (p : Segment) → e.sending.syn_acked ≡ true → FollowsAt e → FollowsAt (with_ack e p)
 unfolding with_ack
 later_follows e p is h =
-    let m : Tcb = with_fin_acked (record e { sending = acknowledged e.sending p.head.seq (ack_at e p) p.head.window }) in
+    let m : Tcb = with_fin_acked (with_ack_used e p) in
+    let used : m ≡ with_fin_acked (used_with e p (answered_at e p).congestion (with_ack_used e p).again) = ap with_fin_acked (used_is e p) in
     holds_if (λ (t : Tcb). FollowsAt t) (is_ahead e.sending.sent (ack_at e p)) (owing_if true e) (with_text_and_fin m p)
-    (λ ahead. h) (λ near. text_follows m p (acked_syn_acked e p ∙ is) (acked_follows e p h))
+    (λ ahead. h)
+    (λ near. text_follows m p (ap (λ (t : Tcb). t.sending.syn_acked) used ∙ acked_syn_acked e p _ _ ∙ is)
+    (subst (λ (t : Tcb). FollowsAt t) (sym used) (acked_follows e p _ _ h)))
 
 -- the acknowledgement of the SYN
 first_follows : (e : Tcb) (p : Segment) → e.sending.syn_acked ≡ false → FollowsAt e → FollowsAt (with_first_ack e p)
@@ -307,7 +310,7 @@ tick_follows e h =
     let placed = placed_waited e.name s.syn_acked s.closed e.receiving.fin (fin_acked s) (nat_lt e.wait 2) h.placed in
     let name : StateName = if is_time_wait e.name && nat_lt e.wait 2 then Closed else e.name in
     holds_if (λ (q : Sending). Follows name e.receiving.fin q) (expires s)
-    (record s { interval = min 64 (2 * s.interval); rest = min 64 (2 * s.interval) }) (record s { rest = s.rest - 1 })
+    (record s { congestion = congestion_expired s; interval = min 64 (2 * s.interval); rest = min 64 (2 * s.interval) }) (record s { rest = s.rest - 1 })
     (λ k. record { placed = placed; ends = h.ends; order = h.order; unsent = h.unsent })
     (λ k. record { placed = placed; ends = h.ends; order = h.order; unsent = h.unsent })
 
@@ -383,12 +386,13 @@ steps_follow name fin begun pt pf s unsent ends h =
     (λ k. sent_follows name fin s 1 (λ f. absurd (false≢true (sym (unsent k) ∙ f))) h)
     (λ k. holds_if P pf (with_fin_sent s) s (λ q. fin_follows name fin s (ends q).0 (ends q).1 (ends q).2 h) (λ q. h)) in
     let texted_follows : Follows name fin texted =
-    sent_follows name fin probed n (none_behind begun probed.syn_acked probed.fin_sent (min (probed.una + length probed.held) probed.edge - probed.sent)) probed_follows in
+    sent_follows name fin probed n
+    (none_behind begun probed.syn_acked probed.fin_sent (min (probed.una + length probed.held) (send_edge probed) - probed.sent)) probed_follows in
     let o : Bool = texted.syn_acked in
     let c : Bool = texted.closed in
     let f : Bool = not texted.fin_sent in
     let all : Bool = texted.sent == texted.una + length texted.held in
-    let room : Bool = nat_lt texted.sent texted.edge in
+    let room : Bool = nat_lt texted.sent (send_edge texted) in
     holds_if P (begun && sends_fin texted) (with_fin_sent texted) texted
     (λ k.
     let sends : (o && c && f) ≡ true = left_true (o && c && f) all (left_true (o && c && f && all) room (right_true begun (sends_fin texted) k)) in
@@ -522,9 +526,9 @@ acked_resets e =
     holds_if (λ (t : Tcb). t.reset ≡ e.reset) (fin_acked e.sending) (entering (after_fin_acked e.name) e) e (λ h. refl) (λ h. refl)
 
 later_resets : (e : Tcb) (p : Segment) → (with_ack e p).reset ≡ e.reset
-unfolding with_ack
+unfolding with_ack with_ack_used
 later_resets e p =
-    let m : Tcb = record e { sending = acknowledged e.sending p.head.seq (ack_at e p) p.head.window } in
+    let m : Tcb = with_ack_used e p in
     holds_if (λ (t : Tcb). t.reset ≡ e.reset) (is_ahead e.sending.sent (ack_at e p)) (owing_if true e) (with_text_and_fin (with_fin_acked m) p)
     (λ h. refl) (λ h. text_resets (with_fin_acked m) p ∙ acked_resets m)
 

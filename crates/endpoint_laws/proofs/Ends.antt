@@ -18,7 +18,7 @@ use Rattle.ft_model.specs.Timer as timer
 use Rattle.tcp_endpoint.specs.declared.states.StateName.{StateName}
 use Rattle.tcp_endpoint.specs.declared.states.StateName.TheVariants.{Closed, Listen, SynSent, SynReceived, Established, FinWait1, FinWait2, CloseWait, Closing, LastAck, TimeWait}
 use Rattle.tcp_endpoint.specs.States.{has_begun}
-use Rattle.tcp_endpoint.specs.Sending.{target, fin_acked}
+use Rattle.tcp_endpoint.specs.Sending.{target, send_edge, fin_acked}
 use Rattle.tcp_endpoint.specs.Tcb.{Tcb}
 use Rattle.tcp_endpoint.specs.Leaving.{answer_segments, answer_out}
 use Rattle.endpoint_laws.specs.Laws.{ProbesRightly}
@@ -148,8 +148,9 @@ ends_law service news calls before after e begun between named stands usual may 
       receives = receives_of service news before after m u came.receives a laws user;
       sends = s;
       sent = laws.sent
-          ∙ (λ i. max ((stands.sent ∙ sym (a.sends.sent ∙ came.sent)) i) (min (point.target service after) (s.edge i)) + one_if ((probe ∙ none) i))
+          ∙ (λ i. max ((stands.sent ∙ sym (a.sends.sent ∙ came.sent)) i) (min (point.target service after) (min (s.edge i) (s.una i + (s.congestion i).cwnd)))
+          + one_if ((probe ∙ none) i))
           ∙ ap (λ n. n + 0) (sent_at service after u bounds last user)
-          ∙ (λ i. max u.sending.sent (min (full i) u.sending.edge) + 0) ∙ max_itself u.sending.sent u.sending.edge;
+          ∙ (λ i. max u.sending.sent (min (full i) (send_edge u.sending)) + 0) ∙ max_itself u.sending.sent (send_edge u.sending);
       silent = closed_sends u x.name_is ∙ ap answer_segments answer;
     }

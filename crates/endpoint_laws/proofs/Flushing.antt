@@ -3,6 +3,7 @@ use Rattle.std.specs.Prelude.{◌≡◌, ◌-◌, ◌≤◌, Bool, true, ◌&&�
 use Rattle.server_trait.specs.Service.{Machine}
 use Rattle.ft_model.specs.Point.{Point}
 use Rattle.ft_model.specs.News.{News}
+use Rattle.ft_model.specs.Sending.{is_third_duplicate}
 use Rattle.ft_model.specs.Timer.{expires}
 use Rattle.tcp_endpoint.specs.States.{has_begun}
 use Rattle.tcp_endpoint.specs.Tcb.{Tcb}
@@ -25,6 +26,7 @@ pub record Flushes {State : Type 0} (service : Machine State) (news : News) (bef
   pub sends : SendsAt after u
   pub used : IsUsedAt service after u
   pub sent : before.sent ≡ u.sending.sent
-  pub again : u.again ≡ (expires news before && waits_for_ack before after)
+  pub again : u.again ≡ ((expires news before || is_third_duplicate news before) && waits_for_ack before after)
   pub probe : u.probe ≡ (expires news before && not (waits_for_ack before after))
+  pub third : is_third_duplicate news before ≡ true → waits_for_ack before after ≡ true
   pub answer : answer_out u ≡ refusals u.local news before

@@ -5,6 +5,7 @@ use Rattle.std.proofs.lemmas.Bool.{false≢true}
 use Rattle.ft_io.specs.declared.Addr.{Addr}
 use Rattle.seq_arith.specs.Packet.{Segment, has_syn, has_rst, has_ack}
 use Rattle.seq_arith.proofs.Coming.{nothing_behind}
+use Rattle.seq_arith.proofs.Congested.{opens}
 use Rattle.ft_model.specs.News.{News}
 use Rattle.ft_model.specs.News.News.{Comes, Logged, Ticks, Begins}
 use Rattle.ft_model.specs.Opening.{is_syn}
@@ -54,6 +55,7 @@ unsent_bounds iss limit held small written = record {
   wl2 = omega arith;
   edge = omega arith;
   reach = omega arith;
+  congestion = opens 536 (omega arith);
 }
 
 pub bounded_listening : (iss limit : ℕ) (e : Tcb) → limit ≤ 2 ^ 24 → IsListening iss limit e → IsBounded e

@@ -52,6 +52,7 @@ after_meets_laws service news before n = record {
   edge = refl;
   wl1 = refl;
   wl2 = refl;
+  congestion = refl;
   sent = refl;
   interval = refl;
   rest = refl;

@@ -18,7 +18,7 @@ use Rattle.tcp_endpoint.specs.declared.states.StateName.{StateName}
 use Rattle.tcp_endpoint.specs.declared.states.StateName.TheVariants.{Closed, Listen, SynSent, SynReceived, Established, FinWait1, FinWait2, CloseWait, Closing, LastAck, TimeWait}
 use Rattle.tcp_endpoint.specs.States.{is_closed, is_syn_sent, has_begun}
 use Rattle.tcp_endpoint.specs.Receiving.{Receiving, next, window}
-use Rattle.tcp_endpoint.specs.Sending.{Sending, is_unacknowledged, sendable, sends_fin, resent_length, with_sent, with_fin_sent}
+use Rattle.tcp_endpoint.specs.Sending.{Sending, is_unacknowledged, send_edge, sendable, sends_fin, resent_length, with_sent, with_fin_sent}
 use Rattle.tcp_endpoint.specs.Tcb.{Tcb}
 use Rattle.tcp_endpoint.specs.Leaving.{head_at, opening_segment, text_at, fin_at, texts, answer_out, again_segment, again_out, probes, probes_text, probes_fin, probe_out, with_probe, new_length, text_out, with_text_sent, fin_out, with_fin_out, full_out, after_full, bare_segment}
 use Rattle.endpoint_laws.specs.Standing.{ReceivesAt, HasWrittenAll, HasFilled, refusals}
@@ -93,16 +93,18 @@ how_written service p s last (inr w) =
       written = omega (arith, w.written, bytes_of s.fin_sent (s.sent - 1) (s.una + length s.held) unsent);
     })
 
+-- up to the right edge, or less far
 numbered : {State : Type 0} {service : Machine State} {news : News} {before after : Point} {u : Tcb} → Flushes service news before after u
-    → Numbered u.sending.syn_acked u.sending.closed u.sending.fin_sent (answered_run service after).closed u.sending.una (length u.sending.held) u.sending.edge u.sending.sent
-    (released service after)
-numbered {service = service} {after = after} {u = u} f = record {
+    → (edge : ℕ) → edge ≤ u.sending.edge
+    → Numbered u.sending.syn_acked u.sending.closed u.sending.fin_sent (answered_run service after).closed u.sending.una (length u.sending.held) edge
+    u.sending.sent (released service after)
+numbered {service = service} {after = after} {u = u} f edge within = record {
   order = f.bounds.order;
   written = how_written service after u.sending f.fin_last f.used.written;
   flight = f.bounds.flight;
   syn_unacked = f.bounds.syn_unacked;
-  shut = f.bounds.shut;
-  reach = f.bounds.reach;
+  shut = λ h. omega (arith, f.bounds.shut h);
+  reach = omega (arith, f.bounds.reach);
   closes = f.fin_last;
 }
 
@@ -368,7 +370,7 @@ again_is {service = service} {before = before} {after = after} {u = u} f waits =
     let s : Sending = u.sending in
     let all : ℕ = released service after in
     let ends : Bool = (answered_run service after).closed in
-    let n : Numbered s.syn_acked s.closed s.fin_sent ends s.una (length s.held) s.edge s.sent all = numbered f in
+    let n : Numbered s.syn_acked s.closed s.fin_sent ends s.una (length s.held) s.edge s.sent all = numbered f s.edge (omega arith) in
     let again_length : resent_length s ≡ model.resent_length service before after =
     again_bytes s.syn_acked s.closed s.fin_sent ends s.mss s.una (length s.held) s.edge s.sent all n
     ∙ (λ i. min (sym f.sends.mss i) (min (min (sym f.sent i) all - sym f.sends.una i) (max 1 (sym f.sends.edge i - sym f.sends.una i)))) in
@@ -395,8 +397,12 @@ held_by true false una len edge sent order some = omega (arith, order, some)
 held_by false f una len edge sent order some = absurd (omega (arith, some))
 
 held_on : (begun : Bool) (s : Sending) → s.una ≤ s.sent → 0 < (if begun then sendable s else 0) → s.sent - s.una + (if begun then sendable s else 0) ≤ length s.held
-held_on true s order some = held_by s.syn_acked s.fin_sent s.una (length s.held) s.edge s.sent order some
+held_on true s order some = held_by s.syn_acked s.fin_sent s.una (length s.held) (send_edge s) s.sent order some
 held_on false s order some = absurd (omega (arith, some))
+
+up_to_is : {State : Type 0} {service : Machine State} {news : News} {before after : Point} {u : Tcb} → Flushes service news before after u
+    → send_edge u.sending ≡ sender.send_edge after
+up_to_is f = λ i. min (sym f.sends.edge i) (sym f.sends.una i + (sym f.sends.congestion i).cwnd)
 
 -- what is sent for the first time, where nothing is probed
 text_out_is : {State : Type 0} {service : Machine State} {news : News} {before after : Point} {u : Tcb} → Flushes service news before after u
@@ -405,9 +411,12 @@ unfolding text_out model.new_texts sender.sent_at_once
 text_out_is {service = service} {before = before} {after = after} {u = u} f =
     let s : Sending = u.sending in
     let all : ℕ = released service after in
+    let up_to : send_edge s ≡ sender.send_edge after = up_to_is f in
     let bytes : new_length u ≡ model.new_length service before after =
-    ap (λ b. if b then sendable s else 0) f.begun ∙ new_bytes s.syn_acked s.closed s.fin_sent (answered_run service after).closed s.una (length s.held) s.edge s.sent all (numbered f)
-    ∙ (λ i. min (max (sym f.sent i) (min (all + one_if (answered_run service after).closed) (sym f.sends.edge i))) all - sym f.sent i) in
+    ap (λ b. if b then sendable s else 0) f.begun
+    ∙ new_bytes s.syn_acked s.closed s.fin_sent (answered_run service after).closed s.una (length s.held) (send_edge s) s.sent all
+    (numbered f (send_edge s) (omega arith))
+    ∙ (λ i. min (max (sym f.sent i) (min (all + one_if (answered_run service after).closed) (up_to i))) all - sym f.sent i) in
     texts_are f (new_length u) (s.sent - s.una) before.sent (new_length u) (omega (arith, f.bounds.order, f.sent)) (held_on (has_begun u.name) s f.bounds.order)
     ∙ (λ i. model.texts service u.local after (bytes i) before.sent (bytes i))
 
@@ -418,18 +427,20 @@ fin_out_is {service = service} {before = before} {after = after} {u = u} f =
     let s : Sending = u.sending in
     let all : ℕ = released service after in
     let ends : Bool = (answered_run service after).closed in
-    let n : Numbered s.syn_acked s.closed s.fin_sent ends s.una (length s.held) s.edge s.sent all = numbered f in
+    let e : ℕ = send_edge s in
+    let up_to : e ≡ sender.send_edge after = up_to_is f in
+    let n : Numbered s.syn_acked s.closed s.fin_sent ends s.una (length s.held) e s.sent all = numbered f e (omega arith) in
     let bytes : new_length u ≡ sendable s = ap (λ b. if b then sendable s else 0) f.begun in
     let fin : List Segment = model.fin_if_closed service u.local after in
-    let test : Bool = nat_lt all (max s.sent (min (all + one_if ends) s.edge)) && nat_le s.sent all in
+    let test : Bool = nat_lt all (max s.sent (min (all + one_if ends) e)) && nat_le s.sent all in
     ap (λ b. if b then fin_at (with_text_sent u) (s.sent + new_length u - s.una) ∷ [] else [])
-    ((λ i. f.begun i && sends_fin (with_sent s (bytes i))) ∙ first_fin s.syn_acked s.closed s.fin_sent ends s.una (length s.held) s.edge s.sent all n)
+    ((λ i. f.begun i && sends_fin (with_sent s (bytes i))) ∙ first_fin s.syn_acked s.closed s.fin_sent ends s.una (length s.held) e s.sent all n)
     ∙ if_when test (fin_at (with_text_sent u) (s.sent + new_length u - s.una) ∷ []) fin [] []
     (λ h. (λ i. fin_is f (s.sent + new_length u - s.una)
-    (ap (λ k. s.una + (s.sent + k - s.una)) bytes ∙ sym (fin_place s.syn_acked s.closed s.fin_sent ends s.una (length s.held) s.edge s.sent all n h)) i ∷ [])
-    ∙ closed_fin service u.local after (first_is_closed ends s.edge s.sent all h))
+    (ap (λ k. s.una + (s.sent + k - s.una)) bytes ∙ sym (fin_place s.syn_acked s.closed s.fin_sent ends s.una (length s.held) e s.sent all n h)) i ∷ [])
+    ∙ closed_fin service u.local after (first_is_closed ends e s.sent all h))
     (λ h. refl)
-    ∙ (λ i. if nat_lt all (max (sym f.sent i) (min (all + one_if ends) (sym f.sends.edge i))) && nat_le (sym f.sent i) all then fin else [])
+    ∙ (λ i. if nat_lt all (max (sym f.sent i) (min (all + one_if ends) (up_to i))) && nat_le (sym f.sent i) all then fin else [])
 
 -- what the endpoint's timer makes it send
 no_again : (u : Tcb) → u.again ≡ false → again_out u ≡ []
@@ -476,7 +487,8 @@ pub no_text_out : (v : Tcb) → v.sending.edge ≤ v.sending.sent → text_out v
 unfolding text_out texts
 no_text_out v h =
     let none : new_length v ≡ 0 =
-    no_room (has_begun v.name) v.sending.syn_acked v.sending.fin_sent v.sending.una (length v.sending.held) v.sending.edge v.sending.sent h in
+    no_room (has_begun v.name) v.sending.syn_acked v.sending.fin_sent v.sending.una (length v.sending.held) (send_edge v.sending) v.sending.sent
+    (omega (arith, h)) in
     λ i. texts (none i) v (v.sending.sent - v.sending.una) (none i)
 
 pub no_fin_out : (v : Tcb) → v.sending.edge ≤ v.sending.sent → fin_out (with_text_sent v) ≡ []
@@ -484,7 +496,8 @@ unfolding fin_out with_text_sent
 no_fin_out v h =
     let s : Sending = v.sending in
     ap (λ b. if b then fin_at (with_text_sent v) (s.sent + new_length v - s.una) ∷ [] else [])
-    (no_room_fin (has_begun v.name) (s.syn_acked && s.closed && not s.fin_sent && (s.sent + new_length v == s.una + length s.held)) s.sent (new_length v) s.edge h)
+    (no_room_fin (has_begun v.name) (s.syn_acked && s.closed && not s.fin_sent && (s.sent + new_length v == s.una + length s.held)) s.sent (new_length v)
+    (send_edge s) (omega (arith, h)))
 
 -- .. by the laws too
 no_new_bytes : (all goal edge sent : ℕ) → edge ≤ sent → min (max sent (min goal edge)) all - sent ≡ 0
@@ -497,14 +510,16 @@ no_new_texts : {State : Type 0} (service : Machine State) (server : Addr) (befor
     → model.new_texts service server before after ≡ []
 unfolding model.new_texts sender.sent_at_once
 no_new_texts service server before after h =
-    let none : model.new_length service before after ≡ 0 = no_new_bytes (released service after) (target service after) after.edge before.sent h in
+    let none : model.new_length service before after ≡ 0 =
+    no_new_bytes (released service after) (target service after) (sender.send_edge after) before.sent (omega (arith, h)) in
     λ i. model.texts service server after (none i) before.sent (none i)
 
 no_new_fin : {State : Type 0} (service : Machine State) (server : Addr) (before after : Point) → after.edge ≤ before.sent
     → model.new_fin service server before after ≡ []
 unfolding model.new_fin sender.sent_at_once
 no_new_fin service server before after h =
-    ap (λ b. if b then model.fin_if_closed service server after else []) (no_first_fin (released service after) (target service after) after.edge before.sent h)
+    ap (λ b. if b then model.fin_if_closed service server after else [])
+    (no_first_fin (released service after) (target service after) (sender.send_edge after) before.sent (omega (arith, h)))
 
 -- a step of a flush, by what it keeps
 kept_if : (P : Sending → Type 0) (b : Bool) (x y : Sending) → P x → P y → P (if b then x else y)
@@ -584,14 +599,14 @@ probed_is {service = service} {before = before} {after = after} {u = u} f false 
     ∙ closed_fin service u.local after (probe_closed service after s none closes f.used.written)
     ∙ ap (λ b. if b then model.text_at service u.local after before.sent 1 ∷ [] else model.fin_if_closed service u.local after) (sym test)
 
--- what the laws want of the timer
-resent_by : {State : Type 0} (service : Machine State) (server : Addr) (news : News) (before after : Point) (x w : Bool)
-    → expires news before ≡ x → waits_for_ack before after ≡ w
+-- what the laws want of the timer, and of the third duplicate acknowledgement
+resent_by : {State : Type 0} (service : Machine State) (server : Addr) (news : News) (before after : Point) (x t w : Bool)
+    → expires news before ≡ x → sender.is_third_duplicate news before ≡ t → waits_for_ack before after ≡ w
     → model.resent service server news before after
-    ≡ (if x then (if w then model.first_unacknowledged service server before after else model.probe service server before after) else [])
+    ≡ (if x || t then (if w then model.first_unacknowledged service server before after else model.probe service server before after) else [])
 unfolding model.resent
-resent_by service server news before after x w expiry wait = λ i.
-    if expiry i then (if wait i then model.first_unacknowledged service server before after else model.probe service server before after) else []
+resent_by service server news before after x t w expiry third wait = λ i.
+    if expiry i || third i then (if wait i then model.first_unacknowledged service server before after else model.probe service server before after) else []
 
 -- the parts of what leaves, in order
 pub full_out_is : (a b c d e a' r d' e' : List Segment) → a ≡ a' → b ++ c ≡ r → d ≡ d' → e ≡ e' → a ++ b ++ c ++ d ++ e ≡ a' ++ (r ++ (d' ++ e'))
@@ -599,38 +614,51 @@ full_out_is a b c d e a' r d' e' p q s t =
     let apart : a ++ b ++ c ++ d ++ e ≡ a ++ ((b ++ c) ++ (d ++ e)) = simp append_assoc in
     apart ∙ (λ i. p i ++ (q i ++ (s i ++ t i)))
 
+again_now : {State : Type 0} {service : Machine State} {news : News} {before after : Point} {u : Tcb} → Flushes service news before after u
+    → (x t w : Bool) → expires news before ≡ x → sender.is_third_duplicate news before ≡ t → waits_for_ack before after ≡ w → (x || t) ≡ true → w ≡ true
+    → again_out u ≡ model.resent service u.local news before after
+again_now {service = service} {news = news} {before = before} {after = after} {u = u} f x t w expiry third wait due waits =
+    once_again u f.begun (f.again ∙ (λ i. (expiry i || third i) && wait i) ∙ (λ i. due i && waits i)) (waits_here f (wait ∙ waits)) ∙ again_is f (wait ∙ waits)
+    ∙ (λ i. if sym due i
+    then (if sym waits i then model.first_unacknowledged service u.local before after else model.probe service u.local before after)
+    else [])
+    ∙ sym (resent_by service u.local news before after x t w expiry third wait)
+
 -- a turn without a probe
 again_by : {State : Type 0} {service : Machine State} {news : News} {before after : Point} {u : Tcb} → Flushes service news before after u
-    → (x w : Bool) → expires news before ≡ x → waits_for_ack before after ≡ w → (x && not w) ≡ false
+    → (x t w : Bool) → expires news before ≡ x → sender.is_third_duplicate news before ≡ t → waits_for_ack before after ≡ w → (x && not w) ≡ false
     → again_out u ≡ model.resent service u.local news before after
-again_by {service = service} {news = news} {before = before} {after = after} {u = u} f false w expiry wait unprobed =
-    no_again u (f.again ∙ ap (λ b. b && waits_for_ack before after) expiry) ∙ sym (resent_by service u.local news before after false w expiry wait)
-again_by {service = service} {news = news} {before = before} {after = after} {u = u} f true true expiry wait unprobed =
-    once_again u f.begun (f.again ∙ (λ i. expiry i && wait i)) (waits_here f wait) ∙ again_is f wait ∙ sym (resent_by service u.local news before after true true expiry wait)
-again_by f true false expiry wait unprobed = absurd (false≢true (sym unprobed))
+again_by {service = service} {news = news} {before = before} {after = after} {u = u} f false false w expiry third wait unprobed =
+    no_again u (f.again ∙ (λ i. (expiry i || third i) && waits_for_ack before after))
+    ∙ sym (resent_by service u.local news before after false false w expiry third wait)
+again_by {service = service} {news = news} {before = before} {after = after} {u = u} f false true w expiry third wait unprobed =
+    again_now f false true w expiry third wait refl (sym wait ∙ f.third third)
+again_by f true t true expiry third wait unprobed = again_now f true t true expiry third wait refl refl
+again_by f true t false expiry third wait unprobed = absurd (false≢true (sym unprobed))
 
 unprobed_is : {State : Type 0} {service : Machine State} {news : News} {before after : Point} {u : Tcb} → Flushes service news before after u
-    → (x w : Bool) → expires news before ≡ x → waits_for_ack before after ≡ w → (x && not w) ≡ false
+    → (x t w : Bool) → expires news before ≡ x → sender.is_third_duplicate news before ≡ t → waits_for_ack before after ≡ w → (x && not w) ≡ false
     → full_out u ≡ refusals u.local news before ++ (model.resent service u.local news before after ++ (model.new_texts service u.local before after ++ model.new_fin service u.local before after))
 unfolding full_out
-unprobed_is {service = service} {news = news} {before = before} {after = after} {u = u} f x w expiry wait unprobed_here =
+unprobed_is {service = service} {news = news} {before = before} {after = after} {u = u} f x t w expiry third wait unprobed_here =
     let probe : u.probe ≡ false = f.probe ∙ (λ i. expiry i && not (wait i)) ∙ unprobed_here in
     full_out_is (answer_out u) (again_out u) (probe_out u) (text_out (with_probe u)) (fin_out (with_text_sent (with_probe u)))
     (refusals u.local news before) (model.resent service u.local news before after) (model.new_texts service u.local before after) (model.new_fin service u.local before after)
     f.answer
-    (ap (λ l. again_out u ++ l) (probe_by u false false (no_text_probe u probe) (no_fin_probe u probe)) ∙ append-nil (again_out u) ∙ again_by f x w expiry wait unprobed_here)
+    (ap (λ l. again_out u ++ l) (probe_by u false false (no_text_probe u probe) (no_fin_probe u probe)) ∙ append-nil (again_out u)
+    ∙ again_by f x t w expiry third wait unprobed_here)
     (ap text_out (unprobed u probe) ∙ text_out_is f)
     (ap (λ v. fin_out (with_text_sent v)) (unprobed u probe) ∙ fin_out_is f)
 
 -- .. and one with a probe, in which nothing is sent for the first time
 full_by : {State : Type 0} {service : Machine State} {news : News} {before after : Point} {u : Tcb} → Flushes service news before after u
-    → (x w : Bool) → expires news before ≡ x → waits_for_ack before after ≡ w
+    → (x t w : Bool) → expires news before ≡ x → sender.is_third_duplicate news before ≡ t → waits_for_ack before after ≡ w
     → full_out u ≡ refusals u.local news before ++ (model.resent service u.local news before after ++ (model.new_texts service u.local before after ++ model.new_fin service u.local before after))
 unfolding full_out
-full_by f false w expiry wait = unprobed_is f false w expiry wait refl
-full_by f true true expiry wait = unprobed_is f true true expiry wait refl
-full_by {service = service} {news = news} {before = before} {after = after} {u = u} f true false expiry wait =
-    let again : u.again ≡ false = f.again ∙ (λ i. expiry i && wait i) in
+full_by f false t w expiry third wait = unprobed_is f false t w expiry third wait refl
+full_by f true t true expiry third wait = unprobed_is f true t true expiry third wait refl
+full_by {service = service} {news = news} {before = before} {after = after} {u = u} f true t false expiry third wait =
+    let again : u.again ≡ false = f.again ∙ (λ i. (expiry i || third i) && wait i) in
     let probe : u.probe ≡ true = f.probe ∙ (λ i. expiry i && not (wait i)) in
     let shut : u.sending.edge ≤ u.sending.sent = f.probes.shut probe in
     let still : (with_probe u).sending.edge ≤ (with_probe u).sending.sent = shut_still u shut in
@@ -639,14 +667,14 @@ full_by {service = service} {news = news} {before = before} {after = after} {u =
     (refusals u.local news before) (model.resent service u.local news before after) (model.new_texts service u.local before after) (model.new_fin service u.local before after)
     f.answer
     ((λ i. no_again u again i ++ probed_is f (nat_lt (u.sending.sent - u.sending.una) (length u.sending.held)) probe refl i)
-    ∙ sym (resent_by service u.local news before after true false expiry wait))
+    ∙ sym (resent_by service u.local news before after true t false expiry third wait))
     (no_text_out (with_probe u) still ∙ sym (no_new_texts service u.local before after shut_there))
     (no_fin_out (with_probe u) still ∙ sym (no_new_fin service u.local before after shut_there))
 
 -- all that leaves but for a bare segment
 pub full_is : {State : Type 0} (service : Machine State) (news : News) (before after : Point) (u : Tcb) → Flushes service news before after u
     → full_out u ≡ refusals u.local news before ++ (model.resent service u.local news before after ++ (model.new_texts service u.local before after ++ model.new_fin service u.local before after))
-full_is service news before after u f = full_by f (expires news before) (waits_for_ack before after) refl refl
+full_is service news before after u f = full_by f (expires news before) (sender.is_third_duplicate news before) (waits_for_ack before after) refl refl refl
 
 -- a bare segment stands at the end of what is sent
 pub bare_is : {State : Type 0} (service : Machine State) (news : News) (before after : Point) (u : Tcb) → Flushes service news before after u

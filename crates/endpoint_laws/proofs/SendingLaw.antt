@@ -1,23 +1,26 @@
--- The checks on a segment, one by one, acknowledge what the law Sending says.
+-- The checks on a segment, one by one, acknowledge what the law Sending says, and send again what it says. A tick loses what it says.
 use Rattle.std.proofs.Common.{◌≡◌, ℕ, ◌<◌, ◌≤◌, ◌+◌, ◌-◌, ◌^◌, Bool, true, false, not, List, length, length-drop, drop, max, min, refl, sym, ap, subst, arith, ◌∙◌}
-use Rattle.std.specs.Prelude.{ℤ, pos, ◌≤ℤ◌, ◌==◌, ◌&&◌, ◌||◌, nat_abs, nat_le, int_lt, int_le, if◌then◌else◌}
+use Rattle.std.specs.Prelude.{ℤ, pos, ◌≤ℤ◌, ◌==◌, ◌&&◌, ◌||◌, nat_abs, nat_lt, nat_le, int_lt, int_le, if◌then◌else◌}
 use Rattle.std.proofs.lemmas.Int.{ints}
 use Rattle.std.proofs.lemmas.Bool.{false≢true}
 use Rattle.seq_arith.specs.Number.{offset_of, precedes}
 use Rattle.seq_arith.specs.Arrival.{int_eq, is_new_ack, una_after, updates_window}
 use Rattle.seq_arith.specs.Packet.{Segment, has_fin, has_syn, has_rst, has_ack}
-use Rattle.seq_arith.specs.Offset.{length_of}
+use Rattle.seq_arith.specs.Offset.{text_of, fin_of, length_of}
+use Rattle.seq_arith.specs.Congestion.{Congestion, with_new_data, is_third, with_duplicate, with_expiry}
 use Rattle.tcp_buffers.specs.Near.{IsNearFirst, is_ahead}
 use Rattle.tcp_buffers.proofs.NumbersTell.{between_is, same_is}
 use Rattle.tcp_endpoint.specs.States.{after_syn_acked, after_fin, after_fin_acked, has_begun}
 use Rattle.tcp_endpoint.specs.Receiving.{Receiving, taken, next, announced_edge}
-use Rattle.tcp_endpoint.specs.Sending.{Sending, with_syn_acked, acknowledged, fin_acked, moves_edge}
+use Rattle.tcp_endpoint.specs.Sending.{Sending, with_syn_acked, acknowledged, duplicated, answered_by, fin_acked, moves_edge, expires}
+use Rattle.tcp_endpoint.specs.Sending as sender
 use Rattle.tcp_endpoint.specs.Tcb.{Tcb}
-use Rattle.tcp_endpoint.specs.Arrival.{first, ack_at, owing_if, entering, with_text_and_fin, with_fin_acked, with_first_ack, with_ack, waiting_again, in_others, received, refusing}
-use Rattle.endpoint_laws.specs.Laws.{uses, counts, acknowledges, uses_window, IsSentBy, IsBounded, IsUsual}
+use Rattle.tcp_endpoint.specs.Arrival.{first, ack_at, owing_if, entering, with_text_and_fin, with_fin_acked, with_first_ack, is_bare, with_ack_used, with_ack, waiting_again, in_others, received, refusing}
+use Rattle.tcp_endpoint.specs.Turning.{after_tick, timer_ticked, waited}
+use Rattle.endpoint_laws.specs.Laws.{uses, counts, acknowledges, uses_window, is_duplicate, is_third_duplicate, congestion_by, congestion_ticked, IsSentBy, IsBounded, IsUsual}
 use Rattle.tcp_endpoint.proofs.Places.{near_of_usable}
-use Rattle.endpoint_laws.proofs.TakenLaw.{part_of_if, same_if, if_when, by_checks, begun_is, Aside, at_ack, goes_on, others_part, segment_taken, sent_bool, chosen_is, dull, dull_more, dull_most}
-use Rattle.ft_io.proofs.Booleans.{or_false}
+use Rattle.endpoint_laws.proofs.TakenLaw.{part_of_if, same_if, if_when, by_checks, begun_is, Aside, at_ack, goes_on, others_part, segment_taken, sent_bool, few_sent, counts_plain, text_whole, fin_whole, chosen_is, dull, dull_more, dull_most}
+use Rattle.ft_io.proofs.Booleans.{or_false, and_false}
 
 text_part : (e : Tcb) (p : Segment) → (with_text_and_fin e p).sending ≡ e.sending
 unfolding with_text_and_fin
@@ -31,11 +34,14 @@ unfolding with_fin_acked
 acked_part e =
     part_of_if (λ (t : Tcb). t.sending) (fin_acked e.sending) (entering (after_fin_acked e.name) e) e ∙ same_if (fin_acked e.sending) e.sending
 
-later_ack_part : (e : Tcb) (p : Segment) → is_ahead e.sending.sent (ack_at e p) ≡ false
-    → (with_ack e p).sending ≡ acknowledged e.sending p.head.seq (ack_at e p) p.head.window
-unfolding with_ack
+-- what an acknowledgement makes of the sending half, once the SYN is acknowledged
+abbrev pub answered_at : Tcb → Segment → Sending
+answered_at e p = answered_by e.sending (is_bare p) p.head.seq (ack_at e p) p.head.window
+
+later_ack_part : (e : Tcb) (p : Segment) → is_ahead e.sending.sent (ack_at e p) ≡ false → (with_ack e p).sending ≡ answered_at e p
+unfolding with_ack with_ack_used
 later_ack_part e p sent =
-    let used : Tcb = record e { sending = acknowledged e.sending p.head.seq (ack_at e p) p.head.window }
+    let used : Tcb = with_ack_used e p
     in ap (λ b. (if b then owing_if true e else with_text_and_fin (with_fin_acked used) p).sending) sent
     ∙ text_part (with_fin_acked used) p
     ∙ acked_part used
@@ -52,17 +58,10 @@ sending_aside : Aside (λ (e : Tcb). e.sending)
 unfolding waiting_again
 sending_aside = record { killed = λ e. refl; owing = λ b e. refl; waiting = λ e p. refl }
 
--- what a segment that counts makes of the sending half
-abbrev pub used_by : Tcb → Segment → Sending
-used_by e p =
-    if e.sending.syn_acked
-    then acknowledged e.sending p.head.seq (ack_at e p) p.head.window
-    else with_syn_acked e.sending p.head.seq p.head.window
-
 checks_use : (e : Tcb) (p : Segment) → IsBounded e → IsUsual e p
     → (in_others e p).sending
     ≡ by_checks (goes_on e p) (has_rst p) (has_syn p) (has_ack p) e.sending.syn_acked
-    (int_eq (ack_at e p) (pos 0)) (acknowledged e.sending p.head.seq (ack_at e p) p.head.window) (with_syn_acked e.sending p.head.seq p.head.window) e.sending
+    (int_eq (ack_at e p) (pos 0)) (answered_at e p) (with_syn_acked e.sending p.head.seq p.head.window) e.sending
 unfolding waiting_again
 checks_use e p bounded usual =
     others_part (λ (t : Tcb). t.sending) e p sending_aside ∙ if_when (goes_on e p) _ _ _ _
@@ -74,14 +73,6 @@ checks_use e p bounded usual =
     (λ h. first_ack_part (at_ack e p) p))
     (λ h. refl))))
     (λ h. refl)
-
--- the sending half after a segment, whole
-pub sending_is : (e : Tcb) (p : Segment) → has_begun e.name ≡ true → IsBounded e → IsUsual e p
-    → (received e p).sending ≡ (if counts e p then used_by e p else e.sending)
-unfolding received
-sending_is e p begun bounded usual =
-    ap (λ (t : Tcb). t.sending) (begun_is e.name e p begun) ∙ checks_use e p bounded usual
-    ∙ chosen_is e p (acknowledged e.sending p.head.seq (ack_at e p) p.head.window) (with_syn_acked e.sending p.head.seq p.head.window) e.sending bounded usual
 
 -- what counts has ACK, and acknowledges the SYN where that is the first
 pub counts_ack : (ack syn rst used syn_acked acked : Bool) → (ack && not syn && not rst && used && (syn_acked || acked)) ≡ true
@@ -171,8 +162,110 @@ window_is_used e p bounded usual is_syn_acked does_count sent =
     ∙ ap (λ b. (b && int_le (pos 0) z) && (false || is_newer e p)) (sym does_count)
     ∙ ap (λ o. (counts e p && int_le (pos 0) z) && (not o || is_newer e p)) (sym is_syn_acked)
 
+-- a duplicate, in the words of the law
+same_place : (una : ℕ) (z : ℤ) → int_eq z (pos una) ≡ (int_le (pos 0) z && nat_abs z == una)
+same_place una z = grind (arith, ints)
+
+duplicate_tests : (a l f n : Bool) → ((l && f) && (a && n)) ≡ (a && l && f && n)
+duplicate_tests true l f n = refl
+duplicate_tests false l f n = and_false (l && f)
+
+duplicate_is : (e : Tcb) (p : Segment) → counts e p ≡ true
+    → sender.is_duplicate e.sending (is_bare p) (ack_at e p) p.head.window ≡ is_duplicate e p
+unfolding sender.is_duplicate
+duplicate_is e p does_count =
+    let s : Sending = e.sending in
+    let z : ℤ = ack_at e p in
+    let plain : (has_syn p ≡ false) × (has_rst p ≡ false) =
+    counts_plain (has_ack p) (has_syn p) (has_rst p) (uses e p) (s.syn_acked || int_le (pos 0) z) does_count in
+    let reached : Bool = nat_abs z + p.head.window == s.edge in
+    ap (λ b. is_bare p && b && nat_lt s.una s.sent && reached) (same_place s.una z)
+    ∙ ap (λ b. b && nat_lt s.una s.sent && reached) (duplicate_tests (int_le (pos 0) z) (length p.payload == 0) (not (has_fin p)) (nat_abs z == s.una))
+    ∙ (λ i. sym does_count i && int_le (pos 0) z && length (sym (text_whole p plain.0 plain.1) i) == 0 && not (sym (fin_whole p plain.0 plain.1) i)
+    && nat_abs z == s.una && nat_lt s.una s.sent && reached)
+
+-- what acknowledges something new, in the words of the law, is no duplicate
+new_test : (una sent : ℕ) (z : ℤ) → z ≤ℤ pos sent → is_new_ack una sent z ≡ (int_le (pos 0) z && nat_lt una (nat_abs z))
+new_test una sent z h = grind (arith, ints)
+
+not_new : (bare late reached : Bool) (una sent : ℕ) (z : ℤ) → (bare && int_eq z (pos una) && late && reached) ≡ true → is_new_ack una sent z ≡ false
+not_new bare late reached una sent z h = grind (arith, ints)
+
+congestion_chosen : {X : Type 0} (duplicate new : Bool) (una ack : ℕ) (f : ℕ → X → X) (x y : X) → (duplicate ≡ true → new ≡ false)
+    → (if duplicate then f (if new then ack else una) (if new then x else y) else (if new then x else y))
+    ≡ (if new then x else (if duplicate then f una y else y))
+congestion_chosen true true una ack f x y never = absurd (false≢true (sym (never refl)))
+congestion_chosen true false una ack f x y never = refl
+congestion_chosen false true una ack f x y never = refl
+congestion_chosen false false una ack f x y never = refl
+
+-- a duplicate changes the congestion window, and nothing else
+duplicate_alone : (duplicate : Bool) (s : Sending)
+    → (if duplicate then duplicated s else s) ≡ record s { congestion = (if duplicate then duplicated s else s).congestion }
+duplicate_alone true s = refl
+duplicate_alone false s = refl
+
+-- the endpoint with an acknowledgement used, by its congestion window and by what is due again
+abbrev pub used_with : Tcb → Segment → Congestion → Bool → Tcb
+used_with e p congestion again = record e {
+  sending = record (acknowledged e.sending p.head.seq (ack_at e p) p.head.window) { congestion = congestion };
+  again = again;
+}
+
+pub used_is : (e : Tcb) (p : Segment) → with_ack_used e p ≡ used_with e p (answered_at e p).congestion (with_ack_used e p).again
+unfolding with_ack_used answered_by
+used_is e p =
+    let used : Sending = acknowledged e.sending p.head.seq (ack_at e p) p.head.window in
+    let again : Bool = (with_ack_used e p).again in
+    ap (λ s. record e { sending = s; again = again }) (duplicate_alone (sender.is_duplicate e.sending (is_bare p) (ack_at e p) p.head.window) used)
+
+-- .. to what the law says
+answered_congestion : (e : Tcb) (p : Segment) → IsUsual e p → counts e p ≡ true
+    → (answered_at e p).congestion ≡ congestion_by e p
+unfolding answered_by acknowledged sender.is_duplicate
+answered_congestion e p usual does_count =
+    let s : Sending = e.sending in
+    let z : ℤ = ack_at e p in
+    let sent : z ≤ℤ pos s.sent = usual.sent (counts_ack (has_ack p) (has_syn p) (has_rst p) (uses e p) s.syn_acked (int_le (pos 0) z) does_count).0 in
+    let used : Sending = acknowledged s p.head.seq z p.head.window in
+    let duplicate : Bool = sender.is_duplicate s (is_bare p) z p.head.window in
+    let grown : Congestion = with_new_data s.mss (nat_abs z - s.una) s.congestion in
+    let counted : Congestion = with_duplicate s.mss (s.sent - s.una) s.congestion in
+    let is_new : is_new_ack s.una s.sent z ≡ (acknowledges e p && nat_lt s.una (nat_abs z)) =
+    new_test s.una s.sent z sent ∙ ap (λ b. b && int_le (pos 0) z && nat_lt s.una (nat_abs z)) (sym does_count) in
+    part_of_if (λ (t : Sending). t.congestion) duplicate (duplicated used) used
+    ∙ congestion_chosen duplicate (is_new_ack s.una s.sent z) s.una (nat_abs z) (λ u c. with_duplicate s.mss (s.sent - u) c) grown s.congestion
+    (not_new (is_bare p) (nat_lt s.una s.sent) (nat_abs z + p.head.window == s.edge) s.una s.sent z)
+    ∙ (λ i. if is_new i then grown else (if duplicate_is e p does_count i then counted else s.congestion))
+
+answered_is : (e : Tcb) (p : Segment) → IsUsual e p → counts e p ≡ true
+    → answered_at e p ≡ record (acknowledged e.sending p.head.seq (ack_at e p) p.head.window) { congestion = congestion_by e p }
+unfolding answered_by
+answered_is e p usual does_count =
+    let used : Sending = acknowledged e.sending p.head.seq (ack_at e p) p.head.window in
+    duplicate_alone (sender.is_duplicate e.sending (is_bare p) (ack_at e p) p.head.window) used
+    ∙ ap (λ c. record used { congestion = c }) (answered_congestion e p usual does_count)
+
+-- what a segment that counts makes of the sending half: all but the congestion window goes by the acknowledgement alone
+abbrev pub later_by : Tcb → Segment → Sending
+later_by e p = record (acknowledged e.sending p.head.seq (ack_at e p) p.head.window) { congestion = congestion_by e p }
+
+abbrev pub used_by : Tcb → Segment → Sending
+used_by e p = if e.sending.syn_acked then later_by e p else with_syn_acked e.sending p.head.seq p.head.window
+
+-- the sending half after a segment, whole
+pub sending_is : (e : Tcb) (p : Segment) → has_begun e.name ≡ true → IsBounded e → IsUsual e p
+    → (received e p).sending ≡ (if counts e p then used_by e p else e.sending)
+unfolding received
+sending_is e p begun bounded usual =
+    let opened : Sending = with_syn_acked e.sending p.head.seq p.head.window in
+    ap (λ (t : Tcb). t.sending) (begun_is e.name e p begun) ∙ checks_use e p bounded usual
+    ∙ chosen_is e p (answered_at e p) opened e.sending bounded usual
+    ∙ if_when (counts e p) _ _ e.sending e.sending
+    (λ does_count. ap (λ s. if e.sending.syn_acked then s else opened) (answered_is e p usual does_count)) (λ h. refl)
+
 later_law : (e : Tcb) (p : Segment) → IsBounded e → IsUsual e p → e.sending.syn_acked ≡ true → counts e p ≡ true
-    → IsSentBy e p (acknowledged e.sending p.head.seq (ack_at e p) p.head.window)
+    → IsSentBy e p (later_by e p)
 unfolding acknowledged
 later_law e p bounded usual is_syn_acked does_count =
     let s : Sending = e.sending in
@@ -187,6 +280,7 @@ later_law e p bounded usual is_syn_acked does_count =
       edge = ap (λ b. if b then nat_abs z + p.head.window else s.edge) used;
       wl1 = offset_of_choice e.receiving.irs p.head.seq s.wl1 (moves_edge s p.head.seq z) ∙ ap (λ b. if b then first e p else offset_of e.receiving.irs s.wl1) used;
       wl2 = ap (λ b. if b then nat_abs z else s.wl2) used;
+      congestion = refl;
       held = held_field s.una s.sent z s.held bounded.order;
       closed = refl;
     }
@@ -196,6 +290,16 @@ zero_abs z n h none up = grind (arith, ints)
 
 una_zero : (una a : ℕ) → una ≡ 0 → a ≡ 0 → 0 ≡ una_after una a
 una_zero una a u z = grind arith
+
+none_above : (a b : ℕ) → b ≡ 0 → nat_lt a b ≡ false
+none_above a b none = grind (arith, none)
+
+-- nothing new is acknowledged, and nothing is in flight
+quiet : {X : Type 0} (new acked text fin place late edge : Bool) (x y z : X) → new ≡ false → late ≡ false
+    → (if acked && new then x else (if acked && text && fin && place && late && edge then y else z)) ≡ z
+quiet new acked text fin place late edge x y z none nothing =
+    (λ i. if acked && none i then x else (if acked && text && fin && place && nothing i && edge then y else z))
+    ∙ (λ i. if and_false acked i then x else (if and_false (acked && text && fin && place) i && edge then y else z))
 
 first_law : (e : Tcb) (p : Segment) → IsBounded e → IsUsual e p → e.sending.syn_acked ≡ false → counts e p ≡ true
     → IsSentBy e p (with_syn_acked e.sending p.head.seq p.head.window)
@@ -217,9 +321,19 @@ first_law e p bounded usual syn_unacked does_count =
       edge = reached ∙ ap (λ b. if b then nat_abs z + p.head.window else s.edge) (sym used);
       wl1 = ap (λ b. if b then first e p else offset_of e.receiving.irs s.wl1) (sym used);
       wl2 = sym zero ∙ ap (λ b. if b then nat_abs z else s.wl2) (sym used);
+      congestion = sym (quiet (nat_lt s.una (nat_abs z)) (acknowledges e p) (length (text_of p) == 0) (not (fin_of p)) (nat_abs z == s.una)
+          (nat_lt s.una s.sent) (nat_abs z + p.head.window == s.edge) _ _ s.congestion (none_above s.una (nat_abs z) zero) (none_above s.una s.sent none));
       held = omega (arith, una);
       closed = refl;
     }
+
+-- what doesn't count is no duplicate
+uncounted_is_none : (e : Tcb) (p : Segment) → counts e p ≡ false → is_duplicate e p ≡ false
+uncounted_is_none e p no_count =
+    let s : Sending = e.sending in
+    let ack : ℕ = nat_abs (ack_at e p) in
+    let up : Bool = int_le (pos 0) (ack_at e p) in
+    ap (λ b. b && up && length (text_of p) == 0 && not (fin_of p) && ack == s.una && nat_lt s.una s.sent && ack + p.head.window == s.edge) no_count
 
 other_law : (e : Tcb) (p : Segment) → counts e p ≡ false → IsSentBy e p e.sending
 other_law e p no_count =
@@ -234,13 +348,16 @@ other_law e p no_count =
       edge = ap (λ b. if b then nat_abs z + p.head.window else s.edge) (sym unused);
       wl1 = ap (λ b. if b then first e p else offset_of e.receiving.irs s.wl1) (sym unused);
       wl2 = ap (λ b. if b then nat_abs z else s.wl2) (sym unused);
+      congestion = (λ i. if sym no_count i && int_le (pos 0) z && nat_lt s.una (nat_abs z)
+          then with_new_data s.mss (nat_abs z - s.una) s.congestion
+          else (if sym (uncounted_is_none e p no_count) i then with_duplicate s.mss (s.sent - s.una) s.congestion else s.congestion));
       held = omega arith;
       closed = refl;
     }
 
-by_count : (e : Tcb) (p : Segment) (c o : Bool) → (c ≡ true → o ≡ true → IsSentBy e p (acknowledged e.sending p.head.seq (ack_at e p) p.head.window))
+by_count : (e : Tcb) (p : Segment) (c o : Bool) → (c ≡ true → o ≡ true → IsSentBy e p (later_by e p))
     → (c ≡ true → o ≡ false → IsSentBy e p (with_syn_acked e.sending p.head.seq p.head.window)) → (c ≡ false → IsSentBy e p e.sending)
-    → IsSentBy e p (if c then (if o then acknowledged e.sending p.head.seq (ack_at e p) p.head.window else with_syn_acked e.sending p.head.seq p.head.window) else e.sending)
+    → IsSentBy e p (if c then (if o then later_by e p else with_syn_acked e.sending p.head.seq p.head.window) else e.sending)
 by_count e p true true later first_one other = later refl refl
 by_count e p true false later first_one other = first_one refl refl
 by_count e p false o later first_one other = other refl
@@ -253,3 +370,97 @@ sending_law e p begun bounded usual =
     (λ does_count is_syn_acked. later_law e p bounded usual is_syn_acked does_count)
     (λ does_count syn_unacked. first_law e p bounded usual syn_unacked does_count)
     (λ no_count. other_law e p no_count))
+
+-- what is due again
+text_again : (e : Tcb) (p : Segment) → (with_text_and_fin e p).again ≡ e.again
+unfolding with_text_and_fin
+text_again e p =
+    let taking : Tcb = record e { receiving = segment_taken e p }
+    in part_of_if (λ (t : Tcb). t.again) (taking.receiving.fin && not e.receiving.fin) (entering (after_fin e.name) taking) taking
+    ∙ same_if (taking.receiving.fin && not e.receiving.fin) e.again
+
+acked_again : (e : Tcb) → (with_fin_acked e).again ≡ e.again
+unfolding with_fin_acked
+acked_again e = part_of_if (λ (t : Tcb). t.again) (fin_acked e.sending) (entering (after_fin_acked e.name) e) e ∙ same_if (fin_acked e.sending) e.again
+
+abbrev later_again : Tcb → Segment → Bool
+later_again e p = e.again || sender.is_third_duplicate e.sending (is_bare p) (ack_at e p) p.head.window
+
+later_ack_again : (e : Tcb) (p : Segment) → is_ahead e.sending.sent (ack_at e p) ≡ false → (with_ack e p).again ≡ later_again e p
+unfolding with_ack with_ack_used
+later_ack_again e p sent =
+    let used : Tcb = with_ack_used e p
+    in ap (λ b. (if b then owing_if true e else with_text_and_fin (with_fin_acked used) p).again) sent
+    ∙ text_again (with_fin_acked used) p
+    ∙ acked_again used
+
+first_ack_again : (e : Tcb) (p : Segment) → (with_first_ack e p).again ≡ e.again
+unfolding with_first_ack refusing
+first_ack_again e p =
+    let opening : Tcb = record e { name = after_syn_acked e.sending.closed; sending = with_syn_acked e.sending p.head.seq p.head.window }
+    in part_of_if (λ (t : Tcb). t.again) (int_eq (ack_at e p) (pos 0)) (with_text_and_fin opening p) (refusing e p)
+    ∙ ap (λ b. if int_eq (ack_at e p) (pos 0) then b else e.again) (text_again opening p)
+    ∙ same_if (int_eq (ack_at e p) (pos 0)) e.again
+
+again_aside : Aside (λ (e : Tcb). e.again)
+unfolding waiting_again
+again_aside = record { killed = λ e. refl; owing = λ b e. refl; waiting = λ e p. refl }
+
+checks_repeat : (e : Tcb) (p : Segment) → IsBounded e → IsUsual e p
+    → (in_others e p).again
+    ≡ by_checks (goes_on e p) (has_rst p) (has_syn p) (has_ack p) e.sending.syn_acked (int_eq (ack_at e p) (pos 0)) (later_again e p) e.again e.again
+unfolding waiting_again
+checks_repeat e p bounded usual =
+    others_part (λ (t : Tcb). t.again) e p again_aside ∙ if_when (goes_on e p) _ _ _ _
+    (λ goes. if_when (has_rst p) _ _ _ _ (λ h. refl)
+    (λ no_rst. if_when (has_syn p) _ _ _ _ (λ h. refl)
+    (λ no_syn. if_when (has_ack p) _ _ _ _
+    (λ is_ack. if_when e.sending.syn_acked _ _ _ _
+    (λ h. later_ack_again (at_ack e p) p (sent_bool e p bounded usual is_ack))
+    (λ h. first_ack_again (at_ack e p) p ∙ sym (same_if (int_eq (ack_at e p) (pos 0)) e.again)))
+    (λ h. refl))))
+    (λ h. refl)
+
+-- where none has counted before, nothing is in flight
+first_is_none : (e : Tcb) (p : Segment) → IsBounded e → e.sending.syn_acked ≡ false → is_duplicate e p ≡ false
+first_is_none e p bounded syn_unacked =
+    let s : Sending = e.sending in
+    let before : Bool = acknowledges e p && length (text_of p) == 0 && not (fin_of p) && nat_abs (ack_at e p) == s.una in
+    let edge : Bool = nat_abs (ack_at e p) + p.head.window == s.edge in
+    ap (λ b. before && b && edge) (none_above s.una s.sent (bounded.syn_unacked syn_unacked)) ∙ ap (λ b. b && edge) (and_false before)
+
+no_third : (e : Tcb) (p : Segment) → is_duplicate e p ≡ false → e.again ≡ (e.again || is_third_duplicate e p)
+no_third e p none = or_false e.again ∙ ap (λ b. e.again || (b && is_third e.sending.congestion)) (sym none)
+
+pub again_law : (e : Tcb) (p : Segment) → has_begun e.name ≡ true → IsBounded e → IsUsual e p → (received e p).again ≡ (e.again || is_third_duplicate e p)
+unfolding received
+again_law e p begun bounded usual =
+    let goal : Bool = e.again || is_third_duplicate e p in
+    ap (λ (t : Tcb). t.again) (begun_is e.name e p begun) ∙ checks_repeat e p bounded usual
+    ∙ chosen_is e p (later_again e p) e.again e.again bounded usual
+    ∙ if_when (counts e p) _ goal _ goal
+    (λ does_count. if_when e.sending.syn_acked _ goal _ goal
+    (λ h. ap (λ b. e.again || (b && is_third e.sending.congestion)) (duplicate_is e p does_count))
+    (λ h. no_third e p (first_is_none e p bounded h)) ∙ same_if e.sending.syn_acked goal)
+    (λ no_count. no_third e p (uncounted_is_none e p no_count))
+    ∙ same_if (counts e p) goal
+
+-- the right edge stands so near that numbers tell whether it is beyond SND.UNA
+precedes_is : (una edge : ℕ) → una ≤ 2 ^ 24 + 1 → edge ≤ 2 ^ 24 + 2 ^ 16 + 1 → precedes una edge ≡ nat_lt una edge
+precedes_is una edge few near = grind arith
+
+lost_by : {X : Type 0} (expires flies reached : Bool) (x y : X)
+    → (if expires then (if flies && reached then x else y) else y) ≡ (if expires && flies && reached then x else y)
+lost_by true flies reached x y = refl
+lost_by false flies reached x y = refl
+
+-- where the timer expires, what is in flight is taken for lost
+pub ticked_law : (e : Tcb) → IsBounded e → (after_tick e).sending.congestion ≡ congestion_ticked e.sending
+unfolding after_tick timer_ticked waited
+ticked_law e b =
+    let s : Sending = e.sending in
+    let few : s.una ≤ 2 ^ 24 + 1 = omega (arith, b.order, few_sent s.fin_sent s.sent b.sent) in
+    let lost : Congestion = with_expiry s.mss (s.sent - s.una) (s.interval == 1) s.congestion in
+    part_of_if (λ (t : Sending). t.congestion) (expires s) _ _
+    ∙ lost_by (expires s) (nat_lt s.una s.sent) (precedes s.una s.edge) lost s.congestion
+    ∙ ap (λ v. if expires s && nat_lt s.una s.sent && v then lost else s.congestion) (precedes_is s.una s.edge few b.edge)

@@ -7,6 +7,7 @@ use Rattle.std.proofs.lemmas.Bool.{false≢true, and_right, and_left}
 use Rattle.seq_arith.specs.Number.{offset_of}
 use Rattle.seq_arith.specs.Arrival.{int_eq, lies_in, is_acceptable, is_at_right_edge, is_acceptable_or_at_edge, is_allowed_at_zero, una_after, updates_window}
 use Rattle.seq_arith.specs.Coming.{Came, early_from, nothing_came, came_from, comes}
+use Rattle.seq_arith.specs.Congestion.{Congestion, with_new_data, is_third, with_duplicate}
 use Rattle.seq_arith.specs.Packet.{Segment, has_syn, has_rst, has_ack}
 use Rattle.seq_arith.proofs.Gaps.{Leads, offset_leads}
 use Rattle.seq_arith.proofs.Shifts.{lies_in_shift, updates_window_shift}
@@ -20,15 +21,17 @@ use Rattle.ft_model.specs.Sending as sender
 use Rattle.tcp_buffers.specs.Near.{IsNearFirst}
 use Rattle.tcp_endpoint.specs.States.{has_begun}
 use Rattle.tcp_endpoint.specs.Receiving.{Receiving, taken, next, receive_edge, announced_edge, came, with_came}
+use Rattle.tcp_endpoint.specs.Sending.{Sending}
 use Rattle.tcp_endpoint.specs.Tcb.{Tcb}
 use Rattle.tcp_endpoint.specs.Arrival.{first, ack_at, received}
-use Rattle.endpoint_laws.specs.Laws.{accepts, uses, counts, taken_by, acknowledges, uses_window, IsSentBy, IsBounded, IsUsual}
+use Rattle.endpoint_laws.specs.Laws.{accepts, uses, counts, taken_by, acknowledges, uses_window, is_duplicate, is_third_duplicate, congestion_by, IsSentBy, IsBounded, IsUsual}
 use Rattle.endpoint_laws.specs.Standing.{ReceivesAt, SendsAt}
 use Rattle.tcp_endpoint.proofs.Places.{near_of_usable}
 use Rattle.endpoint_laws.proofs.TakenLaw.{part_of_if, if_when, taken_law}
 use Rattle.endpoint_laws.proofs.Bounding.{taken_within}
 use Rattle.endpoint_laws.proofs.SendingLaw.{sending_law, next_near, window_short, length_short, used_of, counts_ack}
 use Rattle.ft_io.proofs.Booleans.{left_true, right_true, and_when}
+use Rattle.ft_io.proofs.Choices.{by_cases}
 
 -- an endpoint at a point, and a segment that comes to it
 pub record Meets (p : Point) (e : Tcb) (segment : Segment) : Type 0 where
@@ -357,6 +360,40 @@ wl2_is p e segment m =
     ∙ if_when (uses_window e segment) (sender.acknowledged_by p segment) (nat_abs (ack_at e segment)) p.wl2 e.sending.wl2
     (λ h. acknowledged_is p e segment m (uses_acknowledges e segment h)) (λ h. m.sends.wl2)
 
+-- a duplicate acknowledgement
+duplicate_is : (p : Point) (e : Tcb) (segment : Segment) → Meets p e segment → sender.is_duplicate p segment ≡ is_duplicate e segment
+unfolding sender.is_duplicate
+duplicate_is p e segment m =
+    let s : Sending = e.sending in
+    let ack : ℕ = nat_abs (ack_at e segment) in
+    let rest : Bool → ℕ → ℕ → ℕ → ℕ → ℕ → Bool = λ acked place una sent reached edge.
+    acked && length (text_of segment) == 0 && not (fin_of segment) && place == una && nat_lt una sent && reached == edge in
+    by_cases (acknowledges e segment)
+    (λ h i. rest (acknowledges_is p e segment m i) (acknowledged_is p e segment m h i) (m.sends.una i) (m.sent i)
+    (acknowledged_is p e segment m h i + window_is p e segment m h i) (m.sends.edge i))
+    (λ h. ap (λ b. rest b (sender.acknowledged_by p segment) p.una p.sent (sender.acknowledged_by p segment + sender.window_by p segment) p.edge)
+    (acknowledges_is p e segment m ∙ h)
+    ∙ ap (λ b. rest b ack s.una s.sent (ack + segment.head.window) s.edge) (sym h))
+
+pub third_is : (p : Point) (e : Tcb) (segment : Segment) → Meets p e segment → sender.is_third_duplicate (Comes segment) p ≡ is_third_duplicate e segment
+unfolding sender.is_third_duplicate
+third_is p e segment m = λ i. duplicate_is p e segment m i && is_third (m.sends.congestion i)
+
+-- the congestion window
+congestion_is : (p : Point) (e : Tcb) (segment : Segment) → Meets p e segment → sender.congestion_after (Comes segment) p ≡ congestion_by e segment
+unfolding sender.congestion_after
+congestion_is p e segment m =
+    let s : Sending = e.sending in
+    let ack : ℕ = nat_abs (ack_at e segment) in
+    let chosen : Bool → Bool → ℕ → ℕ → ℕ → ℕ → Congestion → Congestion = λ acked duplicate mss place una sent c.
+    if acked && nat_lt una place then with_new_data mss (place - una) c else (if duplicate then with_duplicate mss (sent - una) c else c) in
+    by_cases (acknowledges e segment)
+    (λ h i. chosen (acknowledges_is p e segment m i) (duplicate_is p e segment m i) (m.sends.mss i) (acknowledged_is p e segment m h i) (m.sends.una i)
+    (m.sent i) (m.sends.congestion i))
+    (λ h. (λ i. chosen ((acknowledges_is p e segment m ∙ h) i) (duplicate_is p e segment m i) (m.sends.mss i) (sender.acknowledged_by p segment)
+    (m.sends.una i) (m.sent i) (m.sends.congestion i))
+    ∙ ap (λ b. chosen b (is_duplicate e segment) s.mss ack s.una s.sent s.congestion) (sym h))
+
 pub syn_acked_is : (p : Point) (e : Tcb) (segment : Segment) → Meets p e segment
     → sender.syn_acked_after (Comes segment) p ≡ (e.sending.syn_acked || counts e segment)
 unfolding sender.syn_acked_after
@@ -373,6 +410,7 @@ point_after segment p = record p {
   edge = sender.edge_after (Comes segment) p;
   wl1 = sender.wl1_after (Comes segment) p;
   wl2 = sender.wl2_after (Comes segment) p;
+  congestion = sender.congestion_after (Comes segment) p;
 }
 
 receives_after : (p : Point) (e after : Tcb) (segment : Segment) → Meets p e segment → after.receiving ≡ taken_by e segment → ReceivesAt (point_after segment p) after
@@ -410,6 +448,7 @@ sends_after p e after segment m receiving sending mss =
       wl1 = λ h. wl1_is p e segment m (sym sending.syn_acked ∙ h) ∙ ap (λ z. z +ℤ pos p.fetched) (sym sending.wl1)
           ∙ ap (λ n. offset_of n after.sending.wl1 +ℤ pos p.fetched) (sym irs);
       wl2 = wl2_is p e segment m ∙ sym sending.wl2;
+      congestion = congestion_is p e segment m ∙ sym sending.congestion;
     }
 
 pub received_receives : (p : Point) (e : Tcb) (segment : Segment) → has_begun e.name ≡ true → Meets p e segment → ReceivesAt (point_after segment p) (received e segment)

@@ -12,9 +12,9 @@ use Rattle.tcp_endpoint.specs.declared.states.StateName.{StateName}
 use Rattle.tcp_endpoint.specs.declared.states.StateName.TheVariants.{Closed, Listen, SynSent, SynReceived, Established, FinWait1, FinWait2, CloseWait, Closing, LastAck, TimeWait}
 use Rattle.tcp_endpoint.specs.States.{after_syn_acked, after_fin, after_fin_acked, has_begun}
 use Rattle.tcp_endpoint.specs.Receiving.{Receiving, next, announced_edge, window, with_segment}
-use Rattle.tcp_endpoint.specs.Sending.{with_syn_acked, acknowledged, fin_acked}
+use Rattle.tcp_endpoint.specs.Sending.{with_syn_acked, fin_acked}
 use Rattle.tcp_endpoint.specs.Tcb.{Tcb}
-use Rattle.tcp_endpoint.specs.Arrival.{first, ack_at, owing_if, killed, entering, with_text_and_fin, with_fin_acked, with_first_ack, with_ack, check_ack, check_syn, check_rst, waiting_again, check_place, in_others, received_in, received, refusing}
+use Rattle.tcp_endpoint.specs.Arrival.{first, ack_at, owing_if, killed, entering, with_text_and_fin, with_fin_acked, with_first_ack, with_ack_used, with_ack, check_ack, check_syn, check_rst, waiting_again, check_place, in_others, received_in, received, refusing}
 use Rattle.tcp_endpoint.specs.Arrival as check
 use Rattle.endpoint_laws.specs.Laws.{accepts, uses, counts, taken_by, IsBounded, IsUsual}
 use Rattle.ft_io.proofs.Booleans.{and_true}
@@ -60,7 +60,7 @@ if_when false x x' y y' on off = off refl
 not_ahead : (sent : ℕ) (ack : ℤ) → sent ≤ 2 ^ 24 + 1 → ack ≤ℤ pos sent → (pos 0 -ℤ pos (2 ^ 30 + 2 ^ 24)) ≤ℤ ack → is_ahead sent ack ≡ false
 not_ahead sent ack few h near = grind (arith, ints)
 
-few_sent : (f : Bool) (sent : ℕ) → sent ≤ 2 ^ 24 + one_if f → sent ≤ 2 ^ 24 + 1
+pub few_sent : (f : Bool) (sent : ℕ) → sent ≤ 2 ^ 24 + one_if f → sent ≤ 2 ^ 24 + 1
 few_sent true sent h = h
 few_sent false sent h = omega (arith, h)
 
@@ -144,9 +144,9 @@ acked_part e =
     part_of_if (λ (t : Tcb). t.receiving) (fin_acked e.sending) (entering (after_fin_acked e.name) e) e ∙ same_if (fin_acked e.sending) e.receiving
 
 later_ack_part : (e : Tcb) (p : Segment) → is_ahead e.sending.sent (ack_at e p) ≡ false → (with_ack e p).receiving ≡ segment_taken e p
-unfolding with_ack
+unfolding with_ack with_ack_used
 later_ack_part e p sent =
-    let used : Tcb = record e { sending = acknowledged e.sending p.head.seq (ack_at e p) p.head.window }
+    let used : Tcb = with_ack_used e p
     in ap (λ b. (if b then owing_if true e else with_text_and_fin (with_fin_acked used) p).receiving) sent
     ∙ text_part (with_fin_acked used) p
     ∙ ap (λ r. with_segment r (offset_of r.irs p.head.seq) p.payload (has_fin p)) (acked_part used)
@@ -216,10 +216,10 @@ pub window_is : (r : Receiving) → announced_edge r - next r ≡ window r
 window_is r = grind arith
 
 -- without SYN and RST all text and the FIN count
-text_whole : (p : Segment) → has_syn p ≡ false → has_rst p ≡ false → text_of p ≡ p.payload
+pub text_whole : (p : Segment) → has_syn p ≡ false → has_rst p ≡ false → text_of p ≡ p.payload
 text_whole p no_syn no_rst = rw (no_syn, no_rst) refl
 
-fin_whole : (p : Segment) → has_syn p ≡ false → has_rst p ≡ false → fin_of p ≡ has_fin p
+pub fin_whole : (p : Segment) → has_syn p ≡ false → has_rst p ≡ false → fin_of p ≡ has_fin p
 fin_whole p no_syn no_rst = rw (no_syn, no_rst) (and_true (has_fin p))
 
 -- with the SYN alone sent, only its acknowledgement isn't below

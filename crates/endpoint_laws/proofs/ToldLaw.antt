@@ -3,14 +3,15 @@ use Rattle.std.proofs.Common.{◌≡◌, ℕ, ◌≤◌, ◌+◌, ◌-◌, Bool,
 use Rattle.std.specs.Prelude.{pos, ◌==◌, ◌&&◌, ◌||◌, nat_lt, if◌then◌else◌}
 use Rattle.std.proofs.lemmas.Bool.{false≢true, and_parts}
 use Rattle.seq_arith.specs.Arrival.{int_eq}
+use Rattle.seq_arith.specs.Congestion.{Congestion}
 use Rattle.seq_arith.specs.Packet.{Segment, has_syn, has_rst, has_ack}
 use Rattle.seq_arith.specs.Offset.{one_if}
 use Rattle.tcp_buffers.specs.Near.{is_ahead}
 use Rattle.tcp_endpoint.specs.States.{after_syn_acked, after_fin, after_fin_acked, is_syn_sent, has_begun}
 use Rattle.tcp_endpoint.specs.Receiving.{next, announced_edge}
-use Rattle.tcp_endpoint.specs.Sending.{Sending, with_syn_acked, acknowledged, fin_acked, target, sendable, sends_fin, must_run, timed, expires, ticked, with_sent, with_fin_sent}
+use Rattle.tcp_endpoint.specs.Sending.{Sending, with_syn_acked, fin_acked, congestion_expired, target, send_edge, sendable, sends_fin, must_run, timed, expires, ticked, with_sent, with_fin_sent}
 use Rattle.tcp_endpoint.specs.Tcb.{Tcb}
-use Rattle.tcp_endpoint.specs.Arrival.{ack_at, owing_if, entering, with_text_and_fin, with_fin_acked, with_first_ack, with_ack, waiting_again, received, refusing}
+use Rattle.tcp_endpoint.specs.Arrival.{ack_at, owing_if, entering, with_text_and_fin, with_fin_acked, with_first_ack, with_ack_used, with_ack, waiting_again, received, refusing}
 use Rattle.tcp_endpoint.specs.Leaving.{or_bare, is_owed, bare_segment, full_out, leaving, probes_text, probes_fin, with_probe, with_text_sent, with_fin_out, after_full, announced, is_timed, with_turn_ended, flushed}
 use Rattle.tcp_endpoint.specs.Turning.{after_tick, timer_ticked, waited, after_write}
 use Rattle.endpoint_laws.specs.Laws.{is_refused, owes, told, asks, IsBounded, IsUsual, ProbesRightly, IsShut}
@@ -55,9 +56,9 @@ unfolding with_fin_acked
 acked_part e = part_of_if told (fin_acked e.sending) (entering (after_fin_acked e.name) e) e ∙ same_if (fin_acked e.sending) (told e)
 
 later_ack_part : (e : Tcb) (p : Segment) → told (with_ack e p) ≡ told e
-unfolding with_ack
+unfolding with_ack with_ack_used
 later_ack_part e p =
-    let used : Tcb = record e { sending = acknowledged e.sending p.head.seq (ack_at e p) p.head.window } in
+    let used : Tcb = with_ack_used e p in
     let beyond : Bool = is_ahead e.sending.sent (ack_at e p) in
     part_of_if told beyond (owing_if true e) (with_text_and_fin (with_fin_acked used) p)
     ∙ if_when beyond (told e) (told e) (told (with_text_and_fin (with_fin_acked used) p)) (told e) (λ h. refl) (λ h. text_part (with_fin_acked used) p ∙ acked_part used)
@@ -105,9 +106,10 @@ expiry rest una sent false h order = absurd (false≢true (off_right (rest == 1)
 abbrev Stuck : Sending → Type 0
 Stuck s = (s.una ≡ s.sent) × (s.edge ≤ s.sent) × (s.sent + 1 ≤ target s) × (s.syn_acked ≡ true)
 
-stuck_ticked : (b : Bool) (s : Sending) (i r n : ℕ) → Stuck s → Stuck (if b then record s { interval = i; rest = r } else record s { rest = n })
-stuck_ticked true s i r n h = h
-stuck_ticked false s i r n h = h
+stuck_ticked : (b : Bool) (s : Sending) (c : Congestion) (i r n : ℕ) → Stuck s
+    → Stuck (if b then record s { congestion = c; interval = i; rest = r } else record s { rest = n })
+stuck_ticked true s c i r n h = h
+stuck_ticked false s c i r n h = h
 
 pub probed_by_tick : (e : Tcb) → e.probe ≡ false → IsBounded e → IsShut e.sending → ProbesRightly (after_tick e)
 unfolding after_tick timer_ticked waited
@@ -116,7 +118,7 @@ probed_by_tick e none b shut =
     let due : Bool = expires s && not (not s.syn_acked || nat_lt s.una s.sent) in
     let right : (e.probe || due) ≡ true → Stuck (ticked s) = λ h.
     let x = expiry s.rest s.una s.sent s.syn_acked (or_other e.probe due none h) b.order in
-    stuck_ticked (expires s) s _ _ _ (x.2, shut.edge x.0 x.1 x.2, shut.waits x.0 x.1 x.2, x.1) in
+    stuck_ticked (expires s) s (congestion_expired s) _ _ _ (x.2, shut.edge x.0 x.1 x.2, shut.waits x.0 x.1 x.2, x.1) in
     record { all_acked = λ h. (right h).0; shut = λ h. (right h).1; waits = λ h. (right h).2; syn_acked = λ h. (right h).3 }
 
 more_waits : (f c : Bool) (una sent : ℕ) (held bytes : List ℕ) → sent + 1 ≤ (if f then sent else una + length held + one_if c)
@@ -174,14 +176,15 @@ probe_end una sent len true t is on unsent order flight = absurd (false≢true (
 probe_end una sent len false t is on unsent order flight = grind (arith, is, on)
 
 sendable_of_fin : (s : Sending) → s.fin_sent ≡ true → sendable s ≡ 0
-sendable_of_fin s sent = ap (λ v. if s.syn_acked && not v then min (s.una + length s.held) s.edge - s.sent else 0) sent ∙ sendable_off s.syn_acked _
+sendable_of_fin s sent = ap (λ v. if s.syn_acked && not v then min (s.una + length s.held) (send_edge s) - s.sent else 0) sent ∙ sendable_off s.syn_acked _
 
 new_target : (s : Sending) → target (after_steps true false false s) ≡ target s
 new_target s =
     let texted : Sending = with_sent s (sendable s) in
     let text : target texted ≡ target s = text_target s (sendable s) s.fin_sent refl (λ h. sendable_of_fin s h) in
     target_of_if (sends_fin texted) (with_fin_sent texted) texted (target s)
-    (λ h. let f = sends_facts texted.syn_acked texted.closed texted.fin_sent (texted.sent == texted.una + length texted.held) (nat_lt texted.sent texted.edge) h in
+    (λ h. let f = sends_facts texted.syn_acked texted.closed texted.fin_sent (texted.sent == texted.una + length texted.held)
+    (nat_lt texted.sent (send_edge texted)) h in
     fin_target texted f.0 f.1 (at_end texted.una texted.sent (length texted.held) f.2) ∙ text)
     (λ h. text)
 
@@ -221,9 +224,10 @@ edge_kept pt pf s =
     let texted : Sending = with_sent probed (sendable probed)
     in edge_of_if (sends_fin texted) (with_fin_sent texted) texted s.edge is is
 
--- with all acknowledged and something waiting, nothing was sent, for want of room
-stuck_by : (una before sent target edge p : ℕ) → una ≤ before → sent ≡ max before (min target edge) + p → una ≡ sent → sent + 1 ≤ target → edge ≤ sent
-stuck_by una before sent target edge p order is acked waits = omega arith
+-- with all acknowledged and something waiting, nothing was sent, for want of room below the right edge: the congestion window always leaves some
+stuck_by : (una before sent target edge cwnd p : ℕ) → una ≤ before → 1 ≤ cwnd → sent ≡ max before (min target (min edge (una + cwnd))) + p → una ≡ sent
+    → sent + 1 ≤ target → edge ≤ sent
+stuck_by una before sent target edge cwnd p order wide is acked waits = omega arith
 
 must_wait : (o : Bool) (una sent target : ℕ) → (not o || nat_lt una (max sent target)) ≡ true → o ≡ true → una ≡ sent → sent + 1 ≤ target
 must_wait true una sent target h syn_acked acked = grind arith
@@ -261,8 +265,9 @@ shut_by_flush e begun b right =
     let una : a.una ≡ s.una = ap (λ (q : Sending). q.una) same ∙ una_kept (probes_text e) (probes_fin e) s in
     let edge : a.edge ≡ s.edge = ap (λ (q : Sending). q.edge) same ∙ edge_kept (probes_text e) (probes_fin e) s in
     let goal : target a ≡ target s = ap target same ∙ after_probe e begun b (probes_text e) (probes_fin e) refl refl in
-    let sent : a.sent ≡ max s.sent (min (target s) s.edge) + one_if e.probe = sym (timed_sent runs a) ∙ sent_law e begun b right in
+    let sent : a.sent ≡ max s.sent (min (target s) (send_edge s)) + one_if e.probe = sym (timed_sent runs a) ∙ sent_law e begun b right in
     shut_timed runs a s.edge
     (λ h. (and_parts (has_begun after.name || is_syn_sent after.name) (must_run a) h).1)
     edge
-    (λ acked waits. stuck_by s.una s.sent a.sent (target s) s.edge (one_if e.probe) b.order sent (sym una ∙ acked) (omega (arith, waits, goal)))
+    (λ acked waits. stuck_by s.una s.sent a.sent (target s) s.edge s.congestion.cwnd (one_if e.probe) b.order b.congestion.window sent
+    (sym una ∙ acked) (omega (arith, waits, goal)))

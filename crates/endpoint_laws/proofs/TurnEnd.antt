@@ -9,7 +9,7 @@ use Rattle.ft_model.specs.Point.{Point}
 use Rattle.ft_model.specs.Point as point
 use Rattle.ft_model.specs.Timer as timer
 use Rattle.tcp_endpoint.specs.States.{is_syn_sent, has_begun}
-use Rattle.tcp_endpoint.specs.Sending.{Sending, target, must_run, timed, sendable, sends_fin, with_sent, with_fin_sent}
+use Rattle.tcp_endpoint.specs.Sending.{Sending, target, must_run, timed, send_edge, sendable, sends_fin, with_sent, with_fin_sent}
 use Rattle.tcp_endpoint.specs.Tcb.{Tcb}
 use Rattle.tcp_endpoint.specs.Leaving.{probes_text, probes_fin, with_probe, with_text_sent, with_fin_out, after_full, announced, is_timed, with_turn_ended, flushed}
 use Rattle.endpoint_laws.specs.Laws.{IsBounded}
@@ -67,6 +67,7 @@ flushed_sends p u s =
           ∙ ap (λ n. offset_of u.receiving.irs n +ℤ pos p.fetched)
           (sym (flush_keeps (λ (q : Sending). q.wl1) u (record { sends = λ s n. refl; ends = λ s. refl; times = λ s i r. refl })));
       wl2 = s.wl2 ∙ sym (flush_keeps (λ (q : Sending). q.wl2) u (record { sends = λ s n. refl; ends = λ s. refl; times = λ s i r. refl }));
+      congestion = s.congestion ∙ sym (flush_keeps (λ (q : Sending). q.congestion) u (record { sends = λ s n. refl; ends = λ s. refl; times = λ s i r. refl }));
     }
 
 -- a FIN is sent last
@@ -109,11 +110,12 @@ last_steps begun pt pf s unsent ends last =
     last_if pt (with_sent s 1) _ (λ h. last_sent s 1 (λ k. absurd (false≢true (sym (unsent h) ∙ k))) last)
     (λ h. last_if pf (with_fin_sent s) s (λ k. last_fin s (ends k).0 (ends k).1) (λ k. last)) in
     let texted_last : FinIsLast texted =
-    last_sent probed _ (λ h. none_behind begun probed.syn_acked probed.fin_sent (min (probed.una + length probed.held) probed.edge - probed.sent) h) probed_last in
+    last_sent probed _
+    (λ h. none_behind begun probed.syn_acked probed.fin_sent (min (probed.una + length probed.held) (send_edge probed) - probed.sent) h) probed_last in
     last_if (begun && sends_fin texted) (with_fin_sent texted) texted
     (λ h. last_fin texted
-    (closed_of begun texted.syn_acked texted.closed texted.fin_sent (texted.sent == texted.una + length texted.held) (nat_lt texted.sent texted.edge) h)
-    (all_sent_of begun texted.syn_acked texted.closed texted.fin_sent (nat_lt texted.sent texted.edge) texted.una (length texted.held) texted.sent h))
+    (closed_of begun texted.syn_acked texted.closed texted.fin_sent (texted.sent == texted.una + length texted.held) (nat_lt texted.sent (send_edge texted)) h)
+    (all_sent_of begun texted.syn_acked texted.closed texted.fin_sent (nat_lt texted.sent (send_edge texted)) texted.una (length texted.held) texted.sent h))
     (λ h. texted_last)
 
 last_timed : (runs : Bool) (s : Sending) → FinIsLast s → FinIsLast (timed runs s)
@@ -194,15 +196,16 @@ filled_target service p u b last w =
     omega (arith, w.written, ap (λ v. if v then s.sent - 1 else s.una + length s.held) unsent) in
     record { full = omega (arith, goal, w.full); within = omega (arith, goal, written); reach = omega (arith, goal, w.full, b.reach) }
 
-filled_sent : (una edge goal all sent : ℕ) → FilledTarget una edge goal all → max sent (min all edge) ≡ max sent (min goal edge)
-filled_sent una edge goal all sent f = omega (arith, f.within, f.reach)
+filled_sent : (una edge up_to goal all sent : ℕ) → FilledTarget una edge goal all → up_to ≤ edge → max sent (min all up_to) ≡ max sent (min goal up_to)
+filled_sent una edge up_to goal all sent f below = omega (arith, f.within, f.reach, below)
 
 -- how far a turn sends
 pub sent_at : {State : Type 0} (service : Machine State) (p : Point) (u : Tcb) → IsBounded u → FinIsLast u.sending → IsUsedAt service p u
-    → max u.sending.sent (min (point.target service p) u.sending.edge) ≡ max u.sending.sent (min (target u.sending) u.sending.edge)
+    → max u.sending.sent (min (point.target service p) (send_edge u.sending)) ≡ max u.sending.sent (min (target u.sending) (send_edge u.sending))
 sent_at service p u b last used =
-    ⊎_elim (λ w. ap (λ n. max u.sending.sent (min n u.sending.edge)) (all_target service p u.sending last w))
-    (λ w. filled_sent u.sending.una u.sending.edge (target u.sending) (point.target service p) u.sending.sent (filled_target service p u b last w))
+    ⊎_elim (λ w. ap (λ n. max u.sending.sent (min n (send_edge u.sending))) (all_target service p u.sending last w))
+    (λ w. filled_sent u.sending.una u.sending.edge (send_edge u.sending) (target u.sending) (point.target service p) u.sending.sent
+    (filled_target service p u b last w) (omega arith))
     used.written
 
 filled_runs : (una edge goal all sent : ℕ) → FilledTarget una edge goal all → nat_lt una (max sent goal) ≡ nat_lt una (max sent all)

@@ -4,16 +4,17 @@ use Rattle.std.specs.Prelude.{ℤ, pos, ◌==◌, ◌&&◌, ◌||◌, nat_abs, n
 use Rattle.std.proofs.lemmas.Int.{ints}
 use Rattle.std.proofs.lemmas.Bool.{false≢true}
 use Rattle.seq_arith.specs.Arrival.{is_new_ack}
+use Rattle.seq_arith.specs.Congestion.{Congestion}
 use Rattle.seq_arith.specs.Packet.{Segment}
 use Rattle.seq_arith.specs.Offset.{one_if}
 use Rattle.tcp_endpoint.specs.States.{has_begun}
-use Rattle.tcp_endpoint.specs.Sending.{Sending, with_syn_acked, acknowledged, target, sendable, sends_fin, ticked, timed, with_sent, with_fin_sent}
+use Rattle.tcp_endpoint.specs.Sending.{Sending, with_syn_acked, acknowledged, congestion_expired, target, send_edge, sendable, sends_fin, ticked, timed, with_sent, with_fin_sent}
 use Rattle.tcp_endpoint.specs.Tcb.{Tcb}
 use Rattle.tcp_endpoint.specs.Arrival.{ack_at, received}
 use Rattle.tcp_endpoint.specs.Leaving.{probes, probes_text, probes_fin, with_probe, with_text_sent, with_fin_out, after_full, announced, is_timed, with_turn_ended, flushed}
 use Rattle.tcp_endpoint.specs.Turning.{after_tick, timer_ticked, waited}
 use Rattle.endpoint_laws.specs.Laws.{counts, IsBounded, IsUsual, ProbesRightly, sent_by_law, starts, interval_by, rest_by, ticked_interval, ticked_rest, IsTimedBy}
-use Rattle.endpoint_laws.proofs.SendingLaw.{sending_is}
+use Rattle.endpoint_laws.proofs.SendingLaw.{later_by, sending_is}
 
 -- the timer does not touch what is sent
 started : (b : Bool) (s : Sending) → (if b then record s { interval = 1; rest = 1 } else s).sent ≡ s.sent
@@ -49,10 +50,11 @@ sent_of_if true x y = refl
 sent_of_if false x y = refl
 
 plain_steps : (s : Sending) → (s.syn_acked ≡ false → s.sent ≡ 0) → (s.syn_acked ≡ false → s.edge ≡ 0) → s.sent ≤ s.una + length s.held + one_if s.fin_sent
-    → (after_steps true false false s).sent ≡ max s.sent (min (target s) s.edge)
+    → (after_steps true false false s).sent ≡ max s.sent (min (target s) (send_edge s))
 plain_steps s p q h =
     let texted : Sending = with_sent s (sendable s)
-    in sent_of_if (sends_fin texted) (with_fin_sent texted) texted ∙ no_probe s.syn_acked s.closed s.fin_sent s.una (length s.held) s.edge s.sent p q h
+    in sent_of_if (sends_fin texted) (with_fin_sent texted) texted ∙
+    no_probe s.syn_acked s.closed s.fin_sent s.una (length s.held) (send_edge s) s.sent p (λ k. omega (arith, q k)) h
 
 -- a byte is probed: nothing else has room
 probed_text : (o c f : Bool) (una len edge sent : ℕ) → edge ≤ sent
@@ -72,7 +74,8 @@ text_steps : (s : Sending) → s.edge ≤ s.sent → (after_steps true true fals
 text_steps s shut =
     let probed : Sending = with_sent s 1 in
     let texted : Sending = with_sent probed (sendable probed)
-    in sent_of_if (sends_fin texted) (with_fin_sent texted) texted ∙ probed_text s.syn_acked s.closed s.fin_sent s.una (length s.held) s.edge s.sent shut
+    in sent_of_if (sends_fin texted) (with_fin_sent texted) texted ∙
+    probed_text s.syn_acked s.closed s.fin_sent s.una (length s.held) (send_edge s) s.sent (omega (arith, shut))
 
 -- behind a FIN nothing is sent
 probed_fin : (o c : Bool) (una len edge sent n : ℕ)
@@ -88,7 +91,7 @@ fin_steps : (s : Sending) → (after_steps true false true s).sent ≡ s.sent + 
 fin_steps s =
     let probed : Sending = with_fin_sent s in
     let texted : Sending = with_sent probed (sendable probed)
-    in sent_of_if (sends_fin texted) (with_fin_sent texted) texted ∙ probed_fin s.syn_acked s.closed s.una (length s.held) s.edge s.sent _
+    in sent_of_if (sends_fin texted) (with_fin_sent texted) texted ∙ probed_fin s.syn_acked s.closed s.una (length s.held) (send_edge s) s.sent _
 
 -- the tests of a probe
 pub fin_unsent : (f c : Bool) (una len sent : ℕ) → una ≡ sent → sent + 1 ≤ (if f then sent else una + len + one_if c) → f ≡ false
@@ -135,7 +138,7 @@ steps_sent e false t is waits begun b right =
     let no_fin : probes_fin e ≡ false = ap (λ b. b && not (nat_lt (s.sent - s.una) (length s.held)) && s.closed) still in
     ap (λ (q : Sending). q.sent) (by_probe e false false no_text no_fin begun)
     ∙ plain_steps s b.syn_unacked b.shut b.flight
-    ∙ no_more (max s.sent (min (target s) s.edge)) e.probe is
+    ∙ no_more (max s.sent (min (target s) (send_edge s))) e.probe is
 steps_sent e true true is waits begun b right =
     let s : Sending = e.sending in
     let unsent : s.fin_sent ≡ false = fin_unsent s.fin_sent s.closed s.una (length s.held) s.sent (right.all_acked is) (right.waits is) in
@@ -145,7 +148,7 @@ steps_sent e true true is waits begun b right =
     ap (λ b. b && not (nat_lt (s.sent - s.una) (length s.held)) && s.closed) on ∙ ap (λ b. true && not b && s.closed) waits in
     ap (λ (q : Sending). q.sent) (by_probe e true false text no_fin begun)
     ∙ text_steps s (right.shut is)
-    ∙ one_more s.sent (target s) s.edge e.probe is (right.shut is)
+    ∙ one_more s.sent (target s) (send_edge s) e.probe is (omega (arith, right.shut is))
 steps_sent e true false is waits begun b right =
     let s : Sending = e.sending in
     let unsent : s.fin_sent ≡ false = fin_unsent s.fin_sent s.closed s.una (length s.held) s.sent (right.all_acked is) (right.waits is) in
@@ -157,7 +160,7 @@ steps_sent e true false is waits begun b right =
     ap (λ b. b && not (nat_lt (s.sent - s.una) (length s.held)) && s.closed) on ∙ ap (λ b. true && not b && s.closed) waits ∙ is_closed in
     ap (λ (q : Sending). q.sent) (by_probe e false true no_text fin begun)
     ∙ fin_steps s
-    ∙ one_more s.sent (target s) s.edge e.probe is (right.shut is)
+    ∙ one_more s.sent (target s) (send_edge s) e.probe is (omega (arith, right.shut is))
 
 pub sent_law : (e : Tcb) → has_begun e.name ≡ true → IsBounded e → ProbesRightly e → (flushed e).sending.sent ≡ sent_by_law e
 unfolding flushed with_turn_ended announced after_full with_fin_out with_text_sent with_probe
@@ -244,7 +247,7 @@ first_agrees false false n = refl
 
 agrees : (e : Tcb) (p : Segment) (c o : Bool) → e.sending.syn_acked ≡ o
     → Agrees e.sending
-    (if c then (if o then acknowledged e.sending p.head.seq (ack_at e p) p.head.window else with_syn_acked e.sending p.head.seq p.head.window) else e.sending)
+    (if c then (if o then later_by e p else with_syn_acked e.sending p.head.seq p.head.window) else e.sending)
 unfolding acknowledged
 agrees e p true true is =
     let s : Sending = e.sending in
@@ -286,17 +289,17 @@ ticked_is : (rest interval : ℕ) → 1 ≤ interval
     ≡ (if rest == 0 then 1 else (if rest == 1 then min 64 (2 * interval) else rest - 1)))
 ticked_is rest interval some = (grind arith, grind arith)
 
-ticked_by : (b : Bool) (s : Sending)
-    → ((if b then record s { interval = min 64 (2 * s.interval); rest = min 64 (2 * s.interval) } else record s { rest = s.rest - 1 }).interval
+ticked_by : (b : Bool) (s : Sending) (c : Congestion)
+    → ((if b then record s { congestion = c; interval = min 64 (2 * s.interval); rest = min 64 (2 * s.interval) } else record s { rest = s.rest - 1 }).interval
     ≡ (if b then min 64 (2 * s.interval) else s.interval))
-    × ((if b then record s { interval = min 64 (2 * s.interval); rest = min 64 (2 * s.interval) } else record s { rest = s.rest - 1 }).rest
+    × ((if b then record s { congestion = c; interval = min 64 (2 * s.interval); rest = min 64 (2 * s.interval) } else record s { rest = s.rest - 1 }).rest
     ≡ (if b then min 64 (2 * s.interval) else s.rest - 1))
-ticked_by true s = (refl, refl)
-ticked_by false s = (refl, refl)
+ticked_by true s c = (refl, refl)
+ticked_by false s c = (refl, refl)
 
 ticked_parts : (s : Sending) → ((ticked s).interval ≡ (if s.rest == 1 then min 64 (2 * s.interval) else s.interval))
     × ((ticked s).rest ≡ (if s.rest == 1 then min 64 (2 * s.interval) else s.rest - 1))
-ticked_parts s = ticked_by (s.rest == 1) s
+ticked_parts s = ticked_by (s.rest == 1) s (congestion_expired s)
 
 pub ticked_law : (e u : Tcb) → 1 ≤ e.sending.interval → u.sending.interval ≡ (after_tick e).sending.interval → u.sending.rest ≡ (after_tick e).sending.rest
     → IsTimedBy (flushed u).sending (ticked_interval (is_timed (after_full u)) e.sending) (ticked_rest (is_timed (after_full u)) e.sending)

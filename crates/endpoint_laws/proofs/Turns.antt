@@ -1,17 +1,21 @@
 -- A turn leads from the point at which an endpoint stands to the point that the laws lead to.
 use Rattle.std.proofs.Common.{◌≡◌, ℕ, ◌≤◌, ◌+◌, ◌*◌, ◌%◌, ◌^◌, Bool, true, false, not, List, [], ◌∷◌, ◌++◌, length, drop, max, min, refl, sym, ap, arith, ◌∙◌}
 use Rattle.std.specs.Prelude.{pos, ◌+ℤ◌, ◌==◌, ◌&&◌, ◌||◌, nat_lt, if◌then◌else◌}
+use Rattle.std.proofs.lemmas.Bool.{false≢true, and_parts}
 use Rattle.ft_io.specs.declared.Addr.{Addr}
+use Rattle.ft_io.proofs.Booleans.{left_true, right_true, or_false, or_true}
 use Rattle.seq_arith.specs.Coming.{early_from}
 use Rattle.seq_arith.specs.Number.{offset_of}
 use Rattle.seq_arith.specs.Packet.{Segment}
 use Rattle.server_trait.specs.Service.{Machine}
-use Rattle.seq_arith.specs.Offset.{one_if}
+use Rattle.seq_arith.specs.Arrival.{una_after}
+use Rattle.seq_arith.specs.Congestion.{is_third}
+use Rattle.seq_arith.specs.Offset.{one_if, text_of, fin_of}
 use Rattle.ft_model.specs.News.{News}
 use Rattle.ft_model.specs.News.News.{Comes, Logged, Ticks, Begins}
 use Rattle.ft_model.specs.Point.{Point, taken_units, announced_edge}
 use Rattle.ft_model.specs.Point as point
-use Rattle.ft_model.specs.Sending.{syn_acked_after, acknowledged_after, sent_at_once, sent_after}
+use Rattle.ft_model.specs.Sending.{acknowledges, acknowledged_by, window_by, syn_acked_after, acknowledged_after, is_duplicate, is_third_duplicate, sent_at_once, sent_after}
 use Rattle.ft_model.specs.Segments.{or_bare, bare_segment, resent, new_texts, new_fin}
 use Rattle.ft_model.specs.Timer as timer
 use Rattle.tcp_endpoint.specs.States.{has_begun}
@@ -61,6 +65,7 @@ sends_of service news before after m u s a laws = record {
   edge = laws.edge ∙ s.edge ∙ sym a.sends.edge;
   wl1 = λ h. laws.wl1 ∙ s.wl1 (sym a.sends.syn_acked ∙ h) ∙ (λ i. offset_of (sym a.irs i) (sym a.sends.wl1 i) +ℤ pos (sym laws.same.fetched i));
   wl2 = laws.wl2 ∙ s.wl2 ∙ sym a.sends.wl2;
+  congestion = laws.congestion ∙ s.congestion ∙ sym a.sends.congestion;
 }
 
 -- what waits for an acknowledgement where the timer expires: the news of a tick acknowledge nothing
@@ -72,6 +77,36 @@ waits_is service (Logged kept) before after e stands laws keep = refl
 waits_is service Ticks before after e stands laws keep = λ i.
     timer.expires Ticks before && keep (not ((sym stands.sends.syn_acked ∙ sym laws.syn_acked) i) || nat_lt ((sym stands.sends.una ∙ sym laws.una) i) (sym stands.sent i))
 waits_is service Begins before after e stands laws keep = refl
+
+-- a duplicate acknowledges nothing new, so what was in flight still is
+still_waits : (acked text fin place late edge o : Bool) (una ack sent : ℕ) → place ≡ (ack == una) → late ≡ nat_lt una sent
+    → (acked && text && fin && place && late && edge) ≡ true → (o || nat_lt (if acked then una_after una ack else una) sent) ≡ true
+still_waits true text fin place late edge true una ack sent p l h = refl
+still_waits true text fin place late edge false una ack sent p l h =
+    let both = and_parts (true && text && fin && place) late (left_true (true && text && fin && place && late) edge h) in
+    let here : (ack == una) ≡ true = sym p ∙ right_true (true && text && fin) place both.0 in
+    let flies : nat_lt una sent ≡ true = sym l ∙ both.1 in
+    grind (arith, here, flies)
+still_waits false text fin place late edge o una ack sent p l h = absurd (false≢true h)
+
+third_waits : {State : Type 0} (service : Machine State) (news : News) (before after : Point) → MeetsLaws service news before after
+    → is_third_duplicate news before ≡ true → waits_for_ack before after ≡ true
+unfolding is_third_duplicate is_duplicate acknowledged_after
+third_waits service (Comes segment) before after laws h =
+    let ack : ℕ = acknowledged_by before segment in
+    ap (λ n. not after.syn_acked || nat_lt n before.sent) laws.una
+    ∙ still_waits (acknowledges before segment) (length (text_of segment) == 0) (not (fin_of segment)) (ack == before.una) (nat_lt before.una before.sent)
+    (ack + window_by before segment == before.edge) (not after.syn_acked) before.una ack before.sent refl refl
+    (left_true (is_duplicate before segment) (is_third before.congestion) h)
+third_waits service (Logged kept) before after laws h = absurd (false≢true h)
+third_waits service Ticks before after laws h = absurd (false≢true h)
+third_waits service Begins before after laws h = absurd (false≢true h)
+
+either_waits : (x t w : Bool) → (t ≡ true → w ≡ true) → ((x && w) || t) ≡ ((x || t) && w)
+either_waits true true w h = sym (or_true w) ∙ sym (h refl)
+either_waits true false w h = sym (or_false w)
+either_waits false true w h = sym (h refl)
+either_waits false false w h = refl
 
 flushes : {State : Type 0} (service : Machine State) (news : News) (before after : Point) (e m u : Tcb) → StandsAt before e → Arrived news before e m → IsUsed m u
     → IsBounded u → has_begun u.name ≡ true → MeetsLaws service news before after → IsUsedAt service after u → Flushes service news before after u
@@ -87,8 +122,10 @@ flushes service news before after e m u stands came a bounds begun laws user = r
   sends = sends_of service news before after m u came.sends a laws;
   used = user;
   sent = stands.sent ∙ sym (a.sends.sent ∙ came.sent);
-  again = a.again ∙ came.again ∙ waits_is service news before after e stands laws (λ w. w);
+  again = a.again ∙ came.again ∙ ap (λ b. b || is_third_duplicate news before) (waits_is service news before after e stands laws (λ w. w))
+      ∙ either_waits (timer.expires news before) (is_third_duplicate news before) (waits_for_ack before after) (third_waits service news before after laws);
   probe = a.probe ∙ came.probe ∙ waits_is service news before after e stands laws not;
+  third = third_waits service news before after laws;
   answer = ap left.answer_segments a.answer ∙ came.answer ∙ ap (λ l. refusals l news before) (sym (a.local ∙ came.local));
 }
 
@@ -106,7 +143,7 @@ sent_is service news before after e m u stands came a laws f =
     (λ i. timer.expires news before && stands.sends.syn_acked i && not (nat_lt (stands.sends.una i) (stands.sent i)))
     ∙ sym (probes_by (timer.expires news before) e.sending.syn_acked (nat_lt e.sending.una e.sending.sent)) ∙ sym (a.probe ∙ came.probe) in
     laws.sent
-    ∙ (λ i. max (f.sent i) (min (point.target service after) (f.sends.edge i)) + one_if (probe i))
+    ∙ (λ i. max (f.sent i) (min (point.target service after) (min (f.sends.edge i) (f.sends.una i + (f.sends.congestion i).cwnd))) + one_if (probe i))
     ∙ ap (λ n. n + one_if u.probe) (sent_at service after u f.bounds f.fin_last f.used)
     ∙ sym (sent_law u f.begun f.bounds f.probes)
 

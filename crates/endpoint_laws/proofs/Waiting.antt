@@ -14,9 +14,9 @@ use Rattle.tcp_endpoint.specs.declared.states.StateName.{StateName}
 use Rattle.tcp_endpoint.specs.declared.states.StateName.TheVariants.{Closed, Listen, SynSent, SynReceived, Established, FinWait1, FinWait2, CloseWait, Closing, LastAck, TimeWait}
 use Rattle.tcp_endpoint.specs.States.{after_syn_acked, after_close, after_fin, after_fin_acked, is_time_wait, has_begun}
 use Rattle.tcp_endpoint.specs.Receiving.{next, taken, with_segment}
-use Rattle.tcp_endpoint.specs.Sending.{Sending, with_syn_acked, acknowledged, fin_acked, expires, ticked, timed}
+use Rattle.tcp_endpoint.specs.Sending.{Sending, with_syn_acked, acknowledged, fin_acked, congestion_expired, expires, ticked, timed}
 use Rattle.tcp_endpoint.specs.Tcb.{Tcb}
-use Rattle.tcp_endpoint.specs.Arrival.{first, ack_at, owing_if, killed, entering, refusing, with_text_and_fin, with_fin_acked, with_first_ack, with_ack, check_ack, check_syn, check_rst, repeats_fin, waiting_again, check_place, in_others, received}
+use Rattle.tcp_endpoint.specs.Arrival.{first, ack_at, owing_if, killed, entering, refusing, with_text_and_fin, with_fin_acked, with_first_ack, with_ack_used, with_ack, check_ack, check_syn, check_rst, repeats_fin, waiting_again, check_place, in_others, received}
 use Rattle.tcp_endpoint.specs.Leaving.{probes_text, probes_fin, with_probe, with_text_sent, with_fin_out, after_full, announced, is_timed, with_turn_ended, flushed}
 use Rattle.tcp_endpoint.specs.Turning.{after_tick, timer_ticked, waited}
 use Rattle.endpoint_laws.specs.Turn.{Call, Events, IsBetweenTurns, arrived, called, used, before_flush, turned}
@@ -24,6 +24,7 @@ use Rattle.endpoint_laws.specs.Turn.Call.{Reads, Writes, Closes}
 use Rattle.endpoint_laws.specs.Ending.{IsNamedRightly, resets}
 use Rattle.endpoint_laws.specs.Waiting.{time_wait_ticks, brings_fin_again, ticks_after, WaitsOut}
 use Rattle.endpoint_laws.proofs.TakenLaw.{begun_is, goes_on}
+use Rattle.endpoint_laws.proofs.SendingLaw.{used_is}
 use Rattle.endpoint_laws.proofs.TurnLaw.{after_steps}
 use Rattle.endpoint_laws.proofs.SegmentsLaw.{kept}
 use Rattle.endpoint_laws.proofs.EndingLaw.{IsPlaced, FollowsAt, stays_taken, flushed_name, reset_closed, unreset_follows}
@@ -57,9 +58,9 @@ enters_acked e h =
     holds_if Enters (fin_acked e.sending) (entering (after_fin_acked e.name) e) e (λ b. enters_by (after_fin_acked e.name) e h) (λ b. h)
 
 enters_later : (e : Tcb) (p : Segment) → Enters e → Enters (with_ack e p)
-unfolding with_ack
+unfolding with_ack with_ack_used
 enters_later e p h =
-    let m : Tcb = record e { sending = acknowledged e.sending p.head.seq (ack_at e p) p.head.window } in
+    let m : Tcb = with_ack_used e p in
     holds_if Enters (is_ahead e.sending.sent (ack_at e p)) (owing_if true e) (with_text_and_fin (with_fin_acked m) p)
     (λ b. h) (λ b. enters_text (with_fin_acked m) p (enters_acked m h))
 
@@ -171,11 +172,16 @@ waits_acked wait e w =
 owing_waits : (wait : ℕ) (e : Tcb) (owed : Bool) → Waits wait e → Waits wait (record e { owed = owed })
 owing_waits wait e owed w = record { name = w.name; wait_is = w.wait_is; syn_acked_is = w.syn_acked_is; fin = w.fin }
 
+waits_used_ack : (wait : ℕ) (e : Tcb) (p : Segment) → Waits wait e → Waits wait (with_ack_used e p)
+unfolding acknowledged
+waits_used_ack wait e p w =
+    subst (λ (t : Tcb). Waits wait t) (sym (used_is e p)) (record { name = w.name; wait_is = w.wait_is; syn_acked_is = w.syn_acked_is; fin = w.fin })
+
 waits_later : (wait : ℕ) (e : Tcb) (p : Segment) → Waits wait e → Waits wait (with_ack e p)
-unfolding with_ack acknowledged
+unfolding with_ack
 waits_later wait e p w =
-    let m : Tcb = record e { sending = acknowledged e.sending p.head.seq (ack_at e p) p.head.window } in
-    let used_up : Waits wait m = record { name = w.name; wait_is = w.wait_is; syn_acked_is = w.syn_acked_is; fin = w.fin } in
+    let m : Tcb = with_ack_used e p in
+    let used_up : Waits wait m = waits_used_ack wait e p w in
     holds_if (Waits wait) (is_ahead e.sending.sent (ack_at e p)) (owing_if true e) (with_text_and_fin (with_fin_acked m) p)
     (λ b. owing_waits wait e (e.owed || true) w) (λ b. waits_text wait (with_fin_acked m) p (waits_acked wait m used_up))
 
@@ -300,7 +306,9 @@ last_tick ticks some = grind (arith, some)
 
 ticked_syn_acked : (s : Sending) → (ticked s).syn_acked ≡ s.syn_acked
 ticked_syn_acked s =
-    holds_if (λ (t : Sending). t.syn_acked ≡ s.syn_acked) (expires s) (record s { interval = min 64 (2 * s.interval); rest = min 64 (2 * s.interval) }) (record s { rest = s.rest - 1 }) (λ h. refl) (λ h. refl)
+    holds_if (λ (t : Sending). t.syn_acked ≡ s.syn_acked) (expires s)
+    (record s { congestion = congestion_expired s; interval = min 64 (2 * s.interval); rest = min 64 (2 * s.interval) }) (record s { rest = s.rest - 1 })
+    (λ h. refl) (λ h. refl)
 
 ticked_waits : (ticks : ℕ) (e : Tcb) → 1 ≤ 4 - ticks → Waits (4 - ticks) e → (ticks + 1 == 4) ≡ false → (1 ≤ 4 - (ticks + 1)) × Waits (4 - (ticks + 1)) (after_tick e)
 unfolding after_tick timer_ticked waited

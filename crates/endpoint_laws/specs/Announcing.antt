@@ -1,4 +1,4 @@
--- What a segment tells the peer of the receiving half.
+-- What a segment reports to the peer of the receiving half.
 use Rattle.std.specs.Prelude.{◌≡◌, ◌≤◌, Bool, true, false, not, List, [], ◌∷◌, length}
 use Rattle.std.specs.List.{list_any, AllByRecursion}
 use Rattle.seq_arith.specs.Number.{number_at}
@@ -9,13 +9,13 @@ use Rattle.tcp_endpoint.specs.Tcb.{Tcb}
 use Rattle.endpoint_laws.specs.Turn.{Call, Events, arrived, called, before_flush, turned, sent_in}
 use Rattle.endpoint_laws.specs.Turn.Call.{Reads}
 
--- a segment that tells the peer all that is taken, and the window. A RST tells nothing
+-- a segment that isn't a RST acknowledges all that is taken, and advertises the window
 abbrev pub Announces : Tcb → Segment → Type 0
 Announces u segment =
     has_rst segment ≡ false
     → (has_ack segment ≡ true) × (segment.head.ack ≡ number_at u.receiving.irs (next u.receiving)) × (segment.head.window ≡ window u.receiving)
 
--- some segment is no RST
+-- some segment isn't a RST
 abbrev pub is_told : List Segment → Bool
 is_told segments = list_any (λ segment. not (has_rst segment)) segments
 
@@ -25,7 +25,7 @@ ReadsOnlyTaken [] e = Unit {0}
 ReadsOnlyTaken (Reads n ∷ calls) e = (n ≤ length e.receiving.unread) × ReadsOnlyTaken calls (called (Reads n) e)
 ReadsOnlyTaken (call ∷ calls) e = ReadsOnlyTaken calls (called call e)
 
--- at the end of each turn of a connection that has begun every segment tells all that is taken, and where more was taken in it one leaves
+-- at the end of each turn of a connection that has begun every segment but a RST acknowledges all that is taken, and where more was taken one such is sent
 abbrev pub AcknowledgesAll : Tcb → List Events → Type 0
 AcknowledgesAll e [] = Unit {0}
 AcknowledgesAll e (turn ∷ turns) =

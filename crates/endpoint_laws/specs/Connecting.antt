@@ -1,4 +1,4 @@
--- An endpoint of `connecting` before its SYN is answered, and what is asked of the segments that come.
+-- An endpoint of `connecting` before its SYN is answered, and what is required of the segments that arrive.
 use Rattle.std.specs.Prelude.{◌≡◌, ℕ, false, ◌<◌, ◌≤◌, ◌^◌, length, None}
 use Rattle.ft_model.specs.News.{News}
 use Rattle.ft_model.specs.News.News.{Comes}
@@ -7,8 +7,8 @@ use Rattle.tcp_endpoint.specs.Receiving.{receiving_up_to}
 use Rattle.tcp_endpoint.specs.Sending.{sending_from}
 use Rattle.tcp_endpoint.specs.Tcb.{Tcb, kept_limit}
 
--- between two turns of an endpoint in SYN-SENT nothing is due, and nothing is received or sent yet but the SYN, for which the timer runs. The
--- user may have written, but not closed
+-- between two turns of an endpoint in SYN-SENT nothing is due, and nothing is received or sent yet except the SYN, for which the timer runs. The user may have
+-- written, but not closed
 pub record IsConnecting (iss limit : ℕ) (e : Tcb) : Type 0 where
   pub name : e.name ≡ SynSent
   pub receiving : e.receiving ≡ receiving_up_to (kept_limit limit)
@@ -21,7 +21,7 @@ pub record IsConnecting (iss limit : ℕ) (e : Tcb) : Type 0 where
   pub probe : e.probe ≡ false
   pub answer : e.answer ≡ None
 
--- the number and the window of a segment that comes fit their bytes
+-- the number and the window of an arriving segment fit their bytes
 abbrev pub FieldsFit : News → Type 0
 FieldsFit (Comes segment) = (segment.head.seq < 2 ^ 32) × (segment.head.window ≤ 65535)
 FieldsFit _ = Unit {0}

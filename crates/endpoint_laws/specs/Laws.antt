@@ -1,13 +1,14 @@
--- What a segment and a flush make of an endpoint, in its own words, one definition a sentence of the model's laws and not of the checks in
--- `Arrival` and `Leaving`: Taken and Sending, when a segment without data is owed, and the timer. `Standing` leads from here to the model's own
--- definitions, for passive opens; these hold of active ones too. The receive edge keeps to the endpoint's limit in place of 2^24, and the target
--- is the bytes written, and one more once the user has closed.
+-- What a segment and a flush do to an endpoint, in its own words: one definition for each sentence of the model's laws, and not for each check in `Arrival` and
+-- `Leaving`. They are of Taken and Sending, of when a segment without data is owed, and of the timer. `Standing` leads from here to the model's own
+-- definitions, for passive opens; these hold of active ones too. The endpoint's limit bounds the receive edge in place of 2^24, and the target is the bytes
+-- written, and one more once the user has closed.
 use Rattle.std.specs.Prelude.{◌≡◌, ℕ, Bool, true, false, pos, ◌+◌, ◌-◌, ◌*◌, ◌^◌, ◌<◌, ◌≤◌, ◌-ℤ◌, ◌≤ℤ◌, ◌==◌, ◌&&◌, ◌||◌, not, nat_lt, int_lt, int_le, max, min, nat_abs, length, if◌then◌else◌}
 use Rattle.seq_arith.specs.Number.{offset_of}
 use Rattle.seq_arith.specs.Arrival.{int_eq, is_acceptable_or_at_edge, is_usable, una_after, updates_window}
 use Rattle.seq_arith.specs.Packet.{Segment, has_syn, has_rst, has_ack}
 use Rattle.seq_arith.specs.Offset.{one_if, text_of, fin_of, length_of}
 use Rattle.seq_arith.specs.Coming.{StandsBehind}
+use Rattle.seq_arith.specs.Congestion.{Congestion, with_new_data, is_third, with_duplicate, with_expiry, IsOpen}
 use Rattle.tcp_buffers.specs.Near.{IsNearFirst}
 use Rattle.tcp_endpoint.specs.Receiving.{Receiving, taken, next, receive_edge, announced_edge, with_segment}
 use Rattle.tcp_endpoint.specs.Sending.{Sending, target}
@@ -22,25 +23,52 @@ accepts e p = is_acceptable_or_at_edge (next e.receiving) (announced_edge e.rece
 abbrev pub uses : Tcb → Segment → Bool
 uses e p = is_usable (next e.receiving) (announced_edge e.receiving - next e.receiving) (first e p) (length_of p)
 
--- a segment counts where it has ACK and neither SYN nor RST, is used by its place, and, where no acknowledgement has counted yet, acknowledges the
--- SYN
+-- a segment counts where it has ACK and neither SYN nor RST, is used by its place, and, where no acknowledgement has counted yet, acknowledges the SYN
 abbrev pub counts : Tcb → Segment → Bool
 counts e p = has_ack p && not (has_syn p) && not (has_rst p) && uses e p && (e.sending.syn_acked || int_le (pos 0) (ack_at e p))
 
--- Taken: what the text and the FIN of a segment that counts make of the stream. Nothing else changes what is taken or held
+-- Taken: what the text and the FIN of a segment that counts do to the stream. Nothing else changes what is taken or held
 unfoldable pub taken_by : Tcb → Segment → Receiving
 taken_by e p = if counts e p then with_segment e.receiving (first e p) (text_of p) (fin_of p) else e.receiving
 
--- Sending: the acknowledgement of a segment that counts is used where it names an offset of the own stream
+-- Sending: the acknowledgement of a segment that counts is used where it names an offset of our stream
 abbrev pub acknowledges : Tcb → Segment → Bool
 acknowledges e p = counts e p && int_le (pos 0) (ack_at e p)
 
--- the window is used by TCP's test on older segments, and always where no acknowledgement has counted yet
+-- whether the window is used: by TCP's test for older segments, and always where no acknowledgement has counted yet
 abbrev pub uses_window : Tcb → Segment → Bool
 uses_window e p =
     acknowledges e p
     && (not e.sending.syn_acked
     || updates_window e.sending.una (offset_of e.receiving.irs e.sending.wl1) e.sending.wl2 (first e p) (nat_abs (ack_at e p)))
+
+-- Sending: a duplicate acknowledgement (RFC 5681, 2). It is used, its segment has neither text nor FIN, it acknowledges what is acknowledged already
+-- while something is in flight, and it leaves the right edge as it is
+abbrev pub is_duplicate : Tcb → Segment → Bool
+is_duplicate e p =
+    acknowledges e p
+    && length (text_of p) == 0
+    && not (fin_of p)
+    && nat_abs (ack_at e p) == e.sending.una
+    && nat_lt e.sending.una e.sending.sent
+    && nat_abs (ack_at e p) + p.head.window == e.sending.edge
+
+-- .. the third in a row
+abbrev pub is_third_duplicate : Tcb → Segment → Bool
+is_third_duplicate e p = is_duplicate e p && is_third e.sending.congestion
+
+-- Sending: what a segment does to the congestion window, the slow start threshold and the count of duplicates
+abbrev pub congestion_by : Tcb → Segment → Congestion
+congestion_by e p =
+    if acknowledges e p && nat_lt e.sending.una (nat_abs (ack_at e p))
+    then with_new_data e.sending.mss (nat_abs (ack_at e p) - e.sending.una) e.sending.congestion
+    else (if is_duplicate e p then with_duplicate e.sending.mss (e.sending.sent - e.sending.una) e.sending.congestion else e.sending.congestion)
+
+-- Sending: what a tick does to them. Where the timer expires, what is in flight counts as lost if the peer has room for it
+abbrev pub congestion_ticked : Sending → Congestion
+congestion_ticked s =
+    if s.rest == 1 && nat_lt s.una s.sent && nat_lt s.una s.edge then with_expiry s.mss (s.sent - s.una) (s.interval == 1) s.congestion
+    else s.congestion
 
 -- Sending, field by field. The right edge is absolute: it stays where only SND.UNA moves
 pub record IsSentBy (e : Tcb) (p : Segment) (after : Sending) : Type 0 where
@@ -51,10 +79,11 @@ pub record IsSentBy (e : Tcb) (p : Segment) (after : Sending) : Type 0 where
   pub edge : after.edge ≡ (if uses_window e p then nat_abs (ack_at e p) + p.head.window else e.sending.edge)
   pub wl1 : offset_of e.receiving.irs after.wl1 ≡ (if uses_window e p then first e p else offset_of e.receiving.irs e.sending.wl1)
   pub wl2 : after.wl2 ≡ (if uses_window e p then nat_abs (ack_at e p) else e.sending.wl2)
+  pub congestion : after.congestion ≡ congestion_by e p
   pub held : after.una + length after.held ≡ max after.una (e.sending.una + length e.sending.held)
   pub closed : after.closed ≡ e.sending.closed
 
--- a packet that acknowledges at most what was sent, and nothing far behind. Its fields fit their bytes
+-- a packet that acknowledges at most what was sent, and nothing far before our stream. Its fields fit their bytes
 pub record IsUsual (e : Tcb) (p : Segment) : Type 0 where
   pub sent : has_ack p ≡ true → ack_at e p ≤ℤ pos e.sending.sent
   pub near : has_ack p ≡ true → (pos 0 -ℤ pos (2 ^ 30 + 2 ^ 24)) ≤ℤ ack_at e p
@@ -62,8 +91,7 @@ pub record IsUsual (e : Tcb) (p : Segment) : Type 0 where
   pub window : p.head.window ≤ 65535
   pub text : length p.payload ≤ 65535
 
--- Where the halves of an endpoint stand that keeps to a limit of at most 2^24 bytes and whose user has written at most 2^24. The own FIN
--- counts as one unit more
+-- The bounds of an endpoint's halves, where its limit is at most 2^24 bytes and its user has written at most 2^24. Our FIN counts as one more unit
 pub record Bounds (r : Receiving) (s : Sending) : Type 0 where
   pub limit : r.limit ≤ 2 ^ 24
   pub early : StandsBehind (taken r) (receive_edge r) r.fin r.early
@@ -79,20 +107,22 @@ pub record Bounds (r : Receiving) (s : Sending) : Type 0 where
   pub wl2 : s.wl2 ≤ s.una
   pub edge : s.edge ≤ 2 ^ 24 + 2 ^ 16 + 1
   pub reach : s.edge ≤ s.una + 65535
+  pub congestion : IsOpen s.mss s.congestion
 
 abbrev pub IsBounded : Tcb → Type 0
 IsBounded e = Bounds e.receiving e.sending
 
--- Sending: where a probe is due, all that was sent is acknowledged, something waits, and the edge leaves no room
+-- Sending: where a probe is due, all that was sent is acknowledged, something is waiting, and the edge leaves no room
 pub record ProbesRightly (e : Tcb) : Type 0 where
   pub all_acked : e.probe ≡ true → e.sending.una ≡ e.sending.sent
   pub shut : e.probe ≡ true → e.sending.edge ≤ e.sending.sent
   pub waits : e.probe ≡ true → e.sending.sent + 1 ≤ target e.sending
   pub syn_acked : e.probe ≡ true → e.sending.syn_acked ≡ true
 
--- Sending: all that may leave, up to the right edge, never less than before, and one unit more at a probe
+-- Sending: all that may be sent, up to the right edge and the end of the congestion window, never less than before, and one unit more at a probe
 abbrev pub sent_by_law : Tcb → ℕ
-sent_by_law e = max e.sending.sent (min (target e.sending) e.sending.edge) + one_if e.probe
+sent_by_law e =
+    max e.sending.sent (min (target e.sending) (min e.sending.edge (e.sending.una + e.sending.congestion.cwnd))) + one_if e.probe
 
 -- the SYN isn't acknowledged yet, and the segment acknowledges less
 abbrev pub acknowledges_less : Tcb → Segment → Bool
@@ -102,8 +132,7 @@ acknowledges_less e p = not e.sending.syn_acked && has_ack p && int_lt (ack_at e
 abbrev pub is_refused : Tcb → Segment → Bool
 is_refused e p = accepts e p && not (has_rst p) && not (has_syn p) && acknowledges_less e p
 
--- Owed: to an acceptable segment, a challenge ACK for a RST elsewhere than at the next number and for a SYN, and an ACK for what takes up
--- numbers
+-- Owed: to an acceptable segment, a challenge ACK to a SYN and to a RST that isn't at the next number, and an ACK to a segment with a length
 abbrev pub owes_acceptable : Tcb → Segment → Bool
 owes_acceptable e p =
     if has_rst p then not (int_eq (first e p) (pos (next e.receiving)))
@@ -113,7 +142,7 @@ owes_acceptable e p =
 abbrev pub owes : Tcb → Segment → Bool
 owes e p = if accepts e p then owes_acceptable e p else not (has_rst p)
 
--- Timer: it starts anew where it didn't run, or where something new was acknowledged, the SYN included
+-- Timer: it starts again where it didn't run, or where something new was acknowledged, the SYN included
 abbrev pub starts : Sending → Sending → Bool
 starts before after = before.rest == 0 || nat_lt before.una after.una || (after.syn_acked && not before.syn_acked)
 
@@ -136,15 +165,15 @@ pub record IsTimedBy (s : Sending) (ticks left : ℕ) : Type 0 where
   pub interval : s.interval ≡ ticks
   pub rest : s.rest ≡ left
 
--- what was last announced, and that it is the same
+-- the acknowledgement and the edge last advertised
 abbrev pub told : Tcb → ℕ × ℕ
 told e = (e.told_next, e.told_edge)
 
--- Owed: a rule asks for a segment without data, or the acknowledgement or the edge differs from what was last announced
+-- Owed: a rule requires a segment without data, or the acknowledgement or the edge differs from the one last advertised
 abbrev pub asks : Bool → Tcb → Bool
 asks owed e = owed || not (e.told_next == next e.receiving) || not (e.told_edge == announced_edge e.receiving)
 
--- where the timer runs with all that was sent acknowledged, something waits that has no room below the edge
+-- where the timer runs with all that was sent acknowledged, something is waiting that has no room below the edge
 pub record IsShut (s : Sending) : Type 0 where
   pub edge : 1 ≤ s.rest → s.syn_acked ≡ true → s.una ≡ s.sent → s.edge ≤ s.sent
   pub waits : 1 ≤ s.rest → s.syn_acked ≡ true → s.una ≡ s.sent → s.sent + 1 ≤ target s

@@ -1,4 +1,4 @@
--- An endpoint of `listen` before its SYN has come, and the news that bring it no SYN.
+-- An endpoint of `listen` before its SYN has come, and news that brings it no SYN.
 use Rattle.std.specs.Prelude.{◌≡◌, ℕ, Bool, false, ◌≤◌, ◌^◌, length, None}
 use Rattle.ft_model.specs.News.{News}
 use Rattle.ft_model.specs.News.News.{Comes}
@@ -19,7 +19,7 @@ pub record IsListening (iss limit : ℕ) (e : Tcb) : Type 0 where
   pub probe : e.probe ≡ false
   pub answer : e.answer ≡ None
 
--- whether a SYN comes that opens a connection: one without ACK and RST
+-- whether a SYN arrives that opens a connection: one without ACK and RST
 abbrev pub brings_syn : News → Bool
 brings_syn (Comes segment) = is_syn segment
 brings_syn _ = false

@@ -1,7 +1,6 @@
--- An endpoint that stands at a point of `ft_model`, and what its turns are by the laws there. Those laws know one limit, 2^24 bytes. An
--- endpoint with a smaller one stands at a point whose peer's stream begins as many bytes further up, as if they had been fetched: so its
--- limit stands in the place of 2^24, and where it is 2^24 nothing is fetched. The bytes that the user has read are the point's; the endpoint
--- has forgotten them.
+-- An endpoint at a point of `ft_model`, and what its turns are by the laws there. Those laws know only one limit, 2^24 bytes. Where an endpoint's limit is
+-- smaller, the peer's stream at its point begins as many bytes further up, as if they had been fetched. So its limit takes the place of 2^24, and where it is
+-- 2^24 nothing is fetched. The bytes that the user has read are in the point. The endpoint has forgotten them.
 use Rattle.std.specs.Prelude.{◌≡◌, ℕ, Bool, true, false, pos, ◌+◌, ◌≤◌, ◌%◌, ◌^◌, ◌+ℤ◌, ◌==◌, ◌&&◌, ◌||◌, not, max, List, [], ◌∷◌, ◌++◌, length, drop, sum, if◌then◌else◌, take, ◌⊎◌}
 use Rattle.std.specs.Bool.{MatchBool}
 use Rattle.ft_io.specs.declared.Addr.{Addr}
@@ -17,7 +16,7 @@ use Rattle.ft_model.specs.Network.{source_of}
 use Rattle.ft_model.specs.Opening.{segment_size, point_opened}
 use Rattle.ft_model.specs.Connection.{IsSameConnection}
 use Rattle.ft_model.specs.Taken.{accepts, taken_after, early_after, fin_after}
-use Rattle.ft_model.specs.Sending.{syn_acked_after, acknowledged_after, edge_after, wl1_after, wl2_after, sent_after}
+use Rattle.ft_model.specs.Sending.{syn_acked_after, acknowledged_after, edge_after, wl1_after, wl2_after, congestion_after, sent_after}
 use Rattle.ft_model.specs.Timer.{interval_after, rest_after}
 use Rattle.ft_model.specs.Owed.{is_refused, owes}
 use Rattle.ft_model.specs.Refusal.{rst_at_ack}
@@ -41,7 +40,7 @@ pub record ReceivesAt (p : Point) (e : Tcb) : Type 0 where
   pub fin : p.fin ≡ e.receiving.fin
   pub early : p.early ≡ early_from p.fetched e.receiving.early
 
--- the sending half, but for what is sent and the timer
+-- the sending half, except for what is sent and the timer
 pub record SendsAt (p : Point) (e : Tcb) : Type 0 where
   pub sisn : p.sisn ≡ e.sending.iss
   pub mss : p.mss ≡ e.sending.mss
@@ -50,6 +49,7 @@ pub record SendsAt (p : Point) (e : Tcb) : Type 0 where
   pub edge : p.edge ≡ e.sending.edge
   pub wl1 : e.sending.syn_acked ≡ true → p.wl1 ≡ (offset_of e.receiving.irs e.sending.wl1 +ℤ pos p.fetched)
   pub wl2 : p.wl2 ≡ e.sending.wl2
+  pub congestion : p.congestion ≡ e.sending.congestion
 
 pub record StandsAt (p : Point) (e : Tcb) : Type 0 where
   pub ip : p.key.ip ≡ e.remote.ip
@@ -71,15 +71,15 @@ pub record HasFilled {State : Type 0} (service : Machine State) (p : Point) (s :
   pub open_still : s.closed ≡ false
   pub written : bytes_end s ≤ released service p
 
--- the user of an endpoint is the service at a point: it has read those bytes, and written of its output, in order, as much as there was room
--- for. TCP knows of no log: all that is taken may be acknowledged
+-- the user of an endpoint acts as the service at a point: it has read those bytes, and written the service's output, in order, as much as there was room for.
+-- TCP knows of no log: all that is taken may be acknowledged
 pub record IsUsedAt {State : Type 0} (service : Machine State) (p : Point) (e : Tcb) : Type 0 where
   pub read : max p.fetched (sum p.lengths) ≡ e.receiving.read + p.fetched
   pub output : take (length e.sending.held) (drop e.sending.una (answered_run service p).output) ≡ e.sending.held
   pub written : HasWrittenAll service p e.sending ⊎ HasFilled service p e.sending
   pub answered : taken_units p ≤ p.answered
 
--- the laws Taken and Sending, with the timer's, of a turn: what `LiveTurn` asks of the point after it but for reads and log
+-- the laws Taken and Sending, with the timer's, of a turn: what `LiveTurn` requires of the point after it, except for reads and log
 pub record MeetsLaws {State : Type 0} (service : Machine State) (news : News) (before after : Point) : Type 0 where
   pub same : IsSameConnection before after
   pub taken : after.taken ≡ taken_after news before
@@ -90,11 +90,12 @@ pub record MeetsLaws {State : Type 0} (service : Machine State) (news : News) (b
   pub edge : after.edge ≡ edge_after news before
   pub wl1 : after.wl1 ≡ wl1_after news before
   pub wl2 : after.wl2 ≡ wl2_after news before
+  pub congestion : after.congestion ≡ congestion_after news before
   pub sent : after.sent ≡ sent_after service news before after
   pub interval : after.interval ≡ interval_after news before after
   pub rest : after.rest ≡ rest_after service news before after
 
--- TCP owes a segment without data to the one that came, or the acknowledgement or the edge changes in this turn
+-- TCP owes a segment without data to the one that arrived, or the acknowledgement or the edge changes in this turn
 abbrev pub owes_to : News → Point → Bool
 owes_to (Comes segment) before = owes before segment
 owes_to _ before = false
@@ -111,15 +112,15 @@ abbrev pub refusals : Addr → News → Point → List Segment
 refusals server (Comes segment) before = if refuses before segment then rst_at_ack server segment ∷ [] else []
 refusals server _ before = []
 
--- what leaves in a turn: that RST; what is sent again or probed; text and FIN; else a segment without data where one is owed. The model's
--- wrapped connection sends the same, but that it keeps TCP's RST to itself, answers a repeated SYN with the kept SYN-ACK, and owes answers besides
--- to what only it knows of: what is logged, and that it has become live or is over
+-- what is sent in a turn: that RST; retransmissions and probes; text and FIN; else a segment without data where one is owed. The model's wrapped connection
+-- sends the same, except that it keeps TCP's RST to itself, answers a repeated SYN with the kept SYN-ACK, and also owes answers to what only it knows of: what
+-- is logged, and that it has become live or is over
 abbrev pub segments_by_laws : {State : Type 0} → Machine State → Addr → News → (before after : Point) → List Segment
 segments_by_laws service server news before after =
     or_bare (is_owed news before after) (bare_segment server after)
     (refusals server news before ++ (resent service server news before after ++ (new_texts service server before after ++ new_fin service server before after)))
 
--- the point at which an endpoint stands that a SYN has opened, behind these fetched bytes: the model's new connection, its timer running
+-- the point of an endpoint that a SYN has opened, after these fetched bytes: the model's new connection, with its timer running
 abbrev pub point_begun : (fetched : List ℕ) → Numbers → Point
 point_begun fetched numbers = record (point_opened numbers) { fetched = length fetched; taken = fetched; answered = length fetched; rest = 1 }
 
@@ -127,7 +128,7 @@ point_begun fetched numbers = record (point_opened numbers) { fetched = length f
 abbrev pub numbers_with : (cisn sisn : ℕ) → Segment → Numbers
 numbers_with cisn sisn syn = record { key = source_of syn; cisn = cisn; sisn = sisn; mss = segment_size syn.head.mss }
 
--- the turn of a SYN leads to a point at which the endpoint stands, and sends a SYN-ACK alone
+-- the turn of a SYN leads to the endpoint's point, and sends only a SYN-ACK
 pub record BeginsAt (p : Point) (listening : Tcb) (syn : Segment) (calls : List Call) : Type 0 where
   pub begun : has_begun (turned (Comes syn) calls listening).name ≡ true
   pub between : IsBetweenTurns (turned (Comes syn) calls listening)
@@ -140,7 +141,7 @@ pub record LeadsTo {State : Type 0} (service : Machine State) (news : News) (bef
   pub stands : StandsAt after (turned news calls e)
   pub segments : sent_in news calls e ≡ segments_by_laws service e.local news before after
 
--- a turn in which both FINs are through: the endpoint is CLOSED, nothing leaves, and its halves stand at the point after it
+-- a turn in which both FINs are through: the endpoint is CLOSED, nothing is sent, and its halves are at the point after it
 pub record EndsAt (after : Point) (u : Tcb) : Type 0 where
   pub closed : u.name ≡ Closed
   pub over : is_over u ≡ true
@@ -149,22 +150,22 @@ pub record EndsAt (after : Point) (u : Tcb) : Type 0 where
   pub sent : after.sent ≡ u.sending.sent
   pub silent : leaving u ≡ []
 
--- a turn of a run: what comes, what the user does, a service that has read and written like the user up to then, and the point after it.
--- Whatever a user writes, some service has written that, and only that counts: so the services of two turns need have nothing in common
+-- a turn of a run: what arrives, what the user does, a service that has read and written like the user up to then, and the point after it. Whatever a user
+-- writes, some service has written that, and only that counts. So the services of two turns need have nothing in common
 pub record Step : Type 0 where
   pub news : News
   pub calls : List Call
   pub user : Machine ℕ
   pub after : Point
 
--- what is asked of it: its segment is a usual one, the user's calls may be, and the point after it follows from the one before by the laws
+-- what is required of it: its segment is a usual one, the user's calls are allowed, and the point after it follows from the one before by the laws
 pub record IsStep (before : Point) (e : Tcb) (step : Step) : Type 0 where
   pub usual : IsUsualNews step.news e
   pub may : MayUse step.calls (arrived step.news e)
   pub laws : MeetsLaws step.user step.news before step.after
   pub used : IsUsedAt step.user step.after (before_flush step.news step.calls e)
 
--- a turn that leaves the endpoint CLOSED: a RST came at exactly the next number, or both FINs are through
+-- a turn that leaves the endpoint CLOSED: a RST arrived at exactly the next number, or both FINs are through
 abbrev pub Ends : News → List Call → Tcb → Type 0
 Ends news calls e = (resets news e ≡ true) ⊎ (is_over (before_flush news calls e) ≡ true)
 

@@ -1,5 +1,5 @@
--- A turn of an endpoint, from one flush to the next: the turn's news come, the user makes calls, and one flush ends it. A turn without a
--- segment and without a tick has news for the user alone.
+-- A turn of an endpoint, from one flush to the next: the turn's news arrives, the user makes calls, and one flush ends it. A turn without a segment and without
+-- a tick has news only for the user.
 use Rattle.std.specs.Prelude.{◌≡◌, ℕ, true, false, ◌+◌, ◌-◌, ◌≤◌, ◌^◌, List, [], ◌∷◌, length, None}
 use Rattle.seq_arith.specs.Packet.{Segment}
 use Rattle.ft_model.specs.News.{News}
@@ -17,7 +17,7 @@ arrived (Comes segment) e = received e segment
 arrived Ticks e = after_tick e
 arrived _ e = e
 
--- a call of the user: so many bytes are read, these are written, or the own stream is closed
+-- a call of the user: bytes are read, these are written, or our stream is closed
 pub data Call : Type 0 where
   Reads : ℕ → Call
   Writes : List ℕ → Call
@@ -41,7 +41,7 @@ before_flush news calls e = used calls (arrived news e)
 abbrev pub turned : News → List Call → Tcb → Tcb
 turned news calls e = flushed (before_flush news calls e)
 
--- and the segments that leave
+-- and the segments that are sent
 abbrev pub sent_in : News → List Call → Tcb → List Segment
 sent_in news calls e = leaving (before_flush news calls e)
 
@@ -50,7 +50,7 @@ pub record Events : Type 0 where
   pub news : News
   pub calls : List Call
 
--- a call that may be: no more is read than there is, no more is written than there is room for, and a stream has at most 2^24 bytes
+-- an allowed call: no more is read than there is, no more is written than there is room for, and a stream has at most 2^24 bytes
 abbrev pub MayCall : Call → Tcb → Type 0
 MayCall (Reads n) e = n ≤ length e.receiving.unread
 MayCall (Writes bytes) e = (length bytes ≤ write_room e) × (bytes_end e.sending + length bytes ≤ 2 ^ 24)
@@ -60,12 +60,12 @@ abbrev pub MayUse : List Call → Tcb → Type 0
 MayUse [] e = Unit {0}
 MayUse (call ∷ calls) e = MayCall call e × MayUse calls (called call e)
 
--- a segment that comes acknowledges at most what was sent
+-- an arriving segment acknowledges at most what was sent
 abbrev pub IsUsualNews : News → Tcb → Type 0
 IsUsualNews (Comes segment) e = IsUsual e segment
 IsUsualNews _ e = Unit {0}
 
--- between two turns of a connection that has begun nothing is due, and all that is taken and the edge are announced
+-- between two turns of a connection that has begun nothing is due, and all that is taken and the edge are advertised
 pub record IsBetweenTurns (e : Tcb) : Type 0 where
   pub bounds : IsBounded e
   pub told : told e ≡ (next e.receiving, announced_edge e.receiving)
@@ -73,7 +73,7 @@ pub record IsBetweenTurns (e : Tcb) : Type 0 where
   pub again : e.again ≡ false
   pub probe : e.probe ≡ false
   pub answer : e.answer ≡ None
-  -- a FIN is sent behind all that was written, by a user who closed
+  -- a FIN is sent after all that was written, by a user who closed
   pub fin_last : e.sending.fin_sent ≡ true → (e.sending.closed ≡ true) × (1 ≤ e.sending.sent) × (length e.sending.held ≡ e.sending.sent - 1 - e.sending.una)
   pub shut : IsShut e.sending
   pub interval : 1 ≤ e.sending.interval

@@ -1,5 +1,4 @@
--- What an endpoint sends that is in no connection: in CLOSED, LISTEN and SYN-SENT (RFC 9293, 3.10.7.1 to 3.10.7.3). The RSTs, field by field,
--- are the model's.
+-- What an endpoint sends that has no connection: in CLOSED, LISTEN and SYN-SENT (RFC 9293, 3.10.7.1 to 3.10.7.3). The RSTs, field by field, are the model's.
 use Rattle.std.specs.Prelude.{ℕ, Bool, true, false, pos, ◌==◌, ◌&&◌, not, min, Some, List, [], ◌∷◌, if◌then◌else◌}
 use Rattle.ft_io.specs.declared.Addr.{Addr}
 use Rattle.seq_arith.specs.Arrival.{int_eq}
@@ -13,21 +12,21 @@ use Rattle.tcp_endpoint.specs.declared.states.StateName.TheVariants.{Closed, Syn
 use Rattle.tcp_endpoint.specs.Sending.{Sending}
 use Rattle.endpoint_laws.specs.Laws.{ticked_interval, ticked_rest}
 
--- 3.10.7.1: CLOSED answers each segment but a RST with a RST
+-- 3.10.7.1: CLOSED answers each segment except a RST with a RST
 abbrev pub sent_in_closed : Addr → News → List Segment
 sent_in_closed local (Comes segment) = as_closed local segment
 sent_in_closed local _ = []
 
--- 3.10.7.2, first and second check: LISTEN answers an acknowledgement with a RST, unless it has RST itself
+-- 3.10.7.2, first and second check: LISTEN answers an acknowledgement with a RST, unless the segment has RST itself
 abbrev pub sent_in_listen : Addr → News → List Segment
 sent_in_listen local (Comes segment) = as_listen local segment
 sent_in_listen local _ = []
 
--- 3.10.7.3: SEG.ACK is ISS + 1, so the SYN is acknowledged, which alone is sent
+-- 3.10.7.3: SEG.ACK is ISS + 1, so the SYN is acknowledged, and nothing else has been sent
 abbrev pub acknowledges_syn : (iss : ℕ) → Segment → Bool
 acknowledges_syn iss segment = has_ack segment && int_eq (ack_of iss segment) (pos 0)
 
--- first check: any other acknowledgement is answered with a RST, unless it has RST itself
+-- first check: any other acknowledgement is answered with a RST, unless the segment has RST itself
 abbrev pub refused_in_syn_sent : Addr → (iss : ℕ) → News → List Segment
 refused_in_syn_sent local iss (Comes segment) =
     if has_ack segment && not (acknowledges_syn iss segment) && not (has_rst segment) then rst_at_ack local segment ∷ [] else []
@@ -38,12 +37,12 @@ abbrev pub resets_in_syn_sent : (iss : ℕ) → News → Bool
 resets_in_syn_sent iss (Comes segment) = acknowledges_syn iss segment && has_rst segment
 resets_in_syn_sent iss _ = false
 
--- fourth check: a SYN that acknowledges the own one
+-- fourth check: a SYN that acknowledges ours
 abbrev pub answers_in_syn_sent : (iss : ℕ) → News → Bool
 answers_in_syn_sent iss (Comes segment) = acknowledges_syn iss segment && not (has_rst segment) && has_syn segment
 answers_in_syn_sent iss _ = false
 
--- the state that news lead to. A SYN alone, which a simultaneous open would take, is let pass
+-- the state that news leads to. A SYN without ACK, which a simultaneous open would take, is ignored
 abbrev pub state_after_syn_sent : (iss : ℕ) → News → StateName
 state_after_syn_sent iss news = if resets_in_syn_sent iss news then Closed else (if answers_in_syn_sent iss news then Established else SynSent)
 
@@ -64,12 +63,12 @@ syn_of local remote iss limit = record {
   payload = [];
 }
 
--- 3.10.8: the timer expires at this tick, so the SYN goes out again
+-- 3.10.8: the timer expires at this tick, so the SYN is retransmitted
 abbrev pub expires_at : News → Sending → Bool
 expires_at Ticks s = s.rest == 1
 expires_at _ s = false
 
--- the timer runs on at a tick, and nothing else moves it
+-- the timer continues at a tick, and nothing else changes it
 abbrev pub interval_waiting : News → Sending → ℕ
 interval_waiting Ticks s = ticked_interval true s
 interval_waiting _ s = s.interval

@@ -15,18 +15,18 @@ use Rattle.endpoint_laws.specs.Ending.{resets}
 abbrev pub time_wait_ticks : ℕ
 time_wait_ticks = 4
 
--- the peer's FIN comes again: the last unit before RCV.NXT
+-- the peer repeats its FIN: the last unit before RCV.NXT
 abbrev pub brings_fin_again : News → Tcb → Bool
 brings_fin_again (Comes segment) e =
     fin_of segment && int_eq (first_of e.receiving.irs segment +ℤ pos (length segment.payload + 1)) (pos (next e.receiving))
 brings_fin_again _ e = false
 
--- the ticks since it came last
+-- the ticks since it last came
 abbrev pub ticks_after : (ticks : ℕ) → News → Tcb → ℕ
 ticks_after ticks Ticks e = ticks + 1
 ticks_after ticks news e = if brings_fin_again news e then 0 else ticks
 
--- turn by turn, up to a RST at the next number: TIME-WAIT until so many ticks have passed, and then CLOSED
+-- turn by turn, up to a RST at the next number: TIME-WAIT until 2 MSL have passed, and then CLOSED
 abbrev pub WaitsOut : (ticks : ℕ) → Tcb → List Events → Type 0
 WaitsOut ticks e [] = Unit {0}
 WaitsOut ticks e (turn ∷ turns) =

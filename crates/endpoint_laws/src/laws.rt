@@ -1,5 +1,5 @@
-//! The laws that an endpoint meets, each the clause of a function that does nothing: what a crate above may cite. They stand apart from the
-//! functions that the code's clauses name, in the words of the laws of `ft_model`.
+//! The laws that an endpoint meets, each the clause of a function that does nothing, for the crates above to cite. They don't use the functions that the code's
+//! clauses name, but the words of the laws of `ft_model`.
 
 ghost use Rattle.std.specs.Prelude.{◌≡◌, ℕ, ◌+◌, ◌%◌, ◌<◌, ◌≤◌, ◌^◌, true, false, List, length};
 ghost use Rattle.seq_arith.specs.Packet.{Segment};
@@ -7,7 +7,7 @@ ghost use Rattle.tcp_endpoint.specs.States.{has_begun};
 ghost use Rattle.tcp_endpoint.specs.Tcb.{Tcb, listening, connecting};
 ghost use Rattle.tcp_endpoint.specs.Arrival.{received};
 ghost use Rattle.endpoint_laws.specs.Laws.{IsBounded, IsUsual, taken_by, IsSentBy, ProbesRightly, sent_by_law, is_refused, owes, starts, interval_by, rest_by};
-ghost use Rattle.endpoint_laws.specs.Laws.{ticked_interval, ticked_rest, IsTimedBy, told, asks, IsShut};
+ghost use Rattle.endpoint_laws.specs.Laws.{is_third_duplicate, congestion_ticked, ticked_interval, ticked_rest, IsTimedBy, told, asks, IsShut};
 ghost use Rattle.tcp_endpoint.specs.Sending.{IsShort};
 ghost use Rattle.tcp_endpoint.specs.Receiving.{next, announced_edge};
 ghost use Rattle.tcp_endpoint.specs.Leaving.{or_bare, bare_segment, full_out, leaving, after_full, is_timed, flushed};
@@ -41,10 +41,23 @@ pub fn segments_are_taken_by_law()
     ensures { (e : Tcb) (p : Segment) → has_begun e.name ≡ true → IsBounded e → IsUsual e p → (received e p).receiving ≡ taken_by e p }
 {}
 
-/// The law Sending: what an acknowledgement and a window do. Nothing is sent where a segment arrives: that is the flush's.
+/// The law Sending: what an acknowledgement and a window do. Nothing is sent when a segment arrives: the flush does that.
 #[tactic(auto, using(crate::proofs::SendingLaw::sending_law))]
 pub fn segments_are_acknowledged_by_law()
     ensures { (e : Tcb) (p : Segment) → has_begun e.name ≡ true → IsBounded e → IsUsual e p → IsSentBy e p (received e p).sending }
+{}
+
+/// At the third duplicate acknowledgement in a row the first unacknowledged segment becomes due for retransmission, and at no other segment.
+#[tactic(auto, using(crate::proofs::SendingLaw::again_law))]
+pub fn third_duplicates_send_again()
+    ensures { (e : Tcb) (p : Segment) → has_begun e.name ≡ true → IsBounded e → IsUsual e p
+        → (received e p).again ≡ (e.again || is_third_duplicate e p) }
+{}
+
+/// The law Sending, at a tick: where the timer expires, what is in flight counts as lost if the peer has room for it.
+#[tactic(auto, using(crate::proofs::SendingLaw::ticked_law))]
+pub fn ticks_lose_by_law()
+    ensures { (e : Tcb) → IsBounded e → (after_tick e).sending.congestion ≡ congestion_ticked e.sending }
 {}
 
 /// A passive open with a limit of at most 2^24 bytes is within the bounds ..
@@ -59,7 +72,7 @@ pub fn active_opens_are_bounded()
     ensures { (local remote : Addr) (iss limit : ℕ) → limit ≤ 2 ^ 24 → IsBounded (connecting local remote iss limit) }
 {}
 
-/// They stay within them where a segment comes in LISTEN, ..
+/// They stay within them when a segment arrives in LISTEN, ..
 #[tactic(auto, using(crate::proofs::Bounding::bounded_in_listen))]
 pub fn listening_stays_bounded()
     ensures { (e : Tcb) (p : Segment) → e.name ≡ Listen → e.sending.syn_acked ≡ false → IsBounded e → IsBounded (received e p) }
@@ -78,48 +91,49 @@ pub fn segments_keep_the_bounds()
     ensures { (e : Tcb) (p : Segment) → has_begun e.name ≡ true → IsBounded e → IsUsual e p → IsBounded (received e p) }
 {}
 
-/// .. where a turn ends, ..
+/// .. when a turn ends, ..
 #[tactic(auto, using(crate::proofs::Bounding::bounded_by_flush))]
 pub fn flushes_keep_the_bounds()
     ensures { (e : Tcb) → IsBounded e → IsBounded (flushed e) }
 {}
 
-/// .. where a tick passes, ..
+/// .. when a tick passes, ..
 #[tactic(auto, using(crate::proofs::Bounding::bounded_by_tick))]
 pub fn ticks_keep_the_bounds()
     ensures { (e : Tcb) → IsBounded e → IsBounded (after_tick e) }
 {}
 
-/// .. where the user reads, ..
+/// .. when the user reads, ..
 #[tactic(auto, using(crate::proofs::Bounding::bounded_by_read))]
 pub fn reads_keep_the_bounds()
     ensures { (e : Tcb) (n : ℕ) → n ≤ length e.receiving.unread → IsBounded e → IsBounded (after_read e n) }
 {}
 
-/// .. where the user writes and has written no more than 2^24 bytes, ..
+/// .. when the user writes and has written no more than 2^24 bytes, ..
 #[tactic(auto, using(crate::proofs::Bounding::bounded_by_write))]
 pub fn writes_keep_the_bounds()
     ensures { (e : Tcb) (bytes : List ℕ) → e.sending.una + length e.sending.held + length bytes ≤ 2 ^ 24 → IsBounded e → IsBounded (after_write e bytes) }
 {}
 
-/// .. and where the user closes.
+/// .. and when the user closes.
 pub fn closing_keeps_the_bounds()
     ensures { (e : Tcb) → IsBounded e → IsBounded (closing e) }
 {}
 
-/// Within the bounds numbers tell the order of offsets, as `on_packet` asks.
+/// Within the bounds numbers show the order of offsets, as `on_packet` requires.
 #[tactic(auto, using(crate::proofs::Bounding::bounded_is_short))]
 pub fn bounds_are_enough()
     ensures { (e : Tcb) → IsBounded e → IsShort e.sending }
 {}
 
-/// The law Sending, at the end of a turn: all that may leave is sent at once, up to the right edge, and one unit more at a probe.
+/// The law Sending, at the end of a turn: all that may be sent is sent at once, up to the right edge and the end of the congestion window, and one unit more at
+/// a probe.
 #[tactic(auto, using(crate::proofs::TurnLaw::sent_law))]
 pub fn turns_send_up_to_the_edge()
     ensures { (e : Tcb) → has_begun e.name ≡ true → IsBounded e → ProbesRightly e → (flushed e).sending.sent ≡ sent_by_law e }
 {}
 
-/// When an answer is owed to a segment. It goes out where no other segment does.
+/// When an answer is owed to a segment. It is sent where no other segment is.
 #[tactic(auto, using(crate::proofs::OwedLaw::owed_law))]
 pub fn segments_are_owed_answers_by_law()
     ensures { (e : Tcb) (p : Segment) → has_begun e.name ≡ true → IsBounded e → IsUsual e p → e.owed ≡ false → is_refused e p ≡ false
@@ -146,17 +160,16 @@ pub fn passive_opens_listen()
     ensures { (local : Addr) (iss limit : ℕ) → IsListening iss limit (listening local iss limit) }
 {}
 
-/// It still listens, at the same address, after each turn in which no SYN comes that opens a connection and the user doesn't close: nothing is
-/// received, the timer doesn't run, and what the user writes waits.
+/// It still listens, at the same address, after each turn in which no SYN arrives that opens a connection and the user doesn't close: nothing is received, the
+/// timer doesn't run, and what the user writes waits.
 pub fn listening_goes_on()
     ensures { (iss limit : ℕ) (news : News) (calls : List Call) (e : Tcb) → IsListening iss limit e → brings_syn news ≡ false
         → MayUse calls (arrived news e) → (before_flush news calls e).name ≡ Listen
         → IsListening iss limit (turned news calls e) × ((turned news calls e).local ≡ e.local) }
 {}
 
-/// An endpoint that listens stands at a point of `ft_model` from its SYN on, whatever came and was written before: at the new connection's,
-/// whose SYN-ACK is all that leaves. The fetched bytes are as many as the endpoint's limit leaves of 2^24, and none for the limit of a whole
-/// stream.
+/// An endpoint that listens is at a point of `ft_model` from its SYN on, whatever arrived and was written before: at the new connection's point, whose SYN-ACK
+/// is all that is sent. The fetched bytes are as many as the endpoint's limit leaves of 2^24: none where the limit is that of a complete stream.
 pub fn syns_lead_to_points()
     ensures { (e : Tcb) (iss limit cisn : ℕ) (fetched : List ℕ) (syn : Segment) (calls : List Call)
         → IsListening iss limit e → limit + length fetched ≡ 2 ^ 24 → is_syn syn ≡ true → syn.head.seq ≡ (cisn + length fetched) % 2 ^ 32
@@ -164,9 +177,8 @@ pub fn syns_lead_to_points()
         → BeginsAt (point_begun fetched (numbers_with cisn iss syn)) e syn calls }
 {}
 
-/// From there on each turn, until the endpoint is CLOSED, leads from the point at which it stands to the point that the laws Taken and
-/// Sending of `ft_model` and its law of the timer lead to, for the service that reads and writes as the endpoint's user does; and what
-/// leaves, segment for segment, is what they say.
+/// From there on each turn, until the endpoint is CLOSED, leads from its point to the point that the laws Taken and Sending of `ft_model` and its law of the
+/// timer lead to, for the service that reads and writes as the endpoint's user does. What is sent, segment for segment, is what they say.
 pub fn turns_lead_from_point_to_point<S: Service>()
     ensures { (kind : ℕ) (news : News) (calls : List Call) (before after : Point) (e : Tcb)
         → has_begun e.name ≡ true → IsBetweenTurns e → StandsAt before e → IsUsualNews news e → MayUse calls (arrived news e)
@@ -176,7 +188,7 @@ pub fn turns_lead_from_point_to_point<S: Service>()
         → LeadsTo (machine (S.started kind) S.after) news before after e calls }
 {}
 
-/// There always is such a point: whatever comes and whatever the user does, some service reads and writes as the user.
+/// There always is such a point: whatever arrives and whatever the user does, some service reads and writes as the user does.
 pub fn turns_have_points()
     ensures { (news : News) (calls : List Call) (before : Point) (e : Tcb)
         → has_begun e.name ≡ true → IsBetweenTurns e → StandsAt before e → IsUsualNews news e → MayUse calls (arrived news e)
@@ -184,9 +196,9 @@ pub fn turns_have_points()
         → (service : Machine ℕ) × (after : Point) × MeetsLaws service news before after × IsUsedAt service after (before_flush news calls e) }
 {}
 
-/// So over a whole run: from its SYN on an endpoint of `listen` meets the laws Taken and Sending of `ft_model`, with the timer's, turn by turn,
-/// until a RST at exactly the next number comes, or both FINs are through and it is CLOSED: for every initial number of both sides, every limit up
-/// to 2^24, and every user.
+/// So it is over a complete run: from its SYN on an endpoint of `listen` meets the laws Taken and Sending of `ft_model`, with the timer's, turn by turn, until
+/// a RST at exactly the next number arrives, or both FINs are through and it is CLOSED. This holds for every initial number of both sides, every limit up to
+/// 2^24, and every user.
 pub fn endpoints_run_by_the_laws()
     ensures { (e : Tcb) (iss limit cisn : ℕ) (fetched : List ℕ) (syn : Segment) (calls : List Call) (steps : List Step)
         → IsListening iss limit e → limit + length fetched ≡ 2 ^ 24 → is_syn syn ≡ true → syn.head.seq ≡ (cisn + length fetched) % 2 ^ 32
@@ -195,7 +207,7 @@ pub fn endpoints_run_by_the_laws()
         × RunsByLaws (point_begun fetched (numbers_with cisn iss syn)) (turned (Comes syn) calls e) steps }
 {}
 
-/// The turn in which both FINs are through leaves the endpoint CLOSED, in silence, and its halves at the point after it.
+/// The turn in which both FINs are through leaves the endpoint CLOSED, sends nothing, and leaves its halves at the point after it.
 pub fn connections_end_at_points<S: Service>()
     ensures { (kind : ℕ) (news : News) (calls : List Call) (before after : Point) (e : Tcb)
         → has_begun e.name ≡ true → IsBetweenTurns e → IsNamedRightly e → StandsAt before e → IsUsualNews news e → MayUse calls (arrived news e)
@@ -205,31 +217,31 @@ pub fn connections_end_at_points<S: Service>()
         → EndsAt after (before_flush news calls e) }
 {}
 
-/// The state of a connection that has begun tells whether the peer's FIN is taken.
+/// The state of a connection that has begun shows whether the peer's FIN is taken.
 pub fn states_tell_the_peers_fin()
     ensures { (e : Tcb) → has_begun e.name ≡ true → IsNamedRightly e → e.receiving.fin ≡ has_taken_fin e.name }
 {}
 
-/// The law on a segment without data, at the end of a turn with a segment: it goes out exactly where one is owed and no other segment does.
+/// The law on a segment without data, at the end of a turn with a segment: it is sent exactly where one is owed and no other segment is sent.
 pub fn bare_segments_go_out_where_owed()
     ensures { (e u : Tcb) (p : Segment) → has_begun e.name ≡ true → has_begun u.name ≡ true → IsBounded e → IsUsual e p → e.owed ≡ false
         → is_refused e p ≡ false → u.owed ≡ (received e p).owed
         → leaving u ≡ or_bare (asks (owes e p) u) (bare_segment (after_full u)) (full_out u) }
 {}
 
-/// The same, at the end of a turn in which no segment came: where the acknowledgement or the edge has changed.
+/// The same, at the end of a turn in which no segment arrived: where the acknowledgement or the edge has changed.
 pub fn bare_segments_tell_changes()
     ensures { (u : Tcb) → has_begun u.name ≡ true → u.owed ≡ false
         → leaving u ≡ or_bare (asks false u) (bare_segment (after_full u)) (full_out u) }
 {}
 
-/// What is taken and the receive edge are what was last announced, once a turn has ended ..
+/// What is taken and the receive edge are what was last advertised, once a turn has ended ..
 #[tactic(auto, using(crate::proofs::ToldLaw::told_by_flush))]
 pub fn turns_announce()
     ensures { (e : Tcb) → has_begun e.name ≡ true → told (flushed e) ≡ (next e.receiving, announced_edge e.receiving) }
 {}
 
-/// .. and a segment leaves what was last announced.
+/// .. and a segment doesn't change what was last advertised.
 #[tactic(auto, using(crate::proofs::ToldLaw::told_by_segment))]
 pub fn segments_announce_nothing()
     ensures { (e : Tcb) (p : Segment) → has_begun e.name ≡ true → told (received e p) ≡ told e }
@@ -241,64 +253,63 @@ pub fn ticks_probe_rightly()
     ensures { (e : Tcb) → e.probe ≡ false → IsBounded e → IsShut e.sending → ProbesRightly (after_tick e) }
 {}
 
-/// .. since a turn ends with the edge reached, ..
+/// .. since at the end of a turn the edge is reached, ..
 #[tactic(auto, using(crate::proofs::ToldLaw::shut_by_flush))]
 pub fn turns_end_shut()
     ensures { (e : Tcb) → has_begun e.name ≡ true → IsBounded e → ProbesRightly e → IsShut (flushed e).sending }
 {}
 
-/// .. and what the user writes only adds to what waits.
+/// .. and what the user writes only adds to what is waiting.
 #[tactic(auto, using(crate::proofs::ToldLaw::shut_by_write))]
 pub fn writes_leave_shut()
     ensures { (e : Tcb) (bytes : List ℕ) → IsShut e.sending → IsShut (after_write e bytes).sending }
 {}
 
-/// From its SYN on an endpoint of `listen` is in the state that its halves tell of: by whether its SYN is acknowledged, its user has closed, the
-/// peer's FIN is taken, and the own FIN is acknowledged.
+/// From its SYN on an endpoint of `listen` is in the state that its halves imply: by whether its SYN is acknowledged, its user has closed, the peer's FIN is
+/// taken, and its FIN is acknowledged.
 pub fn syns_name_rightly()
     ensures { (e : Tcb) (iss limit : ℕ) (syn : Segment) (calls : List Call) → IsListening iss limit e → is_syn syn ≡ true
         → IsNamedRightly (turned (Comes syn) calls e) }
 {}
 
-/// Each turn keeps it in that state, whatever comes and the user does.
+/// Each turn keeps it in that state, whatever arrives and whatever the user does.
 pub fn turns_name_rightly()
     ensures { (news : News) (calls : List Call) (e : Tcb) → has_begun e.name ≡ true → IsBetweenTurns e → IsNamedRightly e
         → IsNamedRightly (turned news calls e) }
 {}
 
-/// So a connection that has begun stays so, until a RST comes at exactly the next number, or the peer's FIN is taken and the own one is
-/// acknowledged.
+/// So a connection that has begun stays so, until a RST arrives at exactly the next number, or the peer's FIN is taken and the endpoint's is acknowledged.
 pub fn connections_end_by_resets_or_fins()
     ensures { (news : News) (calls : List Call) (e : Tcb) → has_begun e.name ≡ true → IsBetweenTurns e → IsNamedRightly e
         → has_begun (before_flush news calls e).name ≡ false → (resets news e ≡ true) ⊎ (is_over (before_flush news calls e) ≡ true) }
 {}
 
-/// A connection that has begun is reset in exactly the turns in which a RST comes at exactly the next number, ..
+/// A connection that has begun is reset in exactly the turns in which a RST arrives at exactly the next number, ..
 pub fn connections_are_reset_at_the_next_number()
     ensures { (news : News) (calls : List Call) (e : Tcb) → has_begun e.name ≡ true
         → (before_flush news calls e).reset ≡ (e.reset || resets news e) }
 {}
 
-/// .. and then it is CLOSED, and nothing leaves.
+/// .. and then it is CLOSED, and nothing is sent.
 pub fn resets_close_in_silence()
     ensures { (news : News) (calls : List Call) (e : Tcb) → has_begun e.name ≡ true → IsBetweenTurns e → resets news e ≡ true
         → ((before_flush news calls e).name ≡ Closed) × (sent_in news calls e ≡ []) }
 {}
 
-/// What the laws ask of a connection that has begun, passive or active, holds after each turn again, until it is CLOSED.
+/// What the laws require of a connection that has begun, passive or active, holds again after each turn, until it is CLOSED.
 pub fn turns_keep_what_laws_ask()
     ensures { (news : News) (calls : List Call) (e : Tcb) → e.receiving.irs < 2 ^ 32 → has_begun e.name ≡ true → IsBetweenTurns e → IsUsualNews news e
         → MayUse calls (arrived news e) → has_begun (before_flush news calls e).name ≡ true → IsBetweenTurns (turned news calls e) }
 {}
 
-/// Every endpoint acknowledges all that it took: each segment that leaves a connection that has begun, but for a RST, has ACK, acknowledges
-/// just what is taken, and announces the window.
+/// Every endpoint acknowledges all that it took: each segment that a connection sends once it has begun, except a RST, has ACK, acknowledges exactly what is
+/// taken, and advertises the window.
 pub fn segments_acknowledge_all_that_is_taken()
     ensures { (news : News) (calls : List Call) (e : Tcb) → e.answer ≡ None → ReadsOnlyTaken calls (arrived news e)
         → has_begun (before_flush news calls e).name ≡ true → AllByRecursion (Announces (before_flush news calls e)) (sent_in news calls e) }
 {}
 
-/// And nothing that is taken stays untold: where more is taken in a turn a segment leaves that isn't a RST, and so tells it. The same where the
+/// And nothing that is taken stays unreported: where more is taken in a turn, a segment is sent that isn't a RST, and so reports it. The same holds where the
 /// edge moves, unless a RST answers.
 pub fn what_is_taken_is_told()
     ensures { (news : News) (calls : List Call) (e : Tcb) → has_begun e.name ≡ true → e.answer ≡ None
@@ -309,14 +320,14 @@ pub fn what_is_taken_is_told()
         → is_told (sent_in news calls e) ≡ true }
 {}
 
-/// So over a whole run of every endpoint, passive or active: for every limit, whatever comes and however much is written.
+/// So it is over a complete run of every endpoint, passive or active: for every limit, whatever arrives and however much is written.
 pub fn endpoints_acknowledge_all_that_they_took()
     ensures { (local remote : Addr) (iss limit : ℕ) (turns : List Events)
         → AcknowledgesAll (listening local iss limit) turns × AcknowledgesAll (connecting local remote iss limit) turns }
 {}
 
-/// An active open connects: whatever its user writes before the first flush, the SYN is all that leaves. Its timer runs from then on, with
-/// one tick to go, and nothing else is due.
+/// An active open connects: whatever its user writes before the first flush, only the SYN is sent. Its timer runs from then on, with one tick left, and nothing
+/// else is due.
 pub fn active_opens_connect()
     ensures { (local remote : Addr) (iss limit : ℕ) (calls : List Call) → MayUse calls (connecting local remote iss limit)
         → (used calls (connecting local remote iss limit)).name ≡ SynSent
@@ -325,23 +336,23 @@ pub fn active_opens_connect()
         × IsTimedBy (flushed (used calls (connecting local remote iss limit))).sending 1 1 }
 {}
 
-/// It still connects, between the same addresses, after each turn that leaves it in SYN-SENT: nothing is received, and of the own stream no unit
-/// counts as sent or acknowledged.
+/// It still connects, between the same addresses, after each turn that leaves it in SYN-SENT: nothing is received, and no unit of its stream counts as sent or
+/// acknowledged.
 pub fn connecting_goes_on()
     ensures { (iss limit : ℕ) (news : News) (calls : List Call) (e : Tcb) → IsConnecting iss limit e → MayUse calls (arrived news e)
         → (before_flush news calls e).name ≡ SynSent
         → IsConnecting iss limit (turned news calls e) × ((turned news calls e).local ≡ e.local) × ((turned news calls e).remote ≡ e.remote) }
 {}
 
-/// The turn in which its SYN is acknowledged leaves it as a connection that has begun has to be between two turns, in the state that its halves tell of:
-/// all that the laws on such connections ask.
+/// The turn in which its SYN is acknowledged leaves it as a connection that has begun has to be between two turns, in the state that its halves imply. That is
+/// all that the laws on such connections require.
 pub fn answers_begin()
     ensures { (iss limit : ℕ) (news : News) (calls : List Call) (e : Tcb) → IsConnecting iss limit e → limit ≤ 2 ^ 24 → FieldsFit news
         → MayUse calls (arrived news e) → has_begun (before_flush news calls e).name ≡ true
         → IsBetweenTurns (turned news calls e) × IsNamedRightly (turned news calls e) × (has_begun (turned news calls e).name ≡ true) }
 {}
 
-/// In that turn a segment leaves that isn't a RST, and each such segment has ACK, acknowledges just what is taken, and announces the window.
+/// In that turn a segment is sent that isn't a RST, and each such segment has ACK, acknowledges exactly what is taken, and advertises the window.
 pub fn answers_are_acknowledged()
     ensures { (iss limit : ℕ) (news : News) (calls : List Call) (e : Tcb) → IsConnecting iss limit e → ReadsOnlyTaken calls (arrived news e)
         → has_begun (before_flush news calls e).name ≡ true

@@ -8,8 +8,8 @@ ghost use Rattle.endpoint_laws.specs.Turn.{Call, Events, IsBetweenTurns, before_
 ghost use Rattle.endpoint_laws.specs.Ending.{IsNamedRightly};
 ghost use Rattle.endpoint_laws.specs.Waiting.{WaitsOut};
 
-/// From the turn in which it enters TIME-WAIT an endpoint stays there until the fourth tick, counted anew from each turn in which the peer's FIN
-/// comes again, and then it is CLOSED: whatever else comes, but for a RST at exactly the next number, and whatever the user does.
+/// From the turn in which it enters TIME-WAIT an endpoint stays there until the fourth tick, counted again from each turn in which the peer repeats its FIN.
+/// Then it is CLOSED. This holds whatever else arrives, except a RST at exactly the next number, and whatever the user does.
 pub fn time_wait_lasts_four_ticks()
     ensures { (news : News) (calls : List Call) (turns : List Events) (e : Tcb) → has_begun e.name ≡ true → IsBetweenTurns e → IsNamedRightly e
         → is_time_wait e.name ≡ false → is_time_wait (before_flush news calls e).name ≡ true → WaitsOut 0 (turned news calls e) turns }

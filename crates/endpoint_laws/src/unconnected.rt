@@ -1,4 +1,4 @@
-//! What an endpoint does that is in no connection: in CLOSED, LISTEN and SYN-SENT (RFC 9293, 3.10.7.1 to 3.10.7.3 and 3.10.8).
+//! What an endpoint without a connection does: in CLOSED, LISTEN and SYN-SENT (RFC 9293, 3.10.7.1 to 3.10.7.3 and 3.10.8).
 
 ghost use Rattle.std.specs.Prelude.{◌≡◌, ℕ, ◌++◌, ◌&&◌, ◌||◌, false, List, [], ◌∷◌, None, if◌then◌else◌};
 ghost use Rattle.std.specs.Prelude.{true};
@@ -19,19 +19,19 @@ ghost use Rattle.endpoint_laws.specs.Connecting.{IsConnecting};
 ghost use Rattle.endpoint_laws.specs.Unconnected.{sent_in_closed, sent_in_listen, refused_in_syn_sent, resets_in_syn_sent, state_after_syn_sent, syn_of};
 ghost use Rattle.endpoint_laws.specs.Unconnected.{expires_at, interval_waiting, rest_waiting};
 
-/// CLOSED answers each segment but a RST with a RST, and sends nothing else.
+/// CLOSED answers each segment except a RST with a RST, and sends nothing else.
 pub fn closed_endpoints_refuse()
     ensures { (news : News) (calls : List Call) (e : Tcb) → e.name ≡ Closed → e.answer ≡ None → sent_in news calls e ≡ sent_in_closed e.local news }
 {}
 
-/// It stays so, whatever comes and the user does.
+/// It stays so, whatever arrives and whatever the user does.
 pub fn closed_endpoints_stay_closed()
     ensures { (news : News) (calls : List Call) (e : Tcb) → e.name ≡ Closed → e.answer ≡ None
         → ((turned news calls e).name ≡ Closed) × ((turned news calls e).answer ≡ None) × ((turned news calls e).local ≡ e.local)
         × ((turned news calls e).reset ≡ e.reset) }
 {}
 
-/// LISTEN answers an acknowledgement with a RST, unless it has RST itself, and sends nothing else while no SYN comes that opens a connection.
+/// LISTEN answers an acknowledgement with a RST, unless the segment has RST itself, and sends nothing else while no SYN arrives that opens a connection.
 pub fn listening_endpoints_refuse()
     ensures { (iss limit : ℕ) (news : News) (calls : List Call) (e : Tcb) → IsListening iss limit e → brings_syn news ≡ false
         → sent_in news calls e ≡ sent_in_listen e.local news }
@@ -43,8 +43,8 @@ pub fn listening_endpoints_wait_for_a_syn()
         → ((arrived news e).name ≡ Listen) × ((arrived news e).reset ≡ e.reset) }
 {}
 
-/// In the turn of that SYN a segment leaves that isn't a RST, and each such segment has ACK, acknowledges just the SYN, and announces the window:
-/// for every limit.
+/// In the turn of that SYN a segment is sent that isn't a RST, and each such segment has ACK, acknowledges exactly the SYN, and advertises the window. This
+/// holds for every limit.
 pub fn syns_are_acknowledged()
     ensures { (iss limit : ℕ) (syn : Segment) (calls : List Call) (e : Tcb) → IsListening iss limit e → is_syn syn ≡ true
         → ReadsOnlyTaken calls (received e syn)
@@ -52,8 +52,8 @@ pub fn syns_are_acknowledged()
         × (is_told (sent_in (Comes syn) calls e) ≡ true) }
 {}
 
-/// While an active open waits, a RST leaves that answers an acknowledgement of anything but the SYN, and the SYN again at the tick at which the
-/// timer expires; and nothing else.
+/// While an active open waits, it sends a RST in answer to an acknowledgement of anything but the SYN, the SYN again at the tick at which the timer expires,
+/// and nothing else.
 pub fn active_opens_send_their_syn_again()
     ensures { (iss limit : ℕ) (news : News) (calls : List Call) (e : Tcb) → IsConnecting iss limit e → MayUse calls (arrived news e)
         → has_begun (before_flush news calls e).name ≡ false
@@ -62,14 +62,14 @@ pub fn active_opens_send_their_syn_again()
         ++ (if is_syn_sent (before_flush news calls e).name && expires_at news e.sending then syn_of e.local e.remote iss limit ∷ [] else []) }
 {}
 
-/// The timer runs on at each tick, and no segment moves it.
+/// The timer continues at each tick, and no segment changes it.
 pub fn active_opens_time_by_law()
     ensures { (iss limit : ℕ) (news : News) (calls : List Call) (e : Tcb) → IsConnecting iss limit e → MayUse calls (arrived news e)
         → (before_flush news calls e).name ≡ SynSent
         → IsTimedBy (turned news calls e).sending (interval_waiting news e.sending) (rest_waiting news e.sending) }
 {}
 
-/// A SYN that acknowledges the own one establishes the connection, a RST that does so resets it, and nothing else leads out of SYN-SENT.
+/// A SYN that acknowledges the endpoint's own establishes the connection, a RST that does so resets it, and nothing else leads out of SYN-SENT.
 pub fn active_opens_wait_for_an_answer()
     ensures { (iss limit : ℕ) (news : News) (e : Tcb) → IsConnecting iss limit e
         → ((arrived news e).name ≡ state_after_syn_sent iss news) × ((arrived news e).reset ≡ (e.reset || resets_in_syn_sent iss news)) }

@@ -2,6 +2,6 @@
 use Rattle.std.specs.Prelude.{Bool, ◌==◌, ◌&&◌}
 use Rattle.ft_io.specs.declared.Key.{Key}
 
--- whether two keys name one connection, as `==` in the code tells it
+-- whether two keys name one connection, as `==` in the code says
 abbrev pub key_eq : Key → Key → Bool
 key_eq a b = a.ip == b.ip && a.port == b.port

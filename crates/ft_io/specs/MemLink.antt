@@ -6,9 +6,9 @@ use Rattle.ft_io.specs.declared.mem_link.Arrival.{Arrival}
 use Rattle.ft_io.specs.Faults.{raised}
 use Rattle.ft_io.specs.NumberedCalls.{Calls, no_call, after_call, IsNextListed}
 
--- what a link in memory is to its callers
+-- a link in memory, as its callers see it
 pub record LinkState : Type 0 where
-  -- what its receives have still to give
+  -- what its receives are still to give
   pub arrivals : List Arrival
   -- its binds
   pub binds : Calls
@@ -18,13 +18,13 @@ pub record LinkState : Type 0 where
   pub recvs : Calls
   -- all its binds fail
   pub bind_fails : Bool
-  -- the calls that it has noted, the oldest first
+  -- the calls that it has recorded, the oldest first
   pub calls : List LinkCall
   -- how many calls failed
   pub faults : ℕ
   -- how many of them were binds
   pub bind_faults : ℕ
-  -- how many of them failed for want of memory
+  -- how many of them failed because an allocation failed
   pub starved : ℕ
 
 -- a link before its first call
@@ -40,11 +40,11 @@ failing_binds link numbers = record link { binds = no_call numbers }
 abbrev pub BindFails : LinkState → Type 0
 BindFails link = IsTrue link.bind_fails ⊎ IsNextListed link.binds
 
--- it tells all its calls, and nothing once memory was wanting in one
+-- all its calls, and nothing once an allocation has failed in one
 abbrev pub told_of : LinkState → Option (List LinkCall)
 told_of link = cond (link.starved == 0) (Some link.calls) None
 
--- a call was noted
+-- a call was recorded
 abbrev pub noted : LinkState → LinkCall → LinkState
 noted link call = record link { calls = link.calls ++ call ∷ [] }
 
@@ -52,7 +52,7 @@ noted link call = record link { calls = link.calls ++ call ∷ [] }
 abbrev pub failed : LinkState → LinkState
 failed link = record link { faults = raised link.faults }
 
--- a call failed for want of memory
+-- a call failed because an allocation failed
 abbrev pub starved : LinkState → LinkState
 starved link = record link { faults = raised link.faults; starved = raised link.starved }
 

@@ -2,7 +2,7 @@
 use Rattle.std.specs.Prelude.{ℕ, List, []}
 use Rattle.ft_io.specs.NumberedCalls.{Calls, no_call}
 
--- what a sink in memory is to its callers
+-- a sink in memory, as its callers see it
 pub record SinkState : Type 0 where
   -- all bytes that it took
   pub taken : List ℕ
@@ -10,7 +10,7 @@ pub record SinkState : Type 0 where
   pub calls : Calls
   -- how many of them failed
   pub faults : ℕ
-  -- how many of them failed for want of memory
+  -- how many of them failed because an allocation failed
   pub starved : ℕ
 
 -- an empty sink before the first write

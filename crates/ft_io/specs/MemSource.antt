@@ -2,9 +2,9 @@
 use Rattle.std.specs.Prelude.{ℕ, List}
 use Rattle.ft_io.specs.NumberedCalls.{Calls, no_call}
 
--- what a source in memory is to its callers
+-- a source in memory, as its callers see it
 pub record SourceState : Type 0 where
-  -- the bytes that it has still to give
+  -- the bytes that it is still to give
   pub left : List ℕ
   -- its reads
   pub calls : Calls

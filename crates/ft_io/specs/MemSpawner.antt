@@ -5,7 +5,7 @@ use Rattle.ft_io.specs.declared.spawn_call.SpawnCall.{SpawnCall}
 use Rattle.ft_io.specs.Faults.{raised}
 use Rattle.ft_io.specs.NumberedCalls.{Calls, no_call, after_call}
 
--- what a spawner in memory is to its callers
+-- a spawner in memory, as its callers see it
 pub record SpawnerState : Type 0 where
   -- the exit status of each child
   pub statuses : List ℤ
@@ -13,11 +13,11 @@ pub record SpawnerState : Type 0 where
   pub attempts : Calls
   -- how many children were started
   pub started : ℕ
-  -- the calls that it has noted, the oldest first
+  -- the calls that it has recorded, the oldest first
   pub calls : List SpawnCall
   -- how many calls failed
   pub faults : ℕ
-  -- how many of them failed for want of memory
+  -- how many of them failed because an allocation failed
   pub starved : ℕ
 
 -- a spawner before its first call
@@ -25,7 +25,7 @@ abbrev pub fresh_spawner : List ℤ → List ℕ → SpawnerState
 fresh_spawner listed fails =
     record { statuses = listed; attempts = no_call fails; started = 0; calls = []; faults = 0; starved = 0 }
 
--- it tells all its calls, and nothing once memory was wanting in one
+-- all its calls, and nothing once an allocation has failed in one
 abbrev pub told_of : SpawnerState → Option (List SpawnCall)
 told_of spawner = cond (spawner.starved == 0) (Some spawner.calls) None
 
@@ -42,11 +42,11 @@ status_of statuses child = or_zero (slice_get statuses (child - 1))
 abbrev pub attempted : SpawnerState → SpawnerState
 attempted spawner = record spawner { attempts = after_call spawner.attempts }
 
--- a call was noted
+-- a call was recorded
 abbrev pub noted : SpawnerState → SpawnCall → SpawnerState
 noted spawner call = record spawner { calls = spawner.calls ++ call ∷ [] }
 
--- one child more is started
+-- one more child is started
 abbrev pub with_child : SpawnerState → SpawnerState
 with_child spawner = record spawner { started = spawner.started + 1 }
 
@@ -54,6 +54,6 @@ with_child spawner = record spawner { started = spawner.started + 1 }
 abbrev pub failed : SpawnerState → SpawnerState
 failed spawner = record spawner { faults = raised spawner.faults }
 
--- a call failed for want of memory
+-- a call failed because an allocation failed
 abbrev pub starved : SpawnerState → SpawnerState
 starved spawner = record spawner { faults = raised spawner.faults; starved = raised spawner.starved }

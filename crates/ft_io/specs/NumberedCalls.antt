@@ -6,7 +6,7 @@ use Rattle.ft_io.specs.Faults.{raised}
 pub record Calls : Type 0 where
   -- the numbers of the calls that fail
   pub fails : List ℕ
-  -- how many calls were made, a count that stops as that of the faults does: far above any number in the list
+  -- how many calls were made. The count stops where that of the faults does, far above any number in the list
   pub made : ℕ
 
 -- no call was made yet

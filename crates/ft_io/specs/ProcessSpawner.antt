@@ -1,7 +1,7 @@
--- A spawner over std's processes: it tells its counts alone.
+-- A spawner over std's processes. Only its counts are known.
 use Rattle.std.specs.Prelude.{ℕ}
 
--- what such a spawner is to its callers
+-- such a spawner, as its callers see it
 pub record SpawnCounts : Type 0 where
   -- how many children were started
   pub started : ℕ

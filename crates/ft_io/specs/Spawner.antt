@@ -1,21 +1,21 @@
--- Which calls on a spawner are told, by what they answered.
+-- Which calls on a spawner are recorded, by their answers.
 use Rattle.std.specs.Prelude.{◌≡◌, ℕ, ℤ, ◌+◌, List, [], ◌∷◌, Ok, Err}
 use Rattle.std.specs.declared.result.Result.{Result}
 use Rattle.ft_io.specs.declared.Failed.{Failed}
 use Rattle.ft_io.specs.declared.spawn_call.SpawnCall.{SpawnCall}
 use Rattle.ft_io.specs.declared.spawn_call.SpawnCall.TheVariants.{Started, Ended}
 
--- a start that succeeded is told by its words, and one that failed isn't told
+-- a start that succeeded is recorded with its words, and one that failed isn't recorded
 abbrev pub start_told : List (List ℕ) → Result ℕ Failed → List SpawnCall
 start_told words (Ok _) = Started words ∷ []
 start_told words (Err _) = []
 
--- a wait that answered is told by the child and its exit status, and one that failed isn't told
+-- a wait that answered is recorded with the child and its exit status, and one that failed isn't recorded
 abbrev pub wait_told : ℕ → Result ℤ Failed → List SpawnCall
 wait_told child (Ok status) = Ended child status ∷ []
 wait_told child (Err _) = []
 
--- children are numbered from 1 in the order of their starts: a start that succeeds answers the next number
+-- children are numbered from 1 in the order of their starts: a start that succeeds returns the next number
 abbrev pub NumbersNext : ℕ → ℕ → Result ℕ Failed → Type 0
 NumbersNext old new (Ok child) = (child ≡ old + 1) × (new ≡ old + 1)
 NumbersNext old new (Err _) = new ≡ old

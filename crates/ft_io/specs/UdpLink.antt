@@ -1,7 +1,7 @@
--- A link over std's UDP socket: it tells its counts alone.
+-- A link over std's UDP socket. Only its counts are known.
 use Rattle.std.specs.Prelude.{ℕ}
 
--- what such a link is to its callers
+-- such a link, as its callers see it
 pub record LinkCounts : Type 0 where
   -- how many of its calls failed
   pub faults : ℕ

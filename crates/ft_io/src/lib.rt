@@ -1,7 +1,6 @@
-//! The outside of FT-TCP as traits: sources of bytes and sinks for bytes, a network of datagrams, and programs that run beside
-//! this one. Each trait has a form in memory, whose content contracts can tell, and a real one over std, which tells only how
-//! many of its calls failed. Beside the traits stand what every program does with them: it reads an input to its end under a
-//! limit, and writes a text whole.
+//! The outside of FT-TCP as traits: sources of bytes and sinks for bytes, a network of datagrams, and programs that run alongside this one. Each trait has a
+//! form in memory, whose content contracts can specify, and a real one over std, of which contracts know only how many calls failed. The crate also has what
+//! every program does with the traits: it reads an input to its end under a limit, and writes a complete text.
 #![tactic(auto)]
 
 pub use link::{Heard, Link};

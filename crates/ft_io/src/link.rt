@@ -1,5 +1,4 @@
-//! A network of datagrams. A link counts its failed calls, and those of bind besides, so that a caller's contract can say that
-//! an error had a cause.
+//! A network of datagrams. A link counts its failed calls, and its failed binds separately too, so that a caller's contract can say that an error had a cause.
 
 ghost use Rattle.std.specs.Prelude.{◌≡◌, ◌≤◌, ℕ, List, length, IfOk, OnOk, OnErr};
 ghost use Rattle.std.specs.declared.option.Option.{Option};
@@ -10,10 +9,10 @@ ghost use Rattle.ft_io.specs.Link.{bind_told, send_told, recv_told, HasAtMost};
 
 use crate::{Addr, Failed};
 
-/// What a receive gave.
+/// What a receive returned.
 #[derive(Clone, Copy, Debug, PartialEq, Eq)]
 pub enum Heard {
-    /// The first `len` bytes of a datagram from there.
+    /// The first `len` bytes of a datagram from `from`.
     Got { len: usize, from: Addr },
     /// No datagram came in time.
     Nothing,
@@ -21,24 +20,24 @@ pub enum Heard {
 
 /// A socket for datagrams, once it is bound.
 pub trait Link {
-    /// The calls so far, the oldest first, or `None` where it doesn't tell.
+    /// The calls so far, the oldest first, or `None` where they aren't recorded.
     ghost told: { Self → Option (List LinkCall) };
 
-    /// What `faults` answers.
+    /// What `faults` returns.
     ghost fault_count: { Self → ℕ };
 
-    /// What `bind_faults` answers.
+    /// What `bind_faults` returns.
     ghost bind_fault_count: { Self → ℕ };
 
     /// How many calls have failed. The count never falls, rises only by a call that fails, and stops at `u64::MAX`.
     fn faults(&self) -> u64
         ensures { result ≡ fault_count self.now };
 
-    /// How many binds have failed; they count among the faults too.
+    /// How many binds have failed. They count among the faults too.
     fn bind_faults(&self) -> u64
         ensures { result ≡ bind_fault_count self.now };
 
-    /// Takes the address `at` for what is sent and received from now on. After `Failed` all is as before, but for the counts.
+    /// Sends and receives at the address `at` from now on. After `Failed` all is as before, except for the counts.
     fn bind(&mut self, at: Addr) -> Result<(), Failed>
         ensures told { Tells (told self.old) (told self.new) (bind_told at result) }
         ensures cause { OnErr result (Rose (fault_count self.old) (fault_count self.new)) }
@@ -48,7 +47,7 @@ pub trait Link {
         ensures never_falls { fault_count self.old ≤ fault_count self.new }
         ensures bind_never_falls { bind_fault_count self.old ≤ bind_fault_count self.new };
 
-    /// Sends one datagram. Whether it arrives is left open.
+    /// Sends one datagram. Whether it arrives is unspecified.
     fn send(&mut self, to: Addr, bytes: &[u8]) -> Result<(), Failed>
         ensures told { Tells (told self.old) (told self.new) (send_told to bytes.now result) }
         ensures cause { OnErr result (Rose (fault_count self.old) (fault_count self.new)) }
@@ -56,8 +55,8 @@ pub trait Link {
         ensures never_falls { fault_count self.old ≤ fault_count self.new }
         ensures no_bind_fault { bind_fault_count self.new ≡ bind_fault_count self.old };
 
-    /// Waits a while for a datagram and moves it to the front of `buf`, its first bytes where it is longer. What stands behind
-    /// them, and all of `buf` where none was given, is left open.
+    /// Waits a while for a datagram and moves it to the beginning of `buf`, or only its first bytes where it is longer. What follows them in `buf`, and all of
+    /// `buf` where none was given, is unspecified.
     fn recv(&mut self, buf: &mut [u8]) -> Result<Heard, Failed>
         requires { 2048 ≤ length buf.old }
         ensures within { IfOk result (λ heard. HasAtMost heard (length buf.new)) }

@@ -1,18 +1,18 @@
-//! What a link in memory tells of a call.
+//! A call on a link in memory, as it is recorded.
 
 use crate::{Addr, Octets};
 
-/// One call on a link, as it is told.
+/// One recorded call on a link.
 #[derive(Debug, Drop)]
 pub enum LinkCall {
     /// A bind to this address succeeded.
     Bound(Addr),
-    /// A receive gave these bytes from there.
+    /// A receive gave these bytes from this address.
     Came(Addr, Octets),
     /// A receive gave nothing.
     Silent,
     /// A receive failed.
     Missed,
-    /// These bytes were handed to a send to there. True where it failed.
+    /// These bytes were handed to a send to this address. True where it failed.
     Handed(Addr, Octets, bool),
 }

@@ -1,5 +1,5 @@
-//! A link in memory, for tests. It gives the datagrams that it was made with, tells what it was called for, fails where it is
-//! told to, and fails where memory runs out; from then on it tells nothing.
+//! A link in memory, for tests. It gives the datagrams that it was made with and records its calls. It fails where it is told to, and where an allocation
+//! fails; from then on it records nothing.
 
 ghost use Rattle.std.specs.Prelude.{◌≡◌, ◌≤◌, ◌<◌, ◌⊎◌, length, false, true, Some, None, IfSome, IfOk, OnOk, OnErr};
 ghost use Rattle.ft_io.specs.declared.link_call.LinkCall.TheVariants.{Bound, Missed, Handed};
@@ -19,7 +19,7 @@ use std::marker::Model;
 /// What a receive is to give.
 #[derive(Debug, Drop)]
 pub enum Arrival {
-    /// A datagram from there.
+    /// A datagram from `from`.
     Datagram { from: Addr, bytes: Octets },
     /// Silence.
     Nothing,
@@ -63,9 +63,8 @@ impl Model for MemLink {
 }
 
 impl MemLink {
-    /// A link to which these datagrams come, one a receive, and silence after them. The sends and the receives fail whose
-    /// numbers, each from 1, stand in `send_fails` and `recv_fails`, and every bind where `bind_fails`. A receive that fails
-    /// uses up no arrival. It takes no memory yet.
+    /// A link at which these datagrams arrive, one at each receive, and silence after them. The sends and the receives fail whose numbers, each counted from 1,
+    /// are in `send_fails` and `recv_fails`, and every bind where `bind_fails`. A receive that fails uses up no arrival. Nothing is allocated yet.
     pub fn new(
         alloc: Global,
         arrivals: Vec<Arrival>,
@@ -90,7 +89,7 @@ impl MemLink {
         }
     }
 
-    /// The same, but the binds fail whose numbers, from 1, stand in `bind_fails`. So a bind that is tried again shows.
+    /// The same, but the binds fail whose numbers, counted from 1, are in `bind_fails`. So a repeated bind can be seen.
     pub fn with_bind_fails(
         alloc: Global,
         arrivals: Vec<Arrival>,
@@ -106,7 +105,7 @@ impl MemLink {
         link
     }
 
-    /// How many calls failed for want of memory. The count never falls, and each of them counts among the faults too.
+    /// How many calls failed because an allocation failed. The count never falls, and each of them counts among the faults too.
     pub fn starved(&self) -> u64
         ensures count { result ≡ self.now.starved }
         ensures among_faults { result ≤ self.now.faults }
@@ -114,7 +113,7 @@ impl MemLink {
         self.starved
     }
 
-    /// The calls so far, the oldest first, or `None` once a call was starved.
+    /// The calls so far, the oldest first, or `None` once an allocation has failed in a call.
     pub fn told(&self) -> Option<&[LinkCall]>
         ensures some { IfSome result (λ calls. told_of self.now ≡ Some calls.now) }
         ensures none { result ≡ None → told_of self.now ≡ None }
@@ -141,7 +140,7 @@ impl MemLink {
         Failed
     }
 
-    /// Notes a call, or starves.
+    /// Records a call, or fails where an allocation does.
     fn note(&mut self, call: LinkCall) -> Result<(), Failed>
         ensures ok { OnOk result (self.new ≡ noted self.old call) }
         ensures err { OnErr result (self.new ≡ starved self.old) }
@@ -152,7 +151,7 @@ impl MemLink {
         Ok(())
     }
 
-    /// Passes on to the next arrival.
+    /// Moves on to the next arrival.
     #[tactic(auto, using(crate::proofs::Arrivals::drop_next))]
     fn use_up(&mut self)
         requires { 0 < length self.old.arrivals }
@@ -161,7 +160,7 @@ impl MemLink {
         self.at += 1;
     }
 
-    /// Moves the next arrival to `buf`, and notes it. It is used up by that alone.
+    /// Moves the next arrival to `buf`, and records it. Only that uses it up.
     fn hear(&mut self, buf: &mut [u8]) -> Result<Heard, Failed>
         ensures within { IfOk result (λ heard. HasAtMost heard (length buf.new)) }
         ensures heard { IfOk result (λ heard.
@@ -210,7 +209,7 @@ impl Link for MemLink {
     }
 
     fn bind(&mut self, at: Addr) -> Result<(), Failed>
-        // It fails exactly where it is to, or where memory is wanting.
+        // It fails exactly where it is to, or where an allocation fails.
         ensures bound { OnOk result ((BindFails self.old → ⊥)
             × (self.new ≡ noted (binding self.old) (Bound at))) }
         ensures failed { OnErr result ((BindFails self.old
@@ -239,7 +238,7 @@ impl Link for MemLink {
     }
 
     fn send(&mut self, to: Addr, bytes: &[u8]) -> Result<(), Failed>
-        // It fails exactly where its call is listed so, or where memory is wanting.
+        // It fails exactly where its call is listed so, or where an allocation fails.
         ensures sent { OnOk result ((IsNextListed self.old.sends → ⊥)
             × (self.new ≡ noted (sending self.old) (Handed to bytes.now false))) }
         ensures failed { OnErr result ((IsNextListed self.old.sends
@@ -267,7 +266,7 @@ impl Link for MemLink {
     fn recv(&mut self, buf: &mut [u8]) -> Result<Heard, Failed>
         requires { 2048 ≤ length buf.old }
 
-        // It fails exactly where its call is listed so, or where memory is wanting, and hears the next arrival.
+        // It fails exactly where its call is listed so, or where an allocation fails, and gives the next arrival.
         ensures heard { IfOk result (λ heard.
             heard_as heard buf.new ≡ arriving (length buf.new) self.old.arrivals) }
         ensures received { OnOk result ((IsNextListed self.old.recvs → ⊥)

@@ -1,5 +1,5 @@
-//! A sink that keeps what it takes in memory, for tests and for schedules. It tells what it took, fails where it is told to,
-//! and fails where memory runs out.
+//! A sink that stores what it takes in memory, for tests and for schedules. Its content is specified. It fails where it is told to, and where an allocation
+//! fails.
 
 ghost use Rattle.std.specs.Prelude.{◌≡◌, ◌≤◌, ◌<◌, ◌⊎◌, length, Some, IfOk, OnOk, OnErr, IsErr};
 ghost use Rattle.std.specs.Io.KnownBytes.{WriteAppends};
@@ -38,7 +38,7 @@ impl Model for MemSink {
 }
 
 impl MemSink {
-    /// An empty sink. The writes fail whose numbers, from 1, stand in `fails`. It takes no memory yet.
+    /// An empty sink. The writes fail whose numbers, counted from 1, are in `fails`. Nothing is allocated yet.
     pub fn new(alloc: Global, fails: Vec<u32>) -> MemSink
         ensures { result ≡ fresh_sink fails.items }
     {
@@ -50,7 +50,7 @@ impl MemSink {
         }
     }
 
-    /// How many writes failed for want of memory. The count never falls, and each of them counts among the faults too.
+    /// How many writes failed because an allocation failed. The count never falls, and each of them counts among the faults too.
     pub fn starved(&self) -> u64
         ensures count { result ≡ self.now.starved }
         ensures among_faults { result ≤ self.now.faults }
@@ -77,7 +77,7 @@ impl Sink for MemSink {
 
     /// Takes all of `buf`.
     fn write(&mut self, buf: &[u8]) -> Result<usize, Failed>
-        // It fails exactly where its call is listed so or where memory is wanting, which `starved` counts.
+        // It fails exactly where its call is listed so, or where an allocation fails, which `starved` counts.
         ensures listed { IsNextListed self.old.calls →
             IsErr result × (self.new.starved ≡ self.old.starved) }
         ensures failed { OnErr result

@@ -1,4 +1,4 @@
-//! A source over bytes in memory, for tests and for schedules. It tells what it has left, and fails where it is told to.
+//! A source over bytes in memory, for tests and for schedules. Its content is specified. It fails where it is told to.
 
 ghost use Rattle.std.specs.Prelude.{◌≡◌, ◌≤◌, ◌<◌, ◌↔◌, length, min, take, Some, IfOk, OnOk, OnErr, IsErr};
 ghost use Rattle.std.specs.Io.KnownBytes.{ReadConsumes, IsAtEnd};
@@ -35,7 +35,7 @@ impl Model for MemSource {
 }
 
 impl MemSource {
-    /// A source of `bytes`. The reads fail whose numbers, from 1, stand in `fails`.
+    /// A source of `bytes`. The reads fail whose numbers, counted from 1, are in `fails`.
     pub fn new(bytes: Vec<u8>, fails: Vec<u32>) -> MemSource
         ensures { result ≡ fresh_source bytes.items fails.items }
     {
@@ -92,7 +92,7 @@ impl Source for MemSource {
     }
 }
 
-/// Copies as much of the front of `bytes` as fits into `buf`, and answers how much.
+/// Copies the first bytes of `bytes` into `buf`, as many as fit, and returns how many.
 pub(crate) fn copy_front(bytes: &[u8], buf: &mut [u8]) -> usize
     ensures count { result ≡ min (length bytes.now) (length buf.new) }
     ensures copied { take result buf.new ≡ take result bytes.now }

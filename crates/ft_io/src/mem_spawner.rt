@@ -1,5 +1,5 @@
-//! A spawner in memory, for tests. Its children end at once with the statuses that it was made with. It tells what it was called
-//! for, fails where it is told to, and fails where memory runs out; from then on it tells nothing.
+//! A spawner in memory, for tests. Its children end at once with the statuses that it was made with. It records its calls. It fails where it is told to, and
+//! where an allocation fails; from then on it records nothing.
 
 ghost use Rattle.std.specs.Prelude.{◌≡◌, ◌≤◌, ◌⊎◌, map, string_bytes, slice_get, Some, None, IfSome, IfOk, OnOk, OnErr};
 ghost use Rattle.ft_io.specs.declared.spawn_call.SpawnCall.TheVariants.{Started, Ended};
@@ -45,8 +45,8 @@ impl Model for MemSpawner {
 }
 
 impl MemSpawner {
-    /// A spawner whose children end with `statuses`, in the order of their starts, and with 0 past that list. The starts and
-    /// waits fail whose numbers, from 1 and in one numbering, stand in `fails`. It takes no memory yet.
+    /// A spawner whose children end with `statuses`, in the order of their starts, and with 0 past that list. The starts and waits fail whose numbers, counted
+    /// from 1 and in one numbering, are in `fails`. Nothing is allocated yet.
     pub fn new(alloc: Global, statuses: Vec<i32>, fails: Vec<u32>) -> MemSpawner
         ensures { result ≡ fresh_spawner statuses.items fails.items }
     {
@@ -61,8 +61,8 @@ impl MemSpawner {
         }
     }
 
-    /// How many calls failed for want of memory, of which numbers for children are a part. The count never falls, and each of
-    /// them counts among the faults too.
+    /// How many calls failed because an allocation failed, or because the numbers for children ran out. The count never falls, and each of them counts among
+    /// the faults too.
     pub fn starved(&self) -> u64
         ensures count { result ≡ self.now.starved }
         ensures among_faults { result ≤ self.now.faults }
@@ -70,7 +70,7 @@ impl MemSpawner {
         self.starved
     }
 
-    /// The calls so far, the oldest first, or `None` once a call was starved.
+    /// The calls so far, the oldest first, or `None` once an allocation has failed in a call.
     pub fn told(&self) -> Option<&[SpawnCall]>
         ensures some { IfSome result (λ calls. told_of self.now ≡ Some calls.now) }
         ensures none { result ≡ None → told_of self.now ≡ None }
@@ -97,7 +97,7 @@ impl MemSpawner {
         Failed
     }
 
-    /// Notes a call, or starves.
+    /// Records a call, or fails where an allocation does.
     fn note(&mut self, call: SpawnCall) -> Result<(), Failed>
         ensures ok { OnOk result (self.new ≡ noted self.old call) }
         ensures err { OnErr result (self.new ≡ starved self.old) }
@@ -121,7 +121,7 @@ impl Spawner for MemSpawner {
     }
 
     fn start(&mut self, words: &[String]) -> Result<u32, Failed>
-        // It fails exactly where its call is listed so, or where memory is wanting.
+        // It fails exactly where its call is listed so, or where an allocation fails.
         ensures ok { OnOk result ((IsNextListed self.old.attempts → ⊥)
             × (self.new ≡ with_child (noted (attempted self.old) (Started (map string_bytes words.now))))) }
         ensures err { OnErr result ((IsNextListed self.old.attempts × (self.new ≡ failed (attempted self.old)))
@@ -152,7 +152,7 @@ impl Spawner for MemSpawner {
         requires from_one { 1 ≤ child }
         requires was_started { child ≤ self.old.started }
 
-        // It fails exactly where its call is listed so, or where memory is wanting, and answers this child's status.
+        // It fails exactly where its call is listed so, or where an allocation fails, and returns this child's status.
         ensures status { IfOk result (λ status. status ≡ status_of self.old.statuses child) }
         ensures ok { OnOk result ((IsNextListed self.old.attempts → ⊥)
             × (self.new ≡ noted (attempted self.old) (Ended child (status_of self.old.statuses child)))) }

@@ -1,8 +1,8 @@
-//! Want of memory, the one refusal that any call which allocates may give.
+//! Allocation failure, which any call that allocates may answer with.
 
 use std::alloc::{AllocError, AllocFailed};
 
-/// Memory ran out. Unless a call says otherwise, it left all as it was before.
+/// An allocation failed. Unless a call says otherwise, it left everything as it was before.
 #[derive(Clone, Copy, Debug, PartialEq, Eq)]
 pub struct NoMemory;
 

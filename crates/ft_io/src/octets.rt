@@ -1,4 +1,4 @@
-//! A list of bytes that a public type owns: contracts see the bytes alone, and neither capacity nor place.
+//! A list of bytes that a public type owns. Contracts see only the bytes, and neither capacity nor place.
 
 ghost use Rattle.std.specs.Prelude.{◌≡◌, ◌==◌, List, ℕ, length};
 
@@ -17,7 +17,7 @@ impl Model for Octets {
 }
 
 impl Octets {
-    /// The list of these bytes. It takes no memory.
+    /// The list of these bytes. It allocates nothing.
     pub fn new(bytes: Vec<u8>) -> Octets
         ensures { result ≡ bytes.items }
     {

@@ -1,5 +1,4 @@
-//! Std's processes as a spawner: the real outside. It tells no content; contracts know how many children were started, and how
-//! many calls failed.
+//! Std's processes as a spawner: the real outside. It records no calls. Contracts know how many children were started, and how many calls failed.
 
 ghost use Rattle.std.specs.Prelude.{◌≡◌, ◌≤◌, None};
 ghost use Rattle.ft_io.specs.ProcessSpawner.{fresh_spawner};
@@ -10,7 +9,7 @@ use std::io;
 use std::marker::Model;
 use std::process::{Child, Command, OpenProcess, Processes, Stdio};
 
-/// Children without input, whose output is discarded. A child without an exit status, as one that a signal ended, is a fault.
+/// Children without input, whose output is discarded. A child without an exit status, such as one that a signal ended, is a fault.
 #[derive(Drop)]
 pub struct ProcessSpawner<'a, R: Processes> {
     processes: &'a R,
@@ -29,7 +28,7 @@ impl<'a, R: Processes> Model for ProcessSpawner<'a, R> {
 }
 
 impl<'a, R: Processes> ProcessSpawner<'a, R> {
-    /// A spawner that has started nothing yet. It takes no memory before its first start.
+    /// A spawner that has started nothing yet. It allocates nothing before its first start.
     pub fn new(processes: &'a R, alloc: Global) -> ProcessSpawner<'a, R>
         ensures { result ≡ fresh_spawner }
     {

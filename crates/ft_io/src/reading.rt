@@ -1,4 +1,4 @@
-//! Reading a source to its end, under a limit on how much is kept.
+//! Reading a source to its end, under a limit on how many bytes are kept.
 
 ghost use Rattle.std.specs.Prelude.{◌≡◌, ◌≤◌, ◌<◌, ◌+◌, ◌++◌, take, length, vec_len, IfOk, OnOk, IfSome, IsErrOf};
 ghost use Rattle.std.specs.Io.KnownBytes.{Consumes, IsAtEnd};
@@ -15,7 +15,7 @@ const CHUNK: usize = 4096;
 /// Why a reading ended before the source's end.
 #[derive(Clone, Copy, Debug, PartialEq, Eq)]
 pub enum ReadEnd {
-    /// Memory ran out.
+    /// An allocation failed.
     NoMemory,
     /// A read failed.
     Fault,
@@ -74,7 +74,7 @@ pub fn read_to_limit<I: Source>(
     Err(ReadEnd::TooLong)
 }
 
-/// One read of at most `room` bytes, which goes by `chunk` and ends behind `bytes`. It answers how many they were.
+/// One read of at most `room` bytes, which passes through `chunk` and is appended to `bytes`. Returns how many they were.
 fn read_more<I: Source>(
     input: &mut I,
     room: usize,

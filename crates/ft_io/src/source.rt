@@ -1,4 +1,4 @@
-//! Where bytes come from. A source counts its failed calls, so that a caller's contract can say that an error had a cause.
+//! Sources of bytes. A source counts its failed calls, so that a caller's contract can say that an error had a cause.
 
 ghost use Rattle.std.specs.Prelude.{◌≡◌, ◌≤◌, ◌<◌, ℕ, List, length, IfOk, OnOk, OnErr};
 ghost use Rattle.std.specs.declared.option.Option.{Option};
@@ -9,18 +9,18 @@ use crate::Failed;
 
 /// A source of bytes: a file, standard input, or bytes in memory.
 pub trait Source {
-    /// The bytes that it has still to give, or `None` where it doesn't tell.
+    /// The bytes that it is still to give, or `None` where its content isn't specified.
     ghost left: { Self → Option (List ℕ) };
 
-    /// What `faults` answers.
+    /// What `faults` returns.
     ghost fault_count: { Self → ℕ };
 
     /// How many calls have failed. The count never falls, and stops at `u64::MAX`.
     fn faults(&self) -> u64
         ensures { result ≡ fault_count self.now };
 
-    /// Moves the next bytes to the front of `buf`, and answers how many: 0 only at the end. What stands behind them in `buf`
-    /// is left open. After `Failed` nothing was taken, and the call may be tried again. The count of faults rises at `Failed` alone.
+    /// Moves the next bytes to the beginning of `buf`, and returns how many: 0 only at the end. What follows them in `buf` is unspecified. After `Failed`
+    /// nothing was taken, and the call may be tried again. The count of faults rises only at `Failed`.
     fn read(&mut self, buf: &mut [u8]) -> Result<usize, Failed>
         requires { 0 < length buf.old }
         ensures within { IfOk result (λ n. n ≤ length buf.new) }

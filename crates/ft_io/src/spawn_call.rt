@@ -1,12 +1,12 @@
-//! What a spawner in memory tells of a call.
+//! A call on a spawner in memory, as it is recorded.
 
 use crate::Words;
 
-/// One call on a spawner, as it is told.
+/// One recorded call on a spawner.
 #[derive(Debug, Drop)]
 pub enum SpawnCall {
     /// A program was started by these words.
     Started(Words),
-    /// The child of this number ended with this exit status.
+    /// The child with this number ended with this exit status.
     Ended(u32, i32),
 }

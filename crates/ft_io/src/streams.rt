@@ -1,5 +1,5 @@
-//! Std's readers and writers as sources and sinks: the real outside. They tell no content, so that what a read gave, and how
-//! much a failed write took, rests on the system; contracts know how many calls failed.
+//! Std's readers and writers as sources and sinks: the real outside. Their content isn't specified: what a read gave, and how much a failed write took, depends
+//! on the system. Contracts know how many calls failed.
 
 ghost use Rattle.std.specs.Prelude.{◌≡◌, ◌≤◌, None, IfOk, length};
 
@@ -8,7 +8,7 @@ use std::io;
 use std::io::{Read, Write};
 use std::marker::Model;
 
-/// A reader as a source. Each error of the reader is a fault, an interrupted call too.
+/// A reader as a source. Each error of the reader is a fault, including an interrupted call.
 #[derive(Drop)]
 pub struct ReadSource<R: Read> {
     reader: R,
@@ -69,7 +69,7 @@ impl<W: Write> Model for WriteSink<W> {
 }
 
 impl<W: Write> WriteSink<W> {
-    /// A sink that hands all to `writer`, with no fault yet.
+    /// A sink that hands everything to `writer`, with no fault yet.
     pub fn new(writer: W) -> WriteSink<W>
         ensures { result ≡ 0 }
     {

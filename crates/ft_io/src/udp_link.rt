@@ -1,5 +1,5 @@
-//! Std's UDP socket as a link: the real outside. It tells no content, so that what is sent and what comes rests on the system;
-//! contracts know how many calls failed.
+//! Std's UDP socket as a link: the real outside. It records no calls: what is sent and what arrives depends on the system. Contracts know how many calls
+//! failed.
 
 ghost use Rattle.std.specs.Prelude.{◌≡◌, ◌≤◌, IfSome, None, length};
 ghost use Rattle.ft_io.specs.Link.{HasAtMost};
@@ -11,21 +11,26 @@ use std::marker::Model;
 use std::net::{IpAddr, Ipv4Addr, Net, SocketAddr, UdpSocket};
 use std::time::{Clock, Duration, Instant};
 
-/// How many milliseconds after one `Heard::Nothing` the next is due, whatever comes. A timer that only silence moved would stand
-/// still as long as datagrams come.
+/// How many milliseconds after a send, or after one `Heard::Nothing`, the next is due, whatever arrives. A timer that advanced only in silence would stop while
+/// datagrams arrive.
 const PATIENCE: u64 = 20;
 
-/// By how many milliseconds the socket's timeout may differ from what is left of the patience before it is set anew: so it is
-/// set some five times in 20 milliseconds, however many datagrams come.
+/// How many milliseconds after one `Heard::Nothing` the next is due at the latest, however much is sent in the meantime. It is the minimum retransmission
+/// timeout of RFC 6298 (2.4).
+const LONGEST: u64 = 1_000;
+
+/// By how many milliseconds the socket's timeout may differ from what is left of the patience before it is set again. So it is set some five times in 20
+/// milliseconds, however many datagrams arrive.
 const LEEWAY: u64 = 4;
 
-/// The shortest timeout that is set, in milliseconds. One of 0 would wait without end.
+/// The shortest timeout that is set, in milliseconds. A timeout of 0 would wait forever.
 const SHORTEST: u64 = 1;
 
-/// A UDP socket. A call before the first bind that succeeded is a fault, and so are a datagram from an address that isn't IPv4
-/// and a monotonic clock that can't be read. A receive gives `Heard::Nothing` as soon as 20 milliseconds have passed since the
-/// last that did so, or since the bind, whatever comes, and else waits for a datagram at most until then; what waits in the
-/// socket then stays there for the next. After a receive that timed out the 20 milliseconds begin with the next one.
+/// A UDP socket. A call before the first bind that succeeded is a fault. So are a datagram from an address that isn't IPv4 and a monotonic clock that can't be
+/// read. A receive gives `Heard::Nothing` as soon as 20 milliseconds have passed since the last one that did, since the bind, and since the last send, whatever
+/// arrives. Otherwise it waits for a datagram at most until then. What is waiting in the socket then stays there for the next receive. Sends put it off for at
+/// most a second: a process that answers what arrives isn't kept waiting by its peer, so its retransmission timer needn't advance. After a receive that timed
+/// out both times begin with the next one.
 #[derive(Drop)]
 pub struct UdpLink<'a, R: Net + Clock> {
     system: &'a R,
@@ -86,7 +91,7 @@ impl<'a, R: Net + Clock> Link for UdpLink<'a, R> {
     }
 
     fn send(&mut self, to: Addr, bytes: &[u8]) -> Result<(), Failed> {
-        if send_by(&self.bound, to, bytes) {
+        if send_by(&mut self.bound, to, bytes) {
             return Ok(());
         }
         self.faults = self.faults.saturating_add(1);
@@ -104,14 +109,18 @@ impl<'a, R: Net + Clock> Link for UdpLink<'a, R> {
     }
 }
 
-/// A socket that is bound, and its patience.
+/// A bound socket, and its patience.
 #[derive(Drop)]
 struct Bound {
     socket: UdpSocket,
     /// The socket's timeout.
     timeout: Duration,
-    /// When the patience began. After a timeout it begins with the next receive.
+    /// When the last `Heard::Nothing` was given. After a timeout it counts from the next receive.
     since: Option<Instant>,
+    /// When the patience began, with that or with a later send.
+    patient_since: Option<Instant>,
+    /// Whether something was sent since the last receive. The patience then begins with the next one.
+    has_sent: bool,
 }
 
 impl Bound {
@@ -119,20 +128,23 @@ impl Bound {
         let socket = UdpSocket::bind(system, socket_addr(at))?;
         let timeout = Duration::from_millis(PATIENCE);
         socket.set_read_timeout(Some(timeout))?;
+        let now = Instant::now(system)?;
         Ok(Bound {
             socket,
             timeout,
-            since: Some(Instant::now(system)?),
+            since: Some(now),
+            patient_since: Some(now),
+            has_sent: false,
         })
     }
 
-    /// Receives a datagram or nothing; `None` where the socket fails.
+    /// Receives a datagram or nothing. `None` where the socket fails.
     fn hear(&mut self, now: Instant, buf: &mut [u8]) -> Option<Heard>
         ensures { IfSome result (λ heard. HasAtMost heard (length buf.new)) }
     {
         let left = self.patience_left(now);
         if left.is_zero() {
-            self.since = Some(now);
+            self.begin(Some(now));
             return Some(Heard::Nothing);
         }
         self.wait_for(left).ok()?;
@@ -142,18 +154,32 @@ impl Bound {
                 from: addr_of(from)?,
             }),
             Err(error) if is_silence(error.kind()) => {
-                self.since = None;
+                self.begin(None);
                 Some(Heard::Nothing)
             }
             Err(_) => None,
         }
     }
 
-    /// What is left of the patience at this time, 0 once it is over.
+    /// Both times begin at this one, or else with the next receive.
+    fn begin(&mut self, at: Option<Instant>) {
+        self.since = at;
+        self.patient_since = at;
+        self.has_sent = false;
+    }
+
+    /// What is left at this time until `Heard::Nothing` is due; 0 once it is.
     fn patience_left(&mut self, now: Instant) -> Duration {
         let since = self.since.unwrap_or(now);
+        let patient_since = match self.patient_since {
+            Some(begun) if !self.has_sent => begun,
+            _ => now,
+        };
         self.since = Some(since);
-        Duration::from_millis(PATIENCE).saturating_sub(now.duration_since(since))
+        self.patient_since = Some(patient_since);
+        self.has_sent = false;
+        let patience = left_of(PATIENCE, now, patient_since);
+        patience.min(left_of(LONGEST, now, since))
     }
 
     /// Sets the socket's timeout, unless it is about as long already.
@@ -168,11 +194,17 @@ impl Bound {
     }
 }
 
-/// Whether the socket is there and took the datagram whole.
-fn send_by(bound: &Option<Bound>, to: Addr, bytes: &[u8]) -> bool {
+/// What is left, at the time `now`, of `millis` milliseconds that began at `since`.
+fn left_of(millis: u64, now: Instant, since: Instant) -> Duration {
+    Duration::from_millis(millis).saturating_sub(now.duration_since(since))
+}
+
+/// Whether there is a socket and it took the complete datagram.
+fn send_by(bound: &mut Option<Bound>, to: Addr, bytes: &[u8]) -> bool {
     let Some(bound) = bound else {
         return false;
     };
+    bound.has_sent = true;
     matches!(bound.socket.send_to(bytes, socket_addr(to)), Ok(sent) if sent == bytes.len())
 }
 

@@ -1,4 +1,4 @@
-//! A list of words that a public type owns: contracts see the bytes of each, and neither capacity nor place.
+//! A list of words that a public type owns. Contracts see only the bytes of each, and neither capacity nor place.
 
 ghost use Rattle.std.specs.Prelude.{◌≡◌, List, ℕ, map, IfOk, string_bytes};
 
@@ -6,7 +6,7 @@ use crate::NoMemory;
 use std::alloc::Global;
 use std::marker::Model;
 
-/// Words in order, as those of a command.
+/// Words in order, such as those of a command.
 #[derive(Debug, Drop)]
 pub struct Words {
     words: Vec<String>,

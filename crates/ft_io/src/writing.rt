@@ -1,4 +1,4 @@
-//! Writing bytes whole, however few of them a sink takes in a call.
+//! Writing all of some bytes, however few of them a sink takes in a call.
 
 ghost use Rattle.std.specs.Prelude.{◌≡◌, ◌≤◌, OnOk, OnErr};
 ghost use Rattle.std.specs.Io.KnownBytes.{Appends};
@@ -7,8 +7,8 @@ ghost use Rattle.ft_io.specs.Sink.{AppendsFront};
 
 use crate::{Failed, Sink};
 
-/// Writes all of `bytes`, in as many calls as the sink wants. At the first call that fails it stops: the sink took a front
-/// of them. The count of faults rises at `Failed` alone.
+/// Writes all of `bytes`, in as many calls as the sink needs. It stops at the first call that fails. The sink then took a prefix of them. The count of faults
+/// rises only at `Failed`.
 pub fn write_all<O: Sink>(out: &mut O, bytes: &[u8]) -> Result<(), Failed>
     ensures whole { OnOk result (Appends (O.taken out.old) (O.taken out.new) bytes.now) }
     ensures front { OnErr result (AppendsFront (O.taken out.old) (O.taken out.new) bytes.now) }

@@ -78,7 +78,7 @@ unfolding laws
 releases = goes echo server 1 (Logged (kept_in run.packet_14)) run.logged_point run.released_point run.moment_16.sent refl refl refl refl
 
 -- the server's turns
-turn_3 : {State : Type 0} (service : Machine State) → LawfulTurn service (booted server 1 5000) (Message_comes (message_in run.packet_2)) [] (run.node_at (Serving 0 []))
+pub turn_3 : {State : Type 0} (service : Machine State) → LawfulTurn service (booted server 1 5000) (Message_comes (message_in run.packet_2)) [] (run.node_at (Serving 0 []))
 unfolding laws
 turn_3 service = record { server = refl; boot = refl; isn = refl; live = refl; stage = ([], refl, (refl, refl)) }
 
@@ -86,11 +86,11 @@ pub turn_5 : {State : Type 0} (service : Machine State) → LawfulTurn service (
 unfolding laws
 turn_5 service = record { server = refl; boot = refl; isn = refl; live = refl; stage = (Opens numbers ∷ [], refl, record { went = []; by_places = []; all_go = (refl, refl); places = refl; packets = refl }) }
 
-turn_7 : {State : Type 0} (service : Machine State) → LawfulTurn service (run.node_at (Serving 1 (Opens numbers ∷ []))) (Message_comes (message_in run.packet_5)) run.moment_7.sent (run.node_live run.begun_point)
+pub turn_7 : {State : Type 0} (service : Machine State) → LawfulTurn service (run.node_at (Serving 1 (Opens numbers ∷ []))) (Message_comes (message_in run.packet_5)) run.moment_7.sent (run.node_live run.begun_point)
 unfolding laws
 turn_7 service = record { server = refl; boot = refl; isn = refl; live = refl; stage = (Lives run.begun_point ∷ [], refl, record { went = Lives run.begun_point ∷ []; by_places = run.moment_7.sent; all_go = alone (PlaceTurn service (run.node_at (Serving 1 (Opens numbers ∷ []))) (Message_comes (message_in run.packet_5))) (Opens numbers) (Lives run.begun_point ∷ []) run.moment_7.sent (run.begun_point, refl, begins service); places = refl; packets = refl }) }
 
-turn_10 : {State : Type 0} (service : Machine State) → LawfulTurn service (run.node_live run.begun_point) (Packet_comes (segment_in run.packet_7)) run.moment_10.sent (run.node_live run.open_point)
+pub turn_10 : {State : Type 0} (service : Machine State) → LawfulTurn service (run.node_live run.begun_point) (Packet_comes (segment_in run.packet_7)) run.moment_10.sent (run.node_live run.open_point)
 unfolding laws
 turn_10 service = record { server = refl; boot = refl; isn = refl; live = refl; stage = (Lives run.open_point ∷ [], refl, record { went = Lives run.open_point ∷ []; by_places = run.moment_10.sent; all_go = alone (PlaceTurn service (run.node_live run.begun_point) (Packet_comes (segment_in run.packet_7))) (Lives run.begun_point) (Lives run.open_point ∷ []) run.moment_10.sent (run.open_point, refl, opens service); places = refl; packets = refl }) }
 

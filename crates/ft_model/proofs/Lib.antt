@@ -47,6 +47,7 @@ pub mod Copied
 pub mod RightEdge
 pub mod BeyondNext
 pub mod HeldSegments
+pub mod CongestionWindow
 pub mod ShutWindow
 pub mod Scripts
 pub mod Spoken

@@ -80,6 +80,7 @@ live_turn service server boot news p known =
       edge = refl;
       wl1 = refl;
       wl2 = refl;
+      congestion = refl;
       sent_units = refl;
       interval = refl;
       rest = refl;

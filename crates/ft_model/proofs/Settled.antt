@@ -7,7 +7,7 @@ use Rattle.ft_model.specs.Taken.{taken_after, early_after, fin_after}
 use Rattle.ft_model.specs.Answered.{answered_after, reads_answered_after}
 use Rattle.ft_model.specs.Reads.{Makes, next_length, may_read}
 use Rattle.ft_model.specs.Timer.{interval_after, rest_after}
-use Rattle.ft_model.specs.Sending.{syn_acked_after, acknowledged_after, edge_after, wl1_after, wl2_after, sent_after}
+use Rattle.ft_model.specs.Sending.{syn_acked_after, acknowledged_after, edge_after, wl1_after, wl2_after, congestion_after, sent_after}
 use Rattle.ft_model.specs.Ending.{end_ticks_after}
 
 -- the point after the news are noted, with these lengths and with what is settled at the end of the turn left open
@@ -29,6 +29,7 @@ noted news p lengths sent interval rest end_ticks = record {
   edge = edge_after news p;
   wl1 = wl1_after news p;
   wl2 = wl2_after news p;
+  congestion = congestion_after news p;
   syn_acked = syn_acked_after news p;
   interval = interval;
   rest = rest;

@@ -18,6 +18,7 @@ use Rattle.ft_model.specs.Segments.{window, new_length, texts, syn_acks, syn_ack
 use Rattle.ft_model.specs.Copy.{copies}
 use Rattle.ft_model.specs.Reads.{reads_told}
 use Rattle.ft_model.specs.Ending.{dones}
+use Rattle.ft_model.specs.Sending.{is_third_duplicate}
 use Rattle.ft_model.specs.Timer.{expires}
 use Rattle.ft_model.specs.Told.{is_segment, Tells, IsTold}
 use Rattle.ft_model.specs.Connection.{LiveTurn, told_by}
@@ -63,7 +64,7 @@ segments_tell service server news before after =
     let syns : AllByRecursion (TellsIn after) (syn_acks server news before after) = one_or_none (TellsIn after) (opens_with news before) (syn_ack server after) (refl, refl) in
     let All : List Segment → Type 0 = AllByRecursion (TellsIn after) in
     let again : All (resent service server news before after) =
-    holds_either_way All (expires news before) _ []
+    holds_either_way All (expires news before || is_third_duplicate news before) _ []
     (holds_either_way All (is_unacknowledged before after) (first_unacknowledged service server before after) (probe service server before after)
     (first_tells service server before after) (probe_tells service server before after)) tt in
     let fresh : AllByRecursion (TellsIn after) (new_texts service server before after) =

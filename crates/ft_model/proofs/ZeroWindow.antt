@@ -89,7 +89,7 @@ probe_14 = serves echo 1 5000 run.probe_14.input (run.given 4 2) (run.given 4 1)
 
 pub probe_15 : Happens run.probe_14.node run.probe_15
 unfolding laws
-probe_15 = serves echo 1 5000 run.probe_15.input (run.given 4 1) (run.given 8 8) run.probe_15.sent refl refl refl ((run.given 8 8), refl, goes echo server 1 Ticks (run.given 4 1) (run.given 8 8) run.probe_15.sent refl refl refl refl)
+probe_15 = serves echo 1 5000 run.probe_15.input (run.given 4 1) run.lost run.probe_15.sent refl refl refl (run.lost, refl, goes echo server 1 Ticks (run.given 4 1) run.lost run.probe_15.sent refl refl refl refl)
 
 pub probe_is_lawful : Lawful echo server 1 5000 (hello (booted server 1 5000)) run.probe_turns
 probe_is_lawful = (refl, (((((((((((((((tt, probe_1), probe_2), probe_3), probe_4), probe_5), probe_6), probe_7), probe_8), probe_9), probe_10), probe_11), probe_12), probe_13), probe_14), probe_15))

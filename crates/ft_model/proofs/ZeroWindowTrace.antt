@@ -144,7 +144,7 @@ happens_24 = (refl, ((serving_at 1 5000 (turn.given 4 1), refl, probe_14), refl)
 
 happens_25 : Happens echo run.moment_24.world run.moment_25.event run.moment_25.sent run.moment_25.world
 unfolding laws IsLe
-happens_25 = (refl, ((serving_at 1 5000 (turn.given 8 8), refl, probe_15), refl))
+happens_25 = (refl, ((serving_at 1 5000 turn.lost, refl, probe_15), refl))
 
 is_joint : Joint echo run.start run.trace
 is_joint = (((((((((((((((((((((((((starts, happens_1), happens_2), happens_3), happens_4), happens_5), happens_6), happens_7), happens_8), happens_9), happens_10), happens_11), happens_12), happens_13), happens_14), happens_15), happens_16), happens_17), happens_18), happens_19), happens_20), happens_21), happens_22), happens_23), happens_24), happens_25)

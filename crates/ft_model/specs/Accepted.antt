@@ -1,4 +1,4 @@
--- What every schedule keeps that a text spells.
+-- What holds of every schedule that a text spells.
 use Rattle.std.specs.Prelude.{◌≡◌, false, ◌^◌, ◌≤◌, List, [], ◌∷◌, ◌++◌, length}
 use Rattle.std.specs.List.{AllByRecursion}
 use Rattle.ft_model.specs.Grammar.{is_taken}
@@ -7,7 +7,7 @@ use Rattle.ft_model.specs.declared.line.Draft.TheVariants.{Begun}
 use Rattle.ft_model.specs.declared.schedule.ClientLine.{ClientLine}
 use Rattle.ft_model.specs.declared.schedule.Schedule.{Schedule}
 
--- each client's address is neither the server's nor that of a client before it
+-- each client's address differs from the server's and from those of the clients before it
 abbrev pub AreApart : Schedule → List ClientLine → List ClientLine → Type 0
 AreApart schedule before [] = Unit {0}
 AreApart schedule before (client ∷ more) =

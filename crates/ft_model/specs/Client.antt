@@ -1,4 +1,4 @@
--- The client: what it may send, and what it does with what comes (RFC 9293, 3.10). Its offsets are units: bytes, and one more for a FIN.
+-- The client: what it may send, and what it does with what arrives (RFC 9293, 3.10). Its offsets are units: bytes, and one more for a FIN.
 use Rattle.std.specs.Prelude.{◌≡◌, ℕ, ℤ, Bool, true, false, pos, ◌+◌, ◌-◌, ◌^◌, ◌==◌, ◌&&◌, ◌||◌, not, nat_lt, nat_le, int_lt, max, min, Option, Some, None, option_map, List, [], ◌++◌, length, take, drop, nat_abs, if◌then◌else◌}
 use Rattle.ft_io.specs.declared.Addr.{Addr}
 use Rattle.ft_io.specs.declared.Key.{Key}
@@ -14,8 +14,8 @@ use Rattle.ft_model.specs.declared.event.Event.TheVariants as events
 use Rattle.ft_model.specs.declared.event.EventWhy.{EventWhy}
 use Rattle.ft_model.specs.declared.event.EventWhy.TheVariants.{State, Range}
 
--- Which of the two a client is, from its start on. A scripted one makes the moves of a schedule, which a legal trace
--- holds to its events; a live one is a TCP of its own
+-- Which of the two kinds a client is, from its start on. A scripted one makes the moves of a schedule, and a legal trace holds it to the schedule's events. A
+-- live one is a TCP of its own
 pub data ClientKind : Type 0 where
   Scripted : ClientKind
   Live : ClientKind
@@ -49,7 +49,7 @@ abbrev pub is_ended : Phase → Bool
 is_ended Ended = true
 is_ended _ = false
 
--- the connection stands, in one direction at least
+-- the connection is open in at least one direction
 abbrev pub is_open : Phase → Bool
 is_open Established = true
 is_open Ended = true
@@ -59,8 +59,8 @@ is_open _ = false
 abbrev pub accepted_units : Client → ℕ
 accepted_units client = length client.accepted + one_if (is_ended client.phase)
 
--- What a client may send (RFC 9293, 3.10.4 and 3.10.7.3). After a refusal of a wrong acknowledgement of its SYN, by a RST with that number, a
--- client is opening as before.
+-- What a client may send (RFC 9293, 3.10.4 and 3.10.7.3). A refusal answers a wrong acknowledgement of its SYN by a RST with that number. The client is then
+-- opening as before.
 pub data Move : Type 0 where
   Syn : (mss : Option ℕ) → Move
   Text : (from len : ℕ) → Move
@@ -78,13 +78,13 @@ abbrev pub may_offer : ClientKind → Option ℕ → Bool
 may_offer kind None = true
 may_offer kind (Some mss) = is_live kind && nat_lt mss (2 ^ 16)
 
--- only a live client offers a size, and only a live client refuses
+-- only a live client offers a segment size, and only a live client refuses
 abbrev pub suits_kind : ClientKind → Move → Bool
 suits_kind kind (Syn mss) = may_offer kind mss
 suits_kind kind (Refuse number) = is_live kind
 suits_kind kind move = true
 
--- the phases in which the move may be made. After its FIN was acknowledged a client sends neither text nor FIN
+-- the phases in which the move may be made. Once its FIN is acknowledged a client sends neither text nor FIN
 abbrev pub suits_phase : Client → Move → Bool
 suits_phase client (Syn mss) = is_new client.phase || is_opening client.phase
 suits_phase client (Text from len) = is_open client.phase && nat_le client.acknowledged (length client.script)
@@ -93,8 +93,8 @@ suits_phase client Acknowledge = is_open client.phase
 suits_phase client Rst = is_opening client.phase || is_open client.phase
 suits_phase client (Refuse number) = is_opening client.phase
 
--- text begins with what isn't acknowledged or has just not been sent, has 1 to 1,460 bytes and stays within the script; a FIN comes
--- when the script is sent whole; and an acknowledgement is refused that isn't that of what was sent (RFC 9293, 3.10.7.3)
+-- text begins no earlier than at the first unacknowledged unit and no later than at the first unsent one, has 1 to 1,460 bytes and stays within the script. A
+-- FIN comes once the whole script is sent. A refused acknowledgement isn't that of what was sent (RFC 9293, 3.10.7.3)
 abbrev pub suits_range : Client → Move → Bool
 suits_range client (Text from len) = nat_le client.acknowledged from && nat_le from client.sent && nat_le 1 len && nat_le len 1460 && nat_le (from + len) (length client.script)
 suits_range client Fin = nat_le (length client.script) client.sent
@@ -113,7 +113,7 @@ flags_of Acknowledge = 16
 flags_of Rst = 4
 flags_of (Refuse number) = 4
 
--- the number that a move has
+-- the sequence number of a move
 abbrev pub seq_of : Client → Move → ℕ
 seq_of client (Syn mss) = client.isn
 seq_of client (Text from len) = number_at client.isn from
@@ -128,7 +128,7 @@ is_acknowledging Fin = true
 is_acknowledging Acknowledge = true
 is_acknowledging _ = false
 
--- text, FIN and ACK acknowledge all that is accepted; the others acknowledge nothing
+-- text, FIN and ACK acknowledge all that is accepted; other moves acknowledge nothing
 abbrev pub ack_number_of : Client → Move → ℕ
 ack_number_of client move = if is_acknowledging move then number_at client.sisn (accepted_units client) else 0
 
@@ -140,7 +140,7 @@ abbrev pub payload_of : Client → Move → List ℕ
 payload_of client (Text from len) = take len (drop from client.script)
 payload_of client _ = []
 
--- the packet of a move, with the window that it announces
+-- the packet of a move, with the window that it advertises
 abbrev pub segment_of : Client → Move → ℕ → Segment
 segment_of client move window = record {
   head = record {
@@ -167,17 +167,17 @@ phase_after phase (Syn mss) = Opening
 phase_after phase Rst = Reset
 phase_after phase _ = phase
 
--- the client after a move: what it announced raises its right edge and never lowers it
+-- the client after a move: the advertised window raises its right edge and never lowers it
 abbrev pub moved : Client → Move → ℕ → Client
 moved client move window = record client { phase = phase_after client.phase move; sent = sent_after client move; edge = max client.edge (length client.accepted + window) }
 
--- a move announces a window that a head can hold, and a RST none
+-- a move advertises a window that a header can hold, and a RST none
 abbrev pub may_announce : Move → ℕ → Bool
 may_announce Rst window = window == 0
 may_announce (Refuse number) window = window == 0
 may_announce _ window = nat_lt window (2 ^ 16)
 
--- a packet is a move of the client, which then stands so
+-- a packet is a move of the client, which is then `after`
 pub record IsMove (client : Client) (segment : Segment) (after : Client) : Type 0 where
   pub move : Move
   pub window : ℕ
@@ -186,7 +186,7 @@ pub record IsMove (client : Client) (segment : Segment) (after : Client) : Type 
   pub segment_is : segment ≡ segment_of client move window
   pub after_is : after ≡ moved client move window
 
--- The scripted client: of which client an event of the schedule asks a move, and which ..
+-- The scripted client: which move an event of the schedule asks for, and of which client ..
 abbrev pub move_asked : Event → Option (ℕ × Move)
 move_asked (events.Begin client window) = Some (client, Syn None)
 move_asked (events.Send client from len) = Some (client, Text from len)
@@ -199,14 +199,14 @@ move_asked events.Tick = None
 move_asked (events.Deliver packet) = None
 move_asked (events.Flip packet bit) = None
 
--- the client alone, and the move alone
+-- only the client, and only the move
 abbrev pub mover_of : Event → Option ℕ
 mover_of event = option_map (λ a. a.0) (move_asked event)
 
 abbrev pub move_of : Event → Option Move
 move_of event = option_map (λ a. a.1) (move_asked event)
 
--- .. with a window: that of the event, or for text and FIN the room that was announced before, and none with a RST
+-- .. and with which window: that of the event; for text and FIN the room that was advertised before; none with a RST
 abbrev pub window_of : Client → Event → ℕ
 window_of client (events.Begin number window) = window
 window_of client (events.Ack number window) = window
@@ -230,15 +230,15 @@ next_of client = accepted_units client
 abbrev pub room_of : Client → ℕ
 room_of client = client.edge - length client.accepted
 
--- the SYN is answered: a SYN-ACK opens and a RST resets, if they acknowledge the SYN
+-- the answer to the SYN arrives: a SYN-ACK opens and a RST resets, if it acknowledges the SYN
 abbrev pub opened_by : Client → Segment → Client
 opened_by client segment =
     if has_ack segment && segment.head.ack == number_at client.isn 0
     then (if has_rst segment then record client { phase = Reset } else (if has_syn segment then record client { phase = Established; sisn = segment.head.seq } else client))
     else client
 
--- the acknowledgement of a segment may be used: a scripted client goes by the four cases of TCP alone. A live one also takes what is at its right edge, and
--- uses what a window of zero allows
+-- whether the acknowledgement of a segment may be used. A scripted client uses only TCP's four cases. A live one also accepts what is at its right edge, and
+-- uses what a zero window allows
 abbrev pub may_use : Client → Segment → Bool
 may_use client segment =
     if is_live client.kind
@@ -248,12 +248,12 @@ may_use client segment =
 abbrev pub with_ack : Client → ℤ → Client
 with_ack client ack = record client { acknowledged = if int_lt (pos client.acknowledged) ack then nat_abs ack else client.acknowledged }
 
--- a live client holds what comes early, as a server does; a scripted one drops it
+-- a live client holds out-of-order data, as a server does; a scripted one drops it
 abbrev pub holds : ClientKind → Early → Early
 holds Scripted early = nothing_early
 holds Live early = early
 
--- what a segment adds to the server's stream is accepted, and the server's FIN ends it
+-- the client accepts what a segment adds to the server's stream, and the server's FIN ends it
 abbrev pub with_added : Client → Came → Client
 with_added client came = record client {
   accepted = client.accepted ++ came.added;
@@ -265,12 +265,12 @@ abbrev pub came : Client → Segment → Came
 came client segment =
     comes (length client.accepted) client.edge (is_ended client.phase) (holds client.kind client.early) (first_of client.sisn segment) (text_of segment) (fin_of segment)
 
--- a segment with ACK that may be used, in an open connection. One that acknowledges what was not sent is dropped
+-- a segment with ACK that may be used arrives in an open connection. If it acknowledges what was not sent, it is dropped
 abbrev pub used : Client → Segment → Client
 used client segment =
     if int_lt (pos client.sent) (ack_of client.isn segment) then client else with_added (with_ack client (ack_of client.isn segment)) (came client segment)
 
--- RFC 9293, 3.10.7.4, as far as a client that never answers goes: acceptability, RST at exactly the next number, SYN, ACK
+-- RFC 9293, 3.10.7.4, as far as it concerns a client that never answers: acceptability, RST at exactly the next number, SYN, ACK
 abbrev pub arrived : Client → Segment → Client
 arrived client segment =
     if may_use client segment
@@ -279,6 +279,6 @@ arrived client segment =
     else (if has_syn segment || not (has_ack segment) then client else used client segment))
     else client
 
--- a client of either kind with a packet that came to it. A client that is new or reset drops it
+-- a client of either kind receives a packet. A new or reset client drops it
 abbrev pub received : Client → Segment → Client
 received client segment = if is_opening client.phase then opened_by client segment else (if is_open client.phase then arrived client segment else client)

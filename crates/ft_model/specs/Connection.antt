@@ -1,4 +1,4 @@
--- One live connection in one turn: how its point goes on and what it sends. Each field of the point after follows its own law.
+-- One live connection in one turn: how its point changes and what it sends. Each field of the point after the turn follows its own law.
 use Rattle.std.specs.Prelude.{◌≡◌, ℕ, true, false, List, ◌++◌, map}
 use Rattle.std.specs.Bool.{MatchBool}
 use Rattle.ft_io.specs.declared.Addr.{Addr}
@@ -11,7 +11,7 @@ use Rattle.ft_model.specs.News.{News}
 use Rattle.ft_model.specs.Taken.{taken_after, early_after, fin_after}
 use Rattle.ft_model.specs.Answered.{answered_after, reads_answered_after}
 use Rattle.ft_model.specs.Reads.{MakesReads, reads_told}
-use Rattle.ft_model.specs.Sending.{syn_acked_after, acknowledged_after, edge_after, wl1_after, wl2_after, sent_after}
+use Rattle.ft_model.specs.Sending.{syn_acked_after, acknowledged_after, edge_after, wl1_after, wl2_after, congestion_after, sent_after}
 use Rattle.ft_model.specs.Timer.{interval_after, rest_after}
 use Rattle.ft_model.specs.Segments.{segments_of}
 use Rattle.ft_model.specs.Copy.{copies}
@@ -49,6 +49,7 @@ pub record LiveTurn {State : Type 0} (service : Machine State) (server : Addr) (
   pub edge : after.edge ≡ edge_after news before
   pub wl1 : after.wl1 ≡ wl1_after news before
   pub wl2 : after.wl2 ≡ wl2_after news before
+  pub congestion : after.congestion ≡ congestion_after news before
   pub sent_units : after.sent ≡ sent_after service news before after
   pub interval : after.interval ≡ interval_after news before after
   pub rest : after.rest ≡ rest_after service news before after
@@ -56,7 +57,7 @@ pub record LiveTurn {State : Type 0} (service : Machine State) (server : Addr) (
   pub reset : after.reset ≡ false
   pub packets : sent ≡ sent_by service server boot news before after
 
--- a turn of a connection that its client resets or has reset: it only hears what is logged, and tells that it is done
+-- a turn of a connection that its client resets or has reset: it only learns what is logged, and reports that it is done
 pub record ResetTurn (boot : ℕ) (news : News) (before after : Point) (sent : List Packet) : Type 0 where
   pub point : after ≡ record before { answered = answered_after news before; reads_answered = reads_answered_after news before; reset = true }
   pub packets : sent ≡ map (told_by boot) (dones news before after)

@@ -1,5 +1,5 @@
--- The law Copy: what of a segment goes to the logger, and what of the held text that it lets be taken (FT-TCP, INFOCOM 2001: the south side wrapper).
--- Nothing is kept for sending again: the client is not acknowledged, so it repeats. Whether the segment was acceptable plays no part.
+-- The law Copy: which part of a segment is sent to the logger, and which part of the held text that is taken because of it (FT-TCP, INFOCOM 2001: the south
+-- side wrapper). Nothing is stored for retransmission: the client gets no acknowledgement, so it retransmits. Whether the segment was acceptable plays no part.
 use Rattle.std.specs.Prelude.{ℕ, ℤ, Bool, false, zero, suc, pos, negsuc, ◌+◌, ◌-◌, ◌&&◌, ◌||◌, not, nat_lt, nat_le, max, min, List, [], ◌∷◌, ◌++◌, length, take, drop, if◌then◌else◌}
 use Rattle.ft_io.specs.declared.Key.{Key}
 use Rattle.seq_arith.specs.Arrival.{int_eq, below}
@@ -12,12 +12,12 @@ use Rattle.ft_model.specs.News.{News}
 use Rattle.ft_model.specs.News.News.{Comes, Logged, Ticks, Begins}
 use Rattle.ft_model.specs.Taken.{end_of}
 
--- an offset of the stream; a segment that begins before its first byte, as a retransmission may, counts from there
+-- an offset of the stream. A segment that begins before the stream's first byte, as a retransmission may, counts from that byte
 abbrev pub from_start : ℤ → ℕ
 from_start (pos offset) = offset
 from_start (negsuc before) = 0
 
--- where the part of the text begins that isn't known to be logged
+-- where the part of the text that isn't known to be logged begins
 abbrev pub copy_start : Point → Segment → ℕ
 copy_start p segment = max p.answered (from_start (first_of p.cisn segment))
 
@@ -25,33 +25,33 @@ copy_start p segment = max p.answered (from_start (first_of p.cisn segment))
 abbrev pub copied_text : Point → Segment → List ℕ
 copied_text p segment = take (length p.taken - copy_start p segment) (drop (below p.answered (first_of p.cisn segment)) (text_of segment))
 
--- the segment's FIN is the one that is taken, and isn't known to be logged
+-- whether the segment's FIN is the one that is taken, and isn't known to be logged
 abbrev pub copies_fin : Point → Segment → Bool
 copies_fin p segment = fin_of segment && p.fin && int_eq (end_of p segment) (pos (length p.taken)) && nat_le p.answered (length p.taken)
 
--- Data for the acknowledgement alone stands where the logged bytes end
+-- Data that only reports the acknowledgement. Its offset is the end of the bytes known to be logged
 abbrev pub una_part : Point → Part
 una_part p = record { key = p.key; offset = min p.answered (length p.taken); acked = p.una; fin = false; bytes = [] }
 
 abbrev pub copied_part : Point → Segment → Part
 copied_part p segment = record { key = p.key; offset = copy_start p segment; acked = p.una; fin = copies_fin p segment; bytes = copied_text p segment }
 
--- the part of the segment between what is answered and what is taken after the turn, where there is one
+-- the part of the segment between what is answered and what is taken after the turn, if there is one
 unfoldable pub own_data : Point → Segment → List Body
 own_data p segment = if nat_lt 0 (length (copied_text p segment)) || copies_fin p segment then DataMsg (copied_part p segment) ∷ [] else []
 
--- where the text begins that the turn took out of what was held and that isn't known to be logged: behind the bytes taken before and the segment's own
+-- where the text begins that was held, is taken in this turn and isn't known to be logged: after the bytes taken before and after the segment's own
 abbrev pub further_start : (before after : Point) → Segment → ℕ
 further_start before after segment = max after.answered (max (length before.taken) (min (from_start (end_of after segment)) (length after.taken)))
 
 abbrev pub further_text : (before after : Point) → Segment → List ℕ
 further_text before after segment = drop (further_start before after segment) after.taken
 
--- a FIN is taken that isn't in the segment's own part: it was held
+-- whether a FIN is taken that isn't in the segment's own part: it was held
 abbrev pub takes_held_fin : (before after : Point) → Segment → Bool
 takes_held_fin before after segment = after.fin && not before.fin && not (copies_fin after segment) && nat_le after.answered (length after.taken)
 
--- these bytes from an offset on, as at most k Data: 1,460 bytes each but the last, which has the FIN
+-- these bytes, from an offset on, as at most k Data: 1,460 bytes each except the last, which has the FIN
 unfoldable pub datas : (k : ℕ) → Key → (acked offset : ℕ) → List ℕ → Bool → List Body
 datas zero key acked offset bytes fin = []
 datas (suc k) key acked offset bytes fin =
@@ -64,13 +64,13 @@ further_data before after segment =
     datas (length (further_text before after segment) + 1) after.key after.una (further_start before after segment) (further_text before after segment)
     (takes_held_fin before after segment)
 
--- where no Data goes out and SND.UNA rose, a Data without bytes tells that
+-- where no Data is sent and SND.UNA rose, a Data without bytes reports that
 abbrev pub or_una : (before after : Point) → List Body → List Body
 or_una before after [] = if nat_lt before.una after.una then DataMsg (una_part after) ∷ [] else []
 or_una before after (first ∷ others) = first ∷ others
 
--- Copy: the segment's own part goes out as one Data, and the text and FIN that the turn took out of what was held follow in further Data, in order.
--- Every Data carries SND.UNA
+-- Copy: the segment's own part is sent as one Data. The text and FIN that were held and are taken in this turn follow in further Data, in order. Every Data
+-- carries SND.UNA
 unfoldable pub copies : News → Point → Point → List Body
 copies (Comes segment) before after = or_una before after (own_data after segment ++ further_data before after segment)
 copies (Logged kept) before after = []

@@ -1,4 +1,4 @@
--- The law Reset and end, for a live connection: when its client resets it, and when it tells the logger that it is done.
+-- The law Reset and end, for a live connection: when its client resets it, and when it reports to the logger that it is done.
 use Rattle.std.specs.Prelude.{ℕ, Bool, pos, ◌+◌, ◌==◌, ◌&&◌, ◌||◌, not, min, List, [], ◌∷◌, if◌then◌else◌}
 use Rattle.seq_arith.specs.Arrival.{int_eq}
 use Rattle.seq_arith.specs.Packet.{has_rst}
@@ -22,11 +22,11 @@ reset_after Begins p = p.reset
 abbrev pub is_end_tick : {State : Type 0} → Machine State → News → Point → Bool
 is_end_tick service news after = is_tick news && is_over service after && acknowledgement after == taken_units after
 
--- four of them are counted
+-- the end ticks so far, counted up to four
 unfoldable pub end_ticks_after : {State : Type 0} → Machine State → News → Point → Point → ℕ
 end_ticks_after service news before after = if is_end_tick service news after then min 4 (before.end_ticks + 1) else before.end_ticks
 
--- Done goes out in the turn of the reset and at each tick from then on, or at the fourth end tick and at each tick from then on
+-- Done is sent in the turn of the reset, or at the fourth end tick, and in either case at each tick from then on
 abbrev pub tells_done : News → Point → Point → Bool
 tells_done news before after = (after.reset && not before.reset) || (is_tick news && (after.reset || after.end_ticks == 4))
 

@@ -1,8 +1,8 @@
 -- The grammar of a schedule's text: the schedule that it spells, or the first line that is refused and why.
 --
--- First `service NAME`, then `server ADDRESS`, then 0 to 16 times `client N ADDRESS ISN SCRIPT` with N from 1 in order, then events:
--- `boot BOOT ISN`, `crash`, `tick`, `deliver P`, `flip P BIT`, `open N W`, `send N FROM LEN`, `fin N`, `ack N W`, `reset N`. A line without
--- words, or whose first byte is `#`, is passed over, and counted.
+-- First `service NAME`, then `server ADDRESS`, then 0 to 16 times `client N ADDRESS ISN SCRIPT` with N from 1 in order, then events: `boot BOOT ISN`, `crash`,
+-- `tick`, `deliver P`, `flip P BIT`, `open N W`, `send N FROM LEN`, `fin N`, `ack N W`, `reset N`. A line without words, or whose first byte is `#`, is
+-- skipped, but counted.
 use Rattle.std.specs.Prelude.{ℕ, Bool, true, false, ◌+◌, ◌-◌, ◌^◌, ◌==◌, ◌&&◌, ◌||◌, not, nat_lt, nat_le, Option, Some, None, is_none, option_map, Result, Ok, Err, List, [], ◌∷◌, ◌++◌, length, codes, if◌then◌else◌}
 use Rattle.std.specs.List.{list_all, list_any}
 use Rattle.std.specs.Option.{ok_or}
@@ -59,7 +59,7 @@ window word = number 0 65535 word
 abbrev pub long_number : List ℕ → Result ℕ LineWhy
 long_number word = number 0 (2 ^ 32 - 1) word
 
--- The lines of events, from the words behind the first. First their count is tested, then the numbers in order.
+-- The lines of events, from the words after the first. Their count is tested first, then the numbers in order.
 unfoldable pub boot_line : List (List ℕ) → Result Event LineWhy
 boot_line (boot ∷ isn ∷ []) = do
   b ← boot_number boot
@@ -101,7 +101,7 @@ send_line (client ∷ from ∷ len ∷ []) = do
   Ok (event.Send c f l)
 send_line _ = Err why.Count
 
--- a client alone
+-- only a client
 unfoldable pub client_alone : List (List ℕ) → Result ℕ LineWhy
 client_alone (client ∷ []) = client_number client
 client_alone _ = Err why.Count
@@ -134,7 +134,7 @@ is_taken (Begun schedule) addr =
     || list_any (λ client. client.key.ip == addr.ip && client.key.port == addr.port) schedule.clients
 is_taken draft addr = false
 
--- an address that nobody has yet
+-- an address that isn't taken yet
 unfoldable pub free_address : Draft → List ℕ → Result Addr LineWhy
 free_address draft word = do
   addr ← ok_or (addr_of word) why.Address
@@ -171,7 +171,7 @@ verbs =
     ∷ (codes "reset", verb.Reset)
     ∷ []
 
--- what a word of such a table announces
+-- what such a table has for a word
 abbrev pub announced : List (List ℕ × Verb) → List ℕ → Option Verb
 announced [] word = None
 announced (row ∷ rows) word = if bytes_eq word row.0 then Some row.1 else announced rows word
@@ -248,7 +248,7 @@ is_comment (byte ∷ more) = byte == 35
 unfoldable pub is_passed_over : List ℕ → Bool
 is_passed_over text = is_comment text || is_empty (words_of text)
 
--- an event's line behind 100,000 of them is too much, whatever else it holds
+-- an event's line after 100,000 of them is one too many, whatever it says
 abbrev pub is_full : Draft → Bool
 is_full (Begun schedule) = nat_le 100000 (length schedule.events)
 is_full _ = false
@@ -265,7 +265,7 @@ abbrev pub at_line : ℕ → Result Draft LineWhy → Result Draft Refusal
 at_line n (Ok draft) = Ok draft
 at_line n (Err reason) = Err (BadLine n reason)
 
--- What a reader has against a well-formed line behind the lines before it: a test of its own, the last one. The grammar itself has none.
+-- A reader's objection to a well-formed line, given the lines before it: a test of its own, the last one. The grammar itself has none.
 abbrev pub Objection : Type 0
 Objection = Draft → Line → Option LineWhy
 
@@ -276,24 +276,24 @@ abbrev pub unless_objected : Option LineWhy → Draft → Result Draft LineWhy
 unless_objected (Some reason) later = Err reason
 unless_objected None later = Ok later
 
--- what the lines spell with line n among them
+-- what the lines spell once line n is added
 unfoldable pub after_line : Objection → ℕ → Draft → List ℕ → Result Draft Refusal
 after_line objection n draft text =
     if is_passed_over text then Ok draft
     else (if is_too_much draft text then Err (TooLong limit.Events)
     else at_line n (line_of draft text >>= λ l. unless_objected (objection draft l) (with_line draft l)))
 
--- a text that ends before its server line lacks it in the line behind its last
+-- a text that ends before its server line is refused for lack of it, at the line after its last
 abbrev pub schedule_of : ℕ → Draft → Result Schedule Refusal
 schedule_of n (Begun schedule) = Ok schedule
 schedule_of n _ = Err (BadLine n why.Place)
 
--- what the lines from number n on spell, behind those before
+-- what the lines from number n on spell, after those before
 unfoldable pub read_lines : Objection → ℕ → Draft → List (List ℕ) → Result Schedule Refusal
 read_lines objection n draft [] = schedule_of n draft
 read_lines objection n draft (text ∷ more) = after_line objection n draft text >>= λ later. read_lines objection (n + 1) later more
 
--- the schedule that a text spells for a reader with this test, or why it spells none. At most 2^23 bytes are looked at.
+-- the schedule that a text spells for a reader with this test, or why it spells none. A text of more than 2^23 bytes is too long.
 unfoldable pub read_with : Objection → List ℕ → Result Schedule Refusal
 read_with objection text = if nat_le (length text) 8388608 then read_lines objection 1 Empty (lines_of text) else Err (TooLong limit.Text)
 

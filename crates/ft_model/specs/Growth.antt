@@ -1,4 +1,4 @@
--- How the log grows: what it keeps it keeps for good.
+-- How the log grows: what it has it never loses.
 use Rattle.std.specs.Prelude.{◌≡◌, ℕ, ◌≤◌, ◌+◌, true, Option, Some, None, List, [], ◌∷◌, ◌++◌, length}
 use Rattle.ft_io.specs.declared.Key.{Key}
 use Rattle.ft_model.specs.Offset.{one_if}
@@ -8,7 +8,7 @@ use Rattle.ft_model.specs.Log.{Entry, Log, entry_of}
 abbrev pub IsPrefix : {A : Type 0} → List A → List A → Type 0
 IsPrefix {A} front whole = (rest : List A) × (front ++ rest ≡ whole)
 
--- an entry and what it is later: its numbers and its bytes stay, no byte is added behind a FIN, and the list of its reads goes on
+-- an entry and its later state: its numbers and its bytes stay, no byte is added after a FIN, and reads are only appended
 pub record EntryGrows (before after : Entry) : Type 0 where
   pub key : after.key ≡ before.key
   pub cisn : after.cisn ≡ before.cisn

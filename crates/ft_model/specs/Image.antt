@@ -1,4 +1,4 @@
--- A trace as it shows on the wire: its events, and what was sent at each. The worlds beside them are witnesses.
+-- A trace as it appears on the wire: its events, and what was sent at each. The worlds alongside them are witnesses.
 use Rattle.std.specs.Prelude.{List, map}
 use Rattle.std.specs.List.{AllByRecursion}
 use Rattle.ft_model.specs.Wire.{Wire, wire_of, HasWire}

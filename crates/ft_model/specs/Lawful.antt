@@ -1,4 +1,4 @@
--- A lawful incarnation: it boots, fetches the log, and serves. Each of its turns is determined by where it stands and what comes.
+-- A lawful incarnation: it boots, fetches the log, and serves. Each of its turns is determined by its state and its input.
 use Rattle.std.specs.Prelude.{◌≡◌, IfSome, MatchOption, ℕ, Bool, true, false, ◌+◌, ◌==◌, ◌&&◌, not, nat_lt, map, filter, Option, Some, None, List, [], ◌∷◌, ◌++◌, length, if◌then◌else◌}
 use Rattle.std.specs.List.{AllByRecursion}
 use Rattle.std.specs.Option.{option_to_list}
@@ -24,7 +24,7 @@ use Rattle.ft_model.specs.Serving.{Stays, LivesOn, AllGo, newcomers, ServingTurn
 abbrev pub Rests : Stage → Stage → List Packet → Type 0
 Rests before after sent = (after ≡ before) × (sent ≡ [])
 
--- the boot's own turn sends Hello, and so does each tick until it is answered
+-- the boot's own turn sends Hello, and so does each tick until Hello is answered
 abbrev pub hello : Node → List Packet
 hello node = told_by node.boot HelloMsg ∷ []
 
@@ -50,18 +50,18 @@ abbrev pub Revives : {State : Type 0} → Machine State → Node → Place → L
 Revives service node (Lives p) now sent = LivesOn service node Begins p now sent
 Revives service node place now sent = Stays place now sent
 
--- Restart: the next question is asked at once. When nothing is missing any more, all entries that aren't done become live in this turn,
--- each at its point, and go on by the law of every turn
+-- Restart: the next question is asked at once. When nothing is missing any more, all entries that aren't done become live in this turn, each at its point, and
+-- continue by the law of every turn
 abbrev pub Continues : {State : Type 0} → Machine State → Node → (count : ℕ) → List Fetched → Option Wanted → Stage → List Packet → Type 0
 Continues service node count fetched (Some w) after sent = (after ≡ Fetching count fetched) × (sent ≡ asked node (Some w))
 Continues service node count fetched None after sent =
     (places : List Place) × (after ≡ Serving (restored_count fetched) places) × AllGo (Revives service node) (all_restored service fetched) places sent
 
--- .. with what is missing of the log's entries now
+-- .. with what is now missing of the log's entries
 abbrev pub Fetches : {State : Type 0} → Machine State → Node → (count : ℕ) → List Fetched → Stage → List Packet → Type 0
 Fetches service node count fetched after sent = Continues service node count fetched (wanted count fetched) after sent
 
--- the count that a Summary of this boot tells
+-- the count that a Summary of this boot reports
 abbrev pub summary_count : Body → Option ℕ
 summary_count (SummaryMsg count) = Some count
 summary_count _ = None
@@ -69,18 +69,18 @@ summary_count _ = None
 abbrev pub count_told : Node → Message → Option ℕ
 count_told node message = if message.boot == node.boot then summary_count message.body else None
 
--- what is fetched after a message, if it is an answer of this boot that fits
+-- what is fetched after a message, if it is a fitting answer of this boot
 abbrev pub fetched_then : Node → Message → (count : ℕ) → List Fetched → Option (List Fetched)
 fetched_then node message count fetched = if message.boot == node.boot then fetched_after (wanted count fetched) message.body fetched else None
 
--- what a client gets while the server fetches: nothing, until its entry has come, nor if that is done, nor for a RST
+-- what a client is sent while the server fetches. Nothing is sent until its entry has come, nor where that is done, nor in answer to a RST
 abbrev pub held : Node → List Fetched → Segment → List Packet
 held node fetched segment =
     if is_for node.server segment && not (has_rst segment)
     then map (λ f. To_client (holding_segment node.server f.head)) (option_to_list (live_entry (source_of segment) fetched))
     else []
 
--- a turn, by the stage before it. A message counts only in the server's own boot; an answer that doesn't fit is dropped
+-- a turn, by the stage before it. A message counts only if it has the server's own boot. An answer that doesn't fit is dropped
 abbrev pub StageTurn : {State : Type 0} → Machine State → Node → Stage → Input → Stage → List Packet → Type 0
 StageTurn service node Asking Tick_comes after sent = (after ≡ Asking) × (sent ≡ hello node)
 StageTurn service node Asking (Message_comes message) after sent =
@@ -115,7 +115,7 @@ abbrev pub is_fenced : Stage → Bool
 is_fenced (Fenced newer) = true
 is_fenced _ = false
 
--- One turn of an incarnation, from where it stands, by this input, with these packets sent. One that is fenced has no further turn
+-- One turn of an incarnation, from its state, by this input, with these packets sent. A fenced one has no further turn
 pub record LawfulTurn {State : Type 0} (service : Machine State) (before : Node) (input : Input) (sent : List Packet) (after : Node) : Type 0 where
   pub server : after.server ≡ before.server
   pub boot : after.boot ≡ before.boot
@@ -123,7 +123,7 @@ pub record LawfulTurn {State : Type 0} (service : Machine State) (before : Node)
   pub live : is_fenced before.stage ≡ false
   pub stage : NodeTurn service before input (fence before input) after.stage sent
 
--- a turn of a process of its own, with the server after it
+-- a turn of a process on its own, with the server after it
 pub record Turn : Type 0 where
   pub input : Input
   pub sent : List Packet
@@ -133,7 +133,7 @@ abbrev pub node_after : Node → List Turn → Node
 node_after first [] = first
 node_after first (turn ∷ earlier) = turn.node
 
--- an incarnation, by its own inputs and outputs, newest turn first. The boot's own turn, `hello`, comes before them all
+-- an incarnation, by its own inputs and outputs, newest turn first. The boot's own turn, `hello`, comes before all of them
 abbrev pub IsLawful : {State : Type 0} → Machine State → Node → List Turn → Type 0
 IsLawful service first [] = Unit {0}
 IsLawful service first (turn ∷ earlier) = IsLawful service first earlier × LawfulTurn service (node_after first earlier) turn.input turn.sent turn.node
@@ -142,7 +142,7 @@ IsLawful service first (turn ∷ earlier) = IsLawful service first earlier × La
 abbrev pub Lawful : {State : Type 0} → Machine State → Addr → (boot isn : ℕ) → List Packet → List Turn → Type 0
 Lawful service server boot isn at_boot turns = (at_boot ≡ hello (booted server boot isn)) × IsLawful service (booted server boot isn) turns
 
--- the premises of a lawful process: a packet for this server that comes from the client of a live connection is near to that connection, ..
+-- the premises of a lawful process: a packet for this server from the client of a live connection is near to that connection, ..
 abbrev pub IsNearTo : Addr → Segment → Place → Type 0
 IsNearTo server segment (Opens numbers) = Unit {0}
 IsNearTo server segment (Lives p) = is_for server segment ≡ true → key_eq (source_of segment) p.key ≡ true → IsNear p.cisn p.sisn segment
@@ -160,7 +160,7 @@ IsNearInput server (Message_comes message) stage = Unit {0}
 IsNearInput server Noise_comes stage = Unit {0}
 IsNearInput server Tick_comes stage = Unit {0}
 
--- .. and the entries that it has fetched whole are sound. One of which something is missing is no entry of the log yet, and one that is done isn't
+-- .. and the entries that it has fetched completely are sound. An entry of which something is missing is no entry of the log yet, and one that is done isn't
 -- replayed
 abbrev pub AreSound : {State : Type 0} → Machine State → List Fetched → Type 0
 AreSound service fetched = AllByRecursion (λ f. f.head.done ≡ false → is_whole f ≡ true → IsSound service (entry_in f)) fetched

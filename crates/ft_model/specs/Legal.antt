@@ -1,5 +1,5 @@
--- A legal trace of a schedule: it starts from the schedule's clients and the empty log, its server runs the schedule's service, its events are
--- the schedule's, all and in order, each of them allowed, and its clients follow the script.
+-- A legal trace of a schedule: it starts from the schedule's clients and the empty log, its server runs the schedule's service, its events are all of the
+-- schedule's, in order and each of them allowed, and its clients follow the script.
 use Rattle.std.specs.Prelude.{◌≡◌, ℕ, ◌*◌, length, nat_le, Option, Some, None, is_some, List, [], ◌∷◌, if◌then◌else◌}
 use Rattle.server_trait.specs.Service.{Served, Machine, machine}
 use Rattle.ft_model.specs.Client.{Client, Move, move_asked, window_of, refusal_of_move, segment_of, moved}
@@ -19,17 +19,17 @@ use Rattle.ft_model.specs.declared.schedule.Schedule.{Schedule}
 abbrev pub start_of : Schedule → World
 start_of schedule = record { server = schedule.server; clients = clients_of schedule.server schedule.clients; log = empty_log; packets = []; boot = 0; node = None }
 
--- why a client of the schedule, if there is one, doesn't make the move
+-- why the move of a client isn't made. The schedule may have no such client
 abbrev pub refusal_of_client : Option Client → Move → Option EventWhy
 refusal_of_client None move = Some why.Client
 refusal_of_client (Some client) move = refusal_of_move client move
 
--- why the move that is asked of a client, if one is, isn't made
+-- why the move that an event asks for, if it asks for one, isn't made
 abbrev pub refusal_of_asked : List Client → Option (ℕ × Move) → Option EventWhy
 refusal_of_asked clients None = None
 refusal_of_asked clients (Some asks) = refusal_of_client (client_at clients asks.0) asks.1
 
--- why a bit of a packet, if there is one, can't be changed: it has no such bit
+-- why a bit of a packet can't be changed: the packet doesn't exist, or has no such bit
 abbrev pub refusal_of_flip : Option Packet → ℕ → Option EventWhy
 refusal_of_flip None bit = Some why.Packet
 refusal_of_flip (Some packet) bit = if nat_le (8 * length (wire_of packet).bytes) bit then Some why.Bit else None
@@ -47,7 +47,7 @@ refusal w (Fin client) = refusal_of_asked w.clients (move_asked (Fin client))
 refusal w (Ack client window) = refusal_of_asked w.clients (move_asked (Ack client window))
 refusal w (Reset client) = refusal_of_asked w.clients (move_asked (Reset client))
 
--- a client makes the move that the event asks of it, with the scripted client's window: it sends that move's packet, and stands as after it
+-- a client makes the move that the event asks for, with the scripted client's window: it sends that move's packet, and is then the client after the move
 abbrev pub IsScripted : World → Event → List Packet → World → Type 0
 IsScripted before event sent after =
     (number : ℕ) (move : Move) (client : Client) → move_asked event ≡ Some (number, move) → client_at before.clients number ≡ Some client
@@ -63,7 +63,7 @@ abbrev pub AllAllowed : World → List Moment → Type 0
 AllAllowed start [] = Unit {0}
 AllAllowed start (moment ∷ earlier) = AllAllowed start earlier × IsAllowed (world_after start earlier) moment
 
--- a service's machine of each kind
+-- a service's machine for each kind
 abbrev pub machines : {State : Type 0} → (ℕ → State) → (State → List ℕ → Served State) → ℕ → Machine State
 machines started after kind = machine (started kind) after
 

@@ -1,5 +1,5 @@
--- The logger (the FT-TCP article's logger): a boot number, and an entry for each connection with the client's bytes, whether its FIN
--- is kept, the lengths of the server's reads, and how much output the client has acknowledged. One message gives at most one answer.
+-- The logger (the FT-TCP article's logger): a boot number, and an entry for each connection with the client's bytes, whether its FIN is kept, the lengths of
+-- the server's reads, and how much output the client has acknowledged. One message gets at most one answer.
 use Rattle.std.specs.Prelude.{ℕ, Bool, true, false, ◌+◌, ◌-◌, ◌==◌, ◌&&◌, ◌||◌, not, nat_lt, nat_le, max, sum, map, find, Option, Some, None, option_map, List, [], ◌∷◌, ◌++◌, length, take, drop, slice_get, if◌then◌else◌}
 use Rattle.std.specs.List.{list_any}
 use Rattle.ft_io.specs.declared.Key.{Key}
@@ -35,11 +35,11 @@ with_entry key change log = record log { entries = map (λ e. if key_eq e.key ke
 abbrev pub new_entry : Numbers → Entry
 new_entry n = record { key = n.key; cisn = n.cisn; sisn = n.sisn; mss = n.mss; bytes = []; fin = false; lengths = []; acknowledged = 0; done = false }
 
--- Open adds an entry of an unknown key, while there are fewer than 64
+-- Open adds an entry for an unknown key, while there are fewer than 64
 abbrev pub opened : Numbers → Log → Log
 opened n log = if list_any (λ e. key_eq e.key n.key) log.entries || nat_le 64 (length log.entries) then log else record log { entries = log.entries ++ new_entry n ∷ [] }
 
--- Data adds the bytes past what is kept, unless it leaves a gap; kept bytes stay, and nothing is added behind a FIN
+-- Data adds the bytes past those that are kept, unless it leaves a gap. Kept bytes stay, and nothing is added after a FIN
 abbrev pub with_bytes : Part → Entry → Entry
 with_bytes part e = if e.fin || nat_lt (length e.bytes) part.offset then e else record e { bytes = e.bytes ++ drop (length e.bytes - part.offset) part.bytes }
 
@@ -50,13 +50,13 @@ with_its_fin part e = if part.fin && part.offset + length part.bytes == length e
 abbrev pub with_part : Part → Entry → Entry
 with_part part e = record (with_its_fin part (with_bytes part e)) { acknowledged = max e.acknowledged part.acked }
 
--- a read may follow these, of a stream with so many bytes: no closing read is among them, and the bytes suffice; the closing read, of
--- length 0, where the FIN is kept and all bytes are read
+-- whether a read may follow these, in a stream of `len` bytes: no closing read is among them, and the bytes suffice. The closing read, of length 0, may follow
+-- where the FIN is kept and all bytes are read
 abbrev pub may_follow : (len : ℕ) → (fin : Bool) → List ℕ → ℕ → Bool
 may_follow len fin lengths n =
     not (list_any (λ k. k == 0) lengths) && nat_le (sum lengths + n) len && (nat_lt 0 n || (fin && sum lengths == len))
 
--- a Read is kept where it is the next one, and may follow those that are kept
+-- a Read is kept if it is the next one, and may follow those that are kept
 abbrev pub is_next_read : Entry → ℕ → ℕ → Bool
 is_next_read e index n = index == length e.lengths && may_follow (length e.bytes) e.fin e.lengths n
 
@@ -75,11 +75,11 @@ abbrev pub is_hello : Body → Bool
 is_hello HelloMsg = true
 is_hello _ = false
 
--- a Hello makes its boot the log's; any other kind counts only in the log's own boot
+-- a Hello makes its boot the log's. Any other kind counts only if it has the log's own boot
 abbrev pub heard : Message → Log → Log
 heard message log = if is_hello message.body then record log { boot = message.boot } else (if message.boot == log.boot then with_body message.body log else log)
 
--- The log after a message: nothing is changed by a kind that only the logger sends, nor by a smaller boot.
+-- The log after a message. A kind that only the logger sends changes nothing, nor does a smaller boot.
 unfoldable pub log_after : Log → Message → Log
 log_after log message = if is_answer message.body || nat_lt message.boot log.boot then log else heard message log
 
@@ -108,7 +108,7 @@ abbrev pub on_entry : (Entry → Option Body) → Option Entry → Option Body
 on_entry tell (Some e) = tell e
 on_entry tell None = None
 
--- what the log tells after it took a message of its own boot
+-- the log's answer once it has taken a message of its own boot
 abbrev pub told : Body → Log → Option Body
 told HelloMsg log = Some (SummaryMsg (length log.entries))
 told (ListMsg index) log = on_entry (λ e. Some (EntryMsg index (head_of e))) (slice_get log.entries index)
@@ -120,7 +120,7 @@ told (ReadMsg key index n) log = on_entry (λ e. Some (ReadsMsg (kept_of e))) (e
 told (DoneMsg key) log = on_entry (λ e. Some (EndedMsg key)) (entry_of key log)
 told _ log = None
 
--- the body of the answer to a message, of which `log` is the log before and `after` the log after
+-- the body of the answer to a message. `log` is the log before it, and `after` the log after it
 abbrev pub answer_body : Log → Log → Message → Option Body
 answer_body log after message =
     if is_answer message.body then None

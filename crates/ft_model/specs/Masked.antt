@@ -21,11 +21,12 @@ use Rattle.ft_model.specs.Node.Place.{Lives}
 use Rattle.ft_model.specs.Node.Stage.{Asking, Fetching, Serving}
 use Rattle.ft_model.specs.World.{World, Moment, world_after}
 
--- the run of a server that never failed, on the client's bytes, read as the log says
+-- the run of a server that never failed, on the client's bytes, cut into reads as the log says
 abbrev pub unfailing : {State : Type 0} → Machine State → Log → Client → Run State
 unfailing service log client = reference service client.script (logged_lengths client.key log)
 
--- a client has accepted the front of the uncrashed server's output, and all of it where the server's FIN has ended the stream
+-- a client has accepted a prefix of the uncrashed server's output, and where the server's FIN has ended the stream that run has closed and all of it is
+-- accepted
 pub record SeesFront {State : Type 0} (service : Machine State) (log : Log) (client : Client) : Type 0 where
   pub accepted : IsPrefix client.accepted (unfailing service log client).output
   pub ended : is_ended client.phase ≡ true → ((unfailing service log client).closed ≡ true) × (client.accepted ≡ (unfailing service log client).output)
@@ -39,7 +40,7 @@ AcknowledgesLogged log clients (To_server segment) = Unit {0}
 AcknowledgesLogged log clients (To_logger message) = Unit {0}
 AcknowledgesLogged log clients (From_logger message) = Unit {0}
 
--- an entry's connection is live: it stood at the entry's point, and went on from there by the law of every turn
+-- an entry's connection is live: it was at the entry's point, and continued from there by the law of every turn
 pub record IsResumed {State : Type 0} (service : Machine State) (node : Node) (places : List Place) (entry : Entry) : Type 0 where
   pub point : Point
   pub sent : List Packet
@@ -60,7 +61,7 @@ abbrev pub RestartIsExact : {State : Type 0} → Machine State → Log → Optio
 RestartIsExact service log (Some before) (Some after) = is_restarting before.stage ≡ true → Resumes service log before after.stage
 RestartIsExact service log _ _ = Unit {0}
 
--- what a packet tells a client: its acknowledgement, if it is a segment with ACK and without RST to that client
+-- what a packet reports to a client: its acknowledgement, if it is a segment to that client with ACK and without RST
 abbrev pub told_to : Key → Packet → Option ℕ
 told_to key (To_client segment) = if key_eq (destination_of segment) key && has_ack segment && not (has_rst segment) then Some segment.head.ack else None
 told_to key (To_server segment) = None
@@ -76,7 +77,7 @@ abbrev pub last_told : Key → List Packet → Option ℕ
 last_told key [] = None
 last_told key (packet ∷ packets) = or_before (last_told key packets) (told_to key packet)
 
--- the client was told last what is both taken and known to be logged, unless it reset the connection
+-- the acknowledgement last sent to the client is of what is both taken and known to be logged, unless the client reset the connection
 abbrev pub IsToldLast : List Packet → Point → Type 0
 IsToldLast packets p = p.reset ≡ false → last_told p.key packets ≡ Some (number_at p.cisn (acknowledgement p))
 
@@ -90,7 +91,7 @@ pub record IsMasked {State : Type 0} (service : Machine State) (before : World) 
   pub restart : RestartIsExact service moment.world.log before.node moment.world.node
   pub told : AllAreTold moment.world.packets moment.world.node
 
--- Masked: so it is after every moment of a trace
+-- Masked: this holds after every moment of a trace
 abbrev pub Masked : {State : Type 0} → Machine State → World → List Moment → Type 0
 Masked service start [] = Unit {0}
 Masked service start (moment ∷ earlier) = Masked service start earlier × IsMasked service (world_after start earlier) moment

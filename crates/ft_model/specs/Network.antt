@@ -1,5 +1,5 @@
--- The network: the list of all packets ever sent, numbered from 1. A delivery names any of them, any number of times and in any order;
--- a packet that is never named is lost. The network forges nothing.
+-- The network: the list of all packets ever sent, numbered from 1. A delivery names any of them, any number of times and in any order. A packet that is never
+-- named is lost. The network forges nothing.
 use Rattle.std.specs.Prelude.{ℕ, zero, suc, Option, None, List, slice_get}
 use Rattle.ft_io.specs.declared.Key.{Key}
 use Rattle.seq_arith.specs.Packet.{Segment}
@@ -11,7 +11,7 @@ pub data Packet : Type 0 where
   To_logger : Message → Packet
   From_logger : Message → Packet
 
--- the packet of a number
+-- the packet with a number
 abbrev pub packet_at : List Packet → ℕ → Option Packet
 packet_at packets zero = None
 packet_at packets (suc n) = slice_get packets n

@@ -1,4 +1,4 @@
--- One incarnation of the server, from its boot to its crash: what it is, and what comes to it in a turn.
+-- One incarnation of the server, from its boot to its crash: its state, and the input of a turn.
 use Rattle.std.specs.Prelude.{ℕ, Bool, true, false, ◌==◌, ◌&&◌, find, filter, Option, is_some, List, [], ◌∷◌, length, ◌≤◌}
 use Rattle.std.specs.List.{AllByRecursion}
 use Rattle.ft_io.specs.declared.Addr.{Addr}
@@ -32,7 +32,7 @@ pub record Node : Type 0 where
   pub isn : ℕ
   pub stage : Stage
 
--- an incarnation as it boots
+-- an incarnation at its boot
 abbrev pub booted : Addr → (boot isn : ℕ) → Node
 booted server boot isn = record { server = server; boot = boot; isn = isn; stage = Asking }
 
@@ -43,7 +43,7 @@ pub data Input : Type 0 where
   Noise_comes : Input
   Tick_comes : Input
 
--- a packet is for this server
+-- whether a packet is for this server
 abbrev pub is_for : Addr → Segment → Bool
 is_for server segment = segment.head.dst == server.ip && segment.head.dport == server.port
 

@@ -1,4 +1,4 @@
--- Offsets that name the right place: those of a packet (`Rattle.seq_arith.specs.Offset`), where they lie near the stream.
+-- Offsets that name the right place: those of a packet (`Rattle.seq_arith.specs.Offset`), where they are near the stream.
 use Rattle.std.specs.Prelude.{◌≡◌, ℕ, ℤ, true, pos, ◌-ℤ◌, ◌≤ℤ◌, ◌^◌}
 use Rattle.seq_arith.specs.Packet.{Segment, has_ack}
 pub use Rattle.seq_arith.specs.Offset.{first_of, ack_of, text_of, fin_of, one_if, length_of}
@@ -7,7 +7,7 @@ pub use Rattle.seq_arith.specs.Offset.{first_of, ack_of, text_of, fin_of, one_if
 abbrev pub IsNearOffset : ℤ → Type 0
 IsNearOffset offset = ((pos 0 -ℤ pos (2 ^ 30)) ≤ℤ offset) × (offset ≤ℤ pos (2 ^ 30))
 
--- near: the segment's place, and what it acknowledges if it does
+-- near: the segment's beginning, and what it acknowledges if it acknowledges anything
 pub record IsNear (own peer : ℕ) (segment : Segment) : Type 0 where
   pub first : IsNearOffset (first_of own segment)
   pub ack : has_ack segment ≡ true → IsNearOffset (ack_of peer segment)

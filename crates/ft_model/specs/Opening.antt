@@ -1,5 +1,4 @@
--- The law Opening: how a connection comes to be (RFC 9293, 3.10.7.2; FT-TCP, INFOCOM 2001: the initial numbers are logged before the
--- SYN-ACK leaves).
+-- The law Opening: how a connection is opened (RFC 9293, 3.10.7.2; FT-TCP, INFOCOM 2001: the initial numbers are logged before the SYN-ACK is sent).
 use Rattle.std.specs.Prelude.{ℕ, Bool, ◌+◌, ◌*◌, ◌%◌, ◌^◌, ◌&&◌, not}
 use Rattle.seq_arith.specs.Packet.{Segment, has_syn, has_rst, has_ack}
 use Rattle.seq_arith.specs.Message.{Numbers}
@@ -7,7 +6,7 @@ pub use Rattle.seq_arith.specs.Packet.{segment_size}
 use Rattle.ft_model.specs.Network.{source_of}
 use Rattle.ft_model.specs.Point.{Point, blank_point}
 
--- a SYN that opens: without ACK and RST
+-- a SYN that opens a connection: without ACK and RST
 abbrev pub is_syn : Segment → Bool
 is_syn segment = has_syn segment && not (has_ack segment) && not (has_rst segment)
 
@@ -15,7 +14,7 @@ is_syn segment = has_syn segment && not (has_ack segment) && not (has_rst segmen
 abbrev pub initial_number : (isn n : ℕ) → ℕ
 initial_number isn n = (isn + 65536 * n) % 2 ^ 32
 
--- the numbers that a SYN asks for
+-- the numbers of the connection that a SYN asks for
 abbrev pub numbers_for : (isn n : ℕ) → Segment → Numbers
 numbers_for isn n syn = record { key = source_of syn; cisn = syn.head.seq; sisn = initial_number isn n; mss = segment_size syn.head.mss }
 

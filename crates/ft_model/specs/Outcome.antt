@@ -1,4 +1,4 @@
--- What becomes of a schedule when its events are played in order: all are done, or one is refused, or more packets are sent than may be.
+-- What becomes of a schedule when its events are played in order: all are done, one is refused, or the packets exceed their limit.
 use Rattle.std.specs.Prelude.{◌≡◌, ℕ, ◌<◌, ◌≤◌, ◌⊎◌, Some, List, [], ◌∷◌, ◌++◌, length}
 use Rattle.server_trait.specs.Service.{Machine}
 use Rattle.ft_model.specs.World.{Moment, world_after}
@@ -7,11 +7,11 @@ use Rattle.ft_model.specs.declared.event.Event.{Event}
 use Rattle.ft_model.specs.declared.event.EventWhy.{EventWhy}
 use Rattle.ft_model.specs.declared.schedule.Schedule.{Schedule}
 
--- all packets that were sent up to the end of a trace
+-- how many packets were sent up to the end of a trace
 abbrev pub packets_sent : Schedule → List Moment → ℕ
 packets_sent schedule trace = length (world_after (start_of schedule) trace).packets
 
--- every event is allowed in its turn, and no more packets are sent than may be
+-- every event is allowed in its turn, and the packets stay within their limit
 pub record IsWhole {State : Type 0} (service : ℕ → Machine State) (schedule : Schedule) : Type 0 where
   pub trace : List Moment
   pub legal : Legal service schedule trace
@@ -29,7 +29,7 @@ pub record IsRefused {State : Type 0} (service : ℕ → Machine State) (schedul
   pub within : packets_sent schedule trace ≤ 200000
   pub refused : refusal (world_after (start_of schedule) trace) event ≡ Some why
 
--- up to this event no more packets are sent than may be, and with it more are
+-- up to this event the packets stay within their limit, and with it they exceed it
 pub record IsPastPackets {State : Type 0} (service : ℕ → Machine State) (schedule : Schedule) : Type 0 where
   pub played : List Event
   pub event : Event

@@ -1,9 +1,10 @@
--- The point of a live connection: all that one incarnation of the server knows of it, and what is computed from that (RFC 9293, 3.3.1;
--- FT-TCP, INFOCOM 2001: the stable number and the delayed output). Offsets and counts are whole numbers without wrap. Units count
--- bytes, and one more where the FIN of that side is counted.
+-- The point of a live connection: all that one incarnation of the server knows of it, and what is computed from that (RFC 9293, 3.3.1; FT-TCP, INFOCOM 2001:
+-- the stable number and the delayed output). Offsets and counts are whole numbers that don't wrap. Units count bytes, and one more where the FIN of that side
+-- is counted.
 use Rattle.std.specs.Prelude.{ℕ, ℤ, Bool, false, pos, ◌+◌, ◌-◌, ◌^◌, ◌&&◌, nat_lt, max, min, sum, List, [], length, take}
 use Rattle.ft_io.specs.declared.Key.{Key}
 use Rattle.seq_arith.specs.Coming.{Early, nothing_early, StandsBehind}
+use Rattle.seq_arith.specs.Congestion.{Congestion, initial_congestion}
 use Rattle.server_trait.specs.Service.{Machine, Run, reference}
 use Rattle.ft_model.specs.Offset.{one_if}
 
@@ -24,13 +25,14 @@ pub record Point : Type 0 where
   pub edge : ℕ  -- the client's right edge, from which on nothing may be sent. It is absolute: SND.UNA + SND.WND when a segment sets it, and it stays where only SND.UNA moves
   pub wl1 : ℤ  -- SND.WL1: where the segment began that set the edge last
   pub wl2 : ℕ  -- SND.WL2: what it acknowledged
+  pub congestion : Congestion  -- the congestion window, the slow start threshold, and the duplicate acknowledgements
   pub syn_acked : Bool  -- whether the SYN is acknowledged: an acknowledgement has counted
   pub interval : ℕ  -- of the timer, in ticks
   pub rest : ℕ  -- the ticks until the timer expires; 0 while it doesn't run
   pub end_ticks : ℕ  -- the end ticks counted so far, up to four
   pub reset : Bool  -- whether the client reset the connection
 
--- a point of a connection in which nothing has happened yet: each other one is said by what differs from it
+-- the point of a connection in which nothing has happened yet. Every other point is given by its differences from this one
 abbrev pub blank_point : Key → (cisn sisn mss : ℕ) → Point
 blank_point key cisn sisn mss = record {
   key = key;
@@ -49,6 +51,7 @@ blank_point key cisn sisn mss = record {
   edge = 0;
   wl1 = pos 0;
   wl2 = 0;
+  congestion = initial_congestion mss;
   syn_acked = false;
   interval = 1;
   rest = 0;
@@ -72,38 +75,38 @@ bytes_read p = sum p.lengths
 abbrev pub whole_run : {State : Type 0} → Machine State → Point → Run State
 whole_run service p = reference service p.taken p.lengths
 
--- .. and over those reads alone that are known to be logged
+-- .. and over only those reads that are known to be logged
 abbrev pub answered_run : {State : Type 0} → Machine State → Point → Run State
 answered_run service p = reference service p.taken (take p.reads_answered p.lengths)
 
--- the output bytes of all reads
+-- how many bytes of output all reads make
 abbrev pub made : {State : Type 0} → Machine State → Point → ℕ
 made service p = length (whole_run service p).output
 
--- the output bytes that may leave: those of answered reads
+-- how many bytes of output may be sent: those of answered reads
 abbrev pub released : {State : Type 0} → Machine State → Point → ℕ
 released service p = length (answered_run service p).output
 
--- the units that may leave: a FIN stands behind the output once an answered read has closed the service
+-- the units that may be sent: a FIN follows the output once an answered read has closed the service
 abbrev pub target : {State : Type 0} → Machine State → Point → ℕ
 target service p = released service p + one_if (answered_run service p).closed
 
--- the receive edge: 65,535 bytes are buffered beyond what is read, the fetched bytes are there already, and a stream has 2^24 bytes
+-- the receive edge: 65,535 bytes are buffered past what is read, the fetched bytes are there already, and a stream has at most 2^24 bytes
 abbrev pub receive_edge : Point → ℕ
 receive_edge p = min (max p.fetched (bytes_read p) + 65535) (2 ^ 24)
 
--- what is held stands behind what is taken, and keeps to the receive edge. So it is in every joint trace
+-- what is held is after what is taken, and within the receive edge. This holds in every joint trace
 abbrev pub HoldsBehind : Point → Type 0
 HoldsBehind p = StandsBehind (length p.taken) (receive_edge p) p.fin p.early
 
--- the edge that TCP announces: a taken FIN has used up one number
+-- the edge that TCP advertises: a FIN that is taken has used up one number
 abbrev pub announced_edge : Point → ℕ
 announced_edge p = receive_edge p + one_if p.fin
 
--- RCV.WND: the room that TCP has
+-- RCV.WND: TCP's room
 abbrev pub room : Point → ℕ
 room p = announced_edge p - taken_units p
 
--- the connection is over: both FINs are there, the client's taken and the server's, the unit behind all output, acknowledged
+-- the connection is over: both FINs are through, the client's is taken, and the server's, the unit after all output, is acknowledged
 abbrev pub is_over : {State : Type 0} → Machine State → Point → Bool
 is_over service p = p.fin && nat_lt (released service p) p.una

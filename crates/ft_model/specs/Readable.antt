@@ -1,4 +1,4 @@
--- What a report's line says can be read back from it.
+-- What can be read back from a report's line.
 use Rattle.std.specs.Prelude.{◌≡◌, ℕ, ◌<◌, ◌^◌, Option, None, Some, List, length}
 use Rattle.std.specs.List.{AllByRecursion}
 use Rattle.hex.specs.Hex.{IsBytes}
@@ -43,7 +43,7 @@ FitsAddr at = (at.ip < 2 ^ 32) × (at.port < 2 ^ 16)
 abbrev pub FitsKey : Key → Type 0
 FitsKey key = (key.ip < 2 ^ 32) × (key.port < 2 ^ 16)
 
--- the key is a client's
+-- the key is that of a client
 abbrev pub IsKnown : List Client → Key → Type 0
 IsKnown clients key = (0 < number_of_client clients key) × Fits (number_of_client clients key)
 
@@ -57,11 +57,11 @@ HasEnds server clients (To_client s) = IsKnown clients (destination_of s) × IsO
 HasEnds server clients (To_logger message) = Unit {0}
 HasEnds server clients (From_logger message) = Unit {0}
 
--- a packet whose line tells all of it
+-- a packet whose line determines all of it
 abbrev pub IsReadable : Addr → List Client → Packet → Type 0
 IsReadable server clients packet = HasEnds server clients packet × HasWire packet
 
--- every number of an event has at most 64 bits, and a window 16
+-- every number of an event has at most 64 bits, and a window at most 16
 abbrev pub FitsEvent : Event → Type 0
 FitsEvent (Boot boot isn) = Fits boot × Fits isn
 FitsEvent Crash = Unit {0}
@@ -89,6 +89,6 @@ pub record FitsSchedule (schedule : Schedule) : Type 0 where
   pub count : Fits (length schedule.clients)
   pub events : AllByRecursion FitsEvent schedule.events
 
--- a turn whose lines tell all of it
+-- a turn whose lines determine all of it
 abbrev pub IsReadableTurn : Addr → List Client → Moment → Type 0
 IsReadableTurn server clients moment = FitsEvent moment.event × AllByRecursion (IsReadable server clients) moment.sent

@@ -1,5 +1,5 @@
--- The law Reads: how the service reads, and how its reads are told to the logger (FT-TCP, INFOCOM 2001: the north side wrapper, which
--- logs the length of each read).
+-- The law Reads: how the service reads, and how its reads are reported to the logger (FT-TCP, INFOCOM 2001: the north side wrapper, which logs the length of
+-- each read).
 use Rattle.std.specs.Prelude.{◌≡◌, ℕ, Bool, ◌+◌, ◌-◌, ◌^◌, ◌==◌, ◌&&◌, not, nat_lt, nat_le, min, Option, Some, None, List, [], ◌∷◌, ◌++◌, length, drop, if◌then◌else◌}
 use Rattle.std.specs.List.{list_any}
 use Rattle.ft_io.specs.declared.Key.{Key}
@@ -10,16 +10,16 @@ use Rattle.ft_model.specs.Point.{Point, bytes_read, made, released}
 use Rattle.ft_model.specs.News.{News}
 use Rattle.ft_model.specs.News.News.{Comes, Logged, Ticks, Begins}
 
--- how much there is to read: of the fetched bytes while any is left, and else of all bytes taken; a read has at most 2,048 bytes. When
--- all are read and the FIN is taken, one read of length 0 follows
+-- how much there is to read: of the fetched bytes while any is left, and otherwise of all bytes taken. A read has at most 2,048 bytes. When all are read and
+-- the FIN is taken, one read of length 0 follows
 unfoldable pub next_length : Point → Option ℕ
 next_length p =
     if nat_lt (bytes_read p) p.fetched then Some (min 2048 (p.fetched - bytes_read p))
     else (if nat_lt (bytes_read p) (length p.taken) then Some (min 2048 (length p.taken - bytes_read p))
     else (if p.fin && not (list_any (λ n. n == 0) p.lengths) then Some 0 else None))
 
--- the service may read on: all its output so far is released, that is, each of its reads that made some is answered; it is acknowledged or has room in the
--- send buffer; it stays within the stream with the output of one read more; and fewer than 32 reads are unanswered
+-- whether the service may read on: all its output so far is released, that is, each of its reads that made output is answered; that output is acknowledged or
+-- has room in the send buffer; it stays within the stream with the output of one more read; and fewer than 32 reads are unanswered
 unfoldable pub may_read : {State : Type 0} → Machine State → Point → Bool
 may_read service p =
     nat_le (made service p) (min (released service p) (p.una + 65535)) && nat_le (made service p) (2 ^ 24 - 2 ^ 20)
@@ -37,24 +37,24 @@ abbrev pub Makes : {State : Type 0} → Machine State → Point → List ℕ →
 Makes service p [] = next_read service p ≡ None
 Makes service p (n ∷ lengths) = (next_read service p ≡ Some n) × Makes service (with_read n p) lengths
 
--- Reads: from what is taken, answered and acknowledged after the turn, reads are made behind those of before
+-- Reads: given what is taken, answered and acknowledged after the turn, reads are made after those of before
 pub record MakesReads {State : Type 0} (service : Machine State) (before after : Point) : Type 0 where
   pub news : List ℕ
   pub lengths : after.lengths ≡ before.lengths ++ news
   pub makes : Makes service (record after { lengths = before.lengths }) news
 
--- the messages of these reads, of which the first has this index
+-- the messages of these reads. The first has this index
 abbrev pub read_messages : Key → ℕ → List ℕ → List Body
 read_messages key index [] = []
 read_messages key index (n ∷ lengths) = ReadMsg key index n ∷ read_messages key (index + 1) lengths
 
--- the first read that is told in this turn: a new one, but at a tick the first unanswered one
+-- the first read that is reported in this turn: a new one, or at a tick the first unanswered one
 abbrev pub first_told : News → Point → Point → ℕ
 first_told Ticks before after = after.reads_answered
 first_told (Comes segment) before after = length before.lengths
 first_told (Logged kept) before after = length before.lengths
 first_told Begins before after = length before.lengths
 
--- Reads: a Read goes out in its own turn, and all unanswered ones go out again at each tick, by index
+-- Reads: a Read is sent in the turn that makes it, and all unanswered ones are sent again at each tick, by index
 unfoldable pub reads_told : News → Point → Point → List Body
 reads_told news before after = read_messages after.key (first_told news before after) (drop (first_told news before after) after.lengths)

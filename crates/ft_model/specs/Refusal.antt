@@ -22,11 +22,11 @@ rst_at_ack server segment = record { head = reset_at_ack server segment.head; pa
 abbrev pub rst_behind : Addr → Segment → Segment
 rst_behind server segment = record { head = reset_behind server (length_of segment) segment.head; payload = [] }
 
--- as LISTEN answers a segment of an unknown key: a RST to an acknowledgement, none to a RST
+-- the answer, as in LISTEN, to a segment of an unknown key: a RST to an acknowledgement, none to a RST
 abbrev pub as_listen : Addr → Segment → List Segment
 as_listen server segment = if has_ack segment && not (has_rst segment) then rst_at_ack server segment ∷ [] else []
 
--- as CLOSED answers a segment of a key that is done: a RST to all but a RST
+-- the answer, as in CLOSED, to a segment of a key that is done: a RST to all but a RST
 abbrev pub as_closed : Addr → Segment → List Segment
 as_closed server segment = if has_rst segment then [] else (if has_ack segment then rst_at_ack server segment ∷ [] else rst_behind server segment ∷ [])
 

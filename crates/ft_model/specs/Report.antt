@@ -1,4 +1,4 @@
--- The report of a run: what was asked, each event with the packets that it sent, and how clients and log stand at the end.
+-- The report of a run: what was asked for, each event with the packets that it sent, and the state of clients and log at the end.
 use Rattle.std.specs.Prelude.{ℕ, Bool, codes, ◌+◌, position, List, [], ◌∷◌, ◌++◌, length, map}
 use Rattle.std.specs.List.{flat_map}
 use Rattle.std.specs.Option.{option_map_or}
@@ -24,11 +24,11 @@ use Rattle.ft_model.specs.declared.way.Way.TheVariants.{ClientToServer, ServerTo
 use Rattle.ft_model.specs.declared.schedule.ClientLine.{ClientLine}
 use Rattle.ft_model.specs.declared.schedule.Schedule.{Schedule}
 
--- What was asked: the lines of the schedule before its events, behind the report's name and version.
+-- What was asked for: the lines of the schedule before its events, after the report's name and version.
 unfoldable pub schedule_line : ℕ → ClientLine → List ℕ
 schedule_line n asked = line (codes "client") (decimal n ∷ key_text asked.key ∷ decimal asked.isn ∷ script_text asked.script ∷ [])
 
--- the clients, numbered on from n
+-- the clients, numbered from n on
 abbrev pub schedule_lines : ℕ → List ClientLine → List ℕ
 schedule_lines n [] = []
 schedule_lines n (asked ∷ others) = schedule_line n asked ++ schedule_lines (n + 1) others
@@ -38,7 +38,7 @@ header schedule =
     line (codes "ftreplay") (codes "1" ∷ []) ++ (line (codes "service") (service_text schedule.service ∷ [])
     ++ (line (codes "server") (address_text schedule.server.ip schedule.server.port ∷ []) ++ schedule_lines 1 schedule.clients))
 
--- an event, as a schedule asks for it
+-- an event, as a schedule spells it
 abbrev pub event_words : Event → List (List ℕ)
 event_words (Boot boot isn) = codes "boot" ∷ decimal boot ∷ decimal isn ∷ []
 event_words Crash = codes "crash" ∷ []
@@ -132,22 +132,22 @@ content_words (To_client segment) = segment_words segment
 content_words (To_logger message) = message_words message
 content_words (From_logger message) = message_words message
 
--- a packet with its number and its way
+-- a packet with its number and its direction
 unfoldable pub packet_line : ℕ → Way → Packet → List ℕ
 packet_line n way packet = line (codes "packet") (decimal n ∷ way_text way ∷ content_words packet)
 
--- the number of a client, by its place from 1; 0 for none
+-- the number of a client: its place, counted from 1; 0 for none
 abbrev pub number_of_client : List Client → Key → ℕ
 number_of_client clients key = option_map_or (λ i. i + 1) (position (λ c. key_eq c.key key) clients) 0
 
--- a packet's way: a segment names its client by the address that isn't the server's
+-- a packet's direction. A segment names its client by the address that isn't the server's
 abbrev pub way_of : List Client → Packet → Way
 way_of clients (To_server segment) = ClientToServer (number_of_client clients (source_of segment))
 way_of clients (To_client segment) = ServerToClient (number_of_client clients (destination_of segment))
 way_of clients (To_logger message) = ServerToLogger
 way_of clients (From_logger message) = LoggerToServer
 
--- packets numbered on from n
+-- packets, numbered from n on
 abbrev pub packet_lines : List Client → ℕ → List Packet → List ℕ
 packet_lines clients n [] = []
 packet_lines clients n (packet ∷ others) = packet_line n (way_of clients packet) packet ++ packet_lines clients (n + 1) others
@@ -157,20 +157,20 @@ abbrev pub packet_count : List Moment → ℕ
 packet_count [] = 0
 packet_count (moment ∷ earlier) = packet_count earlier + length moment.sent
 
--- each event of a trace with its packets. Events are numbered from 1, packets too over the whole run; a trace has its newest moment first
+-- each event of a trace with its packets. Events are numbered from 1, and so are packets, over the whole run. A trace has its newest moment first
 abbrev pub event_lines : List Client → List Moment → List ℕ
 event_lines clients [] = []
 event_lines clients (moment ∷ earlier) =
     event_lines clients earlier ++ (event_line (length earlier + 1) moment.event ++ packet_lines clients (packet_count earlier + 1) moment.sent)
 
--- a client's number, its phase and what it has accepted of the server
+-- a client's number, its phase and what it has accepted from the server
 unfoldable pub phase_line : ℕ → Phase → List ℕ → List ℕ
 phase_line n phase accepted = line (codes "client") (decimal n ∷ phase_text phase ∷ codes "accepted" ∷ decimal (length accepted) ∷ hex_text accepted ∷ [])
 
 abbrev pub client_line : ℕ → Client → List ℕ
 client_line n client = phase_line n client.phase client.accepted
 
--- clients numbered on from n
+-- clients, numbered from n on
 abbrev pub client_lines : ℕ → List Client → List ℕ
 client_lines n [] = []
 client_lines n (client ∷ others) = client_line n client ++ client_lines (n + 1) others
@@ -188,7 +188,7 @@ log_line e = entry_line e.key (length e.bytes) e.fin e.acknowledged e.done e.len
 unfoldable pub end_line : ℕ → List ℕ
 end_line n = line (codes "end") (decimal n ∷ [])
 
--- how a world stands after n events
+-- the state of a world after n events
 abbrev pub closing_lines : World → ℕ → List ℕ
 closing_lines w n = client_lines 1 w.clients ++ (flat_map log_line w.log.entries ++ end_line n)
 
@@ -198,6 +198,6 @@ report schedule trace =
     header schedule
     ++ (event_lines (clients_of schedule.server schedule.clients) trace ++ closing_lines (world_after (start_of schedule) trace) (length trace))
 
--- what a trace says of each turn: the event, and the packets that were sent. The worlds beside them are witnesses
+-- what a trace says of each turn: the event, and the packets that were sent. The worlds alongside them are witnesses
 abbrev pub turns_of : List Moment → List (Event × List Packet)
 turns_of trace = map (λ moment. (moment.event, moment.sent)) trace

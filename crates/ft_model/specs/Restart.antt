@@ -1,5 +1,5 @@
--- The law Restart: what a server asks the log when it boots, which answers it takes, and where each connection stands then (FT-TCP,
--- INFOCOM 2001: the restarted server reads the log before it serves).
+-- The law Restart: what a server asks the log when it boots, which answers it takes, and at which point each connection then is (FT-TCP, INFOCOM 2001: the
+-- restarted server reads the log before it serves).
 use Rattle.std.specs.Prelude.{◌≡◌, ℕ, Bool, true, pos, ◌+◌, ◌^◌, ◌≤◌, ◌<◌, ◌==◌, ◌&&◌, not, nat_lt, nat_le, min, sum, find, Option, Some, None, List, [], ◌∷◌, ◌++◌, length, if◌then◌else◌}
 use Rattle.std.specs.List.{list_any}
 use Rattle.ft_io.specs.declared.Addr.{Addr}
@@ -15,7 +15,7 @@ use Rattle.ft_model.specs.Offset.{one_if}
 use Rattle.ft_model.specs.Log.{Entry, may_follow}
 use Rattle.ft_model.specs.Point.{Point, blank_point}
 
--- an entry of the log, as far as it is fetched. Of one that is done the head alone is fetched
+-- an entry of the log, as far as it is fetched. Of one that is done only the head is fetched
 pub record Fetched : Type 0 where
   pub head : EntryHead
   pub bytes : List ℕ
@@ -27,15 +27,15 @@ pub data Wanted : Type 0 where
   Its_bytes : Key → (offset : ℕ) → Wanted
   Its_lengths : Key → (first : ℕ) → Wanted
 
--- bytes of a read whose length is fetched
+-- bytes of a read whose length is fetched are missing
 abbrev pub lacks_read_bytes : Fetched → Bool
 lacks_read_bytes f = not f.head.done && nat_lt (length f.bytes) (sum f.lengths)
 
--- lengths of reads
+-- lengths of reads are missing
 abbrev pub lacks_lengths : Fetched → Bool
 lacks_lengths f = not f.head.done && nat_lt (length f.lengths) f.head.reads
 
--- bytes at all
+-- any bytes are missing
 abbrev pub lacks_bytes : Fetched → Bool
 lacks_bytes f = not f.head.done && nat_lt (length f.bytes) f.head.length
 
@@ -46,9 +46,9 @@ is_whole f = not (lacks_lengths f) && not (lacks_bytes f)
 abbrev pub next_entry : (count index : ℕ) → Option Wanted
 next_entry count index = if nat_lt index count then Some (An_entry index) else None
 
--- What is asked for next, of so many entries: the newest fetched one stands first, and is made whole before the next is asked for. Its bytes are
--- asked for as far as its fetched reads go, then further lengths, and at last the bytes behind all reads: so a read can be replayed as soon as it is
--- whole, and its bytes needn't be kept
+-- What is asked for next, of `count` entries. The list has the newest fetched one first, and that is completed before the next is asked for: first its bytes as
+-- far as its fetched reads go, then further lengths, and at last the bytes after all reads. So a read can be replayed as soon as it is complete, and its bytes
+-- needn't be kept
 abbrev pub wanted : (count : ℕ) → List Fetched → Option Wanted
 wanted count [] = next_entry count 0
 wanted count (f ∷ earlier) =
@@ -56,7 +56,7 @@ wanted count (f ∷ earlier) =
     else (if lacks_lengths f then Some (Its_lengths f.head.key (length f.lengths))
     else (if lacks_bytes f then Some (Its_bytes f.head.key (length f.bytes)) else next_entry count (length (f ∷ earlier))))
 
--- the question after it
+-- the question that asks for it
 abbrev pub question : Wanted → Body
 question (An_entry index) = ListMsg index
 question (Its_bytes key offset) = BytesMsg key offset
@@ -65,31 +65,31 @@ question (Its_lengths key first) = CutsMsg key first
 abbrev pub is_fetched : Key → List Fetched → Bool
 is_fetched key fetched = list_any (λ f. key_eq f.head.key key) fetched
 
--- each of these lengths may follow the ones before it, as the log keeps reads
+-- each of these lengths may follow those before it, by the log's rule for reads
 abbrev pub all_follow : (len : ℕ) → (fin : Bool) → List ℕ → List ℕ → Bool
 all_follow len fin lengths [] = true
 all_follow len fin lengths (n ∷ more) = may_follow len fin lengths n && all_follow len fin (lengths ++ n ∷ []) more
 
--- What is fetched after an answer of this boot, if the answer fits the question: an entry with the asked index, if its key is new; ..
+-- What is fetched after an answer of this boot, if the answer fits the question: an entry with the index asked for, if its key is new; ..
 abbrev pub fetched_by : Wanted → Body → List Fetched → Option (List Fetched)
 fetched_by (An_entry index) (EntryMsg i head) fetched =
     if i == index && not (is_fetched head.key fetched) then Some (record { head = head; bytes = []; lengths = [] } ∷ fetched) else None
--- .. bytes of the asked key and place, if they end within the length; ..
+-- .. bytes of the key and place asked for, if they end within the length; ..
 fetched_by (Its_bytes key offset) (PartMsg k o bytes) (f ∷ earlier) =
     if key_eq k key && o == offset && nat_le (length f.bytes + length bytes) f.head.length then Some (record f { bytes = f.bytes ++ bytes } ∷ earlier) else None
--- .. lengths of the asked key and place, if they end within the count and keep the log's rule for reads
+-- .. lengths of the key and place asked for, if they end within the count and follow the log's rule for reads
 fetched_by (Its_lengths key first) (LensMsg k o lens) (f ∷ earlier) =
     if key_eq k key && o == first && nat_le (length f.lengths + length lens) f.head.reads && all_follow f.head.length f.head.fin f.lengths lens
     then Some (record f { lengths = f.lengths ++ lens } ∷ earlier)
     else None
 fetched_by _ _ _ = None
 
--- an answer that comes while nothing is missing fits nothing
+-- where nothing is missing no answer fits
 abbrev pub fetched_after : Option Wanted → Body → List Fetched → Option (List Fetched)
 fetched_after (Some w) body fetched = fetched_by w body fetched
 fetched_after None body fetched = None
 
--- The answer to a client whose entry has come, while the node still fetches: the logged length and FIN, with window 0
+-- The answer to a client whose entry has come, while the node still fetches: it acknowledges the logged length and FIN, with window 0
 abbrev pub holding_segment : Addr → EntryHead → Segment
 holding_segment server head = record {
   head = record {
@@ -106,7 +106,7 @@ holding_segment server head = record {
   payload = [];
 }
 
--- the fetched entry of a client that isn't done
+-- the fetched entry of a client, if it isn't done
 abbrev pub live_entry : Key → List Fetched → Option Fetched
 live_entry key fetched = find (λ f. key_eq f.head.key key && not f.head.done) fetched
 
@@ -128,7 +128,7 @@ entry_in f = record {
 abbrev pub run_of : {State : Type 0} → Machine State → Entry → Run State
 run_of service e = reference service e.bytes e.lengths
 
--- where the output goes on: what the client acknowledged of it. An acknowledged FIN is sent again
+-- where the output continues: after what the client acknowledged of it. A FIN is sent again even where it was acknowledged
 abbrev pub resumed_at : {State : Type 0} → Machine State → Entry → ℕ
 resumed_at service e = min e.acknowledged (length (run_of service e).output)
 

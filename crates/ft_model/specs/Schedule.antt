@@ -1,4 +1,4 @@
--- What a schedule starts with: its clients, which are all scripted, and its service's number.
+-- What a schedule starts with: its clients, all of them scripted, and the number of its service.
 use Rattle.std.specs.Prelude.{ℕ, zero, suc, ◌+◌, ◌%◌, List, [], ◌∷◌, ◌++◌, map}
 use Rattle.ft_io.specs.declared.Addr.{Addr}
 use Rattle.ft_model.specs.Client.{Client, new_client}
@@ -9,7 +9,7 @@ use Rattle.ft_model.specs.declared.schedule.ClientLine.{ClientLine}
 use Rattle.ft_model.specs.declared.schedule.ServiceKind.{ServiceKind}
 use Rattle.ft_model.specs.declared.schedule.ServiceKind.TheVariants.{Echo, Line, Transfer, Meter}
 
--- the number by which a service that offers kinds knows the one that a schedule names
+-- the number under which a service with several kinds knows the kind that a schedule names
 abbrev pub kind_of : ServiceKind → ℕ
 kind_of Echo = 1
 kind_of Line = 2

@@ -1,5 +1,5 @@
--- What a turn sends to the client of a live connection (RFC 9293, 3.8.1, 3.8.3, 3.8.6.1 and 3.10.7.4). The laws Acknowledgement and Window
--- are in the one head that all these segments share, the law Output in `text_at` and `fin_if_closed`.
+-- What a turn sends to the client of a live connection (RFC 9293, 3.8.1, 3.8.3, 3.8.6.1 and 3.10.7.4; RFC 5681, 3.2). The laws Acknowledgement and Window are
+-- in the one header that all these segments share, the law Output in `text_at` and `fin_if_closed`.
 use Rattle.std.specs.Prelude.{ℕ, Bool, false, zero, suc, ◌+◌, ◌-◌, ◌==◌, ◌&&◌, ◌||◌, not, nat_lt, nat_le, max, min, Option, Some, None, List, [], ◌∷◌, ◌++◌, take, drop, if◌then◌else◌}
 use Rattle.ft_io.specs.declared.Addr.{Addr}
 use Rattle.seq_arith.specs.declared.flags.TheConstants.{FIN, SYN, ACK}
@@ -10,11 +10,11 @@ use Rattle.ft_model.specs.Point.{Point, taken_units, acknowledgement, announced_
 use Rattle.ft_model.specs.News.{News}
 use Rattle.ft_model.specs.News.News.{Comes, Logged, Ticks, Begins}
 use Rattle.ft_model.specs.Opening.{is_syn}
-use Rattle.ft_model.specs.Sending.{sent_at_once}
+use Rattle.ft_model.specs.Sending.{is_third_duplicate, sent_at_once}
 use Rattle.ft_model.specs.Timer.{expires}
 use Rattle.ft_model.specs.Owed.{is_owed}
 
--- Window: from what is acknowledged up to the edge that TCP announces
+-- Window: from what is acknowledged up to the edge that TCP advertises
 abbrev pub window : Point → ℕ
 window p = min 65535 (announced_edge p - acknowledgement p)
 
@@ -36,7 +36,7 @@ head_to server p seq flags mss = record {
 abbrev pub segment_at : Addr → Point → (offset flags : ℕ) → List ℕ → Segment
 segment_at server p offset flags payload = record { head = head_to server p (number_at p.sisn offset) flags None; payload = payload }
 
--- the SYN-ACK, with the logged numbers. No client byte is taken where it is sent, so it acknowledges the SYN and has the whole window
+-- the SYN-ACK, with the logged numbers. No client byte is taken when it is sent, so it acknowledges the SYN and has the whole window
 abbrev pub syn_ack : Addr → Point → Segment
 syn_ack server p = record { head = head_to server p p.sisn (SYN + ACK) (Some 1460); payload = [] }
 
@@ -44,29 +44,29 @@ syn_ack server p = record { head = head_to server p p.sisn (SYN + ACK) (Some 146
 abbrev pub text_at : {State : Type 0} → Machine State → Addr → Point → (offset n : ℕ) → Segment
 text_at service server p offset n = segment_at server p offset ACK (take n (drop offset (answered_run service p).output))
 
--- Output: the FIN stands behind all of it, in a segment of its own ..
+-- Output: the FIN follows all of it, in a segment of its own ..
 abbrev pub fin_segment : {State : Type 0} → Machine State → Addr → Point → Segment
 fin_segment service server p = segment_at server p (released service p) (FIN + ACK) []
 
--- .. and goes out only where an answered read has closed the service. So it is new, sent again or probed
+-- .. and is sent only where an answered read has closed the service, whether it is new, retransmitted or a probe
 abbrev pub fin_if_closed : {State : Type 0} → Machine State → Addr → Point → List Segment
 fin_if_closed service server p = if (answered_run service p).closed then fin_segment service server p ∷ [] else []
 
--- a segment without data stands at SND.NXT
+-- the segment without data, at SND.NXT
 abbrev pub bare_segment : Addr → Point → Segment
 bare_segment server p = segment_at server p p.sent ACK []
 
--- so many bytes from an offset on, in at most k segments, of the segment size each but the last
+-- `left` bytes from `offset` on, in at most k segments, each of the segment size except the last
 abbrev pub texts : {State : Type 0} → Machine State → Addr → Point → (k offset left : ℕ) → List Segment
 texts service server p zero offset left = []
 texts service server p (suc k) offset left =
     if nat_lt 0 left then text_at service server p offset (min left p.mss) ∷ texts service server p k (offset + min left p.mss) (left - min left p.mss) else []
 
--- the client's own SYN comes again, and nothing of it or of the output has gone further: the SYN-ACK answers
+-- the client repeats its SYN, and neither its stream nor the output has progressed: the SYN-ACK answers
 abbrev pub repeats_syn : Point → Segment → Bool
 repeats_syn p segment = is_syn segment && segment.head.seq == p.cisn && taken_units p == 0 && p.una == 0
 
--- the SYN-ACK goes out when a new connection begins and when its SYN is repeated (its timer is in `resent`)
+-- the SYN-ACK is sent when a new connection begins and when its SYN is repeated (for its timer see `resent`)
 abbrev pub opens_with : News → Point → Bool
 opens_with (Comes segment) before = repeats_syn before segment
 opens_with Begins before = not before.syn_acked
@@ -76,7 +76,7 @@ opens_with Ticks before = false
 abbrev pub syn_acks : Addr → News → Point → Point → List Segment
 syn_acks server news before after = if opens_with news before then syn_ack server after ∷ [] else []
 
--- the text that was sent and isn't acknowledged, in bytes
+-- how many bytes of text are sent and not acknowledged
 abbrev pub unacknowledged_text : {State : Type 0} → Machine State → Point → Point → ℕ
 unacknowledged_text service before after = min before.sent (released service after) - after.una
 
@@ -84,11 +84,11 @@ unacknowledged_text service before after = min before.sent (released service aft
 abbrev pub room_or_one : Point → ℕ
 room_or_one p = max 1 (p.edge - p.una)
 
--- how much is sent again: a segment's worth of what was sent, but no more than the client has room for, and at least one byte
+-- how many bytes are retransmitted: at most one segment of what was sent, and no more than the client has room for, where its room counts as at least one
 abbrev pub resent_length : {State : Type 0} → Machine State → Point → Point → ℕ
 resent_length service before after = min after.mss (min (unacknowledged_text service before after) (room_or_one after))
 
--- the first segment that is unacknowledged: the SYN-ACK, else the FIN where all output is acknowledged, else text from SND.UNA on
+-- the first unacknowledged segment: the SYN-ACK; else the FIN where all output is acknowledged; else text from SND.UNA on
 abbrev pub first_unacknowledged : {State : Type 0} → Machine State → Addr → Point → Point → List Segment
 first_unacknowledged service server before after =
     if not after.syn_acked then syn_ack server after ∷ []
@@ -98,7 +98,7 @@ first_unacknowledged service server before after =
 abbrev pub probed_length : ℕ
 probed_length = 1
 
--- a probe stands at SND.NXT: one byte, or the FIN where no byte waits
+-- the probe, at SND.NXT: one byte, or the FIN where no byte is waiting
 abbrev pub probe : {State : Type 0} → Machine State → Addr → Point → Point → List Segment
 probe service server before after =
     if nat_lt before.sent (released service after) then text_at service server after before.sent probed_length ∷ [] else fin_if_closed service server after
@@ -107,38 +107,38 @@ probe service server before after =
 abbrev pub is_unacknowledged : Point → Point → Bool
 is_unacknowledged before after = not after.syn_acked || nat_lt after.una before.sent
 
--- at a tick at which the timer expires, one segment goes out besides: again what is unacknowledged, or else a probe. Where only a FIN could, and the
--- service has not closed, there is none
+-- When the timer expires at a tick, and at the third duplicate acknowledgement, one more segment is sent: a retransmission of what is unacknowledged, or else a
+-- probe. Where only a FIN could be sent, and the service has not closed, there is none
 unfoldable pub resent : {State : Type 0} → Machine State → Addr → News → Point → Point → List Segment
 resent service server news before after =
-    if expires news before
+    if expires news before || is_third_duplicate news before
     then (if is_unacknowledged before after then first_unacknowledged service server before after else probe service server before after)
     else []
 
--- up to where text is sent now: all of what is sent but the FIN
+-- up to where text is sent now: all that is sent except the FIN
 abbrev pub text_sent : {State : Type 0} → Machine State → Point → Point → ℕ
 text_sent service before after = min (sent_at_once service before after) (released service after)
 
--- the bytes that are sent for the first time
+-- how many bytes are sent for the first time
 abbrev pub new_length : {State : Type 0} → Machine State → Point → Point → ℕ
 new_length service before after = text_sent service before after - before.sent
 
 unfoldable pub new_texts : {State : Type 0} → Machine State → Addr → Point → Point → List Segment
 new_texts service server before after = texts service server after (new_length service before after) before.sent (new_length service before after)
 
--- the unit behind all output, which is the FIN's, is sent for the first time
+-- the unit after all output, which is the FIN's, is sent for the first time
 abbrev pub sends_fin : {State : Type 0} → Machine State → Point → Point → Bool
 sends_fin service before after = nat_lt (released service after) (sent_at_once service before after) && nat_le before.sent (released service after)
 
 unfoldable pub new_fin : {State : Type 0} → Machine State → Addr → Point → Point → List Segment
 new_fin service server before after = if sends_fin service before after then fin_if_closed service server after else []
 
--- all but the bare segment, in order
+-- all segments except the bare one, in order
 unfoldable pub full_segments : {State : Type 0} → Machine State → Addr → News → Point → Point → List Segment
 full_segments service server news before after =
     syn_acks server news before after ++ (resent service server news before after ++ (new_texts service server before after ++ new_fin service server before after))
 
--- Acknowledgement: one bare segment, exactly where one is owed and no other goes out
+-- Acknowledgement: one bare segment, exactly where one is owed and no other is sent
 abbrev pub or_bare : Bool → Segment → List Segment → List Segment
 or_bare owed bare [] = if owed then bare ∷ [] else []
 or_bare owed bare (segment ∷ segments) = segment ∷ segments

@@ -1,21 +1,22 @@
--- The law Sending: what an acknowledgement does, and how much is sent (RFC 9293, 3.10.7.4, fifth check, and 3.8). All fields are read
--- from the point before the turn, but `sent_after`, which looks at the released output and the edge after it.
-use Rattle.std.specs.Prelude.{ℕ, ℤ, Bool, pos, ◌+◌, ◌-◌, ◌&&◌, ◌||◌, not, int_le, max, min, nat_abs, if◌then◌else◌}
+-- The law Sending: what an acknowledgement does, and how much is sent (RFC 9293, 3.10.7.4, fifth check, and 3.8; RFC 5681, 2 and 3). All fields are read from
+-- the point before the turn, except in `sent_after`, which uses the released output, the edge and the congestion window after it.
+use Rattle.std.specs.Prelude.{ℕ, ℤ, Bool, false, pos, ◌+◌, ◌-◌, ◌==◌, ◌&&◌, ◌||◌, not, nat_lt, int_le, max, min, nat_abs, length, if◌then◌else◌}
 use Rattle.seq_arith.specs.Arrival.{una_after, updates_window}
+use Rattle.seq_arith.specs.Congestion.{Congestion, with_new_data, is_third, with_duplicate, with_expiry}
 use Rattle.seq_arith.specs.Packet.{Segment}
 use Rattle.server_trait.specs.Service.{Machine}
-use Rattle.ft_model.specs.Offset.{first_of, ack_of, one_if}
+use Rattle.ft_model.specs.Offset.{first_of, ack_of, text_of, fin_of, one_if}
 use Rattle.ft_model.specs.Point.{Point, target}
 use Rattle.ft_model.specs.News.{News}
 use Rattle.ft_model.specs.News.News.{Comes, Logged, Ticks, Begins}
 use Rattle.ft_model.specs.Taken.{counts}
-use Rattle.ft_model.specs.Timer.{probes}
+use Rattle.ft_model.specs.Timer.{expires, probes}
 
 -- the segment's acknowledgement is used: it counts, and names an offset of the output
 abbrev pub acknowledges : Point → Segment → Bool
 acknowledges p segment = counts p segment && int_le (pos 0) (ack_of p.sisn segment)
 
--- what it acknowledges: at most what this incarnation sent. The client may know more from an earlier one ..
+-- what it acknowledges, but at most what this incarnation sent. The client may have more from an earlier one ..
 abbrev pub acknowledged_by : Point → Segment → ℕ
 acknowledged_by p segment = min (nat_abs (ack_of p.sisn segment)) p.sent
 
@@ -23,7 +24,7 @@ acknowledged_by p segment = min (nat_abs (ack_of p.sisn segment)) p.sent
 abbrev pub window_by : Point → Segment → ℕ
 window_by p segment = min 65535 (segment.head.window + nat_abs (ack_of p.sisn segment) - acknowledged_by p segment)
 
--- the window is used: by TCP's test on older segments, and always where none has counted yet
+-- whether the window is used: by TCP's test for older segments, and always where none has counted yet
 abbrev pub moves_edge : Point → Segment → Bool
 moves_edge p segment =
     acknowledges p segment
@@ -63,10 +64,53 @@ wl2_after (Logged kept) p = p.wl2
 wl2_after Ticks p = p.wl2
 wl2_after Begins p = p.wl2
 
--- what is sent at once: all that may leave, up to the right edge, and never less than before
-unfoldable pub sent_at_once : {State : Type 0} → Machine State → Point → Point → ℕ
-sent_at_once service before after = max before.sent (min (target service after) after.edge)
+-- what is in flight: the units sent and not acknowledged
+abbrev pub flight : Point → ℕ
+flight p = p.sent - p.una
 
--- SND.NXT: a probe sends one unit more
+-- it acknowledges something new
+abbrev pub acknowledges_new : Point → Segment → Bool
+acknowledges_new p segment = acknowledges p segment && nat_lt p.una (acknowledged_by p segment)
+
+-- A duplicate acknowledgement (RFC 5681, 2): the segment has neither text nor FIN, acknowledges what is acknowledged already while something is in
+-- flight, and leaves the right edge as it is
+unfoldable pub is_duplicate : Point → Segment → Bool
+is_duplicate p segment =
+    acknowledges p segment
+    && length (text_of segment) == 0
+    && not (fin_of segment)
+    && acknowledged_by p segment == p.una
+    && nat_lt p.una p.sent
+    && acknowledged_by p segment + window_by p segment == p.edge
+
+-- the third duplicate in a row: a segment is lost
+unfoldable pub is_third_duplicate : News → Point → Bool
+is_third_duplicate (Comes segment) p = is_duplicate p segment && is_third p.congestion
+is_third_duplicate (Logged kept) p = false
+is_third_duplicate Ticks p = false
+is_third_duplicate Begins p = false
+
+-- the timer expires while something is in flight and the client has room for it, so it counts as lost
+abbrev pub is_lost : Point → Bool
+is_lost p = expires Ticks p && nat_lt p.una p.sent && nat_lt p.una p.edge
+
+-- the congestion window, the slow start threshold and the count of duplicates
+unfoldable pub congestion_after : News → Point → Congestion
+congestion_after (Comes segment) p =
+    if acknowledges_new p segment then with_new_data p.mss (acknowledged_by p segment - p.una) p.congestion
+    else (if is_duplicate p segment then with_duplicate p.mss (flight p) p.congestion else p.congestion)
+congestion_after (Logged kept) p = p.congestion
+congestion_after Ticks p = if is_lost p then with_expiry p.mss (flight p) (p.interval == 1) p.congestion else p.congestion
+congestion_after Begins p = p.congestion
+
+-- nothing new is sent from this offset on: it is the right edge or the end of the congestion window, whichever comes first
+abbrev pub send_edge : Point → ℕ
+send_edge p = min p.edge (p.una + p.congestion.cwnd)
+
+-- what is sent at once: all that may be sent, up to that offset, and never less than before
+unfoldable pub sent_at_once : {State : Type 0} → Machine State → Point → Point → ℕ
+sent_at_once service before after = max before.sent (min (target service after) (send_edge after))
+
+-- SND.NXT. A probe adds one unit
 unfoldable pub sent_after : {State : Type 0} → Machine State → News → Point → Point → ℕ
 sent_after service news before after = sent_at_once service before after + one_if (probes news before)

@@ -1,4 +1,4 @@
--- A turn of a server that serves: what it does for each key that it knows, for keys that it doesn't know, and in which order.
+-- A turn of a server that serves: what it does for each known key and for unknown keys, and in which order.
 use Rattle.std.specs.Prelude.{◌≡◌, ℕ, Bool, true, false, ◌==◌, ◌&&◌, not, nat_lt, map, List, [], ◌∷◌, ◌++◌, if◌then◌else◌}
 use Rattle.std.specs.Bool.{MatchBool}
 use Rattle.std.specs.List.{flat_map}
@@ -24,7 +24,7 @@ use Rattle.ft_model.specs.Node.Input.{Packet_comes, Message_comes, Noise_comes, 
 abbrev pub Stays : Place → List Place → List Packet → Type 0
 Stays place now sent = (now ≡ place ∷ []) × (sent ≡ [])
 
--- a connection goes on from a point by one turn, and stays live
+-- a connection takes one turn from a point, and stays live
 abbrev pub LivesOn : {State : Type 0} → Machine State → Node → News → Point → List Place → List Packet → Type 0
 LivesOn service node news p now sent = (after : Point) × (now ≡ Lives after ∷ []) × ConnectionTurn service node.server node.boot news p after sent
 
@@ -39,7 +39,7 @@ Hears service node (OpenedMsg kept) (Opens asked) now sent =
 Hears service node (FullMsg key) (Opens asked) now sent = (now ≡ []) × (sent ≡ To_client (full_rst node.server asked) ∷ [])
 Hears service node _ place now sent = Stays place now sent
 
--- what an input of its own does at a place. A segment of a pending key is dropped here: its Open, if it repeats the SYN, comes last
+-- what an input that concerns a place does there. A segment of a pending key is dropped here: its Open, if it repeats the SYN, comes last
 abbrev pub Meets : {State : Type 0} → Machine State → Node → Input → Place → List Place → List Packet → Type 0
 Meets service node (Packet_comes segment) (Lives p) now sent = LivesOn service node (Comes segment) p now sent
 Meets service node (Packet_comes segment) (Ended key) now sent = (now ≡ Ended key ∷ []) × (sent ≡ map To_client (as_closed node.server segment))
@@ -50,7 +50,7 @@ Meets service node Tick_comes (Opens numbers) now sent = Stays (Opens numbers) n
 Meets service node Tick_comes (Ended key) now sent = Stays (Ended key) now sent
 Meets service node Noise_comes place now sent = Stays place now sent
 
--- a message to a known connection names its key
+-- whether a message to a known connection names this key
 abbrev pub names : Body → Key → Bool
 names (OpenedMsg numbers) key = key_eq numbers.key key
 names (StableMsg kept) key = key_eq kept.key key
@@ -66,18 +66,18 @@ concerns node (Message_comes message) key = message.boot == node.boot && names m
 concerns node Noise_comes key = false
 concerns node Tick_comes key = true
 
--- one place in one turn: the places that stand there after it, one or none, and what is sent
+-- one place in one turn: what it becomes, one place or none, and what is sent
 abbrev pub PlaceTurn : {State : Type 0} → Machine State → Node → Input → Place → List Place → List Packet → Type 0
 PlaceTurn service node input place now sent = MatchBool (concerns node input (key_of place)) (Meets service node input place now sent) (Stays place now sent)
 
--- all places, one after another, each by this law: so they stay in order, and so do the packets
+-- all places, one after another, each by this law: so places and packets stay in order
 abbrev pub AllGo : (Place → List Place → List Packet → Type 0) → List Place → List Place → List Packet → Type 0
 AllGo Goes [] after sent = (after ≡ []) × (sent ≡ [])
 AllGo Goes (place ∷ places) after sent =
     (now : List Place) × (later : List Place) × (first : List Packet) × (others : List Packet)
     × (after ≡ now ++ later) × (sent ≡ first ++ others) × Goes place now first × AllGo Goes places later others
 
--- a packet of a client that isn't known
+-- a packet from an unknown client
 abbrev pub is_strange : Node → Segment → List Place → Bool
 is_strange node segment places = is_for node.server segment && not (is_known (source_of segment) places)
 
@@ -96,7 +96,7 @@ refusals node (Message_comes message) places = []
 refusals node Noise_comes places = []
 refusals node Tick_comes places = []
 
--- Opening: a pending opening is asked for at its SYN, at each repetition of it, and at each tick
+-- Opening: a pending opening is asked for at its SYN, at each repetition of that, and at each tick
 abbrev pub is_asked : Node → Input → Numbers → Bool
 is_asked node (Packet_comes segment) numbers =
     is_for node.server segment && is_syn segment && key_eq (source_of segment) numbers.key && segment.head.seq == numbers.cisn
@@ -108,8 +108,8 @@ abbrev pub opens_at : Node → Input → Place → List Packet
 opens_at node input (Opens numbers) = if is_asked node input numbers then told_by node.boot (OpenMsg numbers) ∷ [] else []
 opens_at node input _ = []
 
--- A turn of a server that serves. First comes what the known connections send, in order, then the pending Opens in the same order. A
--- packet of an unknown key that is refused meets no place, so its RST stands alone
+-- A turn of a server that serves. The packets of the known connections come first, in order, then the pending Opens in the same order. A packet of an unknown
+-- key that is refused concerns no place, so its RST is the only packet
 pub record ServingTurn {State : Type 0} (service : Machine State) (node : Node) (input : Input) (opened : ℕ) (before after : List Place) (sent : List Packet) : Type 0 where
   pub went : List Place
   pub by_places : List Packet

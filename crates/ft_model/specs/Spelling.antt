@@ -16,7 +16,7 @@ use Rattle.ft_model.specs.declared.schedule.Script.TheVariants.{Bytes, Fill}
 use Rattle.ft_model.specs.declared.schedule.ServiceKind.{ServiceKind}
 use Rattle.ft_model.specs.declared.schedule.ServiceKind.TheVariants.{Echo, Line, Transfer, Meter}
 
--- the number that one to so many decimal digits write
+-- the number that one to `digits` decimal digits spell
 unfoldable pub numeral : ℕ → List ℕ → Option ℕ
 numeral digits word = if nat_le 1 (length word) && nat_le (length word) digits && list_all is_ascii_digit word then Some (digits_value 10 word) else None
 

@@ -1,5 +1,5 @@
--- The law Taken: which bytes of a segment are taken, which are held, and when its FIN is taken (RFC 9293, 3.10.7.4: first, seventh and eighth check).
--- All tests begin at the point before the turn.
+-- The law Taken: which bytes of a segment are taken, which are held, and when its FIN is taken (RFC 9293, 3.10.7.4: first, seventh and eighth check). All tests
+-- are made at the point before the turn.
 use Rattle.std.specs.Prelude.{ℕ, ℤ, Bool, pos, ◌+ℤ◌, ◌&&◌, ◌||◌, not, int_le, List, ◌++◌, length, if◌then◌else◌}
 use Rattle.seq_arith.specs.Arrival.{is_acceptable_or_at_edge, is_usable}
 use Rattle.seq_arith.specs.Packet.{Segment, has_syn, has_rst, has_ack}
@@ -9,11 +9,11 @@ use Rattle.ft_model.specs.Point.{Point, taken_units, receive_edge, room}
 use Rattle.ft_model.specs.News.{News}
 use Rattle.ft_model.specs.News.News.{Comes, Logged, Ticks, Begins}
 
--- acceptable: by the four cases of TCP, with the next number and the window of the point, or at the right edge
+-- acceptable: by TCP's four cases, with the next number and the window of the point, or at the right edge
 unfoldable pub accepts : Point → Segment → Bool
 accepts p segment = is_acceptable_or_at_edge (taken_units p) (room p) (first_of p.cisn segment) (length_of segment)
 
--- its acknowledgement is used: it is acceptable, or stands at the next number while the window is zero
+-- its acknowledgement is used: it is acceptable, or begins at the next number while the window is zero
 unfoldable pub uses : Point → Segment → Bool
 uses p segment = is_usable (taken_units p) (room p) (first_of p.cisn segment) (length_of segment)
 
@@ -26,7 +26,7 @@ counts p segment =
 abbrev pub end_of : Point → Segment → ℤ
 end_of p segment = first_of p.cisn segment +ℤ pos (length (text_of segment))
 
--- what its text and its FIN make of the client's stream, where it counts
+-- what its text and its FIN do to the client's stream, where it counts
 unfoldable pub came : Point → Segment → Came
 came p segment =
     if counts p segment

@@ -15,11 +15,11 @@ use Rattle.ft_model.specs.declared.schedule.ServiceKind.TheVariants.{Echo, Line,
 use Rattle.ft_model.specs.declared.schedule.Script.{Script}
 use Rattle.ft_model.specs.declared.schedule.Script.TheVariants.{Bytes, Fill}
 
--- words, each behind a space
+-- words, each after a space
 abbrev pub spaced : List (List ℕ) → List ℕ
 spaced words = flat_map (λ word. codes " " ++ word) words
 
--- a line: its first word, the others behind spaces, and a line feed
+-- a line: its first word, the others after spaces, and a line feed
 abbrev pub line : List ℕ → List (List ℕ) → List ℕ
 line first others = first ++ (spaced others ++ 10 ∷ [])
 
@@ -35,7 +35,7 @@ hex_text bytes = or_dash (encode_lower bytes)
 unfoldable pub list_text : List ℕ → List ℕ
 list_text numbers = or_dash (join_with_byte 44 (map decimal numbers))
 
--- numbers in decimal, each behind a comma
+-- numbers in decimal, each after a comma
 abbrev pub behind_commas : List ℕ → List ℕ
 behind_commas numbers = flat_map (λ n. codes "," ++ decimal n) numbers
 
@@ -72,7 +72,7 @@ unfoldable pub bit_text : Bool → List ℕ
 bit_text true = codes "1"
 bit_text false = codes "0"
 
--- from whom to whom: a client by its number, the server as S, the logger as L
+-- from whom to whom: a client as its number, the server as S, the logger as L
 unfoldable pub way_text : Way → List ℕ
 way_text (ClientToServer n) = decimal n ++ codes ">S"
 way_text (ServerToClient n) = codes "S>" ++ decimal n
@@ -85,7 +85,7 @@ service_text Line = codes "line"
 service_text Transfer = codes "transfer"
 service_text Meter = codes "meter"
 
--- what a client has to say: nothing, bytes, or so many letters
+-- what a client has to say: nothing, bytes, or `n` letters
 unfoldable pub script_text : Script → List ℕ
 script_text (Bytes bytes) = if length bytes == 0 then codes "-" else codes "hex:" ++ encode_lower bytes
 script_text (Fill n) = codes "fill:" ++ decimal n

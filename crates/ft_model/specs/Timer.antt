@@ -1,4 +1,4 @@
--- The timer for retransmissions and probes (RFC 9293, 3.8.1 and 3.8.6.1, with ticks for time: RFC 6298's estimates are left out).
+-- The timer for retransmissions and probes (RFC 9293, 3.8.1 and 3.8.6.1, in ticks: RFC 6298's estimates are left out).
 use Rattle.std.specs.Prelude.{ℕ, Bool, true, false, ◌-◌, ◌*◌, ◌==◌, ◌&&◌, ◌||◌, not, nat_lt, max, min, if◌then◌else◌}
 use Rattle.server_trait.specs.Service.{Machine}
 use Rattle.ft_model.specs.Point.{Point, target}
@@ -15,11 +15,11 @@ is_tick Begins = false
 abbrev pub expires : News → Point → Bool
 expires news before = is_tick news && before.rest == 1
 
--- it expires with nothing unacknowledged, so one unit goes out beyond the edge
+-- it expires with nothing unacknowledged, so one unit is sent past the edge
 abbrev pub probes : News → Point → Bool
 probes news before = expires news before && before.syn_acked && not (nat_lt before.una before.sent)
 
--- It must run while something is unacknowledged (the SYN too), or waits to be sent
+-- It must run while something is unacknowledged, the SYN included, or is waiting to be sent
 unfoldable pub must_run : {State : Type 0} → Machine State → Point → Bool
 must_run service p = not p.syn_acked || nat_lt p.una (max p.sent (target service p))
 
@@ -27,16 +27,16 @@ must_run service p = not p.syn_acked || nat_lt p.una (max p.sent (target service
 abbrev pub is_renewed : Point → Point → Bool
 is_renewed before after = nat_lt before.una after.una || (after.syn_acked && not before.syn_acked)
 
--- what the timer did before counts no more: it stood still, or something new was acknowledged. Whether it runs now is asked apart, so this holds too
--- of a timer that goes on standing still
+-- what the timer did before no longer counts: it didn't run, or something new was acknowledged. Whether it runs now is a separate question, so this holds also
+-- of a timer that stays stopped
 abbrev pub is_set_anew : Point → Point → Bool
 is_set_anew before after = before.rest == 0 || is_renewed before after
 
--- the interval is 1 tick when it is set anew and doubles at each expiry, up to 64
+-- the interval is 1 tick when the timer is set anew, and doubles at each expiry, up to 64
 unfoldable pub interval_after : News → Point → Point → ℕ
 interval_after news before after = if is_set_anew before after then 1 else (if expires news before then min 64 (2 * before.interval) else before.interval)
 
--- the ticks that are left, if it must run: a whole interval when it is set anew or has expired, and one less at each other tick
+-- the ticks left, if the timer must run: a whole interval when it is set anew or has expired, and one less at each other tick
 unfoldable pub rest_after : {State : Type 0} → Machine State → News → Point → Point → ℕ
 rest_after service news before after =
     if must_run service after

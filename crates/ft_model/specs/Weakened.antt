@@ -1,15 +1,15 @@
--- What a law is needed for: a trace in which one moment is as a weaker law would have it, and all others are as the laws have them.
+-- What a law is needed for: a trace in which one moment follows a weaker law, and all others follow the laws.
 use Rattle.std.specs.Prelude.{List, [], ◌∷◌}
 use Rattle.server_trait.specs.Service.{Machine}
 use Rattle.ft_model.specs.Network.{Packet}
 use Rattle.ft_model.specs.World.{World, Moment, world_after, Happens, Joint}
 
--- each of these moments, newest first, happens in the world that the ones before it leave
+-- each of these moments, newest first, happens in the world after those before it
 abbrev pub GoesOn : {State : Type 0} → Machine State → World → List Moment → Type 0
 GoesOn service before [] = Unit {0}
 GoesOn service before (moment ∷ earlier) = GoesOn service before earlier × Happens service (world_after before earlier) moment.event moment.sent moment.world
 
--- one moment doesn't happen by the laws, which have it otherwise at the same event; up to it and after it everything happens
+-- one moment doesn't happen by the laws, by which the same event has another outcome; before it and after it everything happens
 pub record IsWrongOnce {State : Type 0} (service : Machine State) (start : World) (later : List Moment) (wrong : Moment) (earlier : List Moment) : Type 0 where
   pub before : Joint service start earlier
   pub refused : Happens service (world_after start earlier) wrong.event wrong.sent wrong.world → ⊥

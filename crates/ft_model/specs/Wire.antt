@@ -1,5 +1,5 @@
--- A packet as bytes: from whom to whom it goes, and the one spelling in which this project writes it (RFC 791, 3.1; RFC 9293, 3.1; the
--- messages' own format). The definitions keep values; these are their bytes.
+-- A packet as bytes: its sender and its receiver, and the one spelling in which this project writes it (RFC 791, 3.1; RFC 9293, 3.1; the messages' own format).
+-- The definitions work with values; these are their bytes.
 use Rattle.std.specs.Prelude.{ℕ, List}
 use Rattle.ft_io.specs.declared.Key.{Key}
 use Rattle.seq_arith.specs.Packet.{Segment}
@@ -10,7 +10,7 @@ use Rattle.server_trait.specs.Service.{AreBytes}
 use Rattle.ft_model.specs.Network.{Packet, source_of, destination_of}
 use Rattle.ft_model.specs.Network.Packet.{To_server, To_client, To_logger, From_logger}
 
--- one end of a packet's way. A client is known by its address and port
+-- a sender or receiver of a packet. A client is known by its address and port
 pub data Party : Type 0 where
   A_client : Key → Party
   The_server : Party
@@ -31,11 +31,11 @@ wire_of (From_logger message) = record { from = The_logger; to = The_server; byt
 abbrev pub CanBeSent : Segment → Type 0
 CanBeSent segment = segments.IsSpellable segment × AreBytes segment.payload
 
--- so can a message: each number fits its place and is in its field's range, and what stands behind the fields is bytes
+-- so can a message: each number fits its place and is in its field's range, and what follows the fields is bytes
 abbrev pub CanBeTold : Message → Type 0
 CanBeTold message = messages.IsSpellable message × AreBytes (messages.behind_of message.body)
 
--- the packet is one that its wire tells
+-- the packet can be written, so its wire determines it
 abbrev pub HasWire : Packet → Type 0
 HasWire (To_server segment) = CanBeSent segment
 HasWire (To_client segment) = CanBeSent segment

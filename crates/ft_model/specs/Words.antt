@@ -5,7 +5,7 @@
 use Rattle.std.specs.Prelude.{ℕ, Bool, true, false, ◌==◌, not, List, [], ◌∷◌, filter, if◌then◌else◌}
 use Rattle.std.specs.List.{slice_split}
 
--- a byte is a given one
+-- whether a byte is a given one
 abbrev pub is : ℕ → ℕ → Bool
 is mark byte = byte == mark
 
@@ -13,7 +13,7 @@ abbrev pub is_empty : {A : Type 0} → List A → Bool
 is_empty [] = true
 is_empty (item ∷ more) = false
 
--- behind the last line feed there is no line, unless something stands there
+-- after the last line feed there is no line, unless something follows it
 unfoldable pub without_empty_last : List (List ℕ) → List (List ℕ)
 without_empty_last [] = []
 without_empty_last (last ∷ []) = if is_empty last then [] else last ∷ []

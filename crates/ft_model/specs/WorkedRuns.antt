@@ -1,5 +1,5 @@
--- Worked runs: traces and turns spelled out packet by packet, of which the laws in `worked_runs` say that they are lawful, or refused, and those in
--- `weakened` what becomes of the client if one moment of them is wrong.
+-- Worked runs: traces and turns spelled out packet by packet. The laws in `worked_runs` say that they are lawful, or refused. Those in `weakened` say what
+-- becomes of the client if one moment of them is wrong.
 pub mod Common
 pub mod FirstPath
 pub mod ChangedBit
@@ -9,6 +9,7 @@ pub mod ZeroWindow
 pub mod RightEdge
 pub mod BeyondNext
 pub mod HeldSegments
+pub mod CongestionWindow
 pub mod SegmentWhileRestarting
 pub mod RestartInTurns
 pub mod ClientKnowsMore

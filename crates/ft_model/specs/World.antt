@@ -1,5 +1,5 @@
--- The world: clients, log, network and server, and what each event of a schedule does to them. A trace is a list of moments, newest
--- first, each with the world after it. That world is a witness: clients, log and packets are those that the events determine.
+-- The world: clients, log, network and server, and what each event of a schedule does to them. A trace is a list of moments, newest first, each with the world
+-- after it. That world is a witness: clients, log and packets are those that the events determine.
 use Rattle.std.specs.Prelude.{◌≡◌, ℕ, Bool, true, zero, suc, ◌*◌, ◌<◌, ◌≤◌, ◌^◌, ◌==◌, ◌&&◌, not, map, Option, Some, None, Result, Ok, Err, option_map, is_some, List, [], ◌∷◌, ◌++◌, length, slice_get, if◌then◌else◌}
 use Rattle.std.specs.List.{AllByRecursion, list_any}
 use Rattle.std.specs.Option.{option_to_list}
@@ -33,7 +33,7 @@ pub record World : Type 0 where
   pub boot : ℕ  -- the largest boot number so far
   pub node : Option Node  -- the incarnation that is up
 
--- the client of a number, from 1
+-- the client with a number, counted from 1
 abbrev pub client_at : List Client → ℕ → Option Client
 client_at clients zero = None
 client_at clients (suc n) = slice_get clients n
@@ -46,17 +46,17 @@ abbrev pub ServerTurn : {State : Type 0} → Machine State → Input → Option 
 ServerTurn service input None sent after = (sent ≡ []) × (after ≡ None)
 ServerTurn service input (Some node) sent after = (later : Node) × (after ≡ Some later) × LawfulTurn service node input sent later
 
--- what comes to the server has its turn
+-- the server takes its turn on what arrives
 abbrev pub ServerMoves : {State : Type 0} → Machine State → Input → World → List Packet → World → Type 0
 ServerMoves service input before sent after =
     ServerTurn service input before.node sent after.node × (after ≡ record before { node = after.node; packets = before.packets ++ sent })
 
--- a segment comes to the client of a key. A client that receives sends nothing
+-- a segment arrives at the client of a key. A client that receives sends nothing
 abbrev pub ClientHears : Key → Segment → World → List Packet → World → Type 0
 ClientHears key segment before sent after =
     (sent ≡ []) × (after ≡ record before { clients = with_client key (λ c. received c segment) before.clients; packets = before.packets ++ sent })
 
--- a message comes to the log, which sends its answer and nothing else
+-- a message arrives at the log, which sends its answer and nothing else
 abbrev pub LogHears : Message → World → List Packet → World → Type 0
 LogHears message before sent after =
     (sent ≡ option_to_list (option_map From_logger (answer_to before.log message)))
@@ -69,7 +69,7 @@ Delivered service before (To_client segment) sent after = ClientHears (destinati
 Delivered service before (To_logger message) sent after = LogHears message before sent after
 Delivered service before (From_logger message) sent after = ServerMoves service (Message_comes message) before sent after
 
--- what can't be read is noise: a server has a turn of it, and to a client and the log it is nothing
+-- what can't be read is noise: the server takes a turn on it, and at a client or the log nothing happens
 abbrev pub NothingHappens : World → List Packet → World → Type 0
 NothingHappens before sent after = (sent ≡ []) × (after ≡ record before { packets = before.packets ++ sent })
 
@@ -89,7 +89,7 @@ abbrev pub LogReads : Result Message BadMsg → World → List Packet → World 
 LogReads (Ok message) before sent after = LogHears message before sent after
 LogReads (Err why) before sent after = NothingHappens before sent after
 
--- these bytes reach the addressee of a packet in place of its own, and are read by the grammar of its way
+-- these bytes reach the addressee of a packet in place of its own, and are read by the grammar of its direction
 abbrev pub DeliveredAs : {State : Type 0} → Machine State → World → Packet → List ℕ → List Packet → World → Type 0
 DeliveredAs service before (To_server segment) bytes sent after = ServerMoves service (segment_or_noise (segments.reading bytes)) before sent after
 DeliveredAs service before (To_client segment) bytes sent after = ClientReads (destination_of segment) (segments.reading bytes) before sent after
@@ -127,8 +127,8 @@ pub record Moves (before : World) (number : ℕ) (sent : List Packet) (after : W
 abbrev pub IsNextBoot : World → ℕ → Type 0
 IsNextBoot w boot = (w.boot < boot) × (boot < 2 ^ 64)
 
--- what may happen: from the world before, by this event, with these packets sent, to the world after. Boot numbers rise, one server is up
--- at a time, and a server that goes down loses all that it held
+-- what may happen: from the world before, by this event, with these packets sent, to the world after. Boot numbers rise, one server is up at a time, and a
+-- server that goes down loses all that it held
 abbrev pub Happens : {State : Type 0} → Machine State → World → Event → List Packet → World → Type 0
 Happens service before (Boot boot isn) sent after =
     (before.node ≡ None) × IsNextBoot before boot × (sent ≡ hello (booted before.server boot isn))
@@ -156,7 +156,7 @@ abbrev pub world_after : World → List Moment → World
 world_after start [] = start
 world_after start (moment ∷ earlier) = moment.world
 
--- a client's key isn't the server's address, nor that of any of these
+-- a client's key differs from the server's address and from the keys of these
 abbrev pub is_apart : Addr → Key → List Client → Bool
 is_apart server key clients = not (key.ip == server.ip && key.port == server.port) && not (list_any (λ c. key_eq c.key key) clients)
 
@@ -165,8 +165,8 @@ abbrev pub are_apart : Addr → List Client → Bool
 are_apart server [] = true
 are_apart server (c ∷ clients) = is_apart server c.key clients && are_apart server clients
 
--- a client before its first move: address, port and number are those that a packet can hold (RFC 791, 3.1; RFC 9293, 3.1), and its script is
--- of bytes and fits a stream
+-- a client before its first move: a packet can hold its address, port and number (RFC 791, 3.1; RFC 9293, 3.1), and its script consists of bytes and fits a
+-- stream
 pub record IsNewClient (server : Addr) (client : Client) : Type 0 where
   pub new : client ≡ new_client client.kind server client.key client.isn client.script
   pub ip : client.key.ip < 2 ^ 32
@@ -175,8 +175,8 @@ pub record IsNewClient (server : Addr) (client : Client) : Type 0 where
   pub bytes : AreBytes client.script
   pub short : length client.script ≤ 2 ^ 24
 
--- where a trace starts: a server's address and port that a packet can hold, new clients with keys of their own, the empty log, nothing
--- sent, and no server
+-- where a trace starts: a packet can hold the server's address and port, the clients are new and have keys of their own, the log is empty, nothing is sent, and
+-- there is no server
 pub record IsStart (w : World) : Type 0 where
   pub ip : w.server.ip < 2 ^ 32
   pub port : w.server.port < 2 ^ 16
@@ -187,8 +187,8 @@ pub record IsStart (w : World) : Type 0 where
   pub boot : w.boot ≡ 0
   pub node : w.node ≡ None
 
--- Joint: every moment of a trace happens in the world that the earlier ones leave, from a start on. So each run of turns from a boot to the
--- next crash is lawful over what was delivered to it
+-- Joint: every moment of a trace happens in the world after the earlier ones, from a start on. So each run of turns from a boot to the next crash is lawful for
+-- what was delivered to it
 abbrev pub Joint : {State : Type 0} → Machine State → World → List Moment → Type 0
 Joint service start [] = IsStart start
 Joint service start (moment ∷ earlier) = Joint service start earlier × Happens service (world_after start earlier) moment.event moment.sent moment.world

@@ -42,6 +42,6 @@ pub enum EventWhy {
     Client,
     /// A move that the client's state does not allow.
     State,
-    /// Text outside the range that may be sent, or a FIN before the script is sent whole.
+    /// Text outside the range that may be sent, or a FIN before the whole script is sent.
     Range,
 }

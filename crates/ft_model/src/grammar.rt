@@ -1,5 +1,5 @@
-//! The grammar of a schedule's text is a definition alone, `specs/Grammar.antt`. Here are laws over it, and
-//! texts that were worked out by hand. Nothing here runs; each function is a theorem.
+//! The grammar of a schedule's text is only a definition, `specs/Grammar.antt`. Here are laws about it, and texts that were worked out by hand. Nothing here
+//! runs; each function is a theorem.
 
 ghost use Rattle.std.specs.Prelude.{◌≡◌, ℕ, List, [], ◌∷◌, codes, Ok, Err};
 ghost use Rattle.ft_model.specs.Accepted.{IsAccepted};
@@ -15,8 +15,8 @@ ghost use Rattle.ft_model.specs.declared.schedule.Schedule.{Schedule};
 ghost use Rattle.ft_model.specs.declared.schedule.Script.TheVariants.{Bytes, Fill};
 ghost use Rattle.ft_model.specs.declared.schedule.ServiceKind.TheVariants.{Echo, Meter};
 
-/// Texts and what they spell: a schedule without clients and events, one in which a client says hello to an echo, one of two clients and
-/// the other kinds of events, and refused lines.
+/// Texts and what they spell: a schedule without clients and events, one in which a client says hello to an echo service, one of two clients and the other
+/// kinds of events, and refused lines.
 pub fn worked_texts()
     ensures empty { read_text (codes "service echo\nserver 192.0.2.100:7\n")
         ≡ Ok (record { service = Echo; server = record { ip = 3221226084; port = 7 }; clients = []; events = [] }) }
@@ -42,8 +42,8 @@ pub fn worked_texts()
         }) }
 {}
 
-/// A schedule that a text spells has at most 16 clients and 100,000 events, its scripts have at most 2^24 bytes, and no two of its
-/// machines have one address.
+/// A schedule that a text spells has at most 16 clients and 100,000 events, its scripts have at most 2^24 bytes, and no two of its machines have the same
+/// address.
 pub fn accepted_schedules_keep_the_limits()
     ensures { (text : List ℕ) (schedule : Schedule) → read_text text ≡ Ok schedule → IsAccepted schedule }
 {}
@@ -54,7 +54,7 @@ pub fn accepted_schedules_can_be_played()
     ensures { (text : List ℕ) (schedule : Schedule) → read_text text ≡ Ok schedule → IsPlayable schedule }
 {}
 
-/// A trace can start where a schedule does that can be played: no client has moved, nothing is logged, nothing was sent, and the server is down.
+/// A trace can start from a schedule that can be played: no client has moved, nothing is logged, nothing was sent, and the server is down.
 pub fn playable_schedules_start()
     ensures { (schedule : Schedule) → IsPlayable schedule → IsStart (start_of schedule) }
 {}

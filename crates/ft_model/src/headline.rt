@@ -24,8 +24,8 @@ pub fn every_joint_trace_is_masked<S: Service>()
         → Masked (machine (S.started kind) S.after) start trace }
 {}
 
-/// What each client has accepted is the front of the uncrashed server's output on its script, in the reads that are logged, and all of it
-/// where the server's FIN has ended the stream.
+/// What each client has accepted is a prefix of the uncrashed server's output on its script, in the reads that are logged, and all of it where the server's FIN
+/// has ended the stream.
 pub fn clients_see_an_unfailing_server<S: Service>()
     ensures { (kind : ℕ) (start : World) (trace : List Moment) → Joint (machine (S.started kind) S.after) start trace
         → AllByRecursion (SeesFront (machine (S.started kind) S.after) (world_after start trace).log) (world_after start trace).clients }
@@ -38,7 +38,7 @@ pub fn the_log_only_grows<S: Service>()
         → LogGrows (world_after start earlier).log (world_after start (later ++ earlier)).log }
 {}
 
-/// What is kept of a client is the front of its script, and all of it where its FIN is kept.
+/// What is logged of a client is a prefix of its script, and all of it where its FIN is logged.
 pub fn logged_bytes_are_the_clients<S: Service>()
     ensures { (kind : ℕ) (start : World) (trace : List Moment) → Joint (machine (S.started kind) S.after) start trace
         → AllByRecursion (λ c. AllByRecursion
@@ -66,8 +66,8 @@ pub fn older_boots_are_fenced()
         → log_after later message ≡ later }
 {}
 
-/// In the turn that ends a restart, every entry of the log that isn't done has its connection again: it stood at the entry's point, with all that
-/// is logged taken and read as before, and went on from there by the law of every turn.
+/// In the turn that ends a restart, every entry of the log that isn't done has its connection again: it was at the entry's point, with all that is logged taken
+/// and read as before, and continued from there by the law of every turn.
 pub fn restarts_are_exact<S: Service>()
     ensures { (kind : ℕ) (start : World) (moment : Moment) (earlier : List Moment) → Joint (machine (S.started kind) S.after) start (moment ∷ earlier)
         → RestartIsExact (machine (S.started kind) S.after) moment.world.log (world_after start earlier).node moment.world.node }
@@ -80,8 +80,7 @@ pub fn clients_are_told_what_is_logged<S: Service>()
         → AllAreTold (world_after start trace).packets (world_after start trace).node }
 {}
 
-/// What the log says a client has acknowledged is at most the uncrashed server's output over the logged reads, and one more where that has
-/// closed.
+/// What the log says a client has acknowledged is at most the uncrashed server's output over the logged reads, and one more where that run has closed.
 pub fn acknowledged_output_was_made<S: Service>()
     ensures { (kind : ℕ) (start : World) (trace : List Moment) → Joint (machine (S.started kind) S.after) start trace
         → AllByRecursion (λ e.
@@ -89,15 +88,14 @@ pub fn acknowledged_output_was_made<S: Service>()
         (world_after start trace).log.entries }
 {}
 
-/// No false reset: of all RSTs that were sent so far, none goes to a client whose entry is in the log and not done. So whenever one of them is
-/// delivered, it ends no connection that the log keeps. A client that has reset its connection itself is no exception.
+/// No false reset: of all RSTs that were sent so far, none was sent to a client whose entry is in the log and not done. So whenever one of them is delivered,
+/// it ends no connection that the log keeps. A client that has reset its connection itself is no exception.
 pub fn no_logged_connection_is_reset<S: Service>()
     ensures { (kind : ℕ) (start : World) (trace : List Moment) → Joint (machine (S.started kind) S.after) start trace
         → AllByRecursion (ResetsNoLogged (world_after start trace).log) (world_after start trace).packets }
 {}
 
-/// No server of a joint trace is ever fenced, since no Stale under way names a boot beyond the newest incarnation's; and nothing that may come
-/// next fences it.
+/// No server of a joint trace is ever fenced, since no Stale in flight names a boot beyond the newest incarnation's; and nothing that may come next fences it.
 pub fn no_server_is_fenced<S: Service>()
     ensures stage { (kind : ℕ) (start : World) (trace : List Moment) → Joint (machine (S.started kind) S.after) start trace
         → IfSome (world_after start trace).node (λ node. is_fenced node.stage ≡ false) }

@@ -1,4 +1,4 @@
-//! Laws over the definitions. Nothing here runs; each function is a theorem.
+//! Laws about the definitions. Nothing here runs; each function is a theorem.
 
 ghost use Rattle.std.specs.Prelude.{◌≡◌, ℕ, ◌<◌, ◌+◌, pos, true, false, Some, None, List, [], ◌∷◌, if◌then◌else◌};
 ghost use Rattle.std.specs.List.{AllByRecursion, list_any};
@@ -27,8 +27,8 @@ ghost use Rattle.ft_model.specs.declared.schedule.Schedule.{Schedule};
 
 use server_trait::Service;
 
-/// A turn is determined by where the server stands and by what comes: two lawful turns from there send the same packets in the same
-/// order, and leave the server standing at the same place.
+/// A turn is determined by the server's state and its input: two lawful turns from one state with one input send the same packets in the same order, and lead
+/// to the same state.
 pub fn turns_are_determined<S: Service>()
     ensures { (kind : ℕ) (before after other : Node) (input : Input) (sent also : List Packet)
         → LawfulTurn (machine (S.started kind) S.after) before input sent after
@@ -36,15 +36,15 @@ pub fn turns_are_determined<S: Service>()
         → (after ≡ other) × (sent ≡ also) }
 {}
 
-/// Each turn can be made: from each stand at which no more reads are known to be logged than were made, each input has a lawful turn, and it
-/// leads to such a stand again. Only one that is fenced has no turn any more. The laws never contradict one another.
+/// Each turn can be made: from each state in which no more reads are known to be logged than were made, each input has a lawful turn, and it leads to such a
+/// state again. Only a server that is fenced has no turn any more. The laws never contradict one another.
 pub fn turns_exist<S: Service>()
     ensures { (kind : ℕ) (before : Node) (input : Input) → is_fenced before.stage ≡ false → AllCount before.stage
         → (after : Node) × (sent : List Packet) × LawfulTurn (machine (S.started kind) S.after) before input sent after × AllCount after.stage }
 {}
 
-/// After each turn the client was told last what is taken and logged: every segment acknowledges that and announces the window, and a
-/// turn without a segment changes neither.
+/// After each turn the last report to the client is of what is taken and logged: every segment acknowledges that and advertises the window, and a turn without
+/// a segment changes neither.
 pub fn turns_tell_the_client<S: Service>()
     ensures { (kind boot : ℕ) (server : Addr) (news : News) (before after : Point) (sent : List Packet)
         → LiveTurn (machine (S.started kind) S.after) server boot news before after sent → IsTold before after sent }
@@ -56,30 +56,31 @@ pub fn live_connections_begin_with_a_segment<S: Service>()
         → LiveTurn (machine (S.started kind) S.after) server boot Begins before after sent → list_any is_segment sent ≡ true }
 {}
 
-/// No turn leaves a read to make.
+/// After a turn there is no read that may be made.
 pub fn turns_leave_no_read<S: Service>()
     ensures { (kind boot : ℕ) (server : Addr) (news : News) (before after : Point) (sent : List Packet)
         → LiveTurn (machine (S.started kind) S.after) server boot news before after sent
         → next_read (machine (S.started kind) S.after) after ≡ None }
 {}
 
-/// Where the unit behind all output is sent for the first time, a logged read has closed the service: so of a new FIN the law on output asks nothing
-/// that the laws of sending don't give.
+/// Where the unit after all output is sent for the first time, a logged read has closed the service. So of a new FIN the law on output requires nothing that
+/// the laws of sending don't give.
 pub fn new_fins_are_closed<S: Service>()
     ensures { (kind : ℕ) (server : Addr) (before after : Point)
         → new_fin (machine (S.started kind) S.after) server before after
         ≡ (if sends_fin (machine (S.started kind) S.after) before after then fin_segment (machine (S.started kind) S.after) server after ∷ [] else []) }
 {}
 
-/// At a receive window of zero the acknowledgement of a segment at the next number is used, whatever it brings; nothing of it is taken, and it is
-/// owed an answer. Without this rule neither side of a connection whose windows are both full could go on.
+/// At a zero receive window the acknowledgement of a segment at the next number is used, whatever the segment carries. Nothing of it is taken where what is
+/// held is after a gap (`HoldsBehind`), and it is owed an answer where it has a length. Without this rule neither side of a connection whose windows are both
+/// full could continue.
 pub fn shut_windows_pass_acknowledgements()
     ensures used { (p : Point) (segment : Segment) → room p ≡ 0 → first_of p.cisn segment ≡ pos (taken_units p) → uses p segment ≡ true }
     ensures not_taken { (p : Point) (segment : Segment) → HoldsBehind p → room p ≡ 0 → (taken_after (Comes segment) p ≡ p.taken) × (fin_after (Comes segment) p ≡ p.fin) }
     ensures owed { (p : Point) (segment : Segment) → room p ≡ 0 → 0 < length_of segment → has_rst segment ≡ false → owes p segment ≡ true }
 {}
 
-/// In every joint trace what a live connection holds stands behind what it has taken, and keeps to the receive edge.
+/// In every joint trace what a live connection holds is after what it has taken, and within the receive edge.
 pub fn held_text_stands_behind<S: Service>()
     ensures { (kind : ℕ) (start : World) (trace : List Moment) (node : Node) → Joint (machine (S.started kind) S.after) start trace
         → (world_after start trace).node ≡ Some node → AllByRecursion HoldsBehind (points_at node.stage) }
@@ -97,14 +98,14 @@ pub fn legal_traces_are_determined<S: Service>()
         → Legal (machines S.started S.after) schedule trace → Legal (machines S.started S.after) schedule other → trace ≡ other }
 {}
 
-/// A schedule has an outcome: all its events are done, or one is refused, or more packets are sent than may be. It has it where it can start
-/// and its events' numbers have the sizes of their types, as every schedule that a text spells.
+/// A schedule has an outcome: all its events are done, one is refused, or the packets exceed their limit. Its premises: the schedule can start, and its events'
+/// numbers have the sizes of their types, as in every schedule that a text spells.
 pub fn schedules_have_an_outcome<S: Service>()
     ensures { (schedule : Schedule) → IsStart (start_of schedule) → AllByRecursion FitsEvent schedule.events
         → HasOutcome (machines S.started S.after) schedule }
 {}
 
-/// And it is one: never two of the three, at one event, and for one cause.
+/// And it has only one: never two of the three, at only one event, and for only one cause.
 pub fn schedules_have_one_outcome<S: Service>()
     ensures whole_or_refused { (schedule : Schedule)
         → IsWhole (machines S.started S.after) schedule → IsRefused (machines S.started S.after) schedule → ⊥ }
@@ -117,7 +118,7 @@ pub fn schedules_have_one_outcome<S: Service>()
     ensures past_once { (schedule : Schedule) (a b : IsPastPackets (machines S.started S.after) schedule) → (a.played ≡ b.played) × (a.event ≡ b.event) }
 {}
 
-/// A changed bit changes nothing at a client or the log. It is noise, of which a server that is up has a turn.
+/// A changed bit changes nothing at a client or the log. To a server that is up it is noise, on which it takes a turn.
 pub fn changed_bits_are_noise<S: Service>()
     ensures { (kind number bit : ℕ) (before after : World) (sent : List Packet) → Happens (machine (S.started kind) S.after) before (Flip number bit) sent after
         → (after.clients ≡ before.clients) × (after.log ≡ before.log) }

@@ -1,5 +1,5 @@
-//! The model of FT-TCP: what a schedule asks, what clients, log, server and network may do, and what a report says of it. The
-//! definitions stand in `specs/`; here are the plain types that they and the programs share.
+//! The model of FT-TCP: what a schedule asks for, what clients, log, server and network may do, and what a report says of it. The definitions are in `specs/`.
+//! Here are the plain types that they share with the programs.
 #![tactic(auto)]
 
 pub use event::{Event, EventWhy};

@@ -1,6 +1,6 @@
 //! The phases of a client.
 
-/// Where a client's connection stands.
+/// The state of a client's connection.
 #[derive(Clone, Copy, Debug, PartialEq, Eq)]
 pub enum Phase {
     /// Nothing was sent.

@@ -1,5 +1,5 @@
-//! The report of a run is a definition alone, `specs/Report.antt`. Here are lines of it that were worked out by hand, for a run in which
-//! a client says hello to an echo, and the laws by which a report tells what it says.
+//! The report of a run is only a definition, `specs/Report.antt`. Here are lines of it that were worked out by hand, for a run in which a client says hello to
+//! an echo service, and the laws by which a report determines what it says.
 
 ghost use Rattle.std.specs.Prelude.{◌≡◌, ◌<◌, ◌^◌, ℕ, Bool, Option, decimal, List, [], ◌∷◌, codes, None, Some, false};
 ghost use Rattle.std.specs.List.{AllByRecursion};
@@ -22,7 +22,7 @@ ghost use Rattle.ft_model.specs.declared.phase.Phase.TheVariants.{Established};
 
 use server_trait::Service;
 
-/// Each form of line, by an example: segments, messages, events, and how client and log stand at the end.
+/// Each form of line, by an example: segments, messages, events, and the state of client and log at the end.
 pub fn worked_lines()
     ensures boot { event_line 1 (Boot 1 5000) ≡ codes "event 1 boot 1 5000\n" }
     ensures deliver { event_line 2 (Deliver 1) ≡ codes "event 2 deliver 1\n" }
@@ -62,13 +62,13 @@ pub fn worked_lines()
     ensures end { end_line 17 ≡ codes "end 17\n" }
 {}
 
-/// A line tells its words.
+/// A line determines its words.
 pub fn words_of_a_line()
     ensures { (first : List ℕ) (ws vs : List (List ℕ)) → AllByRecursion IsWord ws → AllByRecursion IsWord vs
         → line first ws ≡ line first vs → ws ≡ vs }
 {}
 
-/// A spelling tells its value: no two values of a kind are spelled alike.
+/// A spelling determines its value: no two values of a kind are spelled alike.
 pub fn values_of_spellings()
     ensures number { (m n : ℕ) → Fits m → Fits n → decimal m ≡ decimal n → m ≡ n }
     ensures bytes { (xs ys : List ℕ) → IsBytes xs → IsBytes ys → hex_text xs ≡ hex_text ys → xs ≡ ys }
@@ -81,15 +81,15 @@ pub fn values_of_spellings()
     ensures way { (v w : Way) → FitsWay v → FitsWay w → way_text v ≡ way_text w → v ≡ w }
 {}
 
-/// A packet's line tells its number and the packet, for segments between a client of the schedule and the server, and for messages.
+/// A packet's line determines its number and the packet, for segments between a client of the schedule and the server, and for messages.
 pub fn packets_of_lines()
     ensures { (server : Addr) (clients : List Client) (m n : ℕ) (p q : Packet) → Fits m → Fits n
         → IsReadable server clients p → IsReadable server clients q
         → packet_line m (way_of clients p) p ≡ packet_line n (way_of clients q) q → (m ≡ n) × (p ≡ q) }
 {}
 
-/// A report's text tells what it says: header and turns, of any traces whose packets are segments between a client and the server, or
-/// messages, with numbers of at most 64 bits.
+/// A report's text determines what it says: header and turns, of any traces whose packets are segments between a client and the server, or messages, with
+/// numbers of at most 64 bits.
 pub fn turns_of_reports()
     ensures { (schedule other : Schedule) (trace also : List Moment) → FitsSchedule schedule → FitsSchedule other
         → AllByRecursion (IsReadableTurn schedule.server (clients_of schedule.server schedule.clients)) trace
@@ -98,15 +98,15 @@ pub fn turns_of_reports()
         → (schedule.service ≡ other.service) × (schedule.server ≡ other.server) × (schedule.clients ≡ other.clients) × (turns_of trace ≡ turns_of also) }
 {}
 
-/// A report tells its schedule and its trace: two legal traces have the same report only where their schedules are the same, and they are.
+/// A report determines its schedule and its trace: two legal traces have the same report only where their schedules are the same, and the traces too.
 pub fn reports_tell_their_traces<S: Service>()
     ensures { (schedule other : Schedule) (trace also : List Moment) → FitsSchedule schedule → FitsSchedule other
         → Legal (machines S.started S.after) schedule trace → Legal (machines S.started S.after) other also
         → report schedule trace ≡ report other also → (schedule ≡ other) × (trace ≡ also) }
 {}
 
-/// All that is sent in a legal trace has a line that tells it: it has a wire, and a segment has the addresses of a client and of the server. It
-/// is so where the schedule's numbers have the sizes of their types.
+/// All that is sent in a legal trace has a line that determines it: it has a wire, and a segment has the addresses of a client and of the server. The premise
+/// is that the schedule's numbers have the sizes of their types.
 pub fn legal_turns_are_readable<S: Service>()
     ensures { (schedule : Schedule) (trace : List Moment) → FitsSchedule schedule → Legal (machines S.started S.after) schedule trace
         → AllByRecursion (IsReadableTurn schedule.server (clients_of schedule.server schedule.clients)) trace }

@@ -18,7 +18,7 @@ pub enum ServiceKind {
 }
 
 impl ServiceKind {
-    /// The number by which a service that offers kinds knows it.
+    /// The number under which a service with several kinds knows this one.
     pub fn number(self) -> u8
         ensures { result ≡ kind_of self }
     {
@@ -36,12 +36,12 @@ impl ServiceKind {
 pub enum Script {
     /// These bytes.
     Bytes(Octets),
-    /// So many bytes, the letters from `a` to `z` again and again.
+    /// `len` bytes, the letters from `a` to `z` again and again.
     Fill { len: u32 },
 }
 
 impl Script {
-    /// The bytes that it stands for.
+    /// The bytes that it describes.
     pub fn bytes(&self, alloc: Global) -> Result<Vec<u8>, NoMemory>
         ensures { IfOk result (λ bytes. bytes.items ≡ bytes_of self.now) }
     {
@@ -88,7 +88,7 @@ impl Model for ClientLines {
 }
 
 impl ClientLines {
-    /// The list of these clients. It takes no memory.
+    /// The list of these clients. It allocates nothing.
     pub fn new(lines: Vec<ClientLine>) -> ClientLines
         ensures { result ≡ lines.items }
     {
@@ -127,7 +127,7 @@ impl Model for Events {
 }
 
 impl Events {
-    /// The list of these events. It takes no memory.
+    /// The list of these events. It allocates nothing.
     pub fn new(events: Vec<Event>) -> Events
         ensures { result ≡ events.items }
     {
@@ -164,9 +164,9 @@ pub struct Schedule {
 pub enum LineWhy {
     /// A byte that is no printable ASCII.
     Character,
-    /// A first word that begins no line, or a service that there isn't.
+    /// A first word that begins no line, or a service that doesn't exist.
     Word,
-    /// A line that may not stand here.
+    /// A line that may not come here.
     Place,
     /// Too few words, or too many.
     Count,

@@ -1,6 +1,6 @@
-//! The way of a packet.
+//! The direction of a packet.
 
-/// From whom to whom a packet goes. Clients are numbered from 1.
+/// A packet's sender and receiver. Clients are numbered from 1.
 #[derive(Clone, Copy, Debug, PartialEq, Eq)]
 pub enum Way {
     ClientToServer(u8),

@@ -1,5 +1,5 @@
-//! What some of the laws are needed for: traces in which one moment is as a weaker law would have it, and what becomes of the client.
-//! Nothing here runs; each function is a theorem.
+//! What some of the laws are needed for: traces in which one moment follows a weaker law, and what becomes of the client. Nothing here runs; each function is a
+//! theorem.
 
 ghost use Rattle.std.specs.Prelude.{◌≡◌, ℕ, false, List, [], ◌∷◌, ◌++◌, map};
 ghost use Rattle.std.specs.List.{AllByRecursion};
@@ -37,8 +37,8 @@ pub fn resets_while_restarting_lose_connections()
     ensures reset { map (λ client. client.phase) ResetWhileRestarting.moment_24.world.clients ≡ Reset ∷ [] }
 {}
 
-/// Where output leaves before its read is logged, and a crash takes that read away, the client accepts what isn't the output of the logged reads:
-/// these are cut otherwise. It shows at the end of the trace too, when the later read is logged. The law Output refuses the turn.
+/// Where output is sent before its read is logged, and a crash takes that read away, the client accepts what isn't the output of the logged reads: these cut
+/// the bytes differently. It shows even at the end of the trace, when the later read is logged. The law Output refuses the turn.
 pub fn early_output_depends_on_lost_reads()
     ensures wrong_once { IsWrongOnce meter FirstPath.start UnloggedRead.after_early (UnloggedRead.moment_12 UnloggedRead.early) UnloggedRead.sent_trace }
     ensures seen { AllByRecursion (SeesFront meter UnloggedRead.early_23.world.log) UnloggedRead.early_23.world.clients → ⊥ }
@@ -53,8 +53,8 @@ pub fn unfenced_reads_show_through()
     ensures not_masked { Masked meter FirstPath.start (UnloggedRead.after_unfenced ++ UnloggedRead.unfenced ∷ UnloggedRead.before_unfenced) → ⊥ }
 {}
 
-/// Where the log takes a Data with a changed bit for its server's, it keeps a byte that no client sent. The law on damage refuses the moment: the
-/// changed bytes are no message, and to the log they are nothing.
+/// Where the log takes a Data with a changed bit for its server's, it keeps a byte that no client sent. The law on damage refuses the moment: the changed bytes
+/// are no message, and do nothing to the log.
 pub fn changed_bits_reach_no_log()
     ensures wrong_once { IsWrongOnce echo FirstPath.start [] ChangedBit.wrong ChangedBit.earlier }
     ensures not_the_clients { AllByRecursion (λ e. IsPrefix e.bytes hello_text) ChangedBit.wrong.world.log.entries → ⊥ }

@@ -1,5 +1,5 @@
-//! Worked runs: traces and turns written out packet by packet, and the laws that they keep or that a wrong turn in them breaks. Nothing
-//! here runs; each function is a theorem.
+//! Worked runs: traces and turns written out packet by packet, with the laws that they follow or that a wrong turn in them breaks. Nothing here runs; each
+//! function is a theorem.
 
 ghost use Rattle.std.specs.Prelude.{◌≡◌, [], ◌∷◌};
 ghost use Rattle.std.specs.List.{concat};
@@ -19,12 +19,13 @@ ghost use Rattle.ft_model.specs.WorkedRuns.ZeroWindowTrace;
 ghost use Rattle.ft_model.specs.WorkedRuns.RightEdge;
 ghost use Rattle.ft_model.specs.WorkedRuns.BeyondNext;
 ghost use Rattle.ft_model.specs.WorkedRuns.HeldSegments;
+ghost use Rattle.ft_model.specs.WorkedRuns.CongestionWindow;
 ghost use Rattle.ft_model.specs.WorkedRuns.CrashBeforeSynAck;
 ghost use Rattle.ft_model.specs.WorkedRuns.ClientKnowsMore;
 ghost use Rattle.ft_model.specs.WorkedRuns.SegmentWhileRestarting;
 ghost use Rattle.ft_model.specs.WorkedRuns.RestartInTurns;
 
-/// The first path, whole, is a joint trace.
+/// The complete first path is a joint trace.
 pub fn first_path_is_joint()
     ensures { Joint echo FirstPath.start FirstPath.trace }
 {}
@@ -40,13 +41,13 @@ pub fn closing_is_lawful()
     ensures after { Lawful echo server 2 900000 (hello (booted server 2 900000)) Closing.second_turns }
 {}
 
-/// A client without room is probed, and sent again what it doesn't acknowledge.
+/// A client without room is probed, and what it doesn't acknowledge is retransmitted.
 pub fn zero_window_is_lawful()
     ensures { Lawful echo server 1 5000 (hello (booted server 1 5000)) ZeroWindow.probe_turns }
 {}
 
-/// The acknowledgement and the window of a bare segment at the right edge are used and it is owed no answer, and a RST there is challenged. Past the
-/// edge nothing is used, and an answer is owed.
+/// The acknowledgement and the window of a bare segment at the right edge are used and it is owed no answer. A RST there gets a challenge ACK. Past the edge
+/// nothing is used, and an answer is owed.
 pub fn right_edge_is_lawful()
     ensures at_it { Lawful echo server 1 5000 (hello (booted server 1 5000)) RightEdge.edge_turns }
     ensures past_it { Lawful echo server 1 5000 (hello (booted server 1 5000)) RightEdge.beyond_turns }
@@ -58,18 +59,33 @@ pub fn acknowledgements_beyond_next_are_not_answered()
     ensures answered { IsUnlawful BeyondNext.turn_3.node BeyondNext.turn_4.input BeyondNext.answered }
 {}
 
-/// Text that comes early is held, and taken and copied once the gap before it is filled: the run, whole, is a legal trace of its schedule, and its
-/// report has these lines.
+/// Out-of-order text is held, and taken and copied once the gap before it is filled. The complete run is a legal trace of its schedule, and its report has
+/// these lines.
 pub fn held_segments_are_legal()
     ensures legal { Legal (λ kind. echo) HeldSegments.schedule HeldSegments.trace }
     ensures told { report HeldSegments.schedule HeldSegments.trace ≡ concat HeldSegments.report_lines }
 {}
 
-/// In the turn in which the gap is filled, what was held may not be left uncopied, nor go before the segment's own part, nor in one Data with it.
+/// In the turn in which the gap is filled, what was held may not be left uncopied, be sent before the segment's own part, or be in one Data with it.
 pub fn wrong_copies_of_held_text_are_refused()
     ensures left_out { IsUnlawful (FirstPath.node_live HeldSegments.held_point) HeldSegments.gap_filled HeldSegments.without_held }
     ensures held_first { IsUnlawful (FirstPath.node_live HeldSegments.held_point) HeldSegments.gap_filled HeldSegments.held_first }
     ensures as_one { IsUnlawful (FirstPath.node_live HeldSegments.held_point) HeldSegments.gap_filled HeldSegments.as_one }
+{}
+
+/// Of the 4,094 bytes that a client asks for four segments are sent at once, two more when the first is acknowledged, and none at two duplicates of that. At
+/// the third the missing one is retransmitted, and as much more is sent as the window has room for. The complete run is a legal trace of its schedule, and its
+/// report has these lines.
+pub fn congestion_window_is_legal()
+    ensures legal { Legal (λ kind. CongestionWindow.transfer) CongestionWindow.schedule CongestionWindow.trace }
+    ensures told { report CongestionWindow.schedule CongestionWindow.trace ≡ concat CongestionWindow.report_lines }
+{}
+
+/// No fifth segment may be sent at once. The missing one may not be retransmitted at the second duplicate, and must be at the third.
+pub fn wrong_windows_are_refused()
+    ensures past_it { CongestionWindow.IsUnlawful (FirstPath.node_live CongestionWindow.logged_point) CongestionWindow.read_is_logged CongestionWindow.past_the_window }
+    ensures early { CongestionWindow.IsUnlawful (FirstPath.node_live (CongestionWindow.repeated 1)) CongestionWindow.acknowledgement_comes CongestionWindow.one_too_early }
+    ensures never { CongestionWindow.IsUnlawful (FirstPath.node_live (CongestionWindow.repeated 2)) CongestionWindow.acknowledgement_comes CongestionWindow.never_again }
 {}
 
 /// A segment that comes during a restart is held off with window 0, and taken afterwards.
@@ -82,7 +98,7 @@ pub fn restart_in_turns_is_lawful()
     ensures { Lawful echo server 2 900000 (hello (booted server 2 900000)) RestartInTurns.turns }
 {}
 
-/// An acknowledgement of more than was sent in this incarnation counts as one of all that was.
+/// An acknowledgement of more than this incarnation sent counts as one of all that it sent.
 pub fn client_knows_more_is_lawful()
     ensures { Lawful echo server 2 900000 (hello (booted server 2 900000)) ClientKnowsMore.restart_turns }
 {}
@@ -92,34 +108,33 @@ pub fn crash_before_syn_ack_is_lawful()
     ensures { Lawful echo server 2 900000 (hello (booted server 2 900000)) CrashBeforeSynAck.restart_turns }
 {}
 
-/// In the turn in which the text comes, the Data may not be left out, nor may its Read go first or have another index.
+/// In the turn in which the text arrives, the Data may not be left out, nor may its Read be sent first or have another index.
 pub fn wrong_copies_are_refused()
     ensures left_out { IsUnlawful (FirstPath.node_live FirstPath.open_point) FirstPath.text_comes FirstPath.without_copy }
     ensures read_first { IsUnlawful (FirstPath.node_live FirstPath.open_point) FirstPath.text_comes FirstPath.read_first }
     ensures index_off { IsUnlawful (FirstPath.node_live FirstPath.open_point) FirstPath.text_comes FirstPath.one_index_off }
 {}
 
-/// Nothing may be acknowledged that isn't logged, not one unit, and what is logged may not be passed over in silence.
+/// Nothing may be acknowledged that isn't logged, not one unit, and what is logged may not be left without an acknowledgement.
 pub fn wrong_acknowledgements_are_refused()
     ensures one_too_high { IsUnlawful (FirstPath.node_live FirstPath.open_point) FirstPath.text_comes FirstPath.one_too_high }
     ensures passed_on { IsUnlawful (FirstPath.node_live FirstPath.open_point) FirstPath.text_comes FirstPath.passed_on }
     ensures silent { IsUnlawful (FirstPath.node_live FirstPath.taken_point) FirstPath.stable_comes [] }
 {}
 
-/// Nothing leaves before the log has what it rests on: no output before its read, and no SYN-ACK before Opened.
+/// Nothing is sent before the log has what it depends on: no output before its read, and no SYN-ACK before Opened.
 pub fn early_packets_are_refused()
     ensures output { IsUnlawful (FirstPath.node_live FirstPath.open_point) FirstPath.text_comes FirstPath.released_early }
     ensures syn_ack { IsUnlawful (FirstPath.node_at (Serving 0 [])) FirstPath.syn_comes (FirstPath.packet_6 ∷ []) }
 {}
 
-/// The server's FIN doesn't leave before the closing read is logged: not in the turn of that read, nor when the client's FIN is logged and
-/// the read isn't.
+/// The server's FIN isn't sent before the closing read is logged: not in the turn of that read, nor when the client's FIN is logged and the read isn't.
 pub fn early_fins_are_refused()
     ensures with_the_read { IsUnlawful Closing.first_4.node Closing.first_5.input Closing.fin_with_read }
     ensures before_its_answer { IsUnlawful Closing.first_5.node Closing.first_6.input Closing.fin_before_reads }
 {}
 
-/// A client without room is probed with the FIN where no byte waits in front of it.
+/// A client without room is probed with the FIN where no byte is waiting before it.
 pub fn fin_probe_is_lawful()
     ensures { Lawful echo server 1 5000 (hello (booted server 1 5000)) ZeroWindow.fin_turns }
 {}
@@ -129,7 +144,7 @@ pub fn turned_reads_are_refused()
     ensures { IsUnlawful (FirstPath.node_live FirstPath.twice_read_point) Tick_comes FirstPath.reads_turned }
 {}
 
-/// A client without room gets no output past its edge but the probe, of one byte, when the timer expires, and not earlier; and it gets that.
+/// A client without room gets no output past its edge except the probe, of one byte, when the timer expires and not earlier. And it does get the probe.
 pub fn wrong_probes_are_refused()
     ensures past_the_edge { IsUnlawful ZeroWindow.probe_6.node ZeroWindow.probe_7.input ZeroWindow.past_the_edge }
     ensures none { IsUnlawful ZeroWindow.probe_7.node Tick_comes [] }
@@ -143,15 +158,15 @@ pub fn wrong_questions_are_refused()
     ensures lengths_ahead { IsUnlawful RestartInTurns.turn_2.node RestartInTurns.turn_3.input RestartInTurns.lengths_ahead }
 {}
 
-/// While a server fetches, a client whose entry has come is neither reset nor left without an answer; and the turn of the last answer tells it
-/// that the server serves again.
+/// While a server fetches, a client whose entry has come is neither reset nor left without an answer. In the turn of the last answer it gets a segment that
+/// shows that the server serves again.
 pub fn wrong_restarts_are_refused()
     ensures reset { IsUnlawful SegmentWhileRestarting.restart_2.node SegmentWhileRestarting.restart_3.input SegmentWhileRestarting.reset_meanwhile }
     ensures silent { IsUnlawful SegmentWhileRestarting.restart_2.node SegmentWhileRestarting.restart_3.input [] }
     ensures restarting { IsUnlawful SegmentWhileRestarting.restart_4.node SegmentWhileRestarting.restart_5.input [] }
 {}
 
-/// The run with a client without room, whole, is a legal trace of its schedule, and its report has these lines.
+/// The complete run with a client without room is a legal trace of its schedule, and its report has these lines.
 pub fn zero_window_is_legal()
     ensures legal { Legal (λ kind. echo) ZeroWindowTrace.schedule ZeroWindowTrace.trace }
     ensures told { report ZeroWindowTrace.schedule ZeroWindowTrace.trace ≡ concat ZeroWindowTrace.report_lines }

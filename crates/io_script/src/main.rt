@@ -63,6 +63,7 @@ fn play<R: Net + Clock + Processes>(
         b"clock" => ticks::by_the_list(system, alloc, rest, said)?,
         b"silence" => ticks::in_silence(system, said)?,
         b"traffic" => ticks::in_traffic(system, said)?,
+        b"exchange" => ticks::in_exchange(system, said)?,
         _ => said.word(b"no such line")?,
     }
     said.end_line()

@@ -10,9 +10,9 @@ use std::time::{Clock, Duration, Instant};
 use std::{io, thread};
 
 /// A bind at the first of the listed times, in milliseconds, and a receive at each later one, `-` for a clock that can't be read.
-/// Before each receive a datagram is sent to the link itself, so that something always comes. Says what each receive answered, and the
-/// count of faults.
-pub fn by_the_list<R: Net>(
+/// Before each receive a datagram is sent to the link, so that something always comes: by the link itself where `+` follows the time,
+/// and else by a stranger. Says what each receive answered, and the count of faults.
+pub fn by_the_list<R: Net + Clock>(
     system: &R,
     alloc: Global,
     times: &str,
@@ -20,23 +20,32 @@ pub fn by_the_list<R: Net>(
 ) -> Result<(), NoMemory> {
     let mut listed = Vec::new(alloc);
     for time in times.split(' ') {
-        listed.push(time.parse::<u64>().ok())?;
+        let digits = time.strip_suffix('+').unwrap_or(time);
+        listed.push(digits.parse::<u64>().ok())?;
     }
     let watch = Watch::new(system, listed.as_slice());
     let mut link = UdpLink::new(&watch);
+    let mut stranger = UdpLink::new(system);
     let Some(here) = bind_somewhere(&mut link) else {
         return said.word(b"no port is free");
     };
-    for _ in 1..listed.len() {
-        say_round(&mut link, here, said)?;
+    let Some(_elsewhere) = bind_somewhere(&mut stranger) else {
+        return said.word(b"no port is free");
+    };
+    for time in times.split(' ').skip(1) {
+        // One that isn't sent shows in what is received.
+        let _ = if time.ends_with('+') {
+            link.send(here, b"own")
+        } else {
+            stranger.send(here, b"stray")
+        };
+        say_receive(&mut link, said)?;
     }
     said.count(link.faults().saturating_sub(link.bind_faults()))
 }
 
-/// Sends a datagram to itself, receives once, and says what that gave.
-fn say_round<L: Link>(link: &mut L, here: Addr, said: &mut Said) -> Result<(), NoMemory> {
-    // One that isn't sent shows in what is received.
-    let _ = link.send(here, b"stray");
+/// Receives once, and says what that gave.
+fn say_receive<L: Link>(link: &mut L, said: &mut Said) -> Result<(), NoMemory> {
     let mut buf = [0u8; 2048];
     said.word(match link.recv(&mut buf) {
         Ok(Heard::Got { .. }) => b"got",
@@ -86,17 +95,36 @@ struct Came {
     ticks: u64,
 }
 
-/// 2,000 datagrams to itself, one half a millisecond after another, so that one always waits: says whether all came, with 20 ticks or
-/// more among them and no more than one in 15 ms, and else what came.
+impl Came {
+    fn new() -> Came {
+        Came {
+            datagrams: 0,
+            ticks: 0,
+        }
+    }
+}
+
+/// 2,000 datagrams of a stranger, one half a millisecond after another, so that one always waits: says whether all came, with 20 ticks
+/// or more among them and no more than one in 15 ms, and else what came.
 pub fn in_traffic<R: Net + Clock>(system: &R, said: &mut Said) -> Result<(), NoMemory> {
     let mut link = UdpLink::new(system);
+    let mut stranger = UdpLink::new(system);
     let Some(here) = bind_somewhere(&mut link) else {
+        return said.word(b"no port is free");
+    };
+    let Some(_elsewhere) = bind_somewhere(&mut stranger) else {
         return said.word(b"no port is free");
     };
     let Ok(begun) = Instant::now(system) else {
         return said.word(b"no clock");
     };
-    let came = exchange(system, &mut link, here);
+    let mut came = Came::new();
+    for _ in 0..2000 {
+        // One that isn't sent shows in what comes.
+        let _ = stranger.send(here, b"stray");
+        receive_past_ticks(&mut link, &mut came);
+        thread::sleep(system, Duration::from_micros(500));
+    }
     let millis = begun.elapsed(system).map_or(0, |time| time.as_millis());
     if came.datagrams == 2000 && came.ticks >= 20 && u128::from(came.ticks) <= 1 + millis / 15 {
         return said.word(b"2000 datagrams, 20 ticks or more, at most one in 15 ms");
@@ -105,19 +133,28 @@ pub fn in_traffic<R: Net + Clock>(system: &R, said: &mut Said) -> Result<(), NoM
     said.count(came.ticks)
 }
 
-/// So many datagrams to itself, each half a millisecond after the one before.
-fn exchange<C: Clock, L: Link>(clock: &C, link: &mut L, here: Addr) -> Came {
-    let mut came = Came {
-        datagrams: 0,
-        ticks: 0,
+/// The same, but that the link sends the datagrams to itself, as one that answers what comes: says whether all came, with at most one tick
+/// a second among them, and else what came.
+pub fn in_exchange<R: Net + Clock>(system: &R, said: &mut Said) -> Result<(), NoMemory> {
+    let mut link = UdpLink::new(system);
+    let Some(here) = bind_somewhere(&mut link) else {
+        return said.word(b"no port is free");
     };
+    let Ok(begun) = Instant::now(system) else {
+        return said.word(b"no clock");
+    };
+    let mut came = Came::new();
     for _ in 0..2000 {
-        // One that isn't sent shows in what comes.
-        let _ = link.send(here, b"stray");
-        receive_past_ticks(link, &mut came);
-        thread::sleep(clock, Duration::from_micros(500));
+        let _ = link.send(here, b"own");
+        receive_past_ticks(&mut link, &mut came);
+        thread::sleep(system, Duration::from_micros(500));
     }
-    came
+    let millis = begun.elapsed(system).map_or(0, |time| time.as_millis());
+    if came.datagrams == 2000 && u128::from(came.ticks) <= 1 + millis / 1000 {
+        return said.word(b"2000 datagrams, at most one tick a second");
+    }
+    said.count(came.datagrams)?;
+    said.count(came.ticks)
 }
 
 /// Receives until a datagram comes, at most eight times.

@@ -1,4 +1,4 @@
--- A service that has run so far, as the north wrapper keeps it.
+-- A service that has run so far, as the north wrapper stores it.
 use Rattle.std.specs.Prelude.{ℕ, ◌+◌, ◌-◌, Bool, min, List, ◌++◌, length, take, drop, if◌then◌else◌}
 use Rattle.server_trait.specs.Service.{Served}
 
@@ -11,11 +11,11 @@ pub record RunState (S : Type 0) : Type 0 where
 abbrev pub served_on : {S : Type 0} → RunState S → Served S → RunState S
 served_on r served = record { service = served.next; pending = r.pending ++ served.output; made = r.made + length served.output; closed = served.closed }
 
--- once closed, it is given no chunk
+-- once it has closed, it gets no chunk
 abbrev pub run_on : {S : Type 0} → (S → List ℕ → Served S) → RunState S → List ℕ → RunState S
 run_on after r chunk = if r.closed then r else served_on r (after r.service chunk)
 
--- how much of it is given: as much as there is room for, but not the last bytes, which are kept
+-- how much of the output is given: as much as there is room for, except the last `kept` bytes
 abbrev pub given_count : {S : Type 0} → (room kept : ℕ) → RunState S → ℕ
 given_count room kept r = min room (length r.pending - kept)
 

@@ -1,7 +1,7 @@
--- A socket as the north wrapper's proofs know it: its ghost functions as values, and its laws.
+-- A socket as the north wrapper's proofs see it: its ghost functions as values, and its laws.
 use Rattle.std.specs.Prelude.{◌≡◌, ℕ, Bool, true, List, drop}
 
--- what reading makes of it
+-- what reading does to it
 pub record Reader (K : Type 0) : Type 0 where
   pub unread : K → List ℕ
   pub has_end : K → Bool
@@ -10,7 +10,7 @@ pub record Reader (K : Type 0) : Type 0 where
 abbrev pub reader : {K : Type 0} → (K → List ℕ) → (K → Bool) → (K → ℕ → K) → Reader K
 reader unread has_end after_read = record { unread = unread; has_end = has_end; after_read = after_read }
 
--- what writing makes of it
+-- what writing does to it
 pub record Writer (K : Type 0) : Type 0 where
   pub room : K → ℕ
   pub is_closed : K → Bool
@@ -20,7 +20,7 @@ pub record Writer (K : Type 0) : Type 0 where
 abbrev pub writer : {K : Type 0} → (K → ℕ) → (K → Bool) → (K → List ℕ → K) → (K → K) → Writer K
 writer room is_closed after_write after_close = record { room = room; is_closed = is_closed; after_write = after_write; after_close = after_close }
 
--- the trait's laws that the wrapper's turn rests on
+-- the trait's laws that the wrapper's turn depends on
 pub record SocketLaws {K : Type 0} (r : Reader K) (w : Writer K) : Type 0 where
   pub read_front : (s : K) (n : ℕ) → r.unread (r.after_read s n) ≡ drop n (r.unread s)
   pub read_end : (s : K) (n : ℕ) → r.has_end (r.after_read s n) ≡ r.has_end s

@@ -1,4 +1,4 @@
-//! Laws of where a north wrapper stands, for the connection above it.
+//! Laws about a north wrapper at a point, for the connection above it.
 
 ghost use Rattle.std.specs.Prelude.{◌≡◌, ℕ, List};
 ghost use Rattle.server_trait.specs.Service.{machine};
@@ -11,18 +11,18 @@ ghost use Rattle.north_wrap.specs.Standing.{NorthStands, HasReplayed, IsNumbered
 
 use server_trait::Service;
 
-/// It begins where its service was replayed: a new one, whose service has read nothing, and one at the end of a restart alike.
+/// It begins where its service was replayed: this holds of a new one, whose service has read nothing, and of one at the end of a restart.
 pub fn it_begins_where_it_was_replayed<S: Service>()
     ensures { (fresh : S) (p : Point) (given : ℕ) (n : NorthState S) → HasReplayed (machine fresh S.after) p given n
         → NorthStands (machine fresh S.after) p given n }
 {}
 
-/// The records of a connection's reads, told one after another, are the messages that the law of reads names.
+/// The records of a connection's reads, sent one after another, are the messages that the law of reads names.
 pub fn records_tell_the_reads()
     ensures { (key : Key) (first : ℕ) (reads : List ReadRecord) → IsNumbered first reads → messages_of key reads ≡ read_messages key first (lengths_of reads) }
 {}
 
-/// Bytes that TCP takes leave it where it stands.
+/// Bytes that TCP takes leave the wrapper as it is.
 pub fn taking_leaves_it<S: Service>()
     ensures { (fresh : S) (p : Point) (given : ℕ) (n : NorthState S) (more : List ℕ) → NorthStands (machine fresh S.after) p given n
         → NorthStands (machine fresh S.after) (with_taken more p) given n }

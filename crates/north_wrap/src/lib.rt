@@ -1,5 +1,5 @@
-//! The north wrapper: it reads for the service as the law of reads says, logs the length of each read, and gives output to TCP only
-//! once the reads that it stands on are known to be logged.
+//! The north wrapper: it reads for the service as the law of reads says, logs the length of each read, and gives output to TCP only once the reads that it
+//! depends on are known to be logged.
 #![tactic(auto)]
 
 pub use north::North;

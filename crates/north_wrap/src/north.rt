@@ -21,16 +21,16 @@ use socket_layer::Socket;
 use std::alloc::Global;
 use std::marker::Model;
 
-/// The most reads that are unanswered.
+/// The most reads that may be unanswered.
 const READ_LIMIT: usize = 32;
 
-/// A read is made only where at most this many bytes of output are made: a stream has 2^24, and one read makes at most 2^20.
+/// A read is made only while at most this many bytes of output are made: a stream has 2^24, and one read makes at most 2^20.
 const MADE_LIMIT: u32 = 15_728_640;
 
 /// Reads for a service, and writes for it.
 #[derive(Drop)]
 pub struct North<S: Service> {
-    /// The service, with the output that TCP wasn't given yet.
+    /// The service, with the output that isn't given to TCP yet.
     run: ServiceRun<S>,
     /// What a restart fetched beyond the fetched reads, and isn't read.
     rest: Rest,
@@ -62,7 +62,7 @@ impl<S: Service> Model for North<S> {
 }
 
 impl<S: Service> North<S> {
-    /// Before the first read.
+    /// A wrapper before its first read.
     pub fn new(alloc: Global, kind: u8) -> North<S>
         ensures { result ≡ fresh_north (S.started kind) }
     {
@@ -83,9 +83,9 @@ impl<S: Service> North<S> {
         }
     }
 
-    /// From a restart on. `rest` are the fetched bytes that aren't read, and `pending` the output that the client may still want. So many
-    /// reads were fetched, of so many bytes, and their output is so long; `ended` where one of them has length 0, and `closed` where the
-    /// service has closed. All of them are answered.
+    /// A wrapper at the end of a restart. `rest` are the fetched bytes that aren't read, and `pending` the output that the client may still want. `reads` reads
+    /// were fetched, of `read` bytes together, and they made `made` bytes of output. `ended` says that one of them has length 0, and `closed` that the service
+    /// has closed. All of them are answered.
     pub fn resumed(
         _alloc: Global,
         service: S,
@@ -119,8 +119,8 @@ impl<S: Service> North<S> {
         }
     }
 
-    /// Whether a read may be made: all output so far may leave and has room, it stays within the stream with that of one read more, and
-    /// fewer than 32 reads are unanswered.
+    /// Whether a read may be made: all output so far may be sent and has room, it stays within the stream with that of one more read, and fewer than 32 reads
+    /// are unanswered.
     fn is_free_to_read(&self, una: u32) -> bool
         requires { una ≤ 2 ^ 24 + 1 }
         ensures { result ≡ is_free_to_read una self.now }
@@ -151,7 +151,7 @@ impl<S: Service> North<S> {
         if at_end && !self.ended { Some(0) } else { None }
     }
 
-    /// Takes a chunk of this length off the rest while any is left, and else off the socket, and gives it to the service.
+    /// Takes a chunk of this length from the rest while any is left, and otherwise from the socket, and gives it to the service.
     #[tactic(auto, using(crate::proofs::Empty::drop_none, crate::proofs::Empty::take_zero), unfolding(crate::specs::NorthState::socket_on))]
     fn take_chunk<K: Socket>(
         &mut self,
@@ -180,7 +180,7 @@ impl<S: Service> North<S> {
         self.run.feed_from(sock, size, chunk)
     }
 
-    /// Notes a read of this length, which the service was given.
+    /// Notes a read of this length, whose bytes the service was given.
     fn note(&mut self, size: usize) -> ReadRecord
         requires most { size ≤ 2048 }
         requires fewer { length self.old.reads < 32 }
@@ -207,7 +207,7 @@ impl<S: Service> North<S> {
         read
     }
 
-    /// One read of this length.
+    /// Makes one read of this length.
     #[tactic(auto, using(crate::proofs::Empty::take_zero), unfolding(crate::specs::NorthState::read_on, crate::specs::NorthState::socket_on))]
     fn read_next<K: Socket>(
         &mut self,
@@ -254,14 +254,14 @@ impl<S: Service> North<S> {
         Ok(())
     }
 
-    /// The bytes of output that may not leave yet: they are those of reads that aren't known to be logged.
+    /// How many bytes of output may not be sent yet: those of reads that aren't known to be logged.
     pub fn unreleased(&self) -> u32
         ensures { result ≡ unreleased self.now }
     {
         self.run.made().saturating_sub(self.last.made)
     }
 
-    /// Gives the output that may leave, as much as the socket has room for.
+    /// Gives the socket the output that may be sent, as much as it has room for.
     fn give<K: Socket>(&mut self, sock: &mut K)
         ensures state { self.new ≡ given_north (writer K.write_room K.is_closed K.after_write K.after_close) self.old sock.old }
         ensures socket { sock.new ≡ given_socket (writer K.write_room K.is_closed K.after_write K.after_close) self.old sock.old }
@@ -284,7 +284,7 @@ impl<S: Service> North<S> {
         self.shut = true;
     }
 
-    /// A turn: gives the output that may leave, closes the socket where all is given, and makes the reads that are due.
+    /// A turn: gives the output that may be sent, closes the socket where all is given, and makes the reads that are due.
     pub fn turn<K: Socket>(
         &mut self,
         _alloc: Global,
@@ -353,7 +353,7 @@ impl<S: Service> North<S> {
         &self.reads
     }
 
-    /// The service, which stands where its run over all reads ends.
+    /// The service, in its state after all reads.
     pub fn service(&self) -> &S
         ensures { result.now ≡ self.now.run.service }
     {

@@ -1,4 +1,4 @@
-//! The service, with what it has made and TCP wasn't given yet.
+//! The service, with what it has made and isn't given to TCP yet.
 
 ghost use Rattle.std.specs.Prelude.{◌≡◌, ℕ, ◌^◌, ◌-◌, ◌≤◌, List, [], length, take, drop, false, OnOk};
 ghost use Rattle.north_wrap.specs.RunState.{run_on, gives, given_to};
@@ -15,7 +15,7 @@ pub(crate) struct ServiceRun<S: Service> {
     service: S,
     /// Output, of which the bytes below `at` are given.
     output: Vec<u8>,
-    /// How many bytes of this output TCP was given.
+    /// How many bytes of this output are given to TCP.
     at: usize,
     /// The bytes of all output.
     made: u32,
@@ -84,7 +84,7 @@ impl<S: Service> ServiceRun<S> {
         self.take(chunk)
     }
 
-    /// The service takes so many bytes off a socket.
+    /// The service takes `size` bytes from a socket.
     #[tactic(auto, using(std::proofs::lemmas::Grind::common_steps))]
     pub(crate) fn feed_from<K: Socket>(
         &mut self,
@@ -123,7 +123,7 @@ impl<S: Service> ServiceRun<S> {
         }
     }
 
-    /// Gives output to the socket, as much as it has room for, but not the last `kept` bytes.
+    /// Gives the socket output, as much as it has room for, except the last `kept` bytes.
     pub(crate) fn give<K: Socket>(&mut self, sock: &mut K, kept: u32)
         ensures state { self.new ≡ given_to (K.write_room sock.old) kept self.old }
         ensures socket { sock.new ≡ K.after_write sock.old (gives (K.write_room sock.old) kept self.old) }
@@ -134,7 +134,7 @@ impl<S: Service> ServiceRun<S> {
         self.forget_given();
     }
 
-    /// The room of output is used anew once all is given.
+    /// Reuses the room of the output once all is given.
     fn forget_given(&mut self)
         ensures { self.new ≡ self.old }
     {
@@ -145,7 +145,7 @@ impl<S: Service> ServiceRun<S> {
     }
 }
 
-/// Fills a buffer, for which there are bytes enough.
+/// Fills a buffer. The socket has enough bytes.
 #[tactic(auto, using(std::proofs::lemmas::Grind::common_steps))]
 fn read_whole<K: Socket>(sock: &mut K, buf: &mut [u8])
     requires { length buf.old ≤ length (K.unread sock.old) }

@@ -4,6 +4,7 @@ use Rattle.std.specs.Prelude.{ℤ, pos, ◌-ℤ◌, ◌≤ℤ◌, ◌&&◌, ◌|
 use Rattle.std.proofs.lemmas.Bool.{false≢true}
 use Rattle.seq_arith.specs.Arrival.{int_eq, is_acceptable, is_at_right_edge, is_allowed_at_zero, is_usable}
 use Rattle.seq_arith.specs.Coming.{comes}
+use Rattle.seq_arith.specs.Congestion.{Congestion}
 use Rattle.seq_arith.specs.Offset.{length_of, first_of, ack_of, text_of, fin_of, one_if}
 use Rattle.seq_arith.specs.Packet.{Segment, has_fin, has_syn, has_rst, has_ack}
 use Rattle.tcp_buffers.specs.Near.{is_ahead}
@@ -11,9 +12,9 @@ use Rattle.tcp_endpoint.specs.declared.states.StateName.{StateName}
 use Rattle.tcp_endpoint.specs.declared.states.StateName.TheVariants.{Closed}
 use Rattle.tcp_endpoint.specs.States.{after_fin, after_fin_acked}
 use Rattle.tcp_endpoint.specs.Receiving.{Receiving, next, taken, window, receive_edge, with_segment}
-use Rattle.tcp_endpoint.specs.Sending.{Sending, acknowledged, fin_acked}
+use Rattle.tcp_endpoint.specs.Sending.{Sending, acknowledged, is_duplicate, is_third_duplicate, duplicated, answered_by, fin_acked}
 use Rattle.tcp_endpoint.specs.Tcb.{Tcb}
-use Rattle.tcp_endpoint.specs.Arrival.{first, ack_at, owing_if, killed, entering, with_text_and_fin, with_fin_acked, with_first_ack, with_ack, check_ack, check_syn, check_rst, waiting_again, accepts, is_allowed, check_place, in_others}
+use Rattle.tcp_endpoint.specs.Arrival.{first, ack_at, owing_if, killed, entering, with_text_and_fin, with_fin_acked, with_first_ack, is_bare, with_ack_used, with_ack, check_ack, check_syn, check_rst, waiting_again, accepts, is_allowed, check_place, in_others}
 use Rattle.ft_model.specs.Client as machine
 use Rattle.ft_model.specs.Client.{Client, is_live, is_open, is_ended, holds, next_of, room_of}
 use Rattle.ft_model.specs.Client.ClientKind.{Live}
@@ -74,11 +75,21 @@ kept e c written name owed wait b = record {
   phase = b.phase;
 }
 
--- an acknowledgement that isn't beyond
-ack_kept : (e : Tcb) (c : Client) (written : ℕ) (name : StateName) (owed : Bool) (wait seq room : ℕ) (ack : ℤ) → Before e c written → int_lt (pos e.sending.sent) ack ≡ false
-    → Keeps e c written (record e { name = name; owed = owed; wait = wait; sending = acknowledged e.sending seq ack room }) (machine.with_ack c ack)
+-- a duplicate acknowledgement changes congestion control alone
+answered_is : (s : Sending) (bare : Bool) (seq room : ℕ) (ack : ℤ)
+    → record (acknowledged s seq ack room) { congestion = (answered_by s bare seq ack room).congestion } ≡ answered_by s bare seq ack room
+unfolding answered_by
+answered_is s bare seq room ack =
+    holds_if (λ (t : Sending). record (acknowledged s seq ack room) { congestion = t.congestion } ≡ t) (is_duplicate s bare ack room)
+    (duplicated (acknowledged s seq ack room)) (acknowledged s seq ack room) (λ _. refl) (λ _. refl)
+
+-- an acknowledgement that isn't beyond, whether it is a duplicate or not, and whatever goes out again for it
+acknowledged_kept : (e : Tcb) (c : Client) (written : ℕ) (name : StateName) (owed again : Bool) (wait seq room : ℕ) (ack : ℤ) (after : Congestion)
+    → Before e c written → int_lt (pos e.sending.sent) ack ≡ false
+    → Keeps e c written (record e { name = name; owed = owed; again = again; wait = wait; sending = record (acknowledged e.sending seq ack room) { congestion = after } })
+    (machine.with_ack c ack)
 unfolding acknowledged
-ack_kept e c written name owed wait seq room ack b sent = record {
+acknowledged_kept e c written name owed again wait seq room ack after b sent = record {
   local = refl;
   remote = refl;
   iss = refl;
@@ -102,10 +113,18 @@ ack_kept e c written name owed wait seq room ack b sent = record {
     within = b.hears.within;
     queued = b.hears.queued;
   };
-  sends = ack_sends e.sending seq ack room written c sent b.sends;
+  sends = ack_sends e.sending seq ack room written c after sent b.sends;
   same = refl;
   phase = b.phase;
 }
+
+ack_kept : (e : Tcb) (c : Client) (written : ℕ) (name : StateName) (owed again bare : Bool) (wait seq room : ℕ) (ack : ℤ) → Before e c written
+    → int_lt (pos e.sending.sent) ack ≡ false
+    → Keeps e c written (record e { name = name; owed = owed; again = again; wait = wait; sending = answered_by e.sending bare seq ack room }) (machine.with_ack c ack)
+ack_kept e c written name owed again bare wait seq room ack b sent =
+    subst (λ (s : Sending). Keeps e c written (record e { name = name; owed = owed; again = again; wait = wait; sending = s }) (machine.with_ack c ack))
+    (answered_is e.sending bare seq room ack)
+    (acknowledged_kept e c written name owed again wait seq room ack (answered_by e.sending bare seq ack room).congestion b sent)
 
 -- text and FIN
 sends_heard : (s : Sending) (written : ℕ) (d d' : Client) → d' ≡ record d { phase = d'.phase; accepted = d'.accepted; early = d'.early } → Sends s written d → Sends s written d'
@@ -174,11 +193,12 @@ few_sent s written c false k h = omega (arith, h.text k, h.within, h.script)
 
 acked_kept : (e : Tcb) (c : Client) (written : ℕ) (e1 : Tcb) (owed : Bool) (wait : ℕ) (p : Segment) → e1 ≡ record e { owed = owed; wait = wait } → has_syn p ≡ false → has_rst p ≡ false
     → (pos 0 -ℤ pos (2 ^ 30)) ≤ℤ ack_of c.isn p → Before e c written → Keeps e c written (with_ack e1 p) (machine.used c p)
-unfolding with_ack with_fin_acked
+unfolding with_ack with_ack_used with_fin_acked
 acked_kept e c written e1 owed wait p is syn rst near b =
     let near_at : (pos 0 -ℤ pos (2 ^ 30)) ≤ℤ ack_at e p = subst (λ n. (pos 0 -ℤ pos (2 ^ 30)) ≤ℤ ack_of n p) (sym b.iss) near in
     let e2 : Tcb = record e { owed = owed; wait = wait } in
-    let m : Tcb = record e2 { sending = acknowledged e.sending p.head.seq (ack_at e p) p.head.window } in
+    let again : Bool = e.again || is_third_duplicate e.sending (is_bare p) (ack_at e p) p.head.window in
+    let m : Tcb = record e2 { sending = answered_by e.sending (is_bare p) p.head.seq (ack_at e p) p.head.window; again = again } in
     let few : e.sending.sent ≤ 2 ^ 24 + 1 = few_sent e.sending written c e.sending.fin_sent refl b.sends in
     let later : ℕ → Client = λ n. machine.with_added (machine.with_ack c (ack_of n p)) (machine.came c p) in
     subst (λ (t : Tcb). Keeps e c written (with_ack t p) (machine.used c p)) (sym is)
@@ -190,9 +210,9 @@ acked_kept e c written e1 owed wait p is syn rst near b =
     subst (λ n. Keeps e c written (with_text_and_fin (if fin_acked m.sending then entering (after_fin_acked m.name) m else m) p) (later n)) b.iss
     (holds_if (λ (x : Tcb). Keeps e c written (with_text_and_fin x p) (later e.sending.iss)) (fin_acked m.sending) (entering (after_fin_acked m.name) m) m
     (λ q. text_kept e c written (entering (after_fin_acked m.name) m) (machine.with_ack c (ack_at e p)) p syn rst b.kind b.edge
-    (ack_kept e c written (after_fin_acked e.name) owed (entering (after_fin_acked m.name) m).wait p.head.seq p.head.window (ack_at e p) b within))
+    (ack_kept e c written (after_fin_acked e.name) owed again (is_bare p) (entering (after_fin_acked m.name) m).wait p.head.seq p.head.window (ack_at e p) b within))
     (λ q. text_kept e c written m (machine.with_ack c (ack_at e p)) p syn rst b.kind b.edge
-    (ack_kept e c written e.name owed wait p.head.seq p.head.window (ack_at e p) b within)))))
+    (ack_kept e c written e.name owed again (is_bare p) wait p.head.seq p.head.window (ack_at e p) b within)))))
 
 -- a SYN and a segment without ACK change nothing of this
 syn_or_ack : (P : Tcb → Client → Type 0) (syn ack : Bool) (a x y : Tcb) (c u : Client) → P a c → P y c → (syn ≡ false → ack ≡ true → P x u)

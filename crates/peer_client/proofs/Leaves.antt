@@ -6,7 +6,7 @@ use Rattle.seq_arith.specs.Packet.{Segment}
 use Rattle.seq_arith.specs.Offset.{one_if}
 use Rattle.tcp_endpoint.specs.States.{is_closed, has_begun}
 use Rattle.tcp_endpoint.specs.Receiving.{next, taken, receive_edge, announced_edge}
-use Rattle.tcp_endpoint.specs.Sending.{Sending, in_flight, is_unacknowledged, sends_fin, resent_length, with_sent, with_fin_sent}
+use Rattle.tcp_endpoint.specs.Sending.{Sending, in_flight, is_unacknowledged, send_edge, sends_fin, resent_length, with_sent, with_fin_sent}
 use Rattle.tcp_endpoint.specs.Tcb.{Tcb}
 use Rattle.tcp_endpoint.specs.Leaving.{segment_at, text_at, fin_at, texts, answer_segments, answer_out, again_out, again_segment, opening_segment, probes, probes_text, probes_fin, probe_out, with_probe, new_length, text_out, with_text_sent, new_fin, fin_out, with_fin_out, full_out, after_full, is_owed, bare_segment, or_bare, leaving}
 use Rattle.segment_codec.specs.declared.Head.{Head}
@@ -198,7 +198,7 @@ unfolding text_out with_text_sent
 text_steps u c written edge s x f h w low =
     let n : ℕ = new_length (at u s f) in
     let fits = begun_or_none (has_begun u.name) _ s written f
-    (sendable_fits u.sending.syn_acked f u.sending.una (length u.sending.held) u.sending.edge s written w.text w.order (held_length u c written edge h.speaks)) in
+    (sendable_fits u.sending.syn_acked f u.sending.una (length u.sending.held) (send_edge u.sending) s written w.text w.order (held_length u c written edge h.speaks)) in
     record {
       sent = s + n;
       fin = f;
@@ -221,7 +221,7 @@ fin_steps u c written edge s x f h w low =
     let held : length q.held ≡ written - q.una = held_length u c written edge h.speaks in
     let sure : Bool = q.syn_acked && q.closed in
     let all : Bool = s == q.una + length q.held in
-    let room : Bool = nat_lt s q.edge in
+    let room : Bool = nat_lt s (send_edge q) in
     let P : List Segment → Sending → Type 0 = λ xs t. Steps u c written edge s x xs (record u { sending = t }) in
     pair_if P (new_fin (at u s f)) (fin_at (at u s f) (in_flight q) ∷ []) [] (with_fin_sent q) q
     (λ k.

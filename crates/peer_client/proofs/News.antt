@@ -3,11 +3,12 @@ use Rattle.std.proofs.Common.{◌≡◌, ◌⊎◌, inl, inr, ℕ, ◌+◌, ◌-
 use Rattle.std.specs.Prelude.{pos, ◌-ℤ◌, ◌≤ℤ◌, ◌&&◌, ◌||◌, if◌then◌else◌}
 use Rattle.std.proofs.lemmas.Bool.{false≢true}
 use Rattle.seq_arith.specs.Arrival.{int_eq}
+use Rattle.seq_arith.specs.Congestion.{Congestion}
 use Rattle.seq_arith.specs.Offset.{ack_of, one_if}
 use Rattle.seq_arith.specs.Packet.{Segment, has_rst, has_ack}
 use Rattle.tcp_endpoint.specs.States.{has_begun, is_closed, is_time_wait}
 use Rattle.tcp_endpoint.specs.Receiving.{Receiving, next, receive_edge}
-use Rattle.tcp_endpoint.specs.Sending.{Sending, expires}
+use Rattle.tcp_endpoint.specs.Sending.{Sending, expires, congestion_expired}
 use Rattle.tcp_endpoint.specs.Sending as half
 use Rattle.tcp_endpoint.specs.Tcb.{Tcb}
 use Rattle.tcp_endpoint.specs.Arrival.{first, in_others, received}
@@ -141,8 +142,9 @@ segment_comes l c p h none near =
         (subst (λ (t : Tcb). FollowsAt t) (others_is l.tcb p h.begun) (received_follows l.tcb p h.begun is (follows_of l c h.stands))))
 
 -- a tick passes
-retimed : (s : Sending) (written interval rest : ℕ) (c : Client) → Sends s written c → Sends (record s { interval = interval; rest = rest }) written c
-retimed s written interval rest c h = record {
+retimed : (s : Sending) (written : ℕ) (after : Congestion) (interval rest : ℕ) (c : Client) → Sends s written c
+    → Sends (record s { congestion = after; interval = interval; rest = rest }) written c
+retimed s written after interval rest c h = record {
   sent = h.sent;
   acknowledged = h.acknowledged;
   held = h.held;
@@ -157,16 +159,21 @@ retimed s written interval rest c h = record {
   most = h.most;
 }
 
-pub ticked_sends : (s : Sending) (written : ℕ) (c : Client) → Sends s written c → Sends (half.ticked s) written c
-ticked_sends s written c h =
-    holds_if (λ (t : Sending). Sends t written c) (expires s) (record s { interval = min 64 (2 * s.interval); rest = min 64 (2 * s.interval) }) (record s { rest = s.rest - 1 })
-    (λ k. retimed s written (min 64 (2 * s.interval)) (min 64 (2 * s.interval)) c h) (λ k. retimed s written s.interval (s.rest - 1) c h)
+-- what holds of a sender whatever its timer and its congestion control are holds after a tick
+by_tick : (P : Sending → Type 0) (s : Sending) → ((after : Congestion) (interval rest : ℕ) → P (record s { congestion = after; interval = interval; rest = rest }))
+    → P (half.ticked s)
+by_tick P s all =
+    let twice : ℕ = min 64 (2 * s.interval) in
+    holds_if P (expires s) (record s { congestion = congestion_expired s; interval = twice; rest = twice }) (record s { rest = s.rest - 1 })
+    (λ k. all (congestion_expired s) twice twice) (λ k. all s.congestion s.interval (s.rest - 1))
 
-pub ticked_same : {X : Type 0} (g : Sending → X) (steady : (interval rest : ℕ) (s : Sending) → g (record s { interval = interval; rest = rest }) ≡ g s)
-    (s : Sending) → g (half.ticked s) ≡ g s
-ticked_same g steady s =
-    holds_if (λ (t : Sending). g t ≡ g s) (expires s) (record s { interval = min 64 (2 * s.interval); rest = min 64 (2 * s.interval) }) (record s { rest = s.rest - 1 })
-    (λ k. steady (min 64 (2 * s.interval)) (min 64 (2 * s.interval)) s) (λ k. steady s.interval (s.rest - 1) s)
+pub ticked_sends : (s : Sending) (written : ℕ) (c : Client) → Sends s written c → Sends (half.ticked s) written c
+ticked_sends s written c h = by_tick (λ (t : Sending). Sends t written c) s (λ after interval rest. retimed s written after interval rest c h)
+
+pub ticked_same : {X : Type 0} (g : Sending → X)
+    (steady : (after : Congestion) (interval rest : ℕ) (s : Sending) → g (record s { congestion = after; interval = interval; rest = rest }) ≡ g s) (s : Sending)
+    → g (half.ticked s) ≡ g s
+ticked_same g steady s = by_tick (λ (t : Sending). g t ≡ g s) s (λ after interval rest. steady after interval rest s)
 
 pub tick_passes : (l : LiveState) (c : Client) → IsStanding l c → Stands (ticked l) c
 unfolding after_tick timer_ticked waited
@@ -182,14 +189,14 @@ tick_passes l c h =
           port = same.port;
           server = same.server;
           script = same.script;
-          isn = same.isn ∙ sym (ticked_same (λ (s : Sending). s.iss) (λ a b s. refl) l.tcb.sending);
+          isn = same.isn ∙ sym (ticked_same (λ (s : Sending). s.iss) (λ k a b s. refl) l.tcb.sending);
           local = same.local;
           remote = same.remote;
         };
         hears = h.stands.agrees.hears;
         sends = ticked_sends l.tcb.sending l.written c h.stands.agrees.sends;
       };
-      syn_acked = ticked_same (λ (s : Sending). s.syn_acked) (λ a b s. refl) l.tcb.sending ∙ h.stands.syn_acked;
+      syn_acked = ticked_same (λ (s : Sending). s.syn_acked) (λ k a b s. refl) l.tcb.sending ∙ h.stands.syn_acked;
       phase = h.stands.phase;
       named = named_at t follows;
       over = over_at t follows;

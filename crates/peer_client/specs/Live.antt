@@ -1,4 +1,4 @@
--- The live client: an active open of the TCP endpoint, whose user writes a script as room comes, closes behind it, and reads what was accepted.
+-- The live client: an active open of the TCP endpoint. Its user writes a script as there is room, closes after it, and reads what was accepted.
 use Rattle.std.specs.Prelude.{ℕ, Bool, ◌+◌, ◌^◌, ◌==◌, ◌&&◌, ◌||◌, nat_le, min, Option, None, Some, Result, Ok, Err, List, length, take, drop, if◌then◌else◌}
 use Rattle.ft_io.specs.declared.Addr.{Addr}
 use Rattle.seq_arith.specs.Packet.{Segment}
@@ -33,7 +33,7 @@ new_live local server isn script = record {
   outcome = None;
 }
 
--- the segment is one of the connection, by both addresses and ports (RFC 9293, 3.10.7)
+-- whether the segment is one of the connection, by both addresses and ports (RFC 9293, 3.10.7)
 abbrev pub is_of : Addr → Addr → Segment → Bool
 is_of local server segment =
     (segment.head.src == server.ip) && (segment.head.sport == server.port) && (segment.head.dst == local.ip) && (segment.head.dport == local.port)
@@ -42,16 +42,16 @@ is_of local server segment =
 abbrev pub end_of : Tcb → Option ClientEnd
 end_of e = if e.reset then Some Reset else (if is_time_wait e.name || is_closed e.name then Some Closed else None)
 
--- an outcome stays
+-- the first outcome stays
 abbrev pub first_end : Option ClientEnd → Option ClientEnd → Option ClientEnd
 first_end (Some end) later = Some end
 first_end None later = later
 
--- a segment of the connection comes to its TCP
+-- a segment of the connection reaches its TCP
 abbrev pub met : LiveState → Segment → LiveState
 met l segment = record l { tcb = received l.tcb segment; outcome = first_end l.outcome (end_of (received l.tcb segment)) }
 
--- bytes come: those that are no packet of the connection are dropped
+-- bytes arrive: those that are no packet of the connection are dropped
 abbrev pub hearing : LiveState → Result Segment BadPacket → LiveState
 hearing l (Ok segment) = if is_of l.local l.server segment then met l segment else l
 hearing l (Err bad) = l
@@ -70,7 +70,7 @@ unread l = drop l.seen l.tcb.receiving.unread
 abbrev pub handed : LiveState → ℕ → LiveState
 handed l n = record l { seen = l.seen + n }
 
--- at the turn's end TCP gives up what was handed out, ..
+-- at the turn's end TCP drops what was handed out, ..
 abbrev pub given_up : LiveState → LiveState
 given_up l = record l { tcb = after_read l.tcb (min l.seen (length l.tcb.receiving.unread)); seen = 0 }
 
@@ -81,7 +81,7 @@ next_part l = take (write_room l.tcb) (drop l.written l.script)
 abbrev pub supplied : LiveState → LiveState
 supplied l = record l { tcb = after_write l.tcb (next_part l); written = l.written + length (next_part l) }
 
--- .. and is closed behind it, once the connection is established
+-- .. and is closed after it, once the connection is established
 abbrev pub closes : LiveState → Bool
 closes l = has_begun l.tcb.name && nat_le (length l.script) l.written
 
@@ -91,7 +91,7 @@ shut l = record l { tcb = if closes l then closing l.tcb else l.tcb }
 abbrev pub before_flush : LiveState → LiveState
 before_flush l = shut (supplied (given_up l))
 
--- the segments that leave then
+-- the segments that are sent then
 abbrev pub sent_by : LiveState → List Segment
 sent_by l = leaving (before_flush l).tcb
 

@@ -1,4 +1,4 @@
--- The scripted client over bytes: what it sends at an event of a schedule, and what it does with bytes that come.
+-- The scripted client over bytes: what it sends at an event of a schedule, and what it does with bytes that arrive.
 use Rattle.std.specs.Prelude.{◌≡◌, ℕ, ℤ, Bool, pos, ◌-◌, ◌<◌, ◌^◌, ◌&&◌, ◌||◌, ◌++◌, nat_lt, int_lt, List, [], length, take, drop, Some, None, Result, Ok, Err, if◌then◌else◌}
 use Rattle.seq_arith.specs.Arrival.{int_eq, below}
 use Rattle.seq_arith.specs.Coming.{Came, nothing_early, comes}
@@ -9,7 +9,7 @@ use Rattle.ft_model.specs.Client.{Client, Move as Moves, move_of, window_of, ref
 use Rattle.ft_model.specs.declared.event.Event.{Event}
 use Rattle.ft_model.specs.declared.event.EventWhy.{EventWhy}
 
--- it makes the move that the event asks for, which it may, and writes that move's packet in front of what the room held
+-- it makes the move that the event asks for, which is allowed, and writes that move's packet over the beginning of the room
 pub record Makes (before : Client) (event : Event) (room : List ℕ) (count : ℕ) (written : List ℕ) (after : Client) : Type 0 where
   pub move : Moves
   pub asked : move_of event ≡ Some move
@@ -26,20 +26,20 @@ pub record Refuses (client : Client) (event : Event) (why : EventWhy) : Type 0 w
   pub asked : move_of event ≡ Some move
   pub refused : refusal_of_move client move ≡ Some why
 
--- what a text that begins at `first`, and a FIN behind it, add to what the client has accepted
+-- what a text that begins at `first`, and a FIN after it, add to what the client has accepted
 abbrev pub added : Client → ℤ → List ℕ → Bool → Came
 added client first text fin = comes (length client.accepted) client.edge (is_ended client.phase) nothing_early first text fin
 
--- In plain words, for one that holds nothing: the text from the end of the accepted bytes up to the right edge. There is none of a text that begins behind
--- a gap, and none once the FIN is accepted
+-- In plain words, for a client that holds nothing: the text from the end of the accepted bytes up to the right edge. A text that begins after a gap has none,
+-- and there is none once the FIN is accepted
 unfoldable pub next_text : (n edge : ℕ) → Bool → ℤ → List ℕ → List ℕ
 next_text n edge fin first text = if fin || int_lt (pos n) first then [] else take (edge - n) (drop (below n first) text)
 
--- a FIN is accepted where all bytes end that are accepted, below the right edge
+-- a FIN is accepted at the end of all accepted bytes, below the right edge
 unfoldable pub is_fin_at : (n edge : ℕ) → ℤ → Bool
 is_fin_at n edge place = int_eq place (pos n) && nat_lt n edge
 
--- the client with bytes that come to it: it receives the segment that they say, and drops bytes that say none
+-- the client with bytes that arrive: it receives the segment that they spell, and drops bytes that spell none
 abbrev pub hearing : Client → Result Segment BadPacket → Client
 hearing client (Ok segment) = received client segment
 hearing client (Err bad) = client

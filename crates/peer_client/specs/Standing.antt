@@ -1,5 +1,5 @@
--- How the client machine of the model stands beside a live client: the machine has accepted what the client's TCP has taken, and has sent and
--- announced what TCP has. Every call keeps this, and each segment that leaves is a move of the machine.
+-- How the client machine of the model corresponds to a live client: the machine has accepted what the client's TCP has taken, and has sent and advertised what
+-- TCP has. Every call preserves this, and each segment that is sent is a move of the machine.
 use Rattle.std.specs.Prelude.{◌≡◌, ◌⊎◌, ℕ, Bool, true, false, pos, ◌+◌, ◌-ℤ◌, ◌≤ℤ◌, ◌^◌, ◌<◌, ◌≤◌, ◌==◌, ◌&&◌, Option, None, Some, Result, Ok, Err, List, [], ◌∷◌, length, take, drop, if◌then◌else◌}
 use Rattle.seq_arith.specs.Coming.{StandsBehind}
 use Rattle.seq_arith.specs.Number.{number_at}
@@ -26,7 +26,7 @@ abbrev pub AreMoves : Client → List Segment → Client → Type 0
 AreMoves before [] after = after ≡ before
 AreMoves before (segment ∷ segments) after = (between : Client) × IsMove before segment between × AreMoves between segments after
 
--- how the machine's connection has ended, if it has: by a RST, or with the server's FIN accepted and the own one acknowledged
+-- how the machine's connection has ended, if it has: by a RST, or with the server's FIN accepted and the client's acknowledged
 abbrev pub is_reset : Phase → Bool
 is_reset phases.Reset = true
 is_reset phase = false
@@ -59,7 +59,7 @@ pub record Hears (r : Receiving) (c : Client) : Type 0 where
   pub within : taken r ≤ r.limit
   pub queued : length r.unread ≤ 65535
 
--- what TCP has sent is sent, and what it still holds is the script behind what is acknowledged. A FIN is sent behind the whole script
+-- what TCP has sent is sent, and what it still holds is the script after what is acknowledged. A FIN is sent after the complete script
 pub record Sends (s : Sending) (written : ℕ) (c : Client) : Type 0 where
   pub sent : c.sent ≡ s.sent
   pub acknowledged : c.acknowledged ≡ s.una
@@ -79,7 +79,7 @@ pub record Agrees (l : LiveState) (c : Client) : Type 0 where
   pub hears : Hears l.tcb.receiving c
   pub sends : Sends l.tcb.sending l.written c
 
--- what answers is the refusal of a wrong acknowledgement of the SYN, by a RST with that number
+-- the RST in answer is the refusal of a wrong acknowledgement of the SYN, and has that number
 pub record Refuses (l : LiveState) (c : Client) (head : Head) : Type 0 where
   pub src : head.src ≡ l.local.ip
   pub dst : head.dst ≡ l.server.ip
@@ -113,7 +113,7 @@ pub record Waits (l : LiveState) (c : Client) : Type 0 where
   pub told : c.phase ≡ phases.Opening → c.edge ≡ receive_edge l.tcb.receiving
   pub outcome : l.outcome ≡ None
 
--- what was announced last: so much, with a FIN or without, and the right edge
+-- what was advertised last: this many bytes, with a FIN or without, and the right edge
 pub record Told (e : Tcb) (c : Client) : Type 0 where
   pub bytes : ℕ
   pub fin : Bool
@@ -140,7 +140,7 @@ pub record HasHeard (r : Receiving) (c : Client) : Type 0 where
   pub count : length c.accepted ≡ taken r
   pub rest : drop r.read c.accepted ≡ r.unread
 
--- a RST came
+-- a RST arrived
 pub record IsReset (l : LiveState) (c : Client) : Type 0 where
   pub phase : c.phase ≡ phases.Reset
   pub name : l.tcb.name ≡ names.Closed
@@ -149,7 +149,7 @@ pub record IsReset (l : LiveState) (c : Client) : Type 0 where
   pub outcome : l.outcome ≡ Some ends.Reset
   pub heard : HasHeard l.tcb.receiving c
 
--- between two turns nothing is due, and all is announced
+-- between two turns nothing is due, and all is advertised
 pub record IsWaiting (l : LiveState) (c : Client) : Type 0 where
   pub waits : Waits l c
   pub phase : c.phase ≡ phases.Opening
@@ -173,7 +173,7 @@ IsDue l c = Waits l c ⊎ (Stands l c ⊎ IsReset l c)
 abbrev pub is_for_client : Client → Segment → Bool
 is_for_client c segment = is_of (record { ip = c.key.ip; port = c.key.port }) c.server segment
 
--- what comes from the client's server acknowledges nothing far behind the client's stream
+-- what arrives from the client's server acknowledges nothing far before the client's stream
 abbrev pub AcksNear : Client → Result Segment BadPacket → Type 0
 AcksNear c (Ok segment) = is_for_client c segment ≡ true → has_ack segment ≡ true → (pos 0 -ℤ pos (2 ^ 30)) ≤ℤ ack_of c.isn segment
 AcksNear c (Err bad) = Unit {0}
@@ -183,13 +183,13 @@ abbrev pub AckFits : Result Segment BadPacket → Type 0
 AckFits (Ok segment) = segment.head.ack < 2 ^ 32
 AckFits (Err bad) = Unit {0}
 
--- the machine with bytes that come: it receives a packet of the connection, and drops all else
+-- the machine with bytes that arrive: it receives a packet of the connection, and drops all else
 abbrev pub receiving : LiveState → Client → Result Segment BadPacket → Client
 receiving l c (Ok segment) = if is_of l.local l.server segment then received c segment else c
 receiving l c (Err bad) = c
 
--- at the end of a turn: the segments that leave are moves, what is left to be handed out stays, and where the connection goes on the machine
--- stands beside it as before
+-- at the end of a turn: the segments that are sent are moves, what is left to be handed out stays, and where the connection continues the machine corresponds
+-- to it as before
 pub record Moves (after : LiveState) (segments : List Segment) (c : Client) : Type 0 where
   pub later : Client
   pub moves : AreMoves c segments later

@@ -1,4 +1,4 @@
-//! The scripted client: what it is, and the moves that it makes.
+//! The scripted client: its state, and the moves that it makes.
 
 ghost use Rattle.std.specs.Prelude.{◌≡◌, ℕ, ◌+◌, ◌-◌, ◌^◌, ◌<◌, ◌≤◌, None, length, IfOk, IfErr, IsSome, OnErr};
 ghost use Rattle.peer_client.specs.Moves.{move_value};
@@ -68,7 +68,7 @@ impl Client {
     ghost use Rattle.ft_model.specs.Client.{new_client, accepted_units as units_lem, suits_phase, suits_range, seq_of, ack_number_of, payload_of, segment_of};
     ghost use Rattle.ft_model.specs.Client.{moved, move_of, window_of, refusal_of_move};
 
-    /// A client that has sent nothing. Its script has at most 2^24 bytes. It takes no memory.
+    /// A client that has sent nothing. Its script has at most 2^24 bytes. Nothing is allocated.
     pub fn new(alloc: Global, key: Key, server: Addr, isn: u32, script: Vec<u8>) -> Client
         requires { length script.items ≤ 2 ^ 24 }
         ensures { result ≡ new_client Scripted server key isn script.items }
@@ -108,7 +108,7 @@ impl Client {
         self.acknowledged
     }
 
-    /// Where its connection stands.
+    /// The state of its connection.
     pub fn phase(&self) -> Phase
         ensures { result ≡ self.now.phase }
     {
@@ -152,7 +152,7 @@ impl Client {
         }
     }
 
-    /// Why the client does not make the move, unless it may.
+    /// Why the client does not make the move; `None` where it may.
     fn refusal(&self, made: Move) -> Option<EventWhy>
         ensures { result ≡ refusal_of_move self.now (move_value made) }
     {
@@ -165,7 +165,7 @@ impl Client {
         }
     }
 
-    /// The window that goes with the move of an event.
+    /// The window that is sent with the move of an event.
     fn window(&self, event: &Event) -> u16
         ensures { result ≡ window_of self.now event.now }
     {
@@ -254,8 +254,8 @@ impl Client {
             .max(self.accepted.len() as u64 + u64::from(window));
     }
 
-    /// Makes the move that an event asks for: one of the five moves of a client, whose number isn't looked at. It writes the move's packet at
-    /// the front of `out`, which has room for 1,500 bytes, and says how many bytes it has. A refused move leaves all as it was.
+    /// Makes the move that an event asks for: one of the five moves of a client. The client's number in the event is ignored. It writes the move's packet at
+    /// the beginning of `out`, which has room for 1,500 bytes, and returns how many bytes it has. A refused move leaves everything as it was.
     pub fn step(&mut self, event: &Event, out: &mut [u8]) -> Result<usize, Refused>
         requires asks { IsSome (move_of event.now) }
         requires room { 1500 ≤ length out.old }

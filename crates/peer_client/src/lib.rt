@@ -1,5 +1,5 @@
-//! The clients of a connection, over packets as bytes. A scripted client makes the moves that a schedule names; a live one is a TCP of its
-//! own that sends a script and takes the server's bytes. Both stand on the client machine of the model.
+//! The clients of a connection, over packets as bytes. A scripted client makes the moves that a schedule names. A live one is a TCP of its own that sends a
+//! script and takes the server's bytes. Both follow the client machine of the model.
 #![tactic(auto)]
 
 pub use client::{Client, Refused};

@@ -30,13 +30,12 @@ const LIMIT: u32 = 1 << 24;
 pub enum ClientEnd {
     /// The server acknowledged the client's FIN, and the client accepted the server's.
     Closed,
-    /// A valid RST came.
+    /// A valid RST arrived.
     Reset,
 }
 
-/// A client that is a TCP of its own. It opens a connection to the server, writes its script as room comes, closes behind it, and keeps the
-/// server's bytes until they are accepted. `on_packet` and `on_tick` begin a turn and `flush` ends it, so one flush stands between any two of
-/// them.
+/// A client that is a TCP of its own. It opens a connection to the server, writes its script as there is room, closes after it, and holds the server's bytes
+/// until `accept` hands them out. `on_packet` and `on_tick` begin a turn and `flush` ends it, so there is one flush between any two of them.
 #[derive(Drop)]
 pub struct LiveClient {
     local: Addr,
@@ -81,7 +80,7 @@ impl LiveClient {
     ) -> Result<LiveClient, NoMemory>
         requires { length script.items ≤ 2 ^ 24 }
         ensures made { IfOk result (λ client. client ≡ new_live local server isn script.items) }
-        // A new live client of the model stands beside it.
+        // A new live client of the model corresponds to it.
         ensures beside { IfOk result (λ client. IsDue client (new_client Live server (record { ip = local.ip; port = local.port }) isn script.items)) }
     {
         let endpoint = Endpoint::connect(alloc, local, server, Seq(isn), LIMIT)?;
@@ -103,7 +102,7 @@ impl LiveClient {
         self.outcome
     }
 
-    /// A datagram comes. Bytes that are no packet from the server to this client are dropped.
+    /// A datagram arrives. Bytes that are no packet from the server to this client are dropped.
     pub fn on_packet(&mut self, bytes: &[u8])
         ensures state { IsShort self.old.tcb.sending → self.new ≡ heard self.old bytes.now }
         // The client machine receives what the client does ..
@@ -183,12 +182,12 @@ impl LiveClient {
         self.endpoint.on_tick();
     }
 
-    /// Copies the next accepted bytes to the front of `buf`, as many as there are and fit, and answers how many. The rest of `buf` stays.
+    /// Copies the next accepted bytes to the beginning of `buf`, as many as there are and fit, and returns how many. The rest of `buf` stays.
     pub fn accept(&mut self, buf: &mut [u8]) -> usize
         ensures count { result ≡ min (length (unread self.old)) (length buf.old) }
         ensures bytes { buf.new ≡ take result (unread self.old) ++ drop result buf.old }
         ensures state { self.new ≡ handed self.old result }
-        // These are the bytes that the client machine has accepted, in order, behind those that were handed out before.
+        // These are the bytes that the client machine has accepted, in order, after those that were handed out before.
         ensures accepted { (c : Client) → IsDue self.old c → unread self.old ≡ drop (handed_out self.old) c.accepted }
         ensures rest { (c : Client) → HasHeard self.old.tcb.receiving c → unread self.old ≡ drop (handed_out self.old) c.accepted }
         ensures due { (c : Client) → IsDue self.old c → IsDue self.new c }
@@ -210,13 +209,13 @@ impl LiveClient {
         count
     }
 
-    /// Ends the turn: puts into the outbox, which is empty, what goes out.
+    /// Ends the turn: puts what is sent into the outbox, which is empty.
     pub fn flush(&mut self, out: &mut Outbox)
         requires { out.old ≡ [] }
         ensures state { self.new ≡ turned self.old }
         ensures sent { out.new ≡ packets (sent_by self.old) }
         ensures readable { AreReadable (sent_by self.old) }
-        // Each of these segments is a move of the client machine, which goes on beside the client until there is an outcome.
+        // Each of these segments is a move of the client machine, which continues to correspond to the client until there is an outcome.
         ensures moves { (c : Client) → IsDue self.old c → Moves self.new (sent_by self.old) c }
     {
         self.end_turn(out);
@@ -234,7 +233,7 @@ impl LiveClient {
         self.endpoint.flush(out);
     }
 
-    /// The endpoint gives up what was handed out.
+    /// The endpoint drops what was handed out.
     fn give_up(&mut self)
         ensures { self.new ≡ given_up self.old }
     {
@@ -249,7 +248,7 @@ impl LiveClient {
         self.written += self.endpoint.write(&self.script[self.written..]);
     }
 
-    /// The endpoint is closed behind the script, once the connection is established.
+    /// The endpoint is closed after the script, once the connection is established.
     fn shut(&mut self)
         ensures { self.new ≡ shut_lem self.old }
     {
@@ -275,7 +274,7 @@ fn has_begun(name: StateName) -> bool
     )
 }
 
-/// Reads so many bytes, or all that there are.
+/// Reads `count` bytes, or all that there are.
 fn pass_over(endpoint: &mut Endpoint, count: usize)
     ensures { endpoint.new ≡ after_read endpoint.old (min count (length endpoint.old.receiving.unread)) }
 {

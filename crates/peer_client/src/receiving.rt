@@ -1,4 +1,4 @@
-//! What the scripted client does with a packet that comes to it (RFC 9293, 3.10.7.3 and 3.10.7.4, as far as a client that never answers goes).
+//! What the scripted client does with a packet that arrives (RFC 9293, 3.10.7.3 and 3.10.7.4, as far as they concern a client that never answers).
 
 ghost use Rattle.std.specs.Prelude.{◌≡◌, pos, ◌≤ℤ◌, OnOk, OnErr, length};
 ghost use Rattle.segment_codec.specs.Value.{segment_of as value_of};
@@ -15,7 +15,7 @@ use segment_codec::{PacketRef, read_packet};
 use std::alloc::Global;
 
 impl Client {
-    /// Takes a packet that comes to the client. Bytes that are no packet change nothing. After `NoMemory` the client is as before.
+    /// Takes a packet that arrives at the client. Bytes that are no packet change nothing. After `NoMemory` the client is as before.
     pub fn deliver(&mut self, _alloc: Global, packet: &[u8]) -> Result<(), NoMemory>
         ensures taken { OnOk result (self.new ≡ delivered self.old packet.now) }
         ensures kept { OnErr result (self.new ≡ self.old) }
@@ -40,7 +40,7 @@ impl Client {
         }
     }
 
-    /// A segment that comes while the SYN is unacknowledged.
+    /// A segment that arrives while the SYN is unacknowledged.
     fn open_by(&mut self, segment: &PacketRef<'_>)
         ensures { self.new ≡ machine.opened_by self.old (value_of segment.now) }
     {
@@ -55,7 +55,7 @@ impl Client {
         }
     }
 
-    /// A segment that comes while the connection stands.
+    /// A segment that arrives while the connection is open.
     fn arrive(&mut self, segment: &PacketRef<'_>) -> Result<(), NoMemory>
         ensures taken { OnOk result (self.new ≡ machine.arrived self.old (value_of segment.now)) }
         ensures kept { OnErr result (self.new ≡ self.old) }
@@ -78,8 +78,7 @@ impl Client {
         self.use_segment(segment)
     }
 
-    /// An acceptable segment with ACK. One that acknowledges what was not sent is dropped. Nothing is acknowledged where there is no memory
-    /// for the text.
+    /// An acceptable segment with ACK. One that acknowledges what was not sent is dropped. Nothing is acknowledged where there is no memory for the text.
     fn use_segment(&mut self, segment: &PacketRef<'_>) -> Result<(), NoMemory>
         ensures taken { OnOk result (self.new ≡ machine.used self.old (value_of segment.now)) }
         ensures kept { OnErr result (self.new ≡ self.old) }
@@ -94,7 +93,7 @@ impl Client {
         Ok(())
     }
 
-    /// Accepts what a text that begins at `first`, and the FIN behind it, add to the server's stream. What stands behind a gap is dropped.
+    /// Accepts what a text that begins at `first`, and the FIN after it, add to the server's stream. What comes after a gap is dropped.
     #[tactic(auto, using(crate::proofs::Alone::accepted_is))]
     fn accept(&mut self, first: i64, text: &[u8], fin: bool) -> Result<(), NoMemory>
         ensures taken { OnOk result (self.new ≡ machine.with_added self.old (added self.old first text.now fin)) }

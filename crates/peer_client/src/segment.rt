@@ -1,4 +1,4 @@
-//! What the flags of a segment that comes say of its text.
+//! What the flags of an arriving segment say of its text.
 
 ghost use Rattle.std.specs.Prelude.{◌≡◌, ◌≤◌, ◌^◌};
 ghost use Rattle.seq_arith.specs.Packet.{has_fin as fin_lem, has_syn as syn_lem, has_rst as rst_lem, has_ack as ack_lem};
@@ -32,7 +32,7 @@ pub fn has_ack(segment: &PacketRef<'_>) -> bool
     has(segment.head.flags, ACK)
 }
 
-/// The text that counts: none beside a SYN or a RST.
+/// The text that counts: none with a SYN or a RST.
 pub fn counted_text<'a>(segment: &PacketRef<'a>) -> &'a [u8]
     ensures { result.now ≡ text_of (segment_of segment.now) }
 {
@@ -42,14 +42,14 @@ pub fn counted_text<'a>(segment: &PacketRef<'a>) -> &'a [u8]
     segment.payload
 }
 
-/// Whether it ends its sender's stream. A FIN beside a SYN or a RST doesn't count.
+/// Whether it ends its sender's stream. A FIN with a SYN or a RST doesn't count.
 pub fn counts_fin(segment: &PacketRef<'_>) -> bool
     ensures { result ≡ fin_of (segment_of segment.now) }
 {
     has_fin(segment) && !(has_syn(segment) || has_rst(segment))
 }
 
-/// SEG.LEN: data and FIN, or the SYN alone; none with a RST (RFC 9293, 3.4).
+/// SEG.LEN: the text and the FIN, or only the SYN; 0 of a RST (RFC 9293, 3.4).
 pub fn segment_len(segment: &PacketRef<'_>) -> u64
     ensures value { result ≡ length_of (segment_of segment.now) }
     ensures within { result ≤ 2 ^ 63 }

@@ -1,4 +1,4 @@
--- A restart while it asks: what is asked for next, what answers it, and what is known then.
+-- A restart while it asks: what is asked for next, what answers it, and what is then known.
 use Rattle.std.specs.Prelude.{ℕ, ◌≤◌, ◌<◌, ◌^◌, ◌==◌, Bool, ◌&&◌, is_none, nat_lt, Option, Some, None, List, [], ◌++◌, length, find, option_map, if◌then◌else◌}
 use Rattle.std.specs.Option.{option_to_list}
 use Rattle.ft_io.specs.declared.Key.{Key}
@@ -27,7 +27,7 @@ begun_fetching boot kind count = record { boot = boot; kind = kind; count = coun
 abbrev pub entries_of : {S : Type 0} → FetchingState S → List (EntryState S)
 entries_of s = option_to_list s.newest ++ s.earlier
 
--- the newest entry is made whole before the next one is asked for
+-- the newest entry is completed before the next one is asked for
 abbrev pub asked_of : {S : Type 0} → Option (EntryState S) → Option Body
 asked_of None = None
 asked_of (Some e) = asked_for (lacks e) e
@@ -42,11 +42,11 @@ or_else None next = next
 abbrev pub asked : {S : Type 0} → FetchingState S → Option Body
 asked s = or_else (asked_of s.newest) (asked_entry s)
 
--- the entry of a key that has come
+-- the entry of a key, if it has come
 abbrev pub entry_known : {S : Type 0} → Key → FetchingState S → Option (EntryState S)
 entry_known key s = find (λ e. key_eq e.head.key key) (entries_of s)
 
--- an entry's head answers where that place is asked for and its key is new
+-- an entry's head is an answer where that place is asked for and its key is new
 abbrev pub head_fits : {S : Type 0} → (index : ℕ) → Key → FetchingState S → Bool
 head_fits index key s = is_none (asked_of s.newest) && nat_lt index s.count && index == length (entries_of s) && is_none (entry_known key s)
 
@@ -71,6 +71,6 @@ answered started after s (PartMsg key offset bytes) = option_map (with_newest s)
 answered started after s (LensMsg key first lens) = option_map (with_newest s) (lens_on after key first lens s.newest)
 answered started after s _ = None
 
--- an answer to another boot doesn't
+-- an answer to another boot doesn't fit
 abbrev pub heard : {S : Type 0} → (ℕ → S) → (S → List ℕ → Served S) → Message → FetchingState S → Option (FetchingState S)
 heard started after message s = if message.boot == s.boot then answered started after s message.body else None

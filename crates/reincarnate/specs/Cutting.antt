@@ -7,7 +7,7 @@ use Rattle.reincarnate.specs.declared.cuts.Cuts.{Cuts}
 abbrev pub cuts_of : List ℕ → Cuts
 cuts_of lengths = record { count = length lengths; sum = sum lengths; ended = list_any (λ k. k == 0) lengths }
 
--- a read may follow them, as the log keeps reads: the closing one, of length 0, comes last, where the FIN is kept and all bytes are read
+-- whether a read may follow them, by the log's rule for reads: the closing one, of length 0, comes last, where the FIN is kept and all bytes are read
 abbrev pub may_cut : (len : ℕ) → (fin : Bool) → Cuts → ℕ → Bool
 may_cut len fin cuts n = not cuts.ended && nat_le (cuts.sum + n) len && (nat_lt 0 n || (fin && cuts.sum == len))
 
@@ -19,6 +19,6 @@ abbrev pub cuts_through : (len : ℕ) → (fin : Bool) → Cuts → List ℕ →
 cuts_through len fin cuts [] = Some cuts
 cuts_through len fin cuts (n ∷ more) = if may_cut len fin cuts n then cuts_through len fin (cut_on cuts n) more else None
 
--- all of them but a closing one have bytes
+-- all of them except a closing one have bytes
 abbrev pub HaveBytes : Cuts → Type 0
 HaveBytes cuts = cuts.count ≤ cuts.sum + one_if cuts.ended

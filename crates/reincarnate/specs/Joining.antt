@@ -1,4 +1,4 @@
--- The parts of a connection at the end of a restart, and where they stand: at the point of its entry.
+-- The parts of a connection at the end of a restart, which are at the point of its entry.
 use Rattle.std.specs.Prelude.{◌≡◌, ℕ, Bool, ◌&&◌, nat_lt, ◌<◌, ◌≤◌, ◌^◌, length, min}
 use Rattle.ft_io.specs.declared.Addr.{Addr}
 use Rattle.ft_io.specs.declared.Key.{Key}
@@ -24,16 +24,16 @@ pub record SplicedState (S : Type 0) : Type 0 where
   pub endpoint : Tcb  -- TCP, which has never seen the client
   pub north : NorthState S  -- the wrapper between TCP and the service
 
--- the connection that it is handed on as
+-- the connection as which it is handed on
 abbrev pub conn_of : {S : Type 0} → SplicedState S → ConnState S
 conn_of s = joined_conn s.boot s.key s.local s.south s.endpoint s.north
 
--- output goes on behind what the client has acknowledged of it. An acknowledged FIN is sent again
+-- output continues after what the client has acknowledged of it. A FIN is sent again even where it was acknowledged
 abbrev pub goes_on_at : {S : Type 0} → ReplayedState S → ℕ
 goes_on_at r = min r.head.acked r.replay.made
 
--- A FIN is logged, and the stream has room for it. No log keeps one behind a whole stream: there it would have no number within the receive
--- window (RFC 9293, section 3.4), and the connection goes on without it
+-- A FIN is logged, and the stream has room for it. No log keeps one after a full stream: there it would have no number within the receive window (RFC 9293,
+-- section 3.4), and the connection continues without it
 abbrev pub has_end : EntryHead → Bool
 has_end head = head.fin && nat_lt head.length (2 ^ 24)
 
@@ -54,9 +54,9 @@ spliced_from boot local i r = record {
   north = north_from r;
 }
 
--- They stand at the entry's point: the wrapper with delta = sisn + u - i modulo 2^32, where u is how much of the output the client has
--- acknowledged, TCP where its next numbers are cisn + 1 + T and i + 1, and the service with the output from u on. TCP has the server's address, and
--- the segment size is one that the log keeps
+-- They are at the entry's point: the wrapper with delta = sisn + u - i modulo 2^32, where u is how much of the output the client has acknowledged; TCP where
+-- its next numbers are cisn + 1 + T and i + 1, where T is the units taken; and the service with the output from u on. TCP has the server's address, and the
+-- segment size is one that the log keeps
 pub record IsSpliced {S : Type 0} (service : Machine S) (e : Entry) (i : ℕ) (s : SplicedState S) : Type 0 where
   pub key : s.key ≡ e.key
   pub short : length e.bytes ≤ 2 ^ 24

@@ -1,4 +1,4 @@
--- An entry of the log as far as it is fetched, whose reads are replayed as soon as their bytes are there.
+-- An entry of the log as far as it is fetched. Its reads are replayed as soon as their bytes are there.
 use Rattle.std.specs.Prelude.{◌≡◌, ◌⊎◌, ℕ, ◌+◌, ◌^◌, ◌<◌, ◌≤◌, ◌==◌, Bool, true, false, ◌&&◌, nat_lt, nat_le, Option, Some, None, List, [], ◌∷◌, ◌++◌, length, sum, if◌then◌else◌}
 use Rattle.std.specs.List.{AllByRecursion}
 use Rattle.ft_io.specs.declared.Key.{Key}
@@ -19,7 +19,7 @@ pub record EntryState (S : Type 0) : Type 0 where
   pub waiting : List ℕ  -- the lengths of those that aren't replayed
   pub replay : ReplayState S  -- the service, with what it still holds
 
--- an entry of which the head alone has come
+-- an entry of which only the head has come
 abbrev pub begun_entry : {S : Type 0} → S → EntryHead → EntryState S
 begun_entry fresh head = record {
   head = head;
@@ -29,7 +29,7 @@ begun_entry fresh head = record {
   replay = record { service = fresh; closed = false; made = 0; acked = head.acked; pending = []; held = [] };
 }
 
--- what of it is asked for next: the bytes of the reads whose lengths are there, then further lengths, then the bytes behind all reads
+-- what of it is asked for next: the bytes of the reads whose lengths are there, then further lengths, then the bytes after all reads
 abbrev pub lacks : {S : Type 0} → EntryState S → Lack
 lacks e =
     if e.head.done then lack.Nothing
@@ -64,7 +64,7 @@ replayed_from after (n ∷ more) r =
 abbrev pub waits_on : {S : Type 0} → EntryState S → Waiting S → EntryState S
 waits_on e w = record e { waiting = w.lengths; replay = w.replay }
 
--- the length of the first read that waits, if its bytes are held
+-- the length of the first waiting read, if its bytes are held
 abbrev pub first_whole : List ℕ → (held : ℕ) → Option ℕ
 first_whole [] held = None
 first_whole (n ∷ more) held = if nat_le n held then Some n else None
@@ -73,7 +73,7 @@ first_whole (n ∷ more) held = if nat_le n held then Some n else None
 abbrev pub part_fits : {S : Type 0} → Key → (offset count : ℕ) → EntryState S → Bool
 part_fits key offset count e = asks_bytes (lacks e) && key_eq key e.head.key && offset == e.bytes && nat_le (e.bytes + count) e.head.length
 
--- .. and are replayed as far as reads are whole
+-- .. and are replayed as far as reads are complete
 abbrev pub with_bytes : {S : Type 0} → (S → List ℕ → Served S) → List ℕ → EntryState S → EntryState S
 with_bytes after bytes e =
     record (waits_on e (replayed_from after e.waiting (record e.replay { held = e.replay.held ++ bytes }))) { bytes = e.bytes + length bytes }
@@ -82,14 +82,14 @@ with_bytes after bytes e =
 abbrev pub lengths_fit : {S : Type 0} → Key → (first count : ℕ) → EntryState S → Bool
 lengths_fit key first count e = asks_lengths (lacks e) && key_eq key e.head.key && first == e.cuts.count && nat_le (e.cuts.count + count) e.head.reads
 
--- .. if each may follow, and then the reads come to this
+-- .. if each may follow, and these are the reads then
 abbrev pub cuts_with : {S : Type 0} → Key → (first : ℕ) → List ℕ → EntryState S → Option Cuts
 cuts_with key first lens e = if lengths_fit key first (length lens) e then cuts_through e.head.length e.head.fin e.cuts lens else None
 
 abbrev pub with_lengths : {S : Type 0} → (S → List ℕ → Served S) → Cuts → List ℕ → EntryState S → EntryState S
 with_lengths after cuts lens e = record (waits_on e (replayed_from after (e.waiting ++ lens) e.replay)) { cuts = cuts }
 
--- the first of these reads isn't whole
+-- the first of these reads isn't complete
 abbrev pub IsShort : List ℕ → (held : ℕ) → Type 0
 IsShort [] held = Unit {0}
 IsShort (n ∷ more) held = held < n
@@ -98,7 +98,7 @@ IsShort (n ∷ more) held = held < n
 abbrev pub IsSegmentSize : ℕ → Type 0
 IsSegmentSize mss = (64 ≤ mss) × (mss ≤ 1460)
 
--- how the counts of an entry hang together
+-- how the counts of an entry are related
 pub record IsSized {S : Type 0} (e : EntryState S) : Type 0 where
   pub stream : e.head.length ≤ 2 ^ 24
   pub segments : IsSegmentSize e.head.mss
@@ -115,7 +115,7 @@ pub record IsSized {S : Type 0} (e : EntryState S) : Type 0 where
 abbrev pub AreReady : {S : Type 0} → List (EntryState S) → Type 0
 AreReady entries = AllByRecursion (λ e. lacks e ≡ lack.Nothing) entries
 
--- an entry that is whole, with its service
+-- a complete entry, with its service
 pub record ReplayedState (S : Type 0) : Type 0 where
   pub head : EntryHead  -- the entry without its bytes and lengths
   pub cuts : Cuts  -- of all its reads
@@ -124,7 +124,7 @@ pub record ReplayedState (S : Type 0) : Type 0 where
 abbrev pub replayed_state : {S : Type 0} → EntryState S → ReplayedState S
 replayed_state e = record { head = e.head; cuts = e.cuts; replay = e.replay }
 
--- those that are done are passed over
+-- those that are done are skipped
 abbrev pub next_live : {S : Type 0} → List (EntryState S) → Option (ReplayedState S)
 next_live [] = None
 next_live (e ∷ entries) = if e.head.done then next_live entries else Some (replayed_state e)

@@ -1,5 +1,5 @@
--- A service that is fed again what the log keeps (FT-TCP, INFOCOM 2001: the restarted server replays its input), with no more of input and
--- output than is still needed.
+-- A service that is fed again what the log keeps (FT-TCP, INFOCOM 2001: the restarted server replays its input). No more input and output is stored than is
+-- still needed.
 use Rattle.std.specs.Prelude.{◌≡◌, ℕ, ◌+◌, ◌-◌, ◌^◌, Bool, true, nat_lt, List, ◌++◌, length, take, drop, if◌then◌else◌}
 use Rattle.server_trait.specs.Service.{Served, Run}
 
@@ -11,11 +11,11 @@ pub record ReplayState (S : Type 0) : Type 0 where
   pub pending : List ℕ  -- the output behind those
   pub held : List ℕ  -- the bytes that are fetched and not replayed
 
--- a stream has 2^24 bytes. No server that keeps its limits has put out more
+-- a stream has 2^24 bytes. No server that keeps its limits has made more output
 abbrev pub passes_the_stream : {S : Type 0} → ReplayState S → Served S → Bool
 passes_the_stream r served = nat_lt (2 ^ 24) (r.made + length served.output)
 
--- the new output is kept from where the client's acknowledgement ends. A run that would pass the stream's end is cut there
+-- the new output is stored from where the client's acknowledgement ends. A run that would pass the stream's end is cut there
 abbrev pub served_on : {S : Type 0} → ReplayState S → Served S → ReplayState S
 served_on r served =
     if passes_the_stream r served then record r { service = served.next; closed = true }
@@ -34,7 +34,7 @@ taken_on after r chunk = if r.closed then r else served_on r (after r.service ch
 unfoldable pub fed_on : {S : Type 0} → (S → List ℕ → Served S) → ℕ → ReplayState S → ReplayState S
 fed_on after n r = record (taken_on after r (take n r.held)) { held = drop n r.held }
 
--- a service that has run so far, of whose output the client has acknowledged so many units
+-- a service that has run so far, where the client has acknowledged `acked` units of its output
 pub record RunsTo {S : Type 0} (run : Run S) (acked : ℕ) (r : ReplayState S) : Type 0 where
   pub service : r.service ≡ run.state
   pub closed : r.closed ≡ run.closed

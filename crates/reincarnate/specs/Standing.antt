@@ -12,8 +12,8 @@ use Rattle.reincarnate.specs.declared.entries.Restored.TheVariants as restored
 use Rattle.reincarnate.specs.Progress.{EntryState, ReplayedState, replayed_state, IsShort}
 use Rattle.reincarnate.specs.Asking.{FetchingState, entries_of}
 
--- Of the fetched lengths all but those that wait are replayed. What is held are the bytes behind these reads; and the service stands where
--- the uncrashed server's run over them ends, if no more is put out by then than a stream has
+-- All fetched lengths are replayed except those that wait. What is held is the bytes after these reads. The service is where the uncrashed server's run over
+-- them ends, if that has made no more output than a stream has room for
 pub record HasReplayed {S : Type 0} (service : Machine S) (bytes lengths waiting : List ℕ) (acked : ℕ) (r : ReplayState S) : Type 0 where
   pub replayed : List ℕ
   pub lengths_are : replayed ++ waiting ≡ lengths
@@ -42,13 +42,13 @@ StandFor service (f ∷ fetched) (e ∷ entries) = StandsFor service f e × Stan
 abbrev pub AreWhole : List Fetched → Type 0
 AreWhole fetched = AllByRecursion (λ f. is_whole f ≡ true) fetched
 
--- a restart that has fetched so much: all entries but the newest are whole
+-- a restart that has fetched this much: all entries except the newest are complete
 pub record StandsFetching {S : Type 0} (service : Machine S) (fetched : List Fetched) (s : FetchingState S) : Type 0 where
   pub entries : StandFor service fetched (entries_of s)
   pub newest : s.newest ≡ None → s.earlier ≡ []
   pub whole : AreWhole (drop 1 fetched)
 
--- an answer leads to what the law names, and one that doesn't fit changes nothing
+-- an answer leads to what the law says, and one that doesn't fit changes nothing
 abbrev pub AnswerLeads : {S : Type 0} → Machine S → Option (List Fetched) → (fits : Bool) → (before after : FetchingState S) → Type 0
 AnswerLeads service None fits before after = (fits ≡ false) × (after ≡ before)
 AnswerLeads service (Some more) fits before after = (fits ≡ true) × StandsFetching service more after
@@ -66,8 +66,8 @@ pub record StandsWhole {S : Type 0} (service : Machine S) (fetched : List Fetche
   pub entries : StandFor service fetched all
   pub whole : AreWhole fetched
 
--- An entry that is restored: its service stands where the uncrashed server's run over all its reads ends, if no more is put out by then than a
--- stream has; what is held are its bytes behind them
+-- An entry that is restored: its service is where the uncrashed server's run over all its reads ends, if that has made no more output than a stream has room
+-- for. What is held is its bytes after them
 pub record IsReplayed {S : Type 0} (service : Machine S) (e : Entry) (r : ReplayedState S) : Type 0 where
   pub head : r.head ≡ head_of e
   pub cuts : r.cuts ≡ cuts_of e.lengths
@@ -75,7 +75,7 @@ pub record IsReplayed {S : Type 0} (service : Machine S) (e : Entry) (r : Replay
   pub rest : r.replay.held ≡ drop (sum e.lengths) e.bytes
   pub run : length (run_of service e).output ≤ 2 ^ 24 → RunsTo (run_of service e) e.acknowledged r.replay
 
--- those from the next one on that isn't done
+-- the entries from the next one on that isn't done
 abbrev pub live_from : List Fetched → List Fetched
 live_from [] = []
 live_from (f ∷ fetched) = if f.head.done then live_from fetched else f ∷ fetched

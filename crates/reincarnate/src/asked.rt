@@ -15,7 +15,7 @@ use server_trait::Service;
 use std::alloc::Global;
 use std::marker::Model;
 
-/// A server that has started, and asks the logger how many entries it has. Contracts see its boot number.
+/// A server that has started, and asks the logger how many entries it has. In contracts it is its boot number.
 #[derive(Debug, Drop)]
 pub struct Asked {
     /// The server's boot number.
@@ -33,7 +33,7 @@ impl Model for Asked {
 }
 
 impl Asked {
-    /// With this boot number.
+    /// The first step, with this boot number.
     pub fn new(boot: u64) -> Asked
         requires { 1 ≤ boot }
         ensures { result ≡ boot }
@@ -41,7 +41,7 @@ impl Asked {
         Asked { boot }
     }
 
-    /// What is asked: Hello.
+    /// The question: Hello.
     pub fn question(&self) -> Msg<'_>
         ensures value { message_of result ≡ record { boot = self.now; body = HelloMsg } }
         ensures sendable { IsSendable result }
@@ -53,7 +53,7 @@ impl Asked {
         }
     }
 
-    /// The log has so many entries. The services of this restart are of this kind.
+    /// The log has `count` entries. The services of this restart are of this kind.
     pub fn on_summary<S: Service>(
         self,
         alloc: Global,
@@ -62,7 +62,7 @@ impl Asked {
     ) -> Result<Fetching<S>, LostIn>
         requires { count ≤ 64 }
         ensures value { result ≡ Ok (begun_fetching self kind count) }
-        // Nothing is fetched so far.
+        // Nothing is fetched yet.
         ensures law { IfOk result (λ f. StandsFetching (machine (S.started kind) S.after) [] f) }
     {
         Ok(Fetching::begin(alloc, self.boot, kind, count))

@@ -1,4 +1,4 @@
-//! Reads that are fetched, as far as further ones depend on them.
+//! What is known of the fetched reads, as far as further ones depend on it.
 
 ghost use Rattle.std.specs.Prelude.{◌≡◌, ◌≤◌, ◌+◌, ◌^◌, length, sum, Some, None, IfSome, if◌then◌else◌};
 ghost use Rattle.seq_arith.specs.MessageGrammar.{lens_in};
@@ -24,7 +24,7 @@ impl Cuts {
         ended: false,
     };
 
-    /// With one read more, if the log's rule lets it follow in a stream with so many bytes.
+    /// With one more read, if the log's rule lets it follow in a stream of `len` bytes.
     fn with(self, n: u16, len: u32, fin: bool) -> Option<Cuts>
         requires len { len ≤ 2 ^ 24 }
         requires bytes { HaveBytes self }

@@ -24,7 +24,7 @@ pub enum Restored<S: Service> {
     Live(Replayed<S>),
 }
 
-/// The entries that are still to be restored. Contracts see them in the log's order.
+/// The entries that are still to be restored. In contracts they are a list in the log's order.
 #[derive(Drop)]
 pub struct Entries<S: Service> {
     /// The entry that was opened last.

@@ -24,14 +24,14 @@ use std::alloc::Global;
 use std::collections::VecDeque;
 use std::marker::Model;
 
-/// An entry as far as it is fetched, with a service that has replayed its reads as far as they are whole.
+/// An entry as far as it is fetched, with a service that has replayed its reads as far as they are complete.
 #[derive(Drop)]
 pub(crate) struct FetchedEntry<S: Service> {
     /// The entry without its bytes and lengths.
     head: EntryHead,
     /// How many of its bytes are fetched.
     bytes: u32,
-    /// Of the reads whose lengths are fetched.
+    /// What is known of the reads whose lengths are fetched.
     cuts: Cuts,
     /// The lengths of those that aren't replayed, in bytes.
     waiting: VecDeque<u16>,
@@ -57,7 +57,7 @@ impl<S: Service> Model for FetchedEntry<S> {
 }
 
 impl<S: Service> FetchedEntry<S> {
-    /// Of which the head alone has come.
+    /// An entry of which only the head has come.
     pub(crate) fn begin(alloc: Global, kind: u8, head: EntryHead) -> FetchedEntry<S>
         requires stream { head.length ≤ 2 ^ 24 }
         requires segments { IsSegmentSize head.mss }
@@ -131,7 +131,7 @@ impl<S: Service> FetchedEntry<S> {
         self.replay.held()
     }
 
-    /// Whether so many bytes of this key and place answer what is asked for.
+    /// Whether `count` bytes of this key and place answer what is asked for.
     pub(crate) fn part_fits(&self, key: Key, offset: u32, count: usize) -> bool
         ensures { result ≡ part_fits key offset count self.now }
     {
@@ -141,7 +141,7 @@ impl<S: Service> FetchedEntry<S> {
             && count <= (self.head.length - self.bytes) as usize
     }
 
-    /// With these bytes, which answer what was asked for.
+    /// The entry with these bytes, which answer what was asked for.
     pub(crate) fn with_bytes(self, bytes: &[u8]) -> Result<FetchedEntry<S>, NoMemory>
         requires asked { asks_bytes (lacks self) ≡ true }
         requires within { self.bytes + length bytes.now ≤ self.head.length }
@@ -166,7 +166,7 @@ impl<S: Service> FetchedEntry<S> {
         })
     }
 
-    /// Whether so many lengths of this key and place answer what is asked for.
+    /// Whether `count` lengths of this key and place answer what is asked for.
     fn lengths_fit(&self, key: Key, first: u32, count: usize) -> bool
         ensures { result ≡ lengths_fit key first count self.now }
     {
@@ -192,7 +192,7 @@ impl<S: Service> FetchedEntry<S> {
             .through(lens, self.head.length, self.head.fin == 1)
     }
 
-    /// With these lengths, after which the reads come to `cuts`.
+    /// The entry with these lengths, after which the reads are `cuts`.
     pub(crate) fn with_lengths(self, cuts: Cuts, lens: &[u8]) -> Result<FetchedEntry<S>, NoMemory>
         requires asked { asks_lengths (lacks self) ≡ true }
         requires sum { cuts.sum ≡ self.cuts.sum + sum (lens_in lens.now) }
@@ -226,7 +226,7 @@ impl<S: Service> FetchedEntry<S> {
         self.head.done == 1
     }
 
-    /// Of which nothing is missing.
+    /// The restored entry, where nothing is missing.
     #[tactic(auto, using(crate::proofs::Sized::whole_rest))]
     pub(crate) fn into_replayed(self) -> Replayed<S>
         requires whole { lacks self ≡ Lack.Nothing }
@@ -244,7 +244,7 @@ impl<S: Service> FetchedEntry<S> {
     }
 }
 
-/// Lets these lengths, of two bytes each, wait behind the others.
+/// Appends these lengths, of two bytes each, to those that wait.
 #[tactic(auto, using(crate::proofs::Lengths::length_lens, crate::proofs::Lengths::one_pushed, crate::proofs::Lengths::all_pushed))]
 fn push_lengths(waiting: &mut VecDeque<u16>, lens: &[u8]) -> Result<(), NoMemory>
     ensures { OnOk result (waiting.new.items ≡ waiting.old.items ++ lens_in lens.now) }
@@ -255,7 +255,7 @@ fn push_lengths(waiting: &mut VecDeque<u16>, lens: &[u8]) -> Result<(), NoMemory
     Ok(())
 }
 
-/// The length of the first read that waits, if its bytes are held.
+/// The length of the first waiting read, if its bytes are held.
 fn next_whole<S: Service>(waiting: &VecDeque<u16>, replay: &Replay<S>) -> Option<usize>
     ensures { result ≡ first_whole waiting.now.items (length replay.now.held) }
 {
@@ -267,7 +267,7 @@ fn next_whole<S: Service>(waiting: &VecDeque<u16>, replay: &Replay<S>) -> Option
     }
 }
 
-/// Replays the reads that are whole.
+/// Replays the reads that are complete.
 #[tactic(auto, using(crate::proofs::ReplayOn::replays_on, crate::proofs::ReplayOn::waits_for_bytes, crate::proofs::ReplayOn::first_is_short, crate::proofs::ReplayOn::first_is_held, crate::proofs::ReplayOn::others_are_short))]
 fn replay_whole<S: Service>(
     waiting: &mut VecDeque<u16>,

@@ -25,8 +25,8 @@ use server_trait::Service;
 use std::alloc::Global;
 use std::marker::Model;
 
-/// A restart that asks for the log's entries, one after another, and replays the reads of each as soon as they are whole. Contracts see, of
-/// each entry, the head, the counts of what is fetched, and the service with what it still holds.
+/// A restart that asks for the log's entries, one after another, and replays the reads of each as soon as they are complete. In contracts it has, of each
+/// entry, the head, the counts of what is fetched, and the service with what it still holds.
 #[derive(Drop)]
 pub struct Fetching<S: Service> {
     /// The server's boot number.
@@ -167,7 +167,7 @@ impl<S: Service> Fetching<S> {
         }
     }
 
-    /// Takes an answer, if it fits the question. After `NoMemory` it may only be dropped.
+    /// Takes an answer, if it fits the question, and returns whether it does. After `NoMemory` it may only be dropped.
     pub fn on_answer(&mut self, alloc: Global, m: &Msg<'_>) -> Result<bool, NoMemory>
         requires { IsSendable m.now }
         ensures value { IfOk result (λ fits. MatchOption (heard S.started S.after (message_of m.now) self.old)
@@ -311,7 +311,7 @@ impl<S: Service> Fetching<S> {
     }
 }
 
-/// Puts the newest entry, of which nothing is missing, before the others.
+/// Moves the newest entry, of which nothing is missing, to the earlier ones.
 #[tactic(auto, using(crate::proofs::Ready::newest_is_ready))]
 fn set_aside<S: Service>(
     newest: &mut Option<FetchedEntry<S>>,

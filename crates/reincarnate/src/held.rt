@@ -6,12 +6,12 @@ use ft_io::NoMemory;
 use std::alloc::Global;
 use std::marker::Model;
 
-/// Bytes that are taken off the front and added at the end. What is taken off is forgotten when more comes.
+/// Bytes that are taken from the beginning and added at the end. Those taken are dropped when more are added.
 #[derive(Drop)]
 pub(crate) struct Held {
-    /// Those that are taken off, and behind them those that wait.
+    /// Those that are taken, and after them those that wait.
     bytes: Vec<u8>,
-    /// How many of them are taken off.
+    /// How many of them are taken.
     at: usize,
 }
 
@@ -55,7 +55,7 @@ impl Held {
         self.at += n;
     }
 
-    /// Moves the bytes to the front of their room.
+    /// Moves the waiting bytes to the beginning of their room.
     fn forget(&mut self)
         ensures { self.new ≡ self.old }
     {
@@ -80,7 +80,7 @@ impl Held {
     }
 }
 
-/// Takes bytes off the front.
+/// Removes the first `n` bytes.
 fn drop_front(bytes: &mut Vec<u8>, n: usize)
     requires { n ≤ length bytes.old.items }
     ensures { bytes.new.items ≡ drop n bytes.old.items }

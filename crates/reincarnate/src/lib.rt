@@ -1,6 +1,5 @@
-//! The restart of a server, in steps that are types: it asks the logger what is logged, replays each connection's reads through a fresh
-//! service, and puts a fresh TCP where the log ends. Each step consumes the one before it, so none can be skipped. Of a connection's input
-//! no more is held than is still needed.
+//! The restart of a server, in steps that are types: it asks the logger what is logged, replays each connection's reads through a fresh service, and brings a
+//! fresh TCP to where the log ends. Each step consumes the one before it, so none can be skipped. Of a connection's input no more is held than is still needed.
 #![tactic(auto)]
 
 pub use asked::Asked;

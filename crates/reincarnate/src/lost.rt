@@ -1,4 +1,4 @@
-//! What was lost for want of memory.
+//! What was lost because an allocation failed.
 
 /// A step of the restart.
 #[derive(Clone, Copy, Debug, PartialEq, Eq)]
@@ -9,7 +9,7 @@ pub enum Stage {
     Replayed,
 }
 
-/// Memory ran out, and the state of this step was dropped.
+/// An allocation failed, and the state of this step was dropped.
 #[derive(Clone, Copy, Debug, PartialEq, Eq)]
 pub struct LostIn {
     /// The step whose state was dropped.

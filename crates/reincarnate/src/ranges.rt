@@ -1,4 +1,4 @@
-//! What a proof may know of a number by its type.
+//! Facts for proofs: the ranges of numbers, by their types.
 
 ghost use Rattle.std.specs.Prelude.{◌<◌, ◌^◌};
 ghost use Rattle.wrapped_conn.proofs.Sendable.{FitsKey};

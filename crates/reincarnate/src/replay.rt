@@ -13,11 +13,10 @@ use server_trait::{Next, Service};
 use std::alloc::Global;
 use std::marker::Model;
 
-/// The bytes of a stream.
+/// The most bytes of a stream.
 const STREAM: u32 = 16_777_216;
 
-/// A service that has replayed the fetched reads so far. It holds the bytes that aren't replayed, and of the output what lies behind the
-/// client's acknowledgement.
+/// A service that has replayed the fetched reads so far. It holds the bytes that aren't replayed, and the output after the client's acknowledgement.
 #[derive(Drop)]
 pub(crate) struct Replay<S: Service> {
     /// The service's state.
@@ -28,7 +27,7 @@ pub(crate) struct Replay<S: Service> {
     made: u32,
     /// The units of output that the client has acknowledged.
     acked: u32,
-    /// The output behind those units.
+    /// The output after those units.
     output: Vec<u8>,
     /// The output of one chunk, before it is known how much of it is needed.
     fresh: Vec<u8>,
@@ -48,7 +47,7 @@ impl<S: Service> Model for Replay<S> {
 }
 
 impl<S: Service> Replay<S> {
-    /// Before the first read, of a connection whose client has acknowledged so many units of output.
+    /// A service before its first read, of a connection whose client has acknowledged `acked` units of output.
     pub(crate) fn new(alloc: Global, kind: u8, acked: u32) -> Replay<S>
         ensures { result ≡ record { service = S.started kind; closed = false; made = 0; acked = acked; pending = []; held = [] } }
     {
@@ -70,7 +69,7 @@ impl<S: Service> Replay<S> {
         self.held.len()
     }
 
-    /// The output behind the client's acknowledgement.
+    /// The output after the client's acknowledgement.
     pub(crate) fn pending(&self) -> &[u8]
         ensures { result.now ≡ self.now.pending }
     {
@@ -86,7 +85,7 @@ impl<S: Service> Replay<S> {
         self.made
     }
 
-    /// A north wrapper that goes on from these reads.
+    /// A north wrapper that continues after these reads.
     pub(crate) fn into_north(self, alloc: Global, cuts: Cuts) -> North<S>
         requires have { HaveBytes cuts }
         requires within { cuts.sum + length self.held ≤ 2 ^ 24 }
@@ -157,7 +156,7 @@ impl<S: Service> Replay<S> {
     }
 }
 
-/// Keeps the output of a chunk from where the client's acknowledgement ends, so many bytes on.
+/// Stores the output of a chunk from where the client's acknowledgement ends, which is after its first `known` bytes.
 fn hold_unacknowledged(output: &mut Vec<u8>, fresh: &[u8], known: u32) -> Result<(), NoMemory>
     ensures items { OnOk result (output.new.items ≡ output.old.items ++ drop known fresh.now) }
     ensures few { length output.new.items ≤ length output.old.items + length fresh.now }

@@ -1,4 +1,4 @@
-//! A connection whose service stands where the log ends.
+//! A connection whose service is where the log ends.
 
 ghost use Rattle.std.specs.Prelude.{◌≡◌, ◌+◌, ◌^◌, ◌<◌, ◌≤◌, length, min, IfOk, IfErr};
 ghost use Rattle.server_trait.specs.Service.{machine};
@@ -29,7 +29,7 @@ use std::marker::Model;
 pub struct Replayed<S: Service> {
     /// The entry without its bytes and lengths.
     head: EntryHead,
-    /// Of all its reads.
+    /// What is known of all its reads.
     cuts: Cuts,
     /// The service, with the bytes that no read took.
     replay: Replay<S>,
@@ -73,7 +73,7 @@ impl<S: Service> Replayed<S> {
         self.replay.pending()
     }
 
-    /// Puts a fresh TCP with the initial number `isn` between the wrappers, where the entry ends.
+    /// Puts a fresh TCP with the initial number `isn` between the wrappers, at the end of the entry.
     pub fn splice(
         self,
         alloc: Global,
@@ -117,7 +117,7 @@ impl<S: Service> Replayed<S> {
     }
 }
 
-/// A south wrapper that goes on where the entry ends, of whose output so many bytes were made.
+/// A south wrapper that continues where the entry ends. Its service has made `made` bytes of output.
 fn south_behind(head: &EntryHead, cuts: Cuts, made: u32, isn: Seq) -> South
     requires stream { head.now.length ≤ 2 ^ 24 }
     requires made { made ≤ 2 ^ 24 }

@@ -1,4 +1,4 @@
-//! A connection that stands where its entry of the log ends.
+//! A connection at the end of its entry of the log.
 
 ghost use Rattle.std.specs.Prelude.{◌≡◌, ℕ};
 ghost use Rattle.server_trait.specs.Service.{machine};

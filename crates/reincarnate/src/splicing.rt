@@ -1,4 +1,4 @@
-//! A fresh TCP is brought to where the log ends by segments of the client that are forged to it. What it answers is discarded.
+//! Segments of the client that are forged to a fresh TCP bring it to where the log ends. What it answers is discarded.
 
 ghost use Rattle.std.specs.Prelude.{◌≡◌, ◌≤◌, ◌-◌, ◌+◌, ◌^◌, [], Some, None, IfOk};
 ghost use Rattle.seq_arith.specs.Number.{number_at};
@@ -19,7 +19,7 @@ use seq_arith::{ACK, FIN, SYN, Seq};
 use std::alloc::Global;
 use tcp_endpoint::{Endpoint, Outbox};
 
-/// The bytes of a stream.
+/// The most bytes of a stream.
 const STREAM: u32 = 16_777_216;
 
 /// Whether a FIN is logged for which the stream has room.
@@ -29,7 +29,7 @@ pub(crate) fn has_end(head: &EntryHead) -> bool
     head.fin == 1 && head.length < STREAM
 }
 
-/// The head of a segment of the client, with window 0.
+/// The header of a segment of the client, with window 0.
 fn forged(key: Key, local: Addr, seq: Seq, ack: Seq, flags: u8, mss: Option<u16>) -> Head
     ensures { record { head = said result; payload = [] } ≡ forged_lem key local seq.0 ack.0 flags mss }
 {
@@ -64,7 +64,7 @@ fn forge(endpoint: &mut Endpoint, head: Head, out: &mut Outbox)
     out.clear();
 }
 
-/// An endpoint that is connected behind the entry's bytes: its SYN has the number that they lead to.
+/// An endpoint that is connected at the end of the entry's bytes: the client's SYN has the number that they lead to.
 #[tactic(auto, using(crate::proofs::Forging::listen_short, crate::proofs::Forging::syn_short), unfolding(connection_laws::specs::Splicing::connected))]
 fn connected(
     alloc: Global,
@@ -101,7 +101,7 @@ fn connected(
     Ok(endpoint)
 }
 
-/// An endpoint that stands where the entry ends, its FIN included where one is logged.
+/// An endpoint at the end of the entry, including the FIN where one is logged.
 #[tactic(auto, using(crate::proofs::Forging::connected_short))]
 pub(crate) fn spliced_endpoint(
     alloc: Global,

@@ -1,4 +1,4 @@
--- One of the four services, told by a number: 1 Echo, 2 Line, 3 Transfer, 4 Meter, and every other number Echo.
+-- One of the four services, chosen by a number: 1 Echo, 2 Line, 3 Transfer, 4 Meter, and every other number Echo.
 use Rattle.std.specs.Prelude.{ℕ, List, ◌==◌, if◌then◌else◌}
 use Rattle.server_trait.specs.Service.{Served, Machine, machine}
 use Rattle.sample_servers.specs.Echo.{echo_started, echo_after}
@@ -8,14 +8,14 @@ use Rattle.sample_servers.specs.Meter.{meter_started, meter_after}
 use Rattle.sample_servers.specs.declared.any_service.AnyService.{AnyService}
 use Rattle.sample_servers.specs.declared.any_service.AnyService.TheVariants.{Echo, Line, Transfer, Meter}
 
--- the service that a number tells, in its first state
+-- the service that a number chooses, in its first state
 abbrev pub any_started : ℕ → AnyService
 any_started kind =
     if kind == 2 then Line line_started
     else (if kind == 3 then Transfer transfer_started
     else (if kind == 4 then Meter meter_started else Echo echo_started))
 
--- the same, with its state read as one of another type
+-- the same, with its state as one of another type
 abbrev pub mapped : {A B : Type 0} → (A → B) → Served A → Served B
 mapped f served = record { next = f served.next; output = served.output; closed = served.closed }
 

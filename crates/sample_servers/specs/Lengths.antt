@@ -69,7 +69,7 @@ pub length-transfer_after-le : (s : transfer.TransferState) (chunk : List ℕ) �
 length-transfer_after-le s chunk short =
     length-if-le (length chunk == 0) (record { next = s; output = []; closed = true }) (bytes_served s chunk) (2 ^ 20) (omega arith) (length-bytes_served-le s chunk short)
 
--- a line comes back with 22 bytes round it at most
+-- a line comes back with at most 22 more bytes around it
 pub length-line_finished-le : (finished : ℕ) (line : List ℕ) → length (line_finished finished line).output ≤ min 1024 (length line) + 22
 unfolding line_finished numbered
 length-line_finished-le finished line =
@@ -81,7 +81,7 @@ pub held-line_finished : (finished : ℕ) (line : List ℕ) → (line_finished f
 unfolding line_finished
 held-line_finished finished line = grind arith
 
--- one byte adds 23 bytes at most to what is written and held
+-- one byte adds at most 23 bytes to what is written and held
 pub length-line_byte-le : (s : LineState) (byte : ℕ) → length (line_byte s byte).output + min 1024 (length (line_byte s byte).next.held) ≤ min 1024 (length s.held) + 23
 length-line_byte-le s byte =
     let line = s.held ++ byte ∷ [] in

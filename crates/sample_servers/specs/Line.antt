@@ -7,7 +7,7 @@ use Rattle.sample_servers.specs.Stream.{waiting, and_then, each_byte}
 use Rattle.sample_servers.specs.declared.line.Piece.{Piece}
 use Rattle.sample_servers.specs.declared.line.Piece.TheVariants.{Ends, GoesOn}
 
--- the number of lines that are finished, and the bytes of the line that goes on
+-- the number of finished lines, and the bytes of the unfinished one
 pub record LineState : Type 0 where
   pub finished : ℕ
   pub held : List ℕ
@@ -16,16 +16,15 @@ pub record LineState : Type 0 where
 abbrev pub line_started : LineState
 line_started = record { finished = 0; held = [] }
 
--- the number of the next line. At the end of 64 bits it stands still
+-- the number of the next line. At the maximum of 64 bits it stays
 abbrev pub number_after : ℕ → ℕ
 number_after finished = min (finished + 1) (2 ^ 64 - 1)
 
--- a line as it is written: its number, a space, its bytes, and a line feed. It has at most 1,024 bytes, also from a state that no
--- run reaches
+-- a line as it is written: its number, a space, its bytes, and a line feed. Its bytes are at most 1,024, even in a state that no run reaches
 unfoldable pub numbered : ℕ → List ℕ → List ℕ
 numbered number line = decimal number ++ codes " " ++ take 1024 line ++ codes "\n"
 
--- a line ends. `quit` is answered by `bye` and closes, and any other line comes back with its number
+-- a line ends. `quit` is answered by `bye` and closes. Any other line comes back with its number
 unfoldable pub line_finished : ℕ → List ℕ → Served LineState
 line_finished finished line =
     if bytes_eq line (codes "quit")
@@ -36,7 +35,7 @@ line_finished finished line =
       closed = false;
     }
 
--- a byte that is no line feed goes on with the line, which ends where it has 1,024 bytes
+-- a byte that is no line feed lengthens the line, which ends where it has 1,024 bytes
 abbrev pub line_longer : ℕ → List ℕ → Served LineState
 line_longer finished line =
     if nat_lt (length line) 1024 then waiting (record { finished = finished; held = line }) else line_finished finished line
@@ -65,7 +64,7 @@ line_machine = machine line_started line_after
 abbrev pub NoFeed : List ℕ → Type 0
 NoFeed = All (λ byte. (byte == 10) ≡ false)
 
--- the line that is held ends with `len` bytes more, which uses up `used` bytes
+-- the held line ends with `len` more bytes, which uses up `used` bytes
 pub record EndsAt (state : LineState) (bytes : List ℕ) (len used : ℕ) : Type 0 where
   pub fits : length state.held + len ≤ 1024
   pub within : len ≤ used
@@ -73,13 +72,13 @@ pub record EndsAt (state : LineState) (bytes : List ℕ) (len used : ℕ) : Type
   pub enough : used ≤ length bytes
   pub served : each_byte line_byte state bytes ≡ and_then (line_finished state.finished (state.held ++ take len bytes)) (λ next. each_byte line_byte next (drop used bytes))
 
--- the line that is held goes on with all the bytes
+-- the held line continues through all the bytes
 pub record StaysOpen (state : LineState) (bytes : List ℕ) : Type 0 where
   pub fits : length state.held + length bytes < 1024
   pub no_feed : NoFeed bytes
   pub served : each_byte line_byte state bytes ≡ waiting (record { finished = state.finished; held = state.held ++ bytes })
 
--- where a line ends in bytes that come behind it
+-- where the held line ends in the bytes that follow it
 abbrev pub Splits : LineState → List ℕ → Piece → Type 0
 Splits state bytes (Ends len used) = EndsAt state bytes len used
 Splits state bytes GoesOn = StaysOpen state bytes

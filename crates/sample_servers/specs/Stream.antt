@@ -2,16 +2,16 @@
 use Rattle.std.specs.Prelude.{ℕ, false, List, [], ◌∷◌, ◌++◌, if◌then◌else◌}
 use Rattle.server_trait.specs.Service.{Served}
 
--- nothing is written, and the service goes on from this state
+-- nothing is written, and the service continues from this state
 abbrev pub waiting : {State : Type 0} → State → Served State
 waiting state = record { next = state; output = []; closed = false }
 
--- the same, with its output behind what was written before
+-- the same, with its output after what was written before
 abbrev pub written : {State : Type 0} → List ℕ → Served State → Served State
 written before served =
     record { next = served.next; output = before ++ served.output; closed = served.closed }
 
--- what comes after a step: nothing once the service has closed, and else more output behind the step's
+-- what comes after a step: nothing once the service has closed, and otherwise more output after the step's
 abbrev pub and_then : {State : Type 0} → Served State → (State → Served State) → Served State
 and_then served more = if served.closed then served else written served.output (more served.next)
 

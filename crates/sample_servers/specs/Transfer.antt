@@ -16,7 +16,7 @@ pub record TransferState : Type 0 where
 abbrev pub transfer_started : TransferState
 transfer_started = record { place = 0; held = Nothing }
 
--- the bytes that are held, short of a request
+-- the held bytes, which are less than a request
 abbrev pub held_bytes : Held → List ℕ
 held_bytes Nothing = []
 held_bytes (One a) = a ∷ []
@@ -27,20 +27,20 @@ held_bytes (Three a b c) = a ∷ b ∷ c ∷ []
 abbrev pub request_of : ℕ → ℕ → ℕ → ℕ → ℕ
 request_of a b c d = ((a * 256 + b) * 256 + c) * 256 + d
 
--- how many bytes a request is given
+-- how many bytes answer a request
 abbrev pub size_of : ℕ → ℕ
 size_of request = min request 2047
 
--- so many bytes of the pattern, from this place on
+-- `size` bytes of the pattern, from this place on
 unfoldable pub pattern : ℕ → ℕ → List ℕ
 pattern place zero = []
 pattern place (suc size) = place % 251 ∷ pattern (place + 1) size
 
--- the place and the held bytes from which the service goes on
+-- the place and the held bytes from which the service continues
 abbrev pub holding : ℕ → Held → Served TransferState
 holding place held = waiting (record { place = place; held = held })
 
--- what one request does: 0 closes, and another is given its bytes of the pattern
+-- what one request does: 0 closes, and any other gets its bytes of the pattern
 unfoldable pub request_served : ℕ → ℕ → Served TransferState
 request_served place request =
     if request == 0
@@ -51,7 +51,7 @@ request_served place request =
       closed = false;
     }
 
--- what bytes do from a place of the pattern on: request after request, and what is short of one is held
+-- what bytes do from a place of the pattern on: request after request, and an incomplete one is held
 abbrev pub requests_served : ℕ → List ℕ → Served TransferState
 requests_served place [] = holding place Nothing
 requests_served place (a ∷ []) = holding place (One a)
@@ -60,11 +60,11 @@ requests_served place (a ∷ b ∷ c ∷ []) = holding place (Three a b c)
 requests_served place (a ∷ b ∷ c ∷ d ∷ bytes) =
     and_then (request_served place (request_of a b c d)) (λ next. requests_served next.place bytes)
 
--- what bytes do behind those that are held
+-- what bytes do after those that are held
 unfoldable pub bytes_served : TransferState → List ℕ → Served TransferState
 bytes_served transfer bytes = requests_served transfer.place (held_bytes transfer.held ++ bytes)
 
--- what a chunk does. An empty one is the end of input, which closes, and a held rest is ignored
+-- what a chunk does. An empty one is the end of input, which closes. A held rest is ignored
 abbrev pub transfer_after : TransferState → List ℕ → Served TransferState
 transfer_after transfer chunk =
     if length chunk == 0
@@ -75,7 +75,7 @@ transfer_after transfer chunk =
 abbrev pub transfer_machine : Machine TransferState
 transfer_machine = machine transfer_started transfer_after
 
--- the requests that these bytes spell, without what is short of one
+-- the requests that these bytes spell, without an incomplete one
 abbrev pub requests : List ℕ → List ℕ
 requests [] = []
 requests (a ∷ []) = []
@@ -83,6 +83,6 @@ requests (a ∷ b ∷ []) = []
 requests (a ∷ b ∷ c ∷ []) = []
 requests (a ∷ b ∷ c ∷ d ∷ bytes) = request_of a b c d ∷ requests bytes
 
--- how many bytes they are given in all: each its own, up to the first request 0
+-- how many bytes answer them in all: each its own, up to the first request 0
 abbrev pub total_size : List ℕ → ℕ
 total_size bytes = sum_by size_of (before_first (λ request. request == 0) (requests bytes))

@@ -50,7 +50,7 @@ served_fed service P step state output false (chunk ∷ chunks) here bytes given
     let one = step state chunk here given.0 in
     served_fed service P step served.next (output ++ served.output) served.closed chunks one.1 (bytes_append output served.output bytes one.0) given.1
 
--- a run writes bytes where each step does, from states that come up
+-- a run writes bytes where each step does, from states that occur
 pub bytes_fold : {S : Type 0} (service : Machine S) (P : S → Type 0) → P service.fresh
     → ((s : S) (chunk : List ℕ) → P s → AreBytes chunk → IsServed P (service.after s chunk)) → WritesBytes service
 bytes_fold service P start step chunks given = served_fed service P step service.fresh [] false chunks start tt given
@@ -106,7 +106,7 @@ unfolding bytes_served
 served_transfer s chunk = served_if Anything (length chunk == 0) (record { next = s; output = []; closed = true })
     (requests_served s.place (held_bytes s.held ++ chunk)) (tt, tt) (served_requests s.place (held_bytes s.held ++ chunk))
 
--- the bytes of the line that goes on
+-- the bytes of the unfinished line
 abbrev pub HoldsBytes : LineState → Type 0
 HoldsBytes s = AreBytes s.held
 

@@ -1,4 +1,4 @@
-//! One service out of the four, chosen by a number.
+//! One of the four services, chosen by a number.
 
 ghost use Rattle.std.specs.Prelude.{◌≡◌, ℕ, ◌^◌, ◌≤◌, List, [], length, true};
 

@@ -1,4 +1,4 @@
-//! Echo gives each chunk back as it came.
+//! Echo returns each chunk as it came.
 
 ghost use Rattle.std.specs.Prelude.{◌≡◌, ℕ, ◌^◌, ◌≤◌, List, [], length, true};
 

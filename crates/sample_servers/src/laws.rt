@@ -1,5 +1,4 @@
-//! Laws of whole runs, which stand above the services' definitions and don't repeat them. Each is a function with nothing to do, whose
-//! contract is the law.
+//! Laws of complete runs. They are about the services' definitions, and don't repeat them. Each is a function with nothing to do, whose contract is the law.
 
 ghost use Rattle.std.specs.Prelude.{◌≡◌, ◌≢◌, ℕ, ◌^◌, ◌-◌, Bool, List, codes, length};
 ghost use Rattle.server_trait.specs.Service.{fold};
@@ -19,7 +18,7 @@ pub fn line_ignores_cuts()
     ensures { IgnoresCuts line_machine }
 {}
 
-/// At the end of 64 bits the line number stands still. No run is so long, so this is said of the state.
+/// At the maximum of 64 bits the line number stays. No run is so long, so this is stated of the state.
 pub fn line_number_stands_still()
     ensures state { (held : List ℕ) → (line_after (record { finished = 2 ^ 64 - 1; held = held }) (codes "\n")).next.finished ≡ 2 ^ 64 - 1 }
     ensures output { (held : List ℕ) → held ≢ codes "quit"
@@ -31,7 +30,7 @@ pub fn transfer_ignores_cuts()
     ensures { IgnoresCuts transfer_machine }
 {}
 
-/// Transfer gives each request before the first 0 as many bytes as it says, at most 2,047, and they are one pattern throughout.
+/// Transfer answers each request before the first 0 with as many bytes as it says, at most 2,047, and they are one pattern throughout.
 pub fn transfer_gives_what_is_asked()
     ensures size { (chunks : List (List ℕ)) (ended : Bool) → NoneEmpty chunks
         → length (fold transfer_machine (chunks_of chunks ended)).output ≡ total_size (joined chunks) }

@@ -1,4 +1,4 @@
-//! Line gives each line of its input back with the line's number. A line is held until it ends, over as many chunks as it takes.
+//! Line returns each line of its input with the line's number. A line is held until it ends, over any number of chunks.
 
 ghost use Rattle.std.specs.Prelude.{◌≡◌, ℕ, ◌^◌, ◌≤◌, ◌<◌, ◌+◌, ◌-◌, List, [], ◌++◌, length, take, drop, true, codes, bytes_eq, IfOk, OnOk};
 ghost use Rattle.server_trait.specs.Service.{next_of};
@@ -15,14 +15,14 @@ use std::marker::Model;
 /// A line ends where it has this many bytes.
 const LINE_LIMIT: usize = 1_024;
 
-/// The line service. Its input is split at line feeds, and a line that reaches 1,024 bytes without one ends there. Each line comes back as
-/// its number from 1, a space, its bytes and a line feed; at 2^64 - 1 the number stands still. A line that is just `quit` is answered by
-/// `bye` and closes. The end of input ends a line that isn't empty.
+/// The line service. Its input is split at line feeds, and a line that reaches 1,024 bytes without one ends there. Each line comes back as its number, counted
+/// from 1, a space, its bytes and a line feed. At 2^64 - 1 the number stays. A line that is just `quit` is answered by `bye` and closes. The end of input ends
+/// a line that isn't empty.
 #[derive(Debug, Drop)]
 pub struct Line {
     // The number of the last line that is finished.
     finished: u64,
-    // The bytes of the line that goes on, fewer than 1,024, with no line feed among them.
+    // The bytes of the unfinished line, fewer than 1,024, with no line feed among them.
     held: Vec<u8>,
 }
 
@@ -34,10 +34,10 @@ impl Model for Line {
     ghost invariant = { λ line. (length line.held.items < 1024) × NoFeed line.held.items };
 }
 
-/// What the bytes of a chunk do to a line that is held.
+/// What the bytes of a chunk do to the held line.
 #[derive(Clone, Copy, Debug, PartialEq, Eq)]
 enum Piece {
-    /// The line ends with so many bytes more, and so many bytes of the chunk are used up.
+    /// The line ends with `len` more bytes, and `used` bytes of the chunk are used up.
     Ends { len: usize, used: usize },
     /// The line doesn't end in them.
     GoesOn,
@@ -61,7 +61,7 @@ impl Line {
         Ok(Next::Go)
     }
 
-    // Goes on with the line that is held.
+    // Continues the held line.
     #[tactic(auto, using(crate::proofs::Lines::no_feed_joined))]
     fn hold(&mut self, bytes: &[u8]) -> Result<(), NoMemory>
         requires room { length self.old.held + length bytes.now < 1024 }
@@ -72,7 +72,7 @@ impl Line {
         Ok(())
     }
 
-    // Ends the line that is held, with these bytes behind it.
+    // Ends the held line, with these bytes added.
     #[tactic(auto, unfolding(crate::specs::Line::line_finished))]
     fn finish(&mut self, piece: &[u8], out: &mut Vec<u8>) -> Result<Next, NoMemory>
         requires { length self.old.held + length piece.now ≤ 1024 }
@@ -91,7 +91,7 @@ impl Line {
         Ok(Next::Go)
     }
 
-    // Where the line that is held ends in these bytes.
+    // Where the held line ends in these bytes.
     fn split(&self, bytes: &[u8]) -> Piece
         ensures { Splits self.now bytes.now result }
     {

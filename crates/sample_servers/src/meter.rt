@@ -1,4 +1,4 @@
-//! Meter gives the length of each chunk, so its output tells how the input was cut.
+//! Meter gives the length of each chunk, so its output shows how the input was cut.
 
 ghost use Rattle.std.specs.Prelude.{◌≡◌, ℕ, ◌^◌, ◌≤◌, List, [], length, true};
 

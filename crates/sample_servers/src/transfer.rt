@@ -9,13 +9,13 @@ use server_trait::{Next, Service};
 use std::alloc::Global;
 use std::marker::Model;
 
-/// The most bytes that one request is given.
+/// The most bytes that answer one request.
 const SIZE_LIMIT: u32 = 2_047;
 
 /// The pattern's length, in bytes: byte i of the whole output is i modulo this.
 const PERIOD: u8 = 251;
 
-/// The bytes of a request that has not come whole.
+/// The bytes of an incomplete request.
 #[derive(Clone, Copy, Debug, PartialEq, Eq)]
 enum Held {
     Nothing,
@@ -24,14 +24,13 @@ enum Held {
     Three(u8, u8, u8),
 }
 
-/// The transfer service. Its input is requests of four bytes, a big-endian number each, and a request gives as many bytes as it says, at
-/// most 2,047: byte i of the whole output is i modulo 251. Request 0 closes. Bytes short of a request are held, and ignored at the end of
-/// input.
+/// The transfer service. Its input is requests of four bytes, a big-endian number each, and a request gives as many bytes as it says, at most 2,047: byte i of
+/// the whole output is i modulo 251. Request 0 closes. The bytes of an incomplete request are held, and ignored at the end of input.
 #[derive(Debug, Drop)]
 pub struct Transfer {
     // How many bytes are written, modulo 251, and so below it.
     place: u8,
-    // The bytes that are held, short of a request.
+    // The held bytes, which are less than a request.
     held: Held,
 }
 
@@ -100,7 +99,7 @@ fn number(a: u8, b: u8, c: u8, d: u8) -> u32
     ((u32::from(a) * 256 + u32::from(b)) * 256 + u32::from(c)) * 256 + u32::from(d)
 }
 
-// Appends so many bytes of the pattern, from this place on.
+// Appends `size` bytes of the pattern, from this place on.
 #[tactic(auto, using(crate::proofs::Patterns::pattern_push), unfolding(crate::specs::Transfer::pattern))]
 fn write_pattern(place: u8, size: u32, out: &mut Vec<u8>) -> Result<(), NoMemory>
     ensures { OnOk result (out.new.items ≡ out.old.items ++ pattern place size) }
@@ -114,7 +113,7 @@ fn write_pattern(place: u8, size: u32, out: &mut Vec<u8>) -> Result<(), NoMemory
     Ok(())
 }
 
-// The byte of the pattern behind this one.
+// The byte of the pattern after this one.
 fn following(byte: u8) -> u8
     requires { byte < 251 }
     ensures { result ≡ (byte + 1) % 251 }

@@ -1,4 +1,4 @@
--- What a schedule can ask for, and the line by which it does.
+-- What a schedule can ask for, and the line that asks for it.
 use Rattle.std.specs.Prelude.{ℕ, ◌<◌, ◌≤◌, ◌^◌, ⊤, List}
 use Rattle.std.specs.List.{join_with_byte}
 use Rattle.ft_model.specs.Report.{event_words}
@@ -9,11 +9,11 @@ use Rattle.ft_model.specs.declared.event.Event.TheVariants.{Boot, Crash, Tick, D
 abbrev pub IsClient : ℕ → Type 0
 IsClient n = (1 ≤ n) × (n ≤ 16)
 
--- the number of a packet, from 1
+-- the number of a packet, counted from 1
 abbrev pub IsPacket : ℕ → Type 0
 IsPacket n = (1 ≤ n) × (n < 2 ^ 32)
 
--- the numbers of an event are such as a schedule may have
+-- the numbers of an event are in the ranges that a schedule allows
 abbrev pub IsAskable : Event → Type 0
 IsAskable (Boot boot isn) = (1 ≤ boot) × (boot < 2 ^ 64) × (isn < 2 ^ 32)
 IsAskable Crash = ⊤
@@ -26,6 +26,6 @@ IsAskable (Fin client) = IsClient client
 IsAskable (Ack client window) = IsClient client × (window < 2 ^ 16)
 IsAskable (Reset client) = IsClient client
 
--- the words of an event, with a space between each two
+-- the words of an event, separated by spaces
 abbrev pub asked_line : Event → List ℕ
 asked_line e = join_with_byte 32 (event_words e)

@@ -1,4 +1,4 @@
-//! The last lines of a report: how the clients and the log stand, and how many events there were.
+//! The last lines of a report: the state of the clients and the log, and how many events there were.
 
 ghost use Rattle.std.specs.Prelude.{◌≡◌, ◌++◌, ◌∷◌, [], codes, decimal, OnOk, OnErr};
 ghost use Rattle.ft_model.specs.Texts.{spaced, bit_text, list_text, phase_text};
@@ -26,7 +26,7 @@ pub struct LogLine<'a> {
     pub reads: &'a [u16],
 }
 
-/// Writes how client `n` stands: its phase, and what it has accepted of the server. Without memory `out` stays as it was.
+/// Writes the state of client `n`: its phase, and what it has accepted from the server. After `NoMemory` `out` is as it was.
 pub fn write_client_line(
     alloc: Global,
     n: u32,
@@ -69,7 +69,7 @@ pub fn phase_word(phase: Phase) -> &'static [u8]
     }
 }
 
-/// Writes how a connection stands in the log. Without memory `out` stays as it was.
+/// Writes the state of a connection in the log. After `NoMemory` `out` is as it was.
 pub fn write_log_line(alloc: Global, entry: &LogLine<'_>, out: &mut Vec<u8>) -> Result<(), NoMemory>
     ensures ok { OnOk result (out.new.items
         ≡ out.old.items ++ entry_line entry.now.key entry.now.length entry.now.fin entry.now.acked entry.now.done entry.now.reads.now) }
@@ -118,7 +118,7 @@ fn put_counts(entry: &LogLine<'_>, line: &mut LineOut) -> Result<(), NoMemory>
     put_field(b" acked ", u64::from(entry.acked), line)
 }
 
-/// Writes the last line, with the number of events. Without memory `out` stays as it was.
+/// Writes the last line, with the number of events. After `NoMemory` `out` is as it was.
 pub fn write_end(alloc: Global, n: u32, out: &mut Vec<u8>) -> Result<(), NoMemory>
     ensures ok { OnOk result (out.new.items ≡ out.old.items ++ end_line n) }
     ensures err { OnErr result (out.new.items ≡ out.old.items) }

@@ -10,13 +10,13 @@ use thiserror::Error;
 /// Why a text gave no schedule.
 #[derive(Clone, Copy, Debug, PartialEq, Eq, Error)]
 pub enum ScheduleEnd {
-    /// Memory ran out.
+    /// An allocation failed.
     #[error("no memory")]
     NoMemory,
     /// The first line that is refused, counted from 1, and why.
     #[error("line {line} is refused")]
     BadLine { line: u32, why: LineWhy },
-    /// The text passes a limit.
+    /// The text exceeds a limit.
     #[error("too long")]
     TooLong { what: Limit },
 }

@@ -1,4 +1,4 @@
-//! The lines of events, from the words behind the first: their count is tested first, and then each number in order.
+//! The lines of events, from the words after the first: their count is tested first, and then each number in order.
 
 ghost use Rattle.std.specs.Prelude.{◌≡◌, ◌-◌, ◌^◌, ◌≤◌, ℕ, List, [], ◌∷◌, IfOk, MatchResult};
 ghost use Rattle.ft_model.specs.Words.{words_of};
@@ -9,7 +9,7 @@ use crate::spelling::read_number;
 use crate::words::next_word;
 use ft_model::{Event, LineWhy, Verb};
 
-/// The next word and what stands behind it.
+/// The next word and what follows it.
 pub(crate) fn word_of(words: &[u8]) -> Result<(&[u8], &[u8]), LineWhy>
     ensures { MatchResult result (λ w. words_of words.now ≡ w.0.now ∷ words_of w.1.now) (λ e. (words_of words.now ≡ []) × (e ≡ LineWhy.Count)) }
 {
@@ -19,7 +19,7 @@ pub(crate) fn word_of(words: &[u8]) -> Result<(&[u8], &[u8]), LineWhy>
     }
 }
 
-/// Tests that no further word stands there.
+/// Tests that no further word follows.
 pub(crate) fn end_of(words: &[u8]) -> Result<(), LineWhy>
     ensures { MatchResult result (λ _. words_of words.now ≡ [])
         (λ e. (first : List ℕ) × (more : List (List ℕ)) × (words_of words.now ≡ first ∷ more) × (e ≡ LineWhy.Count)) }
@@ -147,7 +147,7 @@ fn read_client_alone(words: &[u8]) -> Result<u8, LineWhy>
     read_client_number(client)
 }
 
-/// Reads an event's line, from the words behind its first.
+/// Reads an event's line, from the words after its first.
 pub(crate) fn read_event(verb: Verb, words: &[u8]) -> Result<Event, LineWhy>
     ensures { result ≡ event_line verb (words_of words.now) }
 {

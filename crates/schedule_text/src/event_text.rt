@@ -10,7 +10,7 @@ use ft_io::NoMemory;
 use ft_model::Event;
 use std::alloc::Global;
 
-/// Writes the line of event `n`: its number and what happens, as a schedule asks for it. Without memory `out` stays as it was.
+/// Writes the line of event `n`: its number and what happens, as a schedule spells it. After `NoMemory` `out` is as it was.
 pub fn write_event(alloc: Global, n: u32, e: &Event, out: &mut Vec<u8>) -> Result<(), NoMemory>
     ensures ok { OnOk result (out.new.items ≡ out.old.items ++ event_line n e.now) }
     ensures err { OnErr result (out.new.items ≡ out.old.items) }
@@ -31,7 +31,7 @@ fn put_event_line(n: u32, e: &Event, line: &mut LineOut) -> Result<(), NoMemory>
     line.push(b'\n')
 }
 
-/// The words of an event, each behind a space.
+/// The words of an event, each after a space.
 #[tactic(auto, using(crate::proofs::LineLemmas::line_rules))]
 fn put_event(e: &Event, line: &mut LineOut) -> Result<(), NoMemory>
     ensures ok { OnOk result (line.new.words ≡ line.old.words ++ spaced (event_words e.now)) }

@@ -1,4 +1,4 @@
-//! The head of a report: what the schedule asked, before its events.
+//! The head of a report: what the schedule asked for, before its events.
 
 ghost use Rattle.std.specs.Prelude.{◌≡◌, ◌+◌, ◌++◌, ◌∷◌, ◌==◌, if◌then◌else◌, codes, length, OnOk, OnErr};
 ghost use Rattle.hex.specs.Hex.{encode_lower};
@@ -11,7 +11,7 @@ use ft_io::{Addr, NoMemory};
 use ft_model::{ClientLine, Schedule, Script, ServiceKind};
 use std::alloc::Global;
 
-/// Writes the report's name and version and the schedule's lines for service, server and clients. Without memory `out` stays as it was.
+/// Writes the report's name and version and the schedule's lines for service, server and clients. After `NoMemory` `out` is as it was.
 pub fn write_header(alloc: Global, s: &Schedule, out: &mut Vec<u8>) -> Result<(), NoMemory>
     ensures ok { OnOk result (out.new.items ≡ out.old.items ++ header s.now) }
     ensures err { OnErr result (out.new.items ≡ out.old.items) }
@@ -97,7 +97,7 @@ fn put_script(script: &Script, line: &mut LineOut) -> Result<(), NoMemory>
     }
 }
 
-/// A space, and the bytes of a script: `-` for none, otherwise their hexadecimal behind `hex:`.
+/// A space, and the bytes of a script: `-` for none, otherwise their hexadecimal after `hex:`.
 #[tactic(auto, using(std::proofs::Common::append_assoc))]
 fn put_bytes(bytes: &[u8], line: &mut LineOut) -> Result<(), NoMemory>
     ensures ok { OnOk result (line.new.words ≡ line.old.words ++ 32 ∷ (if length bytes.now == 0 then codes "-" else codes "hex:" ++ encode_lower bytes.now)) }

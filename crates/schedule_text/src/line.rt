@@ -90,7 +90,7 @@ fn read_client_line(alloc: Global, draft: &Draft, words: &[u8]) -> Result<Client
     Ok(ClientLine { key, isn, script })
 }
 
-/// Reads what a line says, from the words behind its keyword.
+/// Reads what a line says, from the words after its keyword.
 fn read_words(alloc: Global, draft: &Draft, keyword: Keyword, words: &[u8]) -> Result<Line, LineEnd>
     ensures { GivesLine result (line_from draft.now keyword (words_of words.now)) }
 {
@@ -176,7 +176,7 @@ fn fits_number(count: usize, words: &[u8]) -> bool
     }
 }
 
-/// Whether another client line may stand behind these lines.
+/// Whether another client line may follow these lines.
 #[tactic(auto, unfolding(ft_model::specs::Grammar::may_join))]
 fn takes_client(schedule: &Schedule, words: &[u8]) -> bool
     ensures { result ≡ may_join schedule.now (words_of words.now) }
@@ -203,7 +203,7 @@ fn takes_line(draft: &Draft, keyword: Keyword, words: &[u8]) -> bool
     }
 }
 
-/// Reads a line from the words behind its keyword: the name of a service, the place, and what the line says.
+/// Reads a line from the words after its keyword: the name of a service, the place, and what the line says.
 #[tactic(auto, unfolding(ft_model::specs::Grammar::line_behind))]
 fn read_behind(
     alloc: Global,
@@ -235,7 +235,7 @@ fn is_plain_text(text: &[u8]) -> bool
     text.iter().all(|byte| is_plain(*byte))
 }
 
-/// Reads a line behind the lines read so far, by its tests in their order.
+/// Reads a line that follows the lines read so far, by its tests in their order.
 #[tactic(auto, unfolding(ft_model::specs::Grammar::line_of))]
 pub(crate) fn read_line(alloc: Global, draft: &Draft, text: &[u8]) -> Result<Line, LineEnd>
     ensures { GivesLine result (line_of draft.now text.now) }

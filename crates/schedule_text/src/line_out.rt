@@ -1,4 +1,4 @@
-//! A line on its way to the end of a text. It is written there at once, and cut off again where memory runs out.
+//! A line that is being appended to a text. It is written there at once, and cut off again where an allocation fails.
 
 ghost use Rattle.std.specs.Prelude.{◌≡◌, ◌∷◌, [], ◌++◌, length, OnOk, OnErr};
 
@@ -7,7 +7,7 @@ use std::alloc::Global;
 use std::marker::Model;
 use std::mem;
 
-/// A text, and behind its first `start` bytes what is written of the line.
+/// A text, and after its first `start` bytes what is written of the line.
 #[derive(Drop)]
 pub(crate) struct LineOut {
     bytes: Vec<u8>,
@@ -38,7 +38,7 @@ impl LineOut {
         LineOut { bytes, start }
     }
 
-    /// Gives the text back: with the line, or without what there is of it where memory ran out.
+    /// Returns the text: with the line, or without what there is of it where an allocation failed.
     #[inline]
     pub(crate) fn close(
         self,

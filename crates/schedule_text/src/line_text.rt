@@ -1,5 +1,4 @@
-//! The words of a report's line, appended one by one: each value in its one spelling. What is appended to after a refusal for want of
-//! memory is to be dropped.
+//! The words of a report's line, appended one by one: each value in its one spelling. After `NoMemory` what was appended to is to be dropped.
 
 ghost use Rattle.std.specs.Prelude.{◌≡◌, ◌<◌, ◌≤◌, ◌∷◌, [], ◌++◌, codes, decimal, length, take, drop, OnOk};
 ghost use Rattle.hex.specs.Hex.{encode_lower};
@@ -70,7 +69,7 @@ pub(crate) fn put_bit(name: &[u8], bit: bool, line: &mut LineOut) -> Result<(), 
     line.push(if bit { b'1' } else { b'0' })
 }
 
-/// A dash, where nothing stands behind the first `start` bytes.
+/// A dash, where nothing follows the first `start` bytes.
 #[inline]
 #[tactic(auto, using(crate::proofs::Dashes::dash_for_none, crate::proofs::Dashes::itself_for_some))]
 pub(crate) fn put_dash(start: usize, line: &mut LineOut) -> Result<(), NoMemory>
@@ -129,7 +128,7 @@ pub(crate) fn put_list(numbers: &[u16], line: &mut LineOut) -> Result<(), NoMemo
     put_others(others, line)
 }
 
-/// Numbers in decimal, each behind a comma.
+/// Numbers in decimal, each after a comma.
 #[tactic(auto, using(std::proofs::Common::append_assoc))]
 fn put_others(numbers: &[u16], line: &mut LineOut) -> Result<(), NoMemory>
     ensures ok { OnOk result (line.new.words ≡ line.old.words ++ behind_commas numbers.now) }
@@ -156,7 +155,7 @@ pub(crate) fn put_address(ip: u32, port: u16, line: &mut LineOut) -> Result<(), 
     put_digits(u64::from(port), line)
 }
 
-/// A number, and a mark behind it.
+/// A number, and a mark after it.
 #[inline]
 #[tactic(auto, using(std::proofs::Common::append_assoc))]
 fn put_part(n: u32, mark: u8, line: &mut LineOut) -> Result<(), NoMemory>
@@ -208,7 +207,7 @@ fn put_letter(flags: u8, flag: u8, letter: u8, line: &mut LineOut) -> Result<(),
     Ok(())
 }
 
-/// The name of the MSS option and its value, each behind a space.
+/// The name of the MSS option and its value, each after a space.
 #[inline]
 #[tactic(auto, using(std::proofs::Common::append_assoc), unfolding(ft_model::specs::Texts::mss_text))]
 pub(crate) fn put_mss(mss: Option<u16>, line: &mut LineOut) -> Result<(), NoMemory>
@@ -221,7 +220,7 @@ pub(crate) fn put_mss(mss: Option<u16>, line: &mut LineOut) -> Result<(), NoMemo
     }
 }
 
-/// A space, and a packet's way.
+/// A space, and a packet's direction.
 #[inline]
 #[tactic(auto, using(std::proofs::Common::append_assoc), unfolding(ft_model::specs::Texts::way_text))]
 pub(crate) fn put_way(way: Way, line: &mut LineOut) -> Result<(), NoMemory>

@@ -163,7 +163,7 @@ fn put_kept(key: Key, length: u32, fin: u8, reads: u32, line: &mut LineOut) -> R
     put_field(b" reads ", u64::from(reads), line)
 }
 
-/// How a logged connection stands, behind how many bytes it has.
+/// The state of a logged connection, after how many bytes it has.
 #[tactic(auto, using(crate::proofs::LineLemmas::line_rules))]
 fn put_standing(
     fin: u8,
@@ -268,7 +268,7 @@ fn put_joined(lens: &[u8], line: &mut LineOut) -> Result<(), NoMemory>
     put_others(others, line)
 }
 
-/// Lengths of two bytes each, each behind a comma.
+/// Lengths of two bytes each, each after a comma.
 #[tactic(auto, using(std::proofs::Common::append_assoc))]
 fn put_others(lens: &[u8], line: &mut LineOut) -> Result<(), NoMemory>
     ensures ok { OnOk result (line.new.words ≡ line.old.words ++ behind_commas (lens_in lens.now)) }

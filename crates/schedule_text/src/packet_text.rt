@@ -16,7 +16,7 @@ use segment_codec::{read_accepted, read_packet};
 use seq_arith::Head;
 use std::alloc::Global;
 
-/// Whether bytes are a packet of this way: one that the codec of its kind accepts.
+/// Whether bytes are a packet of this direction: one that the codec of its kind accepts.
 pub fn is_packet(way: Way, bytes: &[u8]) -> bool
     ensures { IsTrue result ↔ IsSome (packet_in way bytes.now) }
 {
@@ -26,8 +26,8 @@ pub fn is_packet(way: Way, bytes: &[u8]) -> bool
     }
 }
 
-/// Writes the line of packet `n` of the run: its number, its way and its content. The bytes are a packet of that way. Without memory `out`
-/// stays as it was.
+/// Writes the line of packet `n` of the run: its number, its direction and its content. The bytes are a packet of that direction. After `NoMemory` `out` is as
+/// it was.
 pub fn write_packet_line(
     alloc: Global,
     n: u32,
@@ -55,7 +55,7 @@ fn put_packet_line(n: u32, way: Way, bytes: &[u8], line: &mut LineOut) -> Result
     line.push(b'\n')
 }
 
-/// What stands before a packet's content.
+/// What comes before a packet's content.
 #[tactic(auto, using(crate::proofs::LineLemmas::line_rules))]
 fn put_start(n: u32, way: Way, line: &mut LineOut) -> Result<(), NoMemory>
     ensures ok { OnOk result (line.new.words ≡ line.old.words ++ (codes "packet" ++ spaced (decimal n ∷ way_text way ∷ []))) }
@@ -66,7 +66,7 @@ fn put_start(n: u32, way: Way, line: &mut LineOut) -> Result<(), NoMemory>
     put_way(way, line)
 }
 
-/// The words of the packet that bytes say, each behind a space.
+/// The words of the packet that bytes spell, each after a space.
 #[tactic(auto, unfolding(ft_model::specs::Report::content_words))]
 fn put_bytes(way: Way, bytes: &[u8], line: &mut LineOut) -> Result<(), NoMemory>
     requires { IsSome (packet_in way bytes.now) }

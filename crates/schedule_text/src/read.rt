@@ -1,4 +1,4 @@
-//! The reading of a whole text, line after line.
+//! Reading a complete text, line after line.
 
 ghost use Rattle.std.specs.Prelude.{◌≡◌, IfOk, length};
 ghost use Rattle.ft_model.specs.Grammar.{with_line, no_objection, is_comment, is_passed_over, is_full, is_too_much, after_line, schedule_of, read_text};
@@ -89,7 +89,7 @@ fn read_more(alloc: Global, draft: Draft, text: &[u8]) -> Result<Draft, LineEnd>
     Ok(add_line(alloc, draft, line)?)
 }
 
-/// Reads line `number` of a text behind the lines before it.
+/// Reads line `number` of a text, after the lines before it.
 #[tactic(auto, unfolding(ft_model::specs::Grammar::after_line))]
 fn take_line(alloc: Global, number: u32, draft: Draft, text: &[u8]) -> Result<Draft, ScheduleEnd>
     ensures { Gives result (after_line no_objection number draft text.now) }
@@ -122,8 +122,8 @@ fn finish(number: u32, draft: Draft) -> Result<Schedule, ScheduleEnd>
     }
 }
 
-/// Reads a schedule from its text. Unless memory runs out, it returns the schedule that the text spells; or the first line that is
-/// refused and why; or the limit that is passed.
+/// Reads a schedule from its text. Unless an allocation fails, it returns the schedule that the text spells; or the first line that is refused and why; or the
+/// limit that is exceeded.
 #[tactic(auto, using(crate::proofs::Reading::goes_on, crate::proofs::Reading::stops, crate::proofs::Reading::ends), unfolding(ft_model::specs::Grammar::read_with))]
 pub fn read_schedule(alloc: Global, text: &[u8]) -> Result<Schedule, ScheduleEnd>
     ensures { Gives result (read_text text.now) }

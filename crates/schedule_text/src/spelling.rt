@@ -1,4 +1,4 @@
-//! The words of a schedule: numbers, addresses, services and scripts, each read by its spelling alone.
+//! The words of a schedule: numbers, addresses, services and scripts, each read only by its spelling.
 
 ghost use Rattle.std.specs.Prelude.{◌≡◌, ◌+◌, ◌*◌, ◌%◌, ◌<◌, ◌≤◌, ◌^◌, true, length, option_map, IsTrue, IfOk, IfSome};
 ghost use Rattle.std.specs.List.{list_all};
@@ -33,7 +33,7 @@ fn all_digits(word: &[u8]) -> bool
     word.iter().all(|byte| is_digit(*byte))
 }
 
-/// The number that digits write.
+/// The number that digits spell.
 fn value_of(word: &[u8]) -> u128
     requires digits { list_all is_ascii_digit word.now ≡ true }
     requires short { length word.now ≤ 20 }
@@ -46,7 +46,7 @@ fn value_of(word: &[u8]) -> u128
     value
 }
 
-/// The number that one to so many digits write.
+/// The number that one to `digits` decimal digits spell.
 #[tactic(auto, unfolding(ft_model::specs::Spelling::numeral))]
 pub(crate) fn read_numeral(digits: usize, word: &[u8]) -> Option<u128>
     requires { digits ≤ 20 }
@@ -113,7 +113,7 @@ fn read_host(word: &[u8]) -> Option<u32>
     Some(16_777_216 * first + 65_536 * second + 256 * third + fourth)
 }
 
-/// Reads an IPv4 address and a port, as `192.0.2.1:40000`.
+/// Reads an IPv4 address and a port, such as `192.0.2.1:40000`.
 #[tactic(auto, unfolding(ft_model::specs::Spelling::addr_of))]
 pub fn read_addr(word: &[u8]) -> Option<Addr>
     ensures { result ≡ addr_of word.now }
@@ -155,7 +155,7 @@ fn all_hex_digits(digits: &[u8]) -> bool
     digits.iter().all(|byte| is_hex_byte(*byte))
 }
 
-/// Whether pairs of hexadecimal digits stand there, as many as a script may have.
+/// Whether these are pairs of hexadecimal digits, as many as a script may have.
 #[tactic(auto, unfolding(ft_model::specs::Spelling::is_hex))]
 fn is_hex_text(digits: &[u8]) -> bool
     ensures value { result ≡ is_hex digits.now }
@@ -171,14 +171,14 @@ fn is_hex_text(digits: &[u8]) -> bool
     2 <= digits.len() && digits.len() <= 2 * SCRIPT_LIMIT
 }
 
-/// The bytes that pairs of hexadecimal digits write.
+/// The bytes that pairs of hexadecimal digits spell.
 #[tactic(auto, using(crate::proofs::Hex::digits_read))]
 fn bytes_of_hex(alloc: Global, digits: &[u8]) -> Result<Vec<u8>, NoMemory>
     requires digits { list_all is_ascii_hexdigit digits.now ≡ true }
     requires pairs { length digits.now % 2 ≡ 0 }
     ensures { IfOk result (λ bytes. bytes.items ≡ hex_bytes digits.now) }
 {
-    // All are digits, in pairs: so only memory can be wanting.
+    // All are digits, in pairs: so only an allocation can fail.
     hex::decode(alloc, digits).map_err(|_| NoMemory)
 }
 

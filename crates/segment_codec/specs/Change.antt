@@ -10,7 +10,7 @@ use Rattle.seq_arith.specs.PacketGrammar.{tcp_text}
 unfoldable pub put : ℕ → List ℕ → List ℕ → List ℕ
 put at new bytes = take at bytes ++ new ++ drop (at + length new) bytes
 
--- a packet with its TCP checksum summed anew
+-- a packet with its TCP checksum computed again
 unfoldable pub sealed : List ℕ → List ℕ
 sealed bytes = let blank = put 36 (two 0) bytes in put 36 (two (checksum (tcp_text blank))) blank
 
@@ -18,7 +18,7 @@ sealed bytes = let blank = put 36 (two 0) bytes in put 36 (two (checksum (tcp_te
 unfoldable pub patched_at : (at word : ℕ) → List ℕ → List ℕ
 patched_at at word head = put 36 (two (patched (word_at head 36) (word_at head at) word)) (put at (two word) head)
 
--- a reading with the segment changed, where there is one
+-- a reading with its segment changed, if it has one
 abbrev pub changed : (Segment → Segment) → Result Segment BadPacket → Result Segment BadPacket
 changed change (Ok segment) = Ok (change segment)
 changed change (Err bad) = Err bad

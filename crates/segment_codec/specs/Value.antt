@@ -1,4 +1,4 @@
--- What the codec's values say, in the plain records of the packet grammar.
+-- What the codec's values say, as plain records of the packet grammar.
 use Rattle.std.specs.Prelude.{Result, Ok, Err}
 use Rattle.seq_arith.specs.declared.BadPacket.{BadPacket}
 use Rattle.seq_arith.specs.Packet.{Segment}

@@ -1,4 +1,4 @@
--- The parts of a packet as they are written, before and with its checksums.
+-- The parts of a packet as they are written, without its checksums and with them.
 use Rattle.std.specs.Prelude.{◌<◌, ◌^◌, ℕ, List, [], ◌∷◌, ◌++◌, ◌+◌, ◌*◌, ◌/◌, length, take}
 use Rattle.seq_arith.specs.Bytes.{two, four}
 use Rattle.seq_arith.specs.Checksum.{checksum}
@@ -16,7 +16,7 @@ segment_with head payload = record { head = said head; payload = payload }
 unfoldable pub ip_start : ℕ → List ℕ
 ip_start len = (69 ∷ 0 ∷ two len) ++ (0 ∷ 0 ∷ 64 ∷ 0 ∷ []) ++ (64 ∷ 6 ∷ 0 ∷ 0 ∷ [])
 
--- bytes 12 to 23: from where and to where
+-- bytes 12 to 23: the addresses and ports
 unfoldable pub places : packet.Head → List ℕ
 places head = four head.src ++ four head.dst ++ two head.sport ++ two head.dport
 
@@ -25,11 +25,11 @@ unfoldable pub numbers : packet.Head → List ℕ
 numbers head =
     four head.seq ++ four head.ack ++ (16 * (5 + length (mss_option head.mss) / 4) ∷ head.flags ∷ two head.window) ++ (0 ∷ 0 ∷ 0 ∷ 0 ∷ [])
 
--- with both checksums summed
+-- with both checksums computed
 unfoldable pub with_checksums : List ℕ → List ℕ
 with_checksums bytes = sealed (put 10 (two (checksum (take 20 bytes))) bytes)
 
--- the fields fit their bytes, as their types say
+-- the fields fit their bytes, by their types
 pub record PlacesFit (head : packet.Head) : Type 0 where
   pub src : head.src < 2 ^ 32
   pub dst : head.dst < 2 ^ 32

@@ -1,4 +1,4 @@
-//! A packet that is known to be accepted is read without its tests, and so without a sum.
+//! A packet that is known to be accepted is read without the tests, and so without computing a checksum.
 
 ghost use Rattle.std.specs.Prelude.{◌≡◌, ◌≤◌, ◌-◌, Ok, IsOk, length, drop};
 ghost use Rattle.seq_arith.specs.PacketGrammar.{reading, payload_at, options_in, mss_in};
@@ -7,7 +7,7 @@ ghost use Rattle.segment_codec.specs.Value.{segment_of};
 use crate::PacketRef;
 use crate::reading::{offered_mss, payload_start, read_head};
 
-/// Reads a packet that `read_packet` accepts. It looks at the headers alone.
+/// Reads a packet that `read_packet` accepts. It looks only at the headers.
 #[tactic(auto, using(crate::proofs::Accepting::header_is_long, crate::proofs::Accepting::packet_is_short, crate::proofs::Accepting::is_read), unfolding(seq_arith::specs::PacketGrammar::segment_in))]
 pub fn read_accepted(bytes: &[u8]) -> PacketRef<'_>
     requires { IsOk (reading bytes.now) }

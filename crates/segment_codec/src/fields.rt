@@ -48,7 +48,7 @@ pub(crate) fn put_bytes(bytes: &mut [u8], at: usize, new: &[u8])
     bytes[at..at + new.len()].copy_from_slice(new);
 }
 
-/// The checksum of the IP header, with what stands in its checksum's place.
+/// The checksum of the IP header, computed over whatever is in the checksum's place.
 pub(crate) fn ip_checksum(bytes: &[u8]) -> u16
     requires { 20 ≤ length bytes.now }
     ensures { result ≡ checksum (take 20 bytes.now) }
@@ -58,7 +58,7 @@ pub(crate) fn ip_checksum(bytes: &[u8]) -> u16
     sum.check()
 }
 
-/// The TCP checksum of a packet, with what stands in its checksum's place.
+/// The TCP checksum of a packet, computed over whatever is in the checksum's place.
 pub(crate) fn tcp_checksum(bytes: &[u8]) -> u16
     requires long { 20 ≤ length bytes.now }
     requires short { length bytes.now < 2 ^ 16 }
@@ -73,7 +73,7 @@ pub(crate) fn tcp_checksum(bytes: &[u8]) -> u16
     sum.check()
 }
 
-/// Sums the TCP checksum anew.
+/// Computes the TCP checksum again.
 #[tactic(auto, unfolding(crate::specs::Change::sealed))]
 pub(crate) fn seal(bytes: &mut [u8])
     requires long { 40 ≤ length bytes.old }

@@ -1,5 +1,5 @@
-//! The headers of a packet in its one spelling: no option but the segment size, don't fragment, 64 hops, and all that isn't kept zero. The
-//! checksums are summed over what stands there, with zero in their places.
+//! The headers of a packet in its one spelling: no option but the segment size, don't fragment, 64 hops, and zero for all that isn't kept. The checksums are
+//! computed with zero in their places.
 
 ghost use Rattle.std.specs.Prelude.{◌≡◌, ◌<◌, ◌≤◌, ◌+◌, ◌/◌, ◌^◌, IfSome, length, drop, Ok};
 ghost use Rattle.seq_arith.specs.PacketGrammar.{mss_option, reading, spelling};
@@ -10,13 +10,13 @@ ghost use Rattle.segment_codec.specs.Written.{PlacesFit, NumbersFit, segment_wit
 use crate::Head;
 use crate::fields::{ip_checksum, put_long, put_word, seal};
 
-/// Writes the headers in front of a payload that stands in its place already: from byte 40 on, or from byte 44 where `head` has a segment
-/// size, to the end of `packet`. The whole is then what `write_packet` writes.
+/// Writes the headers before a payload that is already in its place: from byte 40 on, or from byte 44 where `head` has a segment size, to the end of `packet`.
+/// The packet is then what `write_packet` writes.
 pub fn write_header(head: &Head, packet: &mut [u8])
     requires room { 40 + length (mss_option head.now.mss) ≤ length packet.old }
     requires fits { length packet.old ≤ 1500 }
     ensures bytes { packet.new ≡ spelling (segment_with head.now (drop (40 + length (mss_option head.now.mss)) packet.old)) }
-    // What was written is read again.
+    // What was written is read back.
     ensures read { reading packet.new ≡ Ok (segment_with head.now (drop (40 + length (mss_option head.now.mss)) packet.old)) }
 {
     put_ip_start(packet, packet.len() as u16);
@@ -26,7 +26,7 @@ pub fn write_header(head: &Head, packet: &mut [u8])
     seal_both(packet);
 }
 
-/// Where the payload stands in a packet that is written: behind the headers, in bytes from its beginning.
+/// Where the payload is in a packet that is written: after the headers, in bytes from the packet's beginning.
 pub fn payload_start(mss: Option<u16>) -> usize
     ensures { result ≡ 40 + length (mss_option mss) }
 {
@@ -47,7 +47,7 @@ fn header_words(mss: Option<u16>) -> u16
     }
 }
 
-/// Version 4, a header of five words, the whole length, don't fragment, 64 hops, TCP.
+/// Version 4, a header of five words, the total length, don't fragment, 64 hops, TCP.
 fn put_ip_start(out: &mut [u8], len: u16)
     requires { 40 ≤ length out.old }
     ensures { out.new ≡ put 0 (ip_start len) out.old }
@@ -100,7 +100,7 @@ fn put_options(out: &mut [u8], mss: Option<u16>)
     }
 }
 
-/// Sums both checksums.
+/// Computes both checksums.
 #[tactic(auto, unfolding(crate::specs::Written::with_checksums))]
 fn seal_both(packet: &mut [u8])
     requires long { 40 ≤ length packet.old }

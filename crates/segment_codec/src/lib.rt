@@ -1,5 +1,5 @@
-//! TCP packets over IPv4 as bytes: reading, writing, and changing one field in place (RFC 791, 3.1; RFC 9293, 3.1). What a string of bytes
-//! says, and which refusal it gets, is the packet grammar of `seq_arith`. Nothing here takes memory.
+//! TCP packets over IPv4 as bytes: reading, writing, and changing one field in place (RFC 791, 3.1; RFC 9293, 3.1). What a string of bytes says, and which
+//! refusal it gets, is defined by the packet grammar of `seq_arith`. Nothing here allocates.
 #![tactic(auto)]
 
 pub use accepted::read_accepted;

@@ -1,4 +1,4 @@
-//! Reading a packet where it lies: the tests in the grammar's order, each field at its place, and the payload as a part of the bytes.
+//! Reading a packet in place: the tests in the grammar's order, each field at its place, and the payload as a part of the bytes.
 
 ghost use Rattle.std.specs.Prelude.{◌≡◌, ◌≤◌, ◌<◌, ◌+◌, ◌-◌, ◌*◌, ◌^◌, ◌≢◌, true, false, length, drop, slice_index, ◌∷◌, IfNone, IfSome};
 ghost use Rattle.std.specs.Option.{option_or};
@@ -11,7 +11,7 @@ use crate::fields::{ip_checksum, read_long, read_word, tcp_checksum};
 use crate::{Head, PacketRef};
 use seq_arith::{BadPacket, Seq};
 
-/// Reads a packet, or says which test of the grammar it fails first. It goes over the bytes once and copies none.
+/// Reads a packet, or says which test of the grammar it fails first. It passes over the bytes once and copies none.
 #[tactic(auto, using(crate::proofs::Refusals::by_parts))]
 pub fn read_packet(bytes: &[u8]) -> Result<PacketRef<'_>, BadPacket>
     ensures { seen result ≡ reading bytes.now }
@@ -53,7 +53,7 @@ fn ip_refusal(bytes: &[u8]) -> Option<BadPacket>
     None
 }
 
-/// Reads what stands behind an IP header that passed its tests.
+/// Reads what follows an IP header that passed its tests.
 #[tactic(auto, unfolding(seq_arith::specs::PacketGrammar::tcp_tests, seq_arith::specs::PacketGrammar::segment_in, seq_arith::specs::PacketGrammar::options_in))]
 fn read_tcp(bytes: &[u8]) -> Result<PacketRef<'_>, BadPacket>
     requires long { 40 ≤ length bytes.now }
@@ -125,7 +125,7 @@ pub(crate) fn offered_mss(options: &[u8]) -> Option<Option<u16>>
     Some(mss)
 }
 
-/// How many bytes of an option stand behind its kind, which isn't 0. `None` where its length is wrong.
+/// How many bytes of an option follow its kind, which isn't 0. `None` where its length is wrong.
 #[tactic(auto, using(crate::proofs::Options::short_length, crate::proofs::Options::far_length, crate::proofs::Options::good_length))]
 fn bytes_behind(kind: u8, behind: &[u8]) -> Option<usize>
     requires { kind ≢ 0 }
@@ -147,7 +147,7 @@ fn bytes_behind(kind: u8, behind: &[u8]) -> Option<usize>
     Some(len - 1)
 }
 
-/// The length byte behind an option's kind, or 0 where there is none.
+/// The length byte after an option's kind, or 0 where there is none.
 fn option_length(behind: &[u8]) -> usize
     ensures { result ≡ slice_index behind.now 0 }
 {

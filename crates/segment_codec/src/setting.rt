@@ -1,5 +1,5 @@
-//! Changing one field of a packet where it lies. Only its first 40 bytes are at hand: the TCP checksum is patched once for each word that
-//! is replaced (RFC 1624), so the payload is not summed again.
+//! Changing one field of a packet in place. Only its first 40 bytes are at hand: the TCP checksum is patched once for each word that is replaced (RFC 1624), so
+//! the payload is not summed again.
 
 ghost use Rattle.std.specs.Prelude.{◌≡◌, ◌≤◌, ◌<◌, ◌+◌, ◌/◌, ◌%◌, ◌^◌, ℕ, List, ◌++◌, length, slice_index, IsOk};
 ghost use Rattle.seq_arith.specs.Bytes.{two, four};
@@ -10,7 +10,7 @@ ghost use Rattle.segment_codec.specs.Change.{put, sealed, patched_at, changed};
 use crate::fields::{put_word, read_word};
 use seq_arith::{Seq, patch16};
 
-/// Replaces a word of the TCP header and brings the TCP checksum up to date.
+/// Replaces a word of the TCP header and patches the TCP checksum for it.
 #[tactic(auto, unfolding(crate::specs::Change::patched_at))]
 fn patch_word(head: &mut [u8], at: usize, word: u16)
     requires long { 40 ≤ length head.old }
@@ -24,12 +24,12 @@ fn patch_word(head: &mut [u8], at: usize, word: u16)
     put_word(head, 36, patch16(check, old, word));
 }
 
-/// Gives a packet another sequence number. `head` is the packet's first 40 bytes, and whatever stands behind them stays.
+/// Gives a packet another sequence number. `head` is the packet's first 40 bytes. Whatever follows them stays.
 pub fn set_seq(head: &mut [u8], seq: Seq)
     requires { length head.old ≡ 40 }
-    // Behind the head may stand any rest with which it was accepted: it is read as before, with that field changed.
+    // Whatever follows the head, if the packet was accepted with it: the packet is read as before, with that field changed.
     ensures read { (rest : List ℕ) → IsOk (reading (head.old ++ rest)) → reading (head.new ++ rest) ≡ changed (with_seq seq.0) (reading (head.old ++ rest)) }
-    // Where the checksum was the one summed anew, it is so again.
+    // Where the checksum was the computed one, it is so again.
     ensures summed { (rest : List ℕ) → sealed (head.old ++ rest) ≡ head.old ++ rest → head.new ++ rest ≡ sealed (put 24 (four seq.0) (head.old ++ rest)) }
     // The spelling of a segment becomes the spelling of the changed one.
     ensures canonical { (segment : Segment) (rest : List ℕ) → head.old ++ rest ≡ spelling segment → head.new ++ rest ≡ spelling (with_seq seq.0 segment) }

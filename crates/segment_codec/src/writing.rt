@@ -8,13 +8,13 @@ use crate::Head;
 use crate::fields::put_bytes;
 use crate::header::{payload_start, write_header};
 
-/// Writes a packet at the front of `out`, which has room for 1,500 bytes, and says how many bytes it has: at most 1,500.
+/// Writes a packet at the beginning of `out`, which has room for 1,500 bytes, and returns how many bytes it has: at most 1,500.
 pub fn write_packet(head: &Head, payload: &[u8], out: &mut [u8]) -> usize
     requires room { 1500 ≤ length out.old }
     requires fits { packet_length (segment_with head.now payload.now) ≤ 1500 }
     ensures length { result ≡ packet_length (segment_with head.now payload.now) }
     ensures bytes { out.new ≡ spelling (segment_with head.now payload.now) ++ drop result out.old }
-    // What was written is read again.
+    // What was written is read back.
     ensures read { reading (take result out.new) ≡ Ok (segment_with head.now payload.now) }
 {
     let start = payload_start(head.mss);

@@ -3,6 +3,7 @@ pub mod ComingAlone
 pub mod ComingFins
 pub mod ComingKeeps
 pub mod ComingShifts
+pub mod Congested
 pub mod Damaged
 pub mod Flipped
 pub mod Gaps

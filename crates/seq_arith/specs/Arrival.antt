@@ -17,8 +17,8 @@ is_acceptable next window first len =
     then (if window == 0 then int_eq first (pos next) else lies_in next window first)
     else (if window == 0 then false else (lies_in next window first || lies_in next window (first +ℤ pos (len - 1))))
 
--- a segment of length 0 at exactly the right edge, RCV.NXT + RCV.WND, where the window is open: so a sender whose window is full, and who has lost
--- a segment, numbers its acknowledgements. The four cases leave it out
+-- a segment of length 0 at exactly the right edge, RCV.NXT + RCV.WND, of an open window. A sender that has filled the window and lost a segment numbers its
+-- acknowledgements so. The four cases leave it out
 unfoldable pub is_at_right_edge : ℕ → ℕ → ℤ → ℕ → Bool
 is_at_right_edge next window first len = len == 0 && nat_lt 0 window && int_eq first (pos (next + window))
 
@@ -26,8 +26,8 @@ is_at_right_edge next window first len = len == 0 && nat_lt 0 window && int_eq f
 abbrev pub is_acceptable_or_at_edge : ℕ → ℕ → ℤ → ℕ → Bool
 is_acceptable_or_at_edge next window first len = is_acceptable next window first len || is_at_right_edge next window first len
 
--- RFC 9293, 3.10.7.4, first check, special allowance: at a window of zero the acknowledgement and the window of a segment at exactly RCV.NXT are
--- used, whatever its length
+-- RFC 9293, 3.10.7.4, first check, special allowance: at a zero window the acknowledgement and the window of a segment at exactly RCV.NXT are used, whatever
+-- its length
 unfoldable pub is_allowed_at_zero : ℕ → ℕ → ℤ → Bool
 is_allowed_at_zero next window first = window == 0 && int_eq first (pos next)
 
@@ -35,12 +35,12 @@ is_allowed_at_zero next window first = window == 0 && int_eq first (pos next)
 abbrev pub is_usable : ℕ → ℕ → ℤ → ℕ → Bool
 is_usable next window first len = is_acceptable_or_at_edge next window first len || is_allowed_at_zero next window first
 
--- how much of a text that begins at first lies before next
+-- how much of a text that begins at first is below next
 abbrev pub below : ℕ → ℤ → ℕ
 below next (pos first) = next - first
 below next (negsuc first) = next + first + 1
 
--- the part of a text that lies between two offsets, where the text begins at first
+-- the part of a text between two offsets, where the text begins at first
 unfoldable pub text_between : (from to : ℕ) → (first : ℤ) → List ℕ → List ℕ
 text_between from to first text = drop (below from first) (take (below to first) text)
 
@@ -52,7 +52,7 @@ is_new_ack una sent ack = int_lt (pos una) ack && int_le ack (pos sent)
 abbrev pub is_beyond : ℕ → ℤ → Bool
 is_beyond sent ack = int_lt (pos sent) ack
 
--- what is acknowledged after an acknowledgement that isn't beyond what was sent
+-- SND.UNA after an acknowledgement that isn't beyond what was sent
 abbrev pub una_after : ℕ → ℕ → ℕ
 una_after una ack = if nat_lt una ack then ack else una
 

@@ -13,11 +13,11 @@ abbrev pub odd_after : Bool → List ℕ → Bool
 odd_after odd [] = odd
 odd_after odd (byte ∷ bytes) = odd_after (not odd) bytes
 
--- a sum whose carries are added back in until it fits 16 bits: 0 for 0 alone
+-- a sum whose carries are added back in until it fits 16 bits: only 0 gives 0
 unfoldable pub folded : ℕ → ℕ
 folded total = if total == 0 then 0 else (total - 1) % 65535 + 1
 
--- the checksum of what sums to this
+-- the checksum of what has this sum
 unfoldable pub check_of : ℕ → ℕ
 check_of total = 65535 - folded total
 
@@ -25,7 +25,7 @@ check_of total = 65535 - folded total
 abbrev pub checksum : List ℕ → ℕ
 checksum bytes = check_of (word_sum false bytes)
 
--- what has been summed: the sum of its words, whether it ends inside a word, and how many bytes it has
+-- what has been summed so far: the sum of its words, whether it ends inside a word, and how many bytes it has
 pub record Summed : Type 0 where
   pub total : ℕ
   pub odd : Bool
@@ -34,7 +34,7 @@ pub record Summed : Type 0 where
 abbrev pub nothing_summed : Summed
 nothing_summed = record { total = 0; odd = false; count = 0 }
 
--- the same with more bytes behind it
+-- the same with more bytes after it
 abbrev pub with_bytes : Summed → List ℕ → Summed
 with_bytes summed bytes = record { total = summed.total + word_sum summed.odd bytes; odd = odd_after summed.odd bytes; count = summed.count + length bytes }
 

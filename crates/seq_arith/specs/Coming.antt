@@ -1,11 +1,11 @@
--- What the text and the FIN of a segment make of the peer's stream (RFC 9293, 3.10.7.4, seventh and eighth check; segments past RCV.NXT may be held
--- there). `n` bytes of the stream are taken before the segment, `edge` is the receive edge, `fin` says whether the peer's FIN is taken, `early` is what
--- is held, and the segment's text begins at `first`. Each sentence is one definition, in its order.
+-- What the text and the FIN of a segment do to the peer's stream (RFC 9293, 3.10.7.4, seventh and eighth check; segments past RCV.NXT may be held there). `n`
+-- bytes of the stream are taken before the segment, `edge` is the receive edge, `fin` says whether the peer's FIN is taken, `early` is what is held, and the
+-- segment's text begins at `first`. Each rule is one definition, and they are in order.
 use Rattle.std.specs.Prelude.{◌≡◌, ℕ, ℤ, Bool, true, false, pos, negsuc, ◌+◌, ◌-◌, ◌<◌, ◌≤◌, ◌+ℤ◌, ◌==◌, ◌&&◌, not, min, int_le, int_lt, nat_abs, Option, None, Some, IfSome, option_map, List, [], ◌++◌, length, take, drop, if◌then◌else◌}
 use Rattle.seq_arith.specs.Arrival.{below}
 use Rattle.seq_arith.specs.Early.{held_with, front_run, behind_front_run, holds_some}
 
--- what is held: text behind the bytes taken, place by place, and at most one FIN, by its offset in the stream
+-- what is held: text after the bytes taken, place by place, and at most one FIN, by its offset in the stream
 pub record Early : Type 0 where
   pub text : List (Option ℕ)
   pub fin : Option ℕ
@@ -13,7 +13,7 @@ pub record Early : Type 0 where
 abbrev pub nothing_early : Early
 nothing_early = record { text = []; fin = None }
 
--- the same, in a stream that begins k bytes further up
+-- the same, with all offsets k larger
 abbrev pub early_from : ℕ → Early → Early
 early_from k early = record early { fin = option_map (λ offset. offset + k) early.fin }
 
@@ -38,16 +38,16 @@ bounded_by (Some offset) edge = min offset edge
 abbrev pub text_edge : (n edge : ℕ) → Bool → Early → ℕ
 text_edge n edge fin early = if fin then n else bounded_by early.fin edge
 
--- how far behind the end of the bytes taken a text begins
+-- how far past the end of the bytes taken a text begins
 abbrev pub ahead : ℕ → ℤ → ℕ
 ahead n (pos first) = first - n
 ahead n (negsuc before) = 0
 
--- the new text of a segment: from the bytes taken up to there
+-- the new text of a segment: from the bytes taken up to that edge
 unfoldable pub new_text : (n edge : ℕ) → Bool → Early → ℤ → List ℕ → List ℕ
 new_text n edge fin early first text = take (text_edge n edge fin early - (n + ahead n first)) (drop (below n first) text)
 
--- new text that begins at the bytes taken is added to them, and is no longer held. Other new text is held
+-- new text that begins at the end of the bytes taken is added to them, and is no longer held. Other new text is held
 unfoldable pub with_text : (n edge : ℕ) → ℤ → List ℕ → Came → Came
 with_text n edge first text c =
     if ahead n first == 0
@@ -83,8 +83,8 @@ unfoldable pub comes : (n edge : ℕ) → Bool → Early → ℤ → List ℕ �
 comes n edge fin early first text has_fin =
     with_fin_taken n (continued (with_fin n edge (first +ℤ pos (length text)) has_fin (with_text n edge first text (nothing_came early fin))))
 
--- what stays true of what is held, behind n bytes taken: it keeps to the receive edge, nothing of it continues the bytes taken, a FIN stands behind a gap
--- and behind all text, and nothing is held once the FIN is taken
+-- the invariant of what is held, after n bytes taken: it stays within the receive edge, nothing of it continues the bytes taken, a FIN comes after a gap and
+-- after all text, and nothing is held once the FIN is taken
 pub record StandsBehind (n edge : ℕ) (fin : Bool) (early : Early) : Type 0 where
   pub text : n + length early.text ≤ edge
   pub gap : front_run early.text ≡ []

@@ -1,6 +1,7 @@
 pub mod Number
 pub mod Arrival
 pub mod Coming
+pub mod Congestion
 pub mod Early
 pub mod Packet
 pub mod Offset

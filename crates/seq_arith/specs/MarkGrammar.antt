@@ -1,5 +1,5 @@
--- The grammar of messages about marks: which strings of bytes are such a message and what they say, and the one spelling in which this project writes it. It has the
--- header of a message with another magic, fields of the same sizes and ranges, and behind the fields of Mark and Held the form of a state.
+-- The grammar of messages about marks: which strings of bytes are such a message and what they say, and the one spelling in which this project writes it. It
+-- has the header of a message with another magic, fields of the same sizes and ranges, and after the fields of Mark and Held the form of a state.
 use Rattle.std.specs.Prelude.{ℕ, Bool, true, not, List, [], ◌∷◌, ◌++◌, length, drop, slice_index, find, Option, None, Some, Result, Ok, Err, ◌≡◌, ◌+◌, ◌^◌, ◌<◌, ◌==◌, ◌&&◌, ◌||◌, nat_lt, nat_le, if◌then◌else◌}
 use Rattle.ft_io.specs.declared.Key.{Key}
 use Rattle.seq_arith.specs.declared.kinds.Field.{Field}
@@ -38,13 +38,13 @@ fields_of kinds.Marked = with_key (fields.Units ∷ [])
 fields_of kinds.Ask = with_key []
 fields_of kinds.Held = marking
 
--- how many bytes of a state may stand behind the fields
+-- how many bytes of a state may follow the fields
 abbrev pub most_behind : MarkKind → ℕ
 most_behind kinds.Mark = 1100
 most_behind kinds.Held = 1100
 most_behind _ = 0
 
--- a mark is of at least one read; what is held in the place of none is of no read
+-- a mark is of at least one read. What is held where there is none is of no read
 abbrev pub fewest_reads : MarkKind → ℕ
 fewest_reads kinds.Mark = 1
 fewest_reads _ = 0
@@ -53,11 +53,11 @@ fewest_reads _ = 0
 abbrev pub behind_at : MarkKind → ℕ
 behind_at kind = 16 + fields_length (fields_of kind)
 
--- whether a message of a kind may have so many bytes
+-- whether a message of a kind may have `n` bytes
 unfoldable pub has_length : MarkKind → ℕ → Bool
 has_length kind n = nat_le (behind_at kind) n && nat_le n (behind_at kind + most_behind kind)
 
--- What a body says is its kind, its numbers in the table's order, and what stands behind them
+-- What a body says is its kind, its numbers in the table's order, and what follows them
 abbrev pub kind_of : MarkBody → MarkKind
 kind_of (bodies.MarkMsg key mark) = kinds.Mark
 kind_of (bodies.MarkedMsg key reads) = kinds.Marked
@@ -78,7 +78,7 @@ behind_of (bodies.MarkMsg key mark) = mark.state
 behind_of (bodies.HeldMsg key mark) = mark.state
 behind_of _ = []
 
--- and back: the body of a kind with these numbers and these bytes behind them
+-- and back: the body of a kind with these numbers and these bytes after them
 abbrev pub mark_in : (numbers behind : List ℕ) → Mark
 mark_in numbers behind = record { reads = slice_index numbers 2; length = slice_index numbers 3; made = slice_index numbers 4; state = behind }
 
@@ -120,7 +120,7 @@ reading bytes =
     else (if not (word_at bytes 0 == 18006) then Err bad.Magic
     else (if not (slice_index bytes 2 == 1) then Err bad.Version else reading_if (kind_numbered (slice_index bytes 3)) bytes))
 
--- what a spelling is behind its header
+-- a spelling after its header
 abbrev pub behind_header : MarkBody → List ℕ
 behind_header body = numbers_bytes (fields_of (kind_of body)) (numbers_of body) ++ behind_of body
 

@@ -1,7 +1,6 @@
--- The message grammar: which strings of bytes are a message between server and logger and what they say, and the one spelling in which
--- this project writes a message. The format is this project's own. A message has a header of 16 bytes: the magic, the version, the kind,
--- the length of the whole, its checksum, and the boot number. The fields of its kind stand behind it, and then the bytes of Part and Data,
--- or the lengths of Lens.
+-- The message grammar: which strings of bytes are a message between server and logger and what they say, and the one spelling in which this project writes a
+-- message. The format is this project's own. A message has a header of 16 bytes: the magic, the version, the kind, the length of the whole message, its
+-- checksum, and the boot number. The fields of its kind follow, and then the bytes of Part and Data, or the lengths of Lens.
 use Rattle.std.specs.Prelude.{ℕ, zero, suc, Bool, true, false, not, List, [], ◌∷◌, ◌++◌, length, drop, slice_index, find, Option, None, Some, Result, Ok, Err, ◌≡◌, ◌+◌, ◌*◌, ◌%◌, ◌^◌, ◌<◌, ◌==◌, ◌&&◌, ◌||◌, nat_lt, nat_le, if◌then◌else◌}
 use Rattle.std.specs.Int.{bytes_high_first}
 use Rattle.std.specs.List.{flat_map, list_all}
@@ -17,7 +16,7 @@ use Rattle.seq_arith.specs.Checksum.{checksum}
 use Rattle.seq_arith.specs.Message.{Body, EntryHead, Kept, Message, Numbers, Part}
 use Rattle.seq_arith.specs.Message.{Body as bodies}
 
--- a number in so many bytes, and the number in the first so many bytes
+-- a number in `width` bytes, and the number in the first `width` bytes
 unfoldable pub number_bytes : ℕ → ℕ → List ℕ
 number_bytes width n = bytes_high_first width n
 
@@ -88,7 +87,7 @@ fields_of kinds.Ended = with_key []
 fields_of kinds.Stale = fields.Newer ∷ []
 fields_of kinds.Full = with_key []
 
--- how many bytes may stand behind the fields, at least and at most. Lens has two for each length
+-- how many bytes may follow the fields, at least and at most. Lens has two for each length
 abbrev pub fewest_behind : Kind → ℕ
 fewest_behind kinds.Part = 1
 fewest_behind kinds.Lens = 2
@@ -119,9 +118,8 @@ width fields.Offset = 4
 width fields.Units = 4
 width fields.Newer = 8
 
--- The range of a field, in a message of this boot number with so many bytes behind its fields. An offset and those bytes stay within a
--- stream, which has at most 2^24 bytes. A count of units may count the FIN, or a last read of length 0, besides. Keys and initial
--- numbers are free
+-- The range of a field, in a message with this boot number and this many bytes after its fields. An offset and those bytes stay within a stream, which has at
+-- most 2^24 bytes. A count of units may also count the FIN, or a last read of length 0. Keys and initial numbers are unrestricted
 abbrev pub is_in_range : (boot behind : ℕ) → Field → ℕ → Bool
 is_in_range boot behind fields.Count n = nat_le n 64
 is_in_range boot behind fields.Place n = nat_le n 63
@@ -142,12 +140,12 @@ fields_length (field ∷ rest) = width field + fields_length rest
 abbrev pub behind_at : Kind → ℕ
 behind_at kind = 16 + fields_length (fields_of kind)
 
--- whether a message of a kind may have so many bytes
+-- whether a message of a kind may have `n` bytes
 unfoldable pub has_length : Kind → ℕ → Bool
 has_length kind n =
     nat_le (behind_at kind + fewest_behind kind) n && nat_le n (behind_at kind + most_behind kind) && (not (is_lens kind) || (n % 2 == 0))
 
--- the numbers of fields that stand one behind the other
+-- the numbers of fields that follow one another
 abbrev pub numbers_in : List Field → List ℕ → List ℕ
 numbers_in [] bytes = []
 numbers_in (field ∷ rest) bytes = number_in (width field) bytes ∷ numbers_in rest (drop (width field) bytes)
@@ -171,7 +169,7 @@ lens_in (high ∷ low ∷ bytes) = (256 * high + low) ∷ lens_in bytes
 abbrev pub lens_bytes : List ℕ → List ℕ
 lens_bytes lens = flat_map two lens
 
--- What a body says is its kind, its numbers in the table's order, and what stands behind them. Flags are 0 or 1
+-- What a body says is its kind, its numbers in the table's order, and what follows them. Flags are 0 or 1
 abbrev pub kind_of : Body → Kind
 kind_of bodies.HelloMsg = kinds.Hello
 kind_of (bodies.SummaryMsg count) = kinds.Summary
@@ -236,7 +234,7 @@ abbrev pub lens_of : Body → List ℕ
 lens_of (bodies.LensMsg key first lens) = lens
 lens_of _ = []
 
--- and back: the body of a kind with these numbers and these bytes behind them
+-- and back: the body of a kind with these numbers and these bytes after them
 abbrev pub key_at : List ℕ → ℕ → Key
 key_at numbers at = record { ip = slice_index numbers at; port = slice_index numbers (suc at) }
 

@@ -1,12 +1,12 @@
--- Numbers modulo 2^32, and the offsets in a stream that they name (RFC 9293, 3.4). Byte k of a stream whose SYN has the number
--- isn has the number isn + 1 + k. Streams have at most 2^24 bytes, so a number names one offset.
+-- Numbers modulo 2^32, and the offsets in a stream that they name (RFC 9293, 3.4). Byte k of a stream whose SYN has the number isn has the number isn + 1 + k.
+-- Streams have at most 2^24 bytes, so a number names only one offset.
 use Rattle.std.specs.Prelude.{ℕ, ℤ, Bool, pos, negsuc, ◌+◌, ◌-◌, ◌%◌, ◌^◌, ◌==◌, ◌&&◌, ◌||◌, nat_lt, if◌then◌else◌}
 
--- how far `to` is behind `from`, going up
+-- how far `to` is past `from`, going up
 abbrev pub distance : ℕ → ℕ → ℕ
 distance to from = (to + 2 ^ 32 - from) % 2 ^ 32
 
--- the one number from -2^31 to 2^31 - 1 that is to - from modulo 2^32
+-- the only number from -2^31 to 2^31 - 1 that is to - from modulo 2^32
 abbrev pub gap : ℕ → ℕ → ℤ
 gap to from = if nat_lt (distance to from) (2 ^ 31) then pos (distance to from) else negsuc (2 ^ 32 - 1 - distance to from)
 
@@ -14,7 +14,7 @@ gap to from = if nat_lt (distance to from) (2 ^ 31) then pos (distance to from) 
 abbrev pub number_at : ℕ → ℕ → ℕ
 number_at isn offset = (isn + 1 + offset) % 2 ^ 32
 
--- the offset that a number names. The SYN stands at -1
+-- the offset that a number names. The SYN is at -1
 unfoldable pub offset_of : ℕ → ℕ → ℤ
 offset_of isn number = gap number ((isn + 1) % 2 ^ 32)
 

@@ -39,7 +39,7 @@ has_rst segment = has segment.head.flags RST
 abbrev pub has_ack : Segment → Bool
 has_ack segment = has segment.head.flags ACK
 
--- RFC 9293, 3.7.1: the segment size that a SYN asks for is the one that it offers, brought into 64 to 1,460, or 536 where it offers none
+-- RFC 9293, 3.7.1: the segment size that a SYN asks for is the one that it offers, limited to 64 to 1,460, or 536 where it offers none
 abbrev pub segment_size : Option ℕ → ℕ
 segment_size (Some mss) = max 64 (min 1460 mss)
 segment_size None = 536

@@ -14,8 +14,8 @@ payload_at bytes = 20 + 4 * (slice_index bytes 32 / 16)
 unfoldable pub options_in : List ℕ → List ℕ
 options_in bytes = take (payload_at bytes - 40) (drop 40 bytes)
 
--- Options, behind so many bytes of the option before. Kind 0 ends them, and kind 1 is a single byte. Every other kind has a length behind
--- it, which counts both. An option is bad where it has no length, or one below 2, or runs past the header.
+-- Options, after the `before` bytes that are left of the option before. Kind 0 ends them, and kind 1 is a single byte. Every other kind is followed by a
+-- length, which counts both. An option is bad where it has no length, or one below 2, or runs past the header.
 abbrev pub has_bad_option : ℕ → List ℕ → Bool
 has_bad_option zero [] = false
 has_bad_option (suc before) [] = true
@@ -38,8 +38,8 @@ mss_in zero (kind ∷ bytes) =
 unfoldable pub tcp_text : List ℕ → List ℕ
 tcp_text bytes = take 8 (drop 12 bytes) ++ (0 ∷ 6 ∷ two (length bytes - 20)) ++ drop 20 bytes
 
--- The tests, each with its refusal: of the IPv4 header. A fragment has the flag "more fragments" or an offset, the low 14 bits of its
--- word. A string that holds its checksum has the checksum 0 where its words sum to FFFF
+-- The tests, each with its refusal. First those of the IPv4 header. A fragment has the flag "more fragments" or an offset, the low 14 bits of its word. A
+-- string that includes its checksum has the checksum 0 where its words sum to FFFF
 unfoldable pub ip_tests : List ℕ → List (Bool × BadPacket)
 ip_tests bytes =
     (nat_lt (length bytes) 40, Short)
@@ -99,7 +99,7 @@ mss_option (Some mss) = 2 ∷ 4 ∷ mss / 256 % 256 ∷ mss % 256 ∷ []
 abbrev pub packet_length : Segment → ℕ
 packet_length segment = 40 + length (mss_option segment.head.mss) + length segment.payload
 
--- the spelling with these two checksums: don't fragment, 64 hops, and all that isn't kept zero
+-- the spelling with these two checksums: don't fragment, 64 hops, and zero for all that isn't kept
 unfoldable pub spelled : Segment → ℕ → ℕ → List ℕ
 spelled segment ip_check tcp_check =
     (69 ∷ 0 ∷ two (packet_length segment)) ++ (0 ∷ 0 ∷ 64 ∷ 0 ∷ []) ++ (64 ∷ 6 ∷ two ip_check)

@@ -1,5 +1,5 @@
--- The grammar of what goes between two loggers: which strings of bytes are such a datagram and what they say, and the one spelling in which this project writes it.
--- It has the header of a message, with another magic and a number in the place of the boot number. Behind the header of a Forward stands a server's message.
+-- The grammar of datagrams between two loggers: which strings of bytes are such a datagram and what they say, and the one spelling in which this project writes
+-- it. It has the header of a message, with another magic and a number in place of the boot number. In a Forward a server's message follows the header.
 use Rattle.std.specs.Prelude.{ℕ, Bool, true, false, not, List, [], length, drop, slice_index, find, Option, None, Some, ◌∷◌, Result, Ok, Err, ◌≡◌, ◌+◌, ◌^◌, ◌<◌, ◌==◌, ◌&&◌, ◌||◌, nat_lt, nat_le, if◌then◌else◌}
 use Rattle.seq_arith.specs.declared.kinds.BadMsg.{BadMsg}
 use Rattle.seq_arith.specs.declared.twin.BadTwin.{BadTwin}
@@ -27,7 +27,7 @@ kind_number kinds.Alone = 3
 unfoldable pub kind_numbered : ℕ → Option TwinKind
 kind_numbered number = find (λ kind. kind_number kind == number) all_kinds
 
--- whether a datagram of a kind may have so many bytes: a message has 16 to 1,491
+-- whether a datagram of a kind may have `n` bytes: a message has 16 to 1,491
 unfoldable pub has_length : TwinKind → ℕ → Bool
 has_length kinds.Forward n = nat_le 32 n && nat_le n 1507
 has_length kinds.Got n = n == 16
@@ -41,7 +41,7 @@ says_asking (Err why) = false
 unfoldable pub is_asking : List ℕ → Bool
 is_asking bytes = says_asking (messages.reading bytes)
 
--- whether what a datagram of a kind says is in its range, with this number and these bytes behind its header
+-- whether what a datagram of a kind says is in its range, with this number and these bytes after its header
 unfoldable pub is_sound : TwinKind → (number : ℕ) → (behind : List ℕ) → Bool
 is_sound kinds.Forward number behind = nat_le 1 number && is_asking behind
 is_sound kinds.Got number behind = nat_le 1 number
@@ -76,7 +76,7 @@ reading bytes =
     else (if not (word_at bytes 0 == 18005) then Err bad.Magic
     else (if not (slice_index bytes 2 == 1) then Err bad.Version else reading_if (kind_numbered (slice_index bytes 3)) bytes))
 
--- what a datagram says is its kind, its number, and what stands behind its header
+-- what a datagram says is its kind, its number, and what follows its header
 abbrev pub kind_of : TwinDatagram → TwinKind
 kind_of (datagrams.Forward number message) = kinds.Forward
 kind_of (datagrams.Got number) = kinds.Got

@@ -1,4 +1,4 @@
--- What the code's values say, in the plain records of the packet grammar.
+-- What the code's values say, as plain records of the packet grammar.
 use Rattle.seq_arith.specs.Packet as packet
 use Rattle.seq_arith.specs.declared.head.Head.{Head}
 

@@ -1,11 +1,11 @@
-//! The Internet checksum, of bytes that come in pieces, and its update where one summed word is replaced.
+//! The Internet checksum of bytes that are given in pieces, and its update where one summed word is replaced.
 
 ghost use Rattle.std.specs.Prelude.{◌≡◌, ◌<◌, ◌≤◌, ◌+◌, ◌-◌, ◌*◌, ℕ, Bool, false, length};
 ghost use Rattle.seq_arith.specs.Checksum.{Summed, word_sum, folded, check_of, nothing_summed, odd_after, with_bytes, patched};
 
 use std::marker::Model;
 
-/// The sum of the 16-bit words of a string of bytes that is taken in pieces. A piece may end inside a word.
+/// The sum of the 16-bit words of a string of bytes that is given in pieces. A piece may end inside a word.
 #[derive(Debug, Drop)]
 pub struct Sum16 {
     total: u32,
@@ -32,7 +32,7 @@ impl Sum16 {
         }
     }
 
-    /// Takes the next bytes of the string, which has at most 65,535 bytes in all.
+    /// Adds the next bytes of the string, which has at most 65,535 bytes in all.
     pub fn take(&mut self, bytes: &[u8])
         requires { self.old.count + length bytes.now ≤ 65535 }
         ensures { self.new ≡ with_bytes self.old bytes.now }
@@ -42,7 +42,7 @@ impl Sum16 {
         self.count += bytes.len() as u32;
     }
 
-    /// The checksum of all that was taken (RFC 1071).
+    /// The checksum of all bytes so far (RFC 1071).
     pub fn check(&self) -> u16
         ensures { result ≡ check_of self.now.total }
     {
@@ -104,7 +104,7 @@ fn complement(total: u32) -> u16
 #[tactic(auto, unfolding(crate::specs::Checksum::patched, crate::specs::Checksum::check_of, crate::specs::Checksum::folded))]
 pub fn patch16(check: u16, old: u16, new: u16) -> u16
     ensures exact { result ≡ patched check old new }
-    // Where the words are not all zero before and after, it is the checksum summed anew.
+    // Where the words are not all zero before and after, it is what summing them again gives.
     ensures anew { (total : ℕ) → check ≡ check_of total → old ≤ total → 0 < total → 0 < total - old + new → result ≡ check_of (total - old + new) }
 {
     complement(u32::from(!check) + u32::from(!old) + u32::from(new))

@@ -12,7 +12,7 @@ pub const SYN: u8 = 2;
 /// The connection is reset.
 pub const RST: u8 = 4;
 
-/// What came so far is to be passed to the user.
+/// What was received so far is to be passed to the user.
 pub const PSH: u8 = 8;
 
 /// The acknowledgement field counts.

@@ -1,4 +1,4 @@
-//! Numbers that look random and follow from a seed, for schedules and tests that a seed makes.
+//! Pseudorandom numbers from a seed, for schedules and tests that a seed makes.
 
 ghost use Rattle.std.specs.Prelude.{◌≡◌, ◌<◌, ◌^◌};
 ghost use Rattle.seq_arith.specs.Generator.{stepped, drawn};

@@ -8,8 +8,7 @@ use crate::Seq;
 use crate::flags::{ACK, RST};
 use ft_io::{Addr, Key};
 
-/// The fields of the two headers that are kept (RFC 791, 3.1; RFC 9293, 3.1). A packet has no options but the segment size where `mss` is
-/// given, in bytes.
+/// The fields of the two headers that are kept (RFC 791, 3.1; RFC 9293, 3.1). A packet has no option except, where `mss` is given, the segment size in bytes.
 #[derive(Clone, Copy, Debug, PartialEq, Eq)]
 pub struct Head {
     pub src: u32,
@@ -25,7 +24,7 @@ pub struct Head {
 }
 
 impl Head {
-    /// A RST to a peer: without window and options.
+    /// A RST to a peer, with window 0 and without options.
     pub fn reset(local: Addr, peer: Key, seq: Seq, ack: Seq, flags: u8) -> Head
         ensures { said result ≡ reset local peer seq.0 ack.0 flags }
     {
@@ -57,7 +56,7 @@ impl Head {
         Head::reset(local, self.sender(), Seq(0), ack, RST | ACK)
     }
 
-    /// Where it comes from.
+    /// Its sender.
     pub fn sender(&self) -> Key
         ensures { result ≡ record { ip = self.now.src; port = self.now.sport } }
     {

@@ -19,7 +19,7 @@ pub enum BadMsg {
     Field,
 }
 
-/// The kinds of messages, each with its number on the wire. Those that answer another stand behind what they answer.
+/// The kinds of messages, each with its number on the wire. Those that answer another are listed after what they answer.
 #[derive(Clone, Copy, Debug)]
 pub enum Kind {
     /// A server has started.
@@ -79,7 +79,7 @@ pub enum Field {
     Length,
     /// Where bytes begin in a stream.
     Offset,
-    /// A count of units: reads, or bytes with the FIN behind them.
+    /// A count of units: reads, or bytes with the FIN after them.
     Units,
     /// The length of a read.
     ReadLength,

@@ -1,11 +1,12 @@
-//! Laws of the words in `specs`, each the clause of a function that does nothing: what a crate above may cite. Most say that a test on
-//! numbers or on offsets stays as it is where both its sides move by one number.
+//! Laws of the words in `specs`, each the clause of a function that does nothing, for the crates above to cite. Most say that a test on numbers or on offsets
+//! stays the same where both its sides move by the same number.
 
 ghost use Rattle.std.specs.Prelude.{◌≡◌, ◌<◌, ◌≤◌, ◌+◌, ◌-◌, ◌*◌, ◌/◌, ◌%◌, ◌^◌, ℕ, ℤ, pos, ◌+ℤ◌, ◌-ℤ◌, ◌≤ℤ◌, Bool, true, false, List, [], ◌∷◌, ◌++◌, length, take, drop};
 ghost use Rattle.std.specs.Prelude.{nat_abs, Ok, IsErr};
 ghost use Rattle.seq_arith.specs.Number.{gap, number_at, offset_of};
 ghost use Rattle.seq_arith.specs.Arrival.{is_acceptable, is_usable, below, text_between, is_new_ack, is_beyond, una_after, updates_window};
 ghost use Rattle.seq_arith.specs.Coming.{Early, early_from, came_from, nothing_came, comes, StandsBehind};
+ghost use Rattle.seq_arith.specs.Congestion.{Congestion, most_window, initial_congestion, with_new_data, with_duplicate, with_expiry, IsOpen};
 ghost use Rattle.seq_arith.specs.Checksum.{word_sum, odd_after, check_of, Summed, with_bytes};
 ghost use Rattle.seq_arith.specs.Damage.{flipped};
 ghost use Rattle.seq_arith.specs.Packet.{Segment};
@@ -17,7 +18,7 @@ ghost use Rattle.seq_arith.specs.TwinGrammar.{IsSpellable as IsSpellableTwin, re
 ghost use Rattle.seq_arith.specs.Mark.{MarkMessage};
 ghost use Rattle.seq_arith.specs.MarkGrammar.{IsSpellable as IsSpellableMark, reading as mark_reading, spelling as mark_spelling};
 
-/// A gap stays where both its ends move by one number.
+/// A gap stays where both its ends move by the same number.
 pub fn gap_shifts()
     ensures { (to from d : ℕ) → to < 2 ^ 32 → from < 2 ^ 32
         → gap ((to + d) % 2 ^ 32) ((from + d) % 2 ^ 32) ≡ gap to from }
@@ -39,13 +40,13 @@ pub fn number_names_its_offset()
     ensures { (isn k : ℕ) → k < 2 ^ 31 → offset_of isn (number_at isn k) ≡ pos k }
 {}
 
-/// A number names the same offset where the stream and the number move by one number.
+/// A number names the same offset where the stream and the number move by the same number.
 pub fn offset_shifts()
     ensures { (isn number d : ℕ) → number < 2 ^ 32
         → offset_of ((isn + d) % 2 ^ 32) ((number + d) % 2 ^ 32) ≡ offset_of isn number }
 {}
 
-/// Acceptability stays where the next offset and the segment's move by one number.
+/// Acceptability stays where the next offset and the segment's move by the same number.
 pub fn acceptable_shifts()
     ensures { (next window k : ℕ) (first : ℤ) (len : ℕ)
         → is_acceptable (next + k) window (first +ℤ pos k) len ≡ is_acceptable next window first len }
@@ -56,7 +57,7 @@ pub fn usable_shifts()
     ensures { (next window k : ℕ) (first : ℤ) (len : ℕ) → is_usable (next + k) window (first +ℤ pos k) len ≡ is_usable next window first len }
 {}
 
-/// So does what a segment makes of the stream, and what is held then lies as much further up.
+/// So does what a segment does to the stream. What is held then moves by that number too.
 pub fn coming_shifts()
     ensures { (n edge k : ℕ) (fin : Bool) (early : Early) (first : ℤ) (text : List ℕ) (has_fin : Bool)
         → comes (n + k) (edge + k) fin (early_from k early) (first +ℤ pos k) text has_fin ≡ came_from k (comes n edge fin early first text has_fin) }
@@ -77,7 +78,7 @@ pub fn beyond_shifts()
     ensures { (sent k : ℕ) (ack : ℤ) → is_beyond (sent + k) (ack +ℤ pos k) ≡ is_beyond sent ack }
 {}
 
-/// What is acknowledged moves along.
+/// What is acknowledged moves by that number too.
 pub fn una_shifts()
     ensures { (una k ack : ℕ) → una_after (una + k) (ack + k) ≡ una_after una ack + k }
 {}
@@ -88,7 +89,7 @@ pub fn window_update_shifts()
         → updates_window (una + k) (wl1 +ℤ pos j) (wl2 + k) (first +ℤ pos j) (ack + k) ≡ updates_window una wl1 wl2 first ack }
 {}
 
-/// What is held stays behind what is taken, what is taken keeps to the receive edge, and a FIN that is newly taken lies below it.
+/// What is held stays after what is taken, what is taken stays within the receive edge, and a FIN that is newly taken is below it.
 pub fn coming_keeps_to_the_edge()
     ensures behind { (n edge : ℕ) (fin : Bool) (early : Early) (first : ℤ) (text : List ℕ) (has_fin : Bool) → StandsBehind n edge fin early
         → StandsBehind (n + length (comes n edge fin early first text has_fin).added) edge (comes n edge fin early first text has_fin).fin
@@ -99,7 +100,8 @@ pub fn coming_keeps_to_the_edge()
         → (comes n edge false early first text has_fin).fin ≡ true → n + length (comes n edge false early first text has_fin).added < edge }
 {}
 
-/// A segment changes nothing at the receive edge, once the FIN is taken, and without text and FIN. What is held stays held.
+/// A segment changes nothing once the bytes taken reach the receive edge, once the FIN is taken, and where it has neither text nor FIN. What is held stays
+/// held.
 pub fn nothing_comes()
     ensures shut { (n : ℕ) (fin : Bool) (early : Early) (first : ℤ) (text : List ℕ) (has_fin : Bool) → StandsBehind n n fin early
         → comes n n fin early first text has_fin ≡ nothing_came early fin }
@@ -109,7 +111,24 @@ pub fn nothing_comes()
         → comes n edge fin early first [] false ≡ nothing_came early fin }
 {}
 
-/// The text between two offsets is what stands behind its bytes below the first, cut where the second comes.
+/// Neither the congestion window nor the slow start threshold ever becomes 0.
+#[tactic(auto, using(crate::proofs::Congested::opens))]
+pub fn congestion_window_stays_open()
+    ensures initially { (mss : ℕ) → 1 ≤ mss → IsOpen mss (initial_congestion mss) }
+    ensures new_data { (mss units : ℕ) (c : Congestion) → IsOpen mss c → IsOpen mss (with_new_data mss units c) }
+    ensures duplicate { (mss flight : ℕ) (c : Congestion) → IsOpen mss c → IsOpen mss (with_duplicate mss flight c) }
+    ensures expiry { (mss flight : ℕ) (first : Bool) (c : Congestion) → IsOpen mss c → IsOpen mss (with_expiry mss flight first c) }
+{}
+
+/// No change takes the congestion window above 2^20.
+#[tactic(auto, using(crate::proofs::Congested::new_data_bounded, crate::proofs::Congested::duplicate_bounded, crate::proofs::Congested::expiry_bounded))]
+pub fn congestion_window_is_bounded()
+    ensures new_data { (mss units : ℕ) (c : Congestion) → (with_new_data mss units c).cwnd ≤ most_window }
+    ensures duplicate { (mss flight : ℕ) (c : Congestion) → c.cwnd ≤ most_window → (with_duplicate mss flight c).cwnd ≤ most_window }
+    ensures expiry { (mss flight : ℕ) (first : Bool) (c : Congestion) → (with_expiry mss flight first c).cwnd ≤ most_window }
+{}
+
+/// The text between two offsets is what follows its bytes below the first, cut at the second.
 pub fn text_between_is_cut()
     ensures { (from to : ℕ) (first : ℤ) (text : List ℕ)
         → text_between from to first text ≡ take (to - nat_abs (first +ℤ pos (below from first))) (drop (below from first) text) }
@@ -132,12 +151,12 @@ pub fn word_replaced()
         → word_sum false (front ++ z ∷ w ∷ rest) ≡ word_sum false (front ++ x ∷ y ∷ rest) - (256 * x + y) + (256 * z + w) }
 {}
 
-/// The spelling of a segment says that segment.
+/// The spelling of a segment is read back as that segment.
 pub fn spelling_is_read()
     ensures { (segment : Segment) → IsSpellable segment → reading (spelling segment) ≡ Ok segment }
 {}
 
-/// The spelling of a message says that message.
+/// The spelling of a message is read back as that message.
 pub fn message_is_read()
     ensures { (message : Message) → IsSpellableMessage message → message_reading (message_spelling message) ≡ Ok message }
 {}
@@ -152,7 +171,7 @@ pub fn shortened_packet_is_refused()
     ensures { (n : ℕ) (bytes : List ℕ) (segment : Segment) → reading bytes ≡ Ok segment → n < length bytes → IsErr (reading (take n bytes)) }
 {}
 
-/// And one with further bytes behind it.
+/// And so is one with further bytes after it.
 pub fn lengthened_packet_is_refused()
     ensures { (bytes behind : List ℕ) (segment : Segment) → reading bytes ≡ Ok segment → 0 < length behind → IsErr (reading (bytes ++ behind)) }
 {}
@@ -168,12 +187,12 @@ pub fn shortened_message_is_refused()
     ensures { (n : ℕ) (bytes : List ℕ) (message : Message) → message_reading bytes ≡ Ok message → n < length bytes → IsErr (message_reading (take n bytes)) }
 {}
 
-/// And one with further bytes behind it.
+/// And so is one with further bytes after it.
 pub fn lengthened_message_is_refused()
     ensures { (bytes behind : List ℕ) (message : Message) → message_reading bytes ≡ Ok message → 0 < length behind → IsErr (message_reading (bytes ++ behind)) }
 {}
 
-/// The spelling of a datagram between two loggers says that datagram.
+/// The spelling of a datagram between two loggers is read back as that datagram.
 pub fn twin_is_read()
     ensures { (datagram : TwinDatagram) → IsSpellableTwin datagram → twin_reading (twin_spelling datagram) ≡ Ok datagram }
 {}
@@ -184,7 +203,7 @@ pub fn flipped_twin_is_refused()
         → IsErr (twin_reading (flipped bit bytes)) }
 {}
 
-/// The spelling of a message about marks says that message.
+/// The spelling of a message about marks is read back as that message.
 pub fn mark_is_read()
     ensures { (message : MarkMessage) → IsSpellableMark message → mark_reading (mark_spelling message) ≡ Ok message }
 {}

@@ -1,5 +1,4 @@
-//! Numbers modulo 2^32, the Internet checksum, and the text of what packets and messages say and how they are spelled. Nothing here
-//! takes memory.
+//! Numbers modulo 2^32, the Internet checksum, and the definitions of what packets and messages say and how they are spelled. Nothing here allocates.
 #![tactic(auto)]
 
 ghost use Rattle.std.specs.Prelude.{◌≡◌, ◌+◌, ◌%◌, ◌^◌};
@@ -62,14 +61,14 @@ pub enum BadPacket {
 pub struct Seq(pub u32);
 
 impl Seq {
-    /// The number n further on.
+    /// The number `n` further on.
     pub fn add(self, n: u32) -> Seq
         ensures { result.0 ≡ (self.0 + n) % 2 ^ 32 }
     {
         Seq(self.0.wrapping_add(n))
     }
 
-    /// How far this number is behind `from`: the n with `from.add(n) == self`.
+    /// How far this number is past `from`: the n with `from.add(n) == self`.
     pub fn minus(self, from: Seq) -> u32
         ensures { result ≡ distance self.0 from.0 }
     {
@@ -98,7 +97,7 @@ impl Seq {
         self.minus(first) < len
     }
 
-    /// The one number from -2^31 to 2^31 - 1 that is this number less `from`, modulo 2^32.
+    /// The only number from -2^31 to 2^31 - 1 that is this number less `from`, modulo 2^32.
     pub fn signed_gap(self, from: Seq) -> i64
         ensures { result ≡ gap self.0 from.0 }
     {

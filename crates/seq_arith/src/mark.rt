@@ -24,7 +24,7 @@ pub enum BadMark {
 pub enum MarkKind {
     /// A service's state to be logged.
     Mark = 1,
-    /// Up to which read the logged state goes, as an answer to a mark.
+    /// The read that the logged state reaches up to, as an answer to a mark.
     Marked = 2,
     /// The logged state is asked for.
     Ask = 3,

@@ -1,9 +1,9 @@
-//! Where a segment's text lies in its stream.
+//! Where a segment's text is in its stream.
 
 ghost use Rattle.std.specs.Prelude.{◌≡◌, ◌<◌, ◌≤◌, ◌^◌};
 ghost use Rattle.seq_arith.specs.Arrival.{below, text_between};
 
-/// How much of a text that begins at the offset `first` lies before the offset `next`. A hostile segment may begin before its stream.
+/// How much of a text that begins at the offset `first` is below the offset `next`. A hostile segment may begin before its stream.
 pub fn below(next: u64, first: i64) -> u64
     requires { next < 2 ^ 63 }
     ensures { result ≡ below next first }
@@ -15,7 +15,7 @@ pub fn below(next: u64, first: i64) -> u64
     }
 }
 
-/// The part of a text that lies between two offsets, where the text begins at the offset `first`.
+/// The part of a text between two offsets, where the text begins at the offset `first`.
 #[tactic(auto, unfolding(crate::specs::Arrival::text_between))]
 pub fn text_between(text: &[u8], first: i64, from: u64, to: u64) -> &[u8]
     requires begins { from < 2 ^ 63 }

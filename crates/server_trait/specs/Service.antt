@@ -16,7 +16,7 @@ pub record Machine (State : Type 0) : Type 0 where
   pub fresh : State
   pub after : State → List ℕ → Served State
 
--- where a run of a service stands: its state, all its output so far, and whether it has closed
+-- the state of a run of a service: the service's state, all its output so far, and whether it has closed
 pub record Run (State : Type 0) : Type 0 where
   pub state : State
   pub output : List ℕ
@@ -29,7 +29,7 @@ machine fresh after = record { fresh = fresh; after = after }
 abbrev pub begun : {State : Type 0} → Machine State → Run State
 begun service = record { state = service.fresh; output = []; closed = false }
 
--- a run goes on by what the service does with one more chunk
+-- a run continues by what the service does with one more chunk
 abbrev pub with_served : {State : Type 0} → Run State → Served State → Run State
 with_served run served = record { state = served.next; output = run.output ++ served.output; closed = served.closed }
 
@@ -45,7 +45,7 @@ fold_from service run (chunk ∷ chunks) = fold_from service (fed service run ch
 abbrev pub fold : {State : Type 0} → Machine State → List (List ℕ) → Run State
 fold service chunks = fold_from service (begun service) chunks
 
--- every one of the numbers is a byte
+-- all the numbers are bytes
 abbrev pub AreBytes : List ℕ → Type 0
 AreBytes numbers = AllByRecursion (λ n. n < 256) numbers
 
@@ -53,7 +53,7 @@ AreBytes numbers = AllByRecursion (λ n. n < 256) numbers
 abbrev pub WritesBytes : {State : Type 0} → Machine State → Type 0
 WritesBytes service = (chunks : List (List ℕ)) → AllByRecursion AreBytes chunks → AreBytes (fold service chunks).output
 
--- the front of the bytes, in pieces of these lengths
+-- a prefix of the bytes, in pieces of these lengths
 abbrev pub cut : List ℕ → List ℕ → List (List ℕ)
 cut bytes [] = []
 cut bytes (n ∷ lengths) = take n bytes ∷ cut (drop n bytes) lengths
@@ -64,7 +64,7 @@ EndsAtZero [] = Unit {0}
 EndsAtZero (n ∷ []) = Unit {0}
 EndsAtZero (n ∷ m ∷ lengths) = (n ≢ 0) × EndsAtZero (m ∷ lengths)
 
--- where `cut` is asked: the bytes suffice, and a length 0 comes only last
+-- the premise of `cut`: the bytes suffice, and a length 0 comes only last
 pub record CanCut (bytes lengths : List ℕ) : Type 0 where
   pub enough : sum lengths ≤ length bytes
   pub ends : EndsAtZero lengths
@@ -73,6 +73,6 @@ pub record CanCut (bytes lengths : List ℕ) : Type 0 where
 unfoldable pub reference : {State : Type 0} → Machine State → List ℕ → List ℕ → Run State
 reference service bytes lengths = fold service (cut bytes lengths)
 
--- how `take` answers
+-- the answer of `take`
 abbrev pub next_of : Bool → Next
 next_of closed = if closed then Close else Go

@@ -10,7 +10,7 @@ use std::alloc::Global;
 /// The largest chunk that a service is given, in bytes.
 pub const CHUNK_LIMIT: usize = 2_048;
 
-/// Whether a service goes on after a chunk.
+/// Whether a service continues after a chunk.
 #[derive(Clone, Copy, Debug, PartialEq, Eq)]
 pub enum Next {
     /// It waits for the next chunk.
@@ -29,7 +29,7 @@ pub trait Service: Drop {
     /// What a chunk does: the next state, the output, and whether the service closes.
     ghost after: { Self → List ℕ → Served Self };
 
-    /// A service of this kind in its first state. It takes no memory.
+    /// A service of this kind in its first state. It allocates nothing.
     fn fresh(alloc: Global, kind: u8) -> Self
         ensures { result ≡ started kind };
 

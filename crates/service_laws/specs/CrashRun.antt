@@ -9,7 +9,7 @@ use Rattle.ft_model.specs.Node.{booted}
 use Rattle.ft_model.specs.Network.Packet.{To_server}
 use Rattle.ft_model.specs.Point.{Point}
 use Rattle.ft_model.specs.World.{Moment}
-use Rattle.ft_model.specs.WorkedRuns.Common.{server, key, hello_text, client_segment, to_log, from_log, kept_with, part_with, serving_at}
+use Rattle.ft_model.specs.WorkedRuns.Common.{server, key, hello_text, client_segment, to_log, from_log, kept_with, part_with, serving_at, congestion_with}
 use Rattle.ft_model.specs.WorkedRuns.FirstPath.{moment, log_with, read_entry, told_client, moment_11, moment_12, moment_13, opening_trace}
 use Rattle.ft_model.specs.WorkedRuns.CrashAfterLogged.{head, room, resumed, restart_1, restart_2, restart_3, restart_4, restart_5}
 use Rattle.ft_model.specs.declared.event.Event.TheVariants.{Boot, Crash, Deliver, Begin, Send, Ack}
@@ -47,7 +47,7 @@ last_ack = client_segment 16 1006 5006 65535 []
 
 -- the connection once the output is acknowledged
 abbrev pub acknowledged : Point
-acknowledged = record resumed { una = 5; edge = 65540; wl2 = 5; rest = 0 }
+acknowledged = record resumed { una = 5; edge = 65540; wl2 = 5; congestion = congestion_with 2149 65535 0; rest = 0 }
 
 -- the read is logged too, and the server crashes before it hears of either
 abbrev pub moment_14 : Moment

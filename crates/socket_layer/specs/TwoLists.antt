@@ -7,7 +7,7 @@ pub record TwoLists : Type 0 where
   pub written : List ℕ
   pub closed : Bool
 
--- it holds eight written bytes
+-- it has room for eight written bytes
 abbrev pub room_of : TwoLists → ℕ
 room_of s = if s.closed then 0 else 8 - length s.written
 

@@ -1,4 +1,4 @@
--- What becomes of a segment on its way between the client and TCP, and what of it goes to the logger.
+-- What becomes of a segment between the client and TCP, and what part of it is sent to the logger.
 use Rattle.std.specs.Prelude.{◌≡◌, ◌≤◌, ℕ, ℤ, Bool, pos, ◌+◌, ◌-◌, ◌+ℤ◌, ◌==◌, ◌&&◌, ◌||◌, max, nat_lt, nat_le, List, length, take, drop, if◌then◌else◌}
 use Rattle.seq_arith.specs.Number.{number_at}
 use Rattle.seq_arith.specs.Arrival.{below, int_eq}
@@ -19,7 +19,7 @@ outward s segment = record segment { head = record segment.head { seq = raised s
 abbrev pub inward : SouthState → Segment → Segment
 inward s segment = record segment { head = record segment.head { ack = inner_ack s segment.head.ack; window = inner_window s segment.head.ack segment.head.window } }
 
--- the client's own SYN comes again, and nothing of it or of the output has gone further: the kept SYN-ACK answers it, and TCP doesn't see it
+-- the client repeats its SYN, and neither its stream nor the output has progressed: the kept SYN-ACK answers it, and TCP doesn't see it
 abbrev pub repeats_syn : SouthState → Segment → Bool
 repeats_syn s segment = is_syn segment && segment.head.seq == s.cisn && taken_units s == 0 && s.una == 0
 
@@ -29,11 +29,11 @@ answer_in s segment = if repeats_syn s segment then Repeat else Pass
 abbrev pub passed_in : SouthState → Segment → Segment
 passed_in s segment = if repeats_syn s segment then segment else inward s segment
 
--- a RST of TCP doesn't go to the client
+-- a RST of TCP stays as it is: it isn't passed to the client
 abbrev pub passed_out : SouthState → Segment → Segment
 passed_out s segment = if has_rst segment then segment else outward s segment
 
--- Copy: what of a segment is taken and not known to be logged, with the place in the stream where that begins
+-- Copy: the part of a segment that is taken and not known to be logged, with the place in the stream where it begins
 pub record Copied : Type 0 where
   pub offset : ℕ  -- where the text begins in the client's stream, in bytes
   pub text : List ℕ  -- the bytes
@@ -46,7 +46,7 @@ copied s segment = let start : ℕ = max s.answered (from_start (first_of s.cisn
   fin = fin_of segment && (s.fin && int_eq (first_of s.cisn segment +ℤ pos (length (text_of segment))) (pos s.taken) && nat_le s.answered s.taken);
 }
 
--- there is some
+-- whether there is such a part
 abbrev pub is_some_copied : Copied → Bool
 is_some_copied c = nat_lt 0 (length c.text) || c.fin
 

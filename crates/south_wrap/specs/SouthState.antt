@@ -1,6 +1,5 @@
--- What the south wrapper knows of a connection, and what it makes of numbers (FT-TCP, INFOCOM 2001: the south side wrapper, with its delta
--- and its stable number). Initial numbers are the client's and the server's as the client knows them. Bytes and units are counted from the
--- first on, over all incarnations.
+-- What the south wrapper knows of a connection, and what it does to numbers (FT-TCP, INFOCOM 2001: the south side wrapper, with its delta and its stable
+-- number). Initial numbers are the client's and the server's as the client knows them. Bytes and units are counted from the first on, over all incarnations.
 use Rattle.std.specs.Prelude.{ℕ, Bool, false, pos, ◌+◌, ◌-◌, ◌%◌, ◌^◌, max, min, int_lt, nat_abs, if◌then◌else◌}
 use Rattle.seq_arith.specs.Number.{number_at, distance, offset_of}
 use Rattle.seq_arith.specs.Offset.{one_if}
@@ -24,38 +23,38 @@ taken_units s = s.taken + one_if s.fin
 abbrev pub acknowledged : SouthState → ℕ
 acknowledged s = min (taken_units s) s.answered
 
--- the receive edge: 65,535 bytes are buffered beyond what is read, the fetched bytes are there already, and a stream has 2^24 bytes
+-- the receive edge: 65,535 bytes are buffered past what is read, the fetched bytes are there already, and a stream has at most 2^24 bytes
 abbrev pub receive_edge : SouthState → ℕ
 receive_edge s = min (max s.fetched s.read + 65535) (2 ^ 24)
 
--- Window: up to the edge, behind which a taken FIN has used up one number
+-- Window: from what is acknowledged up to the edge, at which a FIN that is taken has used up one number
 abbrev pub window : SouthState → ℕ
 window s = min 65535 (receive_edge s + one_if s.fin - acknowledged s)
 
--- an outer number inside, and an inner one outside
+-- an outer number as an inner one, and an inner one as an outer one
 abbrev pub lowered : SouthState → ℕ → ℕ
 lowered s number = distance number s.delta
 
 abbrev pub raised : SouthState → ℕ → ℕ
 raised s number = (number + s.delta) % 2 ^ 32
 
--- the client acknowledges what an earlier incarnation sent, and this one hasn't sent again ..
+-- the client acknowledges what an earlier incarnation sent, and this one hasn't sent yet ..
 abbrev pub is_high : SouthState → (ack : ℕ) → Bool
 is_high s ack = int_lt (pos s.sent) (offset_of s.sisn ack)
 
--- .. so for TCP its acknowledgement is lowered to what is sent; and then each is lowered by delta
+-- .. so for TCP its acknowledgement is lowered to what is sent. Then each acknowledgement is lowered by delta
 abbrev pub inner_ack : SouthState → (ack : ℕ) → ℕ
 inner_ack s ack = lowered s (if is_high s ack then number_at s.sisn s.sent else ack)
 
--- the window is raised by as much, so that the right edge stays, as far as a window reaches
+-- the window is raised by as much, so that the right edge stays, up to the largest window
 abbrev pub inner_window : SouthState → (ack window : ℕ) → ℕ
 inner_window s ack window = if is_high s ack then min 65535 (window + (nat_abs (offset_of s.sisn ack) - s.sent)) else window
 
--- a wrapper of the incarnation that opened the connection ..
+-- the wrapper in the incarnation that opened the connection ..
 abbrev pub first_south : (cisn sisn : ℕ) → SouthState
 first_south cisn sisn = record { cisn = cisn; sisn = sisn; delta = 0; fetched = 0; taken = 0; fin = false; answered = 0; read = 0; una = 0; sent = 0 }
 
--- .. and one at the end of a restart, with so much answered. The inner TCP counts its output from the units that the client had acknowledged
+-- .. and the wrapper at the end of a restart, with this much answered. The inner TCP counts its output from the units that the client had acknowledged
 abbrev pub resumed_south : (cisn sisn length : ℕ) → (fin : Bool) → (acked inner : ℕ) → SouthState
 resumed_south cisn sisn length fin acked inner = record {
   cisn = cisn;

@@ -1,4 +1,4 @@
--- The wrapper of a connection, by the connection's point.
+-- The wrapper of a connection, given the connection's point.
 use Rattle.std.specs.Prelude.{ℕ, length}
 use Rattle.ft_model.specs.Point.{Point, bytes_read}
 use Rattle.south_wrap.specs.SouthState.{SouthState}

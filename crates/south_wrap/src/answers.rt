@@ -1,18 +1,18 @@
-//! What the wrapper answers.
+//! The wrapper's answers.
 
 use seq_arith::Seq;
 
-/// What becomes of a segment that comes from the client.
+/// What becomes of a segment from the client.
 #[derive(Clone, Copy, Debug, PartialEq, Eq)]
 pub enum Inward {
-    /// It goes to TCP.
+    /// It is passed to TCP.
     Pass,
-    /// It is the client's SYN again: the kept SYN-ACK answers it, and TCP doesn't see it.
+    /// It repeats the client's SYN: the kept SYN-ACK answers it, and TCP doesn't see it.
     Repeat,
 }
 
-/// The part of a segment that goes to the logger: text from `offset` of the client's stream on, which is `packet[from..to]`, and whether the
-/// client's FIN goes with it.
+/// The part of a segment that is sent to the logger: text from `offset` of the client's stream on, which is `packet[from..to]`, and whether the client's FIN is
+/// sent with it.
 #[derive(Clone, Copy, Debug, PartialEq, Eq)]
 pub struct CopyPart {
     /// Where the text begins in the client's stream, in bytes.
@@ -21,11 +21,11 @@ pub struct CopyPart {
     pub from: usize,
     /// Where it ends there.
     pub to: usize,
-    /// Whether the client's FIN goes with it.
+    /// Whether the client's FIN is sent with it.
     pub fin: bool,
 }
 
-/// What the client is to be told: a number of its stream, and a window in bytes.
+/// What to report to the client: a number of its stream, and a window in bytes.
 #[derive(Clone, Copy, Debug, PartialEq, Eq)]
 pub struct AckOut {
     /// The acknowledgement, as a number of the client's stream.

@@ -1,4 +1,4 @@
-//! What of a segment goes to the logger.
+//! The part of a segment that is sent to the logger.
 
 ghost use Rattle.std.specs.Prelude.{◌≡◌, ◌≤◌, ◌<◌, ◌+◌, ◌+ℤ◌, ◌^◌, ◌&&◌, ◌||◌, pos, nat_abs, nat_lt, nat_le, max, min, IsOk, IfOk, IfSome, is_some, length};
 ghost use Rattle.seq_arith.specs.Arrival.{below, int_eq};
@@ -14,8 +14,8 @@ use segment_codec::{PacketRef, read_accepted};
 use seq_arith::{FIN, RST, SYN, below, has};
 
 impl South {
-    /// The part of a client's segment that is taken and not known to be logged, if there is any. Text and FIN of a segment with SYN or RST
-    /// count as none; whether it was acceptable, or has ACK, plays no part.
+    /// The part of a client's segment that is taken and not known to be logged, if there is any. Text and FIN of a segment with SYN or RST don't count. Whether
+    /// it was acceptable, or has ACK, plays no part.
     pub fn copy_of(&self, packet: &[u8]) -> Option<CopyPart>
         requires { IsOk (reading packet.now) }
         ensures which { IfOk (reading packet.now) (λ segment. is_some result ≡ is_some_copied (copied self.now segment)) }
@@ -65,7 +65,7 @@ impl South {
     }
 }
 
-/// Its text: none with SYN or RST.
+/// Its text; none with SYN or RST.
 fn text_of<'a>(segment: &PacketRef<'a>) -> &'a [u8]
     ensures value { result.now ≡ text_of (segment_of segment.now) }
     ensures most { length result.now ≤ length segment.now.payload.now }
@@ -76,14 +76,14 @@ fn text_of<'a>(segment: &PacketRef<'a>) -> &'a [u8]
     segment.payload
 }
 
-/// Whether its FIN counts: not with SYN or RST.
+/// Whether its FIN counts; it doesn't with SYN or RST.
 fn ends(segment: &PacketRef<'_>) -> bool
     ensures { result ≡ fin_of (segment_of segment.now) }
 {
     has(segment.head.flags, FIN) && !(has(segment.head.flags, SYN) || has(segment.head.flags, RST))
 }
 
-/// A part of so many bytes, unless nothing is in it.
+/// A part of `count` bytes, unless it has neither bytes nor FIN.
 fn part(offset: u32, from: usize, count: usize, fin: bool) -> Option<CopyPart>
     requires { from + count < 2 ^ 32 }
     ensures which { is_some result ≡ (nat_lt 0 count || fin) }

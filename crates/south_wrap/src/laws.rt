@@ -1,4 +1,4 @@
-//! The wrapper's words are the model's, at the point of its connection.
+//! At the point of its connection, the wrapper's words are the model's.
 
 ghost use Rattle.std.specs.Prelude.{◌≡◌, ◌≤◌, ◌+◌, ℕ, max, length};
 ghost use Rattle.seq_arith.specs.Packet.{Segment};
@@ -9,7 +9,7 @@ ghost use Rattle.south_wrap.specs.SouthState.{acknowledged, window, with_stable}
 ghost use Rattle.south_wrap.specs.Patching.{repeats_syn, copied};
 ghost use Rattle.south_wrap.specs.Standing.{south_at};
 
-/// It acknowledges and announces what the laws Acknowledgement and Window say.
+/// It acknowledges and advertises what the laws Acknowledgement and Window say.
 pub fn it_tells_what_the_laws_say()
     ensures acknowledgement { (delta : ℕ) (p : Point) → acknowledged (south_at delta p) ≡ acknowledgement p }
     ensures window { (delta : ℕ) (p : Point) → window (south_at delta p) ≡ model.window p }

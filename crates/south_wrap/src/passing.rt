@@ -1,4 +1,4 @@
-//! A segment on its way between the client and TCP.
+//! A segment between the client and TCP.
 
 ghost use Rattle.std.specs.Prelude.{◌≡◌, Ok, IsOk, IfOk, not};
 ghost use Rattle.seq_arith.specs.Packet.{Segment, has_rst};
@@ -13,8 +13,8 @@ use segment_codec::read_accepted;
 use seq_arith::{RST, has};
 
 impl South {
-    /// A segment from the client, on its way to TCP. Its acknowledgement is lowered by delta; one above what this incarnation has sent is
-    /// lowered to that before, and its window raised by as much, at most to 65,535. All else stays.
+    /// Turns a segment of the client into the one for TCP. Its acknowledgement is lowered by delta. One above what this incarnation has sent is first lowered
+    /// to that, and its window raised by as much, up to 65,535. All else stays.
     pub fn inward(&mut self, packet: &mut [u8]) -> Inward
         requires { IsOk (reading packet.old) }
         ensures answer { IfOk (reading packet.old) (λ segment. result ≡ answer_in self.old segment) }
@@ -32,8 +32,8 @@ impl South {
         Inward::Pass
     }
 
-    /// A segment from TCP, on its way to the client: whether it goes on. A RST doesn't. All others have their number raised by delta, and
-    /// acknowledge what is both taken and known to be logged, with the window behind that.
+    /// Turns a segment of TCP into the one for the client, and returns whether it is to be sent. A RST isn't. All others have their number raised by delta, and
+    /// acknowledge what is both taken and known to be logged, with the window from there.
     pub fn outward(&mut self, packet: &mut [u8]) -> bool
         requires { IsOk (reading packet.old) }
         ensures answer { IfOk (reading packet.old) (λ segment. result ≡ not (has_rst segment)) }

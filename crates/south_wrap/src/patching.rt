@@ -1,4 +1,4 @@
-//! A whole packet with one field of its headers changed where it lies.
+//! A complete packet with one field of its headers changed in place.
 
 ghost use Rattle.std.specs.Prelude.{◌≡◌, IsOk};
 ghost use Rattle.seq_arith.specs.Packet.{Segment, with_seq, with_ack, with_window};
@@ -8,7 +8,7 @@ ghost use Rattle.segment_codec.specs.Change.{changed};
 use segment_codec::{set_ack, set_seq, set_window};
 use seq_arith::Seq;
 
-/// The bytes of a packet that its fields and its checksum stand in.
+/// The bytes of a packet that hold its fields and its checksum.
 const HEAD: usize = 40;
 
 pub(crate) fn change_seq(packet: &mut [u8], seq: Seq)

@@ -13,7 +13,7 @@ use segment_codec::Head;
 use seq_arith::{ACK, RST, SYN, Seq, has};
 use std::marker::Model;
 
-/// The bytes of a stream.
+/// The most bytes of a stream.
 const STREAM: u32 = 16_777_216;
 
 /// The bytes that TCP buffers for a reader.
@@ -69,7 +69,7 @@ impl Model for South {
 }
 
 impl South {
-    /// Of a connection that this incarnation opens, with the client's and the server's initial numbers.
+    /// The wrapper of a connection that this incarnation opens, with the client's and the server's initial numbers.
     pub fn new(cisn: Seq, sisn: Seq) -> South
         ensures { result ≡ first_south cisn.0 sisn.0 }
     {
@@ -87,8 +87,8 @@ impl South {
         }
     }
 
-    /// Of a connection at the end of a restart. The log has `length` bytes of the client, and its FIN where `fin`; the client had acknowledged
-    /// `acked` units of output, and the new TCP has the initial number `inner`, from which it counts the output behind these.
+    /// The wrapper of a connection at the end of a restart. The log has `length` bytes of the client, and its FIN where `fin`. The client had acknowledged
+    /// `acked` units of output. The new TCP has the initial number `inner`, from which it counts the output after these.
     pub fn resumed(cisn: Seq, sisn: Seq, length: u32, fin: bool, acked: u32, inner: Seq) -> South
         requires length { length ≤ 2 ^ 24 }
         requires acked { acked ≤ 2 ^ 24 }
@@ -108,7 +108,7 @@ impl South {
         }
     }
 
-    /// Notes how many bytes TCP has taken, and whether the client's FIN is.
+    /// Notes how many bytes TCP has taken, and whether it has taken the client's FIN.
     pub fn taken(&mut self, bytes: u32, fin: bool)
         requires edge { bytes ≤ receive_edge self.old }
         requires rises { self.old.taken ≤ bytes }
@@ -144,7 +144,7 @@ impl South {
         self.read = bytes;
     }
 
-    /// The logger has answered that it has so many bytes of the client, and its FIN where `fin`. What is to be told to the client now, where that is news.
+    /// The logger has answered that it has `length` bytes of the client, and its FIN where `fin`. Returns what to report to the client now, where that is news.
     pub fn on_stable(&mut self, length: u32, fin: bool) -> Option<AckOut>
         requires { length ≤ 2 ^ 24 }
         ensures state { self.new ≡ with_stable (length + one_if fin) self.old }
@@ -161,7 +161,7 @@ impl South {
         Some(self.ack_now())
     }
 
-    /// What the client is told of its stream now: what is both taken and known to be logged, and the room behind it.
+    /// What to report to the client of its stream now: what is both taken and known to be logged, and the room after that.
     pub fn ack_now(&self) -> AckOut
         ensures ack { result.ack.0 ≡ number_at self.now.cisn (acknowledged self.now) }
         ensures window { result.window ≡ window self.now }
@@ -180,7 +180,7 @@ impl South {
         (self.taken + u32::from(self.fin)).min(self.answered)
     }
 
-    /// The window behind them.
+    /// The window from there.
     fn window(&self) -> u16
         ensures { result ≡ window self.now }
     {
@@ -245,7 +245,7 @@ impl South {
         self.fin && is_at(offset, self.taken) && self.answered <= self.taken
     }
 
-    /// Whether this is the client's own SYN again, while nothing of it is taken and nothing of the output acknowledged.
+    /// Whether this repeats the client's SYN, while nothing of its stream is taken and nothing of the output acknowledged.
     pub(crate) fn repeats_syn(&self, head: &Head) -> bool
         ensures { (payload : List ℕ) → result ≡ repeats_syn self.now (record { head = said head.now; payload = payload }) }
     {
@@ -257,7 +257,7 @@ impl South {
             && self.una == 0
     }
 
-    /// Up to where the client acknowledges the output, as it counts it.
+    /// The offset up to which the client acknowledges the output.
     #[tactic(auto, unfolding(seq_arith::specs::Number::offset_of))]
     fn offset_acknowledged(&self, ack: Seq) -> i64
         ensures value { result ≡ offset_of self.now.sisn ack.0 }
@@ -266,7 +266,7 @@ impl South {
         ack.signed_gap(self.sisn.add(1))
     }
 
-    /// How far the client acknowledges more than this incarnation has sent, where it does.
+    /// How much more the client acknowledges than this incarnation has sent, where it does.
     fn excess(&self, ack: Seq) -> Option<u64>
         ensures some { IfSome result (λ n. n ≡ nat_abs (offset_of self.now.sisn ack.0) - self.now.sent) }
         ensures high { is_some result ≡ is_high self.now ack.0 }
@@ -294,7 +294,7 @@ impl South {
         Seq(known.minus(Seq(self.delta)))
     }
 
-    /// The window that TCP sees beside it.
+    /// The window that TCP sees with it.
     pub(crate) fn inner_window(&self, ack: Seq, window: u16) -> u16
         ensures { result ≡ inner_window self.now ack.0 window }
     {

@@ -1,4 +1,4 @@
--- A receive queue, and what a push and a hold make of it: the bytes in order that aren't read, and behind them places that hold a byte or none.
+-- A receive queue, and what a push and a hold do to it: the bytes in order that aren't read, and after them places that each hold a byte or none.
 use Rattle.std.specs.Prelude.{ℕ, ◌-◌, Option, List, [], ◌++◌, length, take, drop}
 use Rattle.seq_arith.specs.Early.{front_run, behind_front_run}
 
@@ -9,11 +9,11 @@ pub record Queue : Type 0 where
 abbrev pub empty_queue : Queue
 empty_queue = record { unread = []; early = [] }
 
--- the front of these bytes that fits behind those in order
+-- the prefix of these bytes that fits after those in order
 abbrev pub fitting : List ℕ → Queue → List ℕ
 fitting bytes q = take (65535 - length q.unread) bytes
 
--- what was held at their places is let go, so this stays held
+-- what was held at their places is dropped, and this stays held
 abbrev pub left_over : List ℕ → Queue → List (Option ℕ)
 left_over bytes q = drop (length (fitting bytes q)) q.early
 

@@ -1,4 +1,4 @@
-//! Which places behind the bytes in order hold a byte that came early: at most sixteen runs of places.
+//! Which places after the bytes in order hold an out-of-order byte: at most sixteen runs of places.
 
 ghost use Rattle.std.specs.Prelude.{◌≡◌, ◌+◌, ◌-◌, ◌<◌, ◌≤◌, ◌==◌, Bool, true, false, List, [], ◌∷◌, ◌++◌, length, nat_le};
 ghost use Rattle.std.specs.Bool.{OnTrue, OnFalse};
@@ -39,7 +39,7 @@ impl EarlyRuns {
         }
     }
 
-    /// Whether there is none.
+    /// Whether there is no run.
     pub(crate) fn is_empty(&self) -> bool
         ensures none { result ≡ (length self.now == 0) }
         ensures few { length self.now ≤ 16 }
@@ -48,7 +48,7 @@ impl EarlyRuns {
         runs.is_empty()
     }
 
-    /// Adds a run, which becomes one with those that it touches. It answers false, and changes nothing, where there would be more than sixteen.
+    /// Adds a run, merged with those that it touches. Returns false, and changes nothing, where there would be more than sixteen.
     #[tactic(auto, using(crate::proofs::Covered::few_are), unfolding(crate::specs::Runs::covered_more))]
     pub(crate) fn cover(&mut self, start: usize, end: usize) -> bool
         requires { start < end }
@@ -69,7 +69,7 @@ impl EarlyRuns {
         true
     }
 
-    /// Puts `n` places in order, and the run that continues them. It answers how many are in order then; the other runs count from there.
+    /// Puts `n` places in order, and the run that continues them. Returns how many are in order then. The other runs are counted from there.
     pub(crate) fn grow(&mut self, n: usize) -> usize
         ensures grown { result ≡ grown_to n self.old }
         ensures left { self.new ≡ shifted (grown_to n self.old) (runs_past n self.old) }
@@ -81,14 +81,14 @@ impl EarlyRuns {
     }
 }
 
-/// What a proof may know of a vector of runs: it has room for sixteen.
+/// A fact for proofs: a vector of runs has at most sixteen.
 fn few(runs: &ArrayVec<Run, 16>)
     ensures { length runs.now.items ≤ 16 }
 {
     let _count = runs.as_slice().len();
 }
 
-/// Up to where places are in order once the first `n` are, and the runs past that.
+/// How many places are in order once the first `n` are, and the runs past that.
 #[tactic(auto, using(crate::proofs::Grown::first_grows, crate::proofs::Grown::first_waits, crate::proofs::Grown::first_is_past), unfolding(crate::specs::Runs::grown_to, crate::specs::Runs::runs_past))]
 fn past(runs: &[Run], n: usize) -> (usize, &[Run])
     ensures grown { result.0 ≡ grown_to n runs.now }
@@ -108,7 +108,7 @@ fn past(runs: &[Run], n: usize) -> (usize, &[Run])
     (n, rest)
 }
 
-/// The runs, with places that count from place `m`.
+/// The runs, with places counted from place `m`.
 #[tactic(auto, unfolding(crate::specs::Runs::shifted))]
 fn shift(runs: &[Run], m: usize) -> ArrayVec<Run, 16>
     requires { length runs.now ≤ 16 }
@@ -124,7 +124,7 @@ fn shift(runs: &[Run], m: usize) -> ArrayVec<Run, 16>
 }
 
 impl Run {
-    /// The run, with places that count from place `m`.
+    /// The run, with places counted from place `m`.
     fn moved(self, m: usize) -> Run
         ensures { result ≡ run (self.start - m) (self.end - m) }
     {
@@ -135,19 +135,19 @@ impl Run {
     }
 }
 
-/// Runs that are passed in order while one more is put among them.
+/// Runs that are passed in order while one more is inserted.
 #[derive(Drop)]
 struct Covering {
-    /// The runs that are passed.
+    /// The runs kept so far.
     kept: ArrayVec<Run, 16>,
-    /// The run that is added, with those that it touched.
+    /// The added run, merged with those that it touched.
     run: Run,
     /// Whether it is among those kept.
     is_kept: bool,
 }
 
 impl Covering {
-    /// Passes a run. It answers false where no room is left.
+    /// Passes a run. Returns false where no room is left.
     #[tactic(auto, using(crate::proofs::Covered::long_more), unfolding(crate::specs::Runs::covered, crate::specs::Runs::covered_more))]
     fn pass(&mut self, run: Run) -> bool
         ensures passed { OnTrue result ((rest : List Run) → self.new.kept.items ++ covered_more self.new.is_kept self.new.run rest
@@ -169,7 +169,7 @@ impl Covering {
         true
     }
 
-    /// Keeps a run behind those kept.
+    /// Appends a run to those kept.
     fn keep(&mut self, run: Run) -> bool
         ensures kept { OnTrue result (self.new.kept.items ≡ self.old.kept.items ++ run ∷ []) }
         ensures full { OnFalse result (length self.old.kept.items ≡ 16) }
@@ -179,7 +179,7 @@ impl Covering {
         self.kept.try_push(run).is_ok()
     }
 
-    /// Passes all of these.
+    /// Passes all of these runs.
     fn pass_all(&mut self, runs: &[Run]) -> bool
         ensures done { OnTrue result (self.new.kept.items ≡ self.old.kept.items ++ covered_more self.old.is_kept self.old.run runs.now) }
         ensures full { OnFalse result (nat_le (length (self.old.kept.items ++ covered_more self.old.is_kept self.old.run runs.now)) 16 ≡ false) }
@@ -194,7 +194,7 @@ impl Covering {
         self.finish()
     }
 
-    /// Keeps the added run where it isn't kept yet: all others are passed.
+    /// Keeps the added run once all others are passed, where it isn't kept yet.
     #[tactic(auto, using(crate::proofs::Covered::long_more), unfolding(crate::specs::Runs::covered, crate::specs::Runs::covered_more))]
     fn finish(&mut self) -> bool
         ensures done { OnTrue result (self.new.kept.items ≡ self.old.kept.items ++ covered_more self.old.is_kept self.old.run []) }

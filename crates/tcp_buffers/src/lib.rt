@@ -1,6 +1,5 @@
-//! What a TCP connection keeps of its two streams: the bytes that came and aren't read, the bytes written and not acknowledged, and the
-//! sender's numbers with the timer (RFC 9293, 3.3.1). The queues are lists to contracts. Numbers are modulo 2^32, and the tests on them
-//! are RFC 9293's. Only the queues' `new` takes memory.
+//! What a TCP connection stores of its two streams: the bytes received and not read, the bytes written and not acknowledged, and the sender's numbers with the
+//! timer (RFC 9293, 3.3.1). In contracts the queues are lists. Numbers are modulo 2^32, and the tests on them are RFC 9293's. Only the queues' `new` allocates.
 #![tactic(auto)]
 
 pub use receive_queue::RecvQueue;
@@ -17,5 +16,5 @@ mod send_state;
 #[cfg(test)]
 mod tests;
 
-/// How many bytes a queue holds: as many as a window without scaling can announce.
+/// How many bytes a queue holds: as many as a window without scaling can advertise.
 pub const QUEUE_ROOM: usize = 65_535;

@@ -5,7 +5,7 @@ ghost use Rattle.tcp_buffers.specs.Runs.{written};
 
 use circular_buffer::HeapCircularBuffer;
 
-/// Writes bytes over those of a queue from place `from` on, and past its end, with zeros in a gap before them.
+/// Writes bytes over those of a queue, from place `from` on, and past its end. A gap before them is filled with zeros.
 #[tactic(auto, using(crate::proofs::Written::length_written))]
 pub(crate) fn overwrite(queue: &mut HeapCircularBuffer<u8>, from: usize, bytes: &[u8])
     requires fits { from + length bytes.now ≤ 65535 }

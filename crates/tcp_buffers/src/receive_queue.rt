@@ -1,4 +1,4 @@
-//! The bytes that came in order and that the user hasn't read, and behind them those that came early.
+//! The bytes received in order that the user hasn't read, and after them those received out of order.
 
 ghost use Rattle.std.specs.Prelude.{◌≡◌, ℕ, ◌+◌, ◌-◌, ◌<◌, ◌≤◌, ◌==◌, [], ◌++◌, length, min, take, drop, nat_le, nat_lt, IfOk};
 ghost use Rattle.seq_arith.specs.Early.{laid, run_count, front_run, holds_some, held_with, most_runs};
@@ -13,12 +13,12 @@ use ft_io::NoMemory;
 use std::alloc::Global;
 use std::marker::Model;
 
-/// A queue of received bytes, at most 65,535 with those that came early (RFC 9293, 3.10.7.4, seventh check). Contracts see the bytes in order,
-/// the oldest first, and behind them places that hold a byte or none.
+/// A queue of received bytes, at most 65,535 including those out of order (RFC 9293, 3.10.7.4, seventh check). In contracts it is the bytes in order, the
+/// oldest first, and after them places that each hold a byte or none.
 #[derive(Drop)]
 pub struct RecvQueue {
-    /// The bytes that are in order and not read, the oldest first, and behind them the bytes that came early, with anything in the gaps: in
-    /// room for 65,535.
+    /// The bytes that are in order and not read, the oldest first, and after them those out of order, with arbitrary bytes in the gaps. There is room for
+    /// 65,535.
     bytes: HeapCircularBuffer<u8>,
     /// How many are in order.
     in_order: usize,
@@ -39,7 +39,7 @@ impl Model for RecvQueue {
 }
 
 impl RecvQueue {
-    /// An empty queue with its whole room made.
+    /// An empty queue. All its room is allocated here.
     pub fn new(alloc: Global) -> Result<RecvQueue, NoMemory>
         ensures { IfOk result (λ queue. queue ≡ empty_queue) }
     {
@@ -59,15 +59,15 @@ impl RecvQueue {
         self.in_order
     }
 
-    /// Whether none is.
+    /// Whether no byte is in order.
     pub fn is_empty(&self) -> bool
         ensures { result ≡ (length self.now.unread == 0) }
     {
         self.in_order == 0
     }
 
-    /// Appends the front of `bytes`, as much as fits, in place of what was held there, and then the held bytes that continue them. It answers
-    /// by how many bytes the queue has grown.
+    /// Appends the first bytes of `bytes`, as many as fit, in place of what was held there, and then the held bytes that continue them. Returns how many bytes
+    /// more are in order.
     pub fn push(&mut self, bytes: &[u8]) -> usize
         ensures count { result ≡ length (added_by bytes.now self.old) }
         ensures state { self.new ≡ pushed bytes.now self.old }
@@ -78,7 +78,7 @@ impl RecvQueue {
         self.fill_gap(bytes)
     }
 
-    /// The same where nothing is held.
+    /// `push` where nothing is held.
     fn append(&mut self, bytes: &[u8]) -> usize
         requires { length self.old.early ≡ 0 }
         ensures count { result ≡ length (added_by bytes.now self.old) }
@@ -89,7 +89,7 @@ impl RecvQueue {
         count
     }
 
-    /// The same where something is.
+    /// `push` where something is held.
     fn fill_gap(&mut self, bytes: &[u8]) -> usize
         ensures count { result ≡ length (added_by bytes.now self.old) }
         ensures state { self.new ≡ pushed bytes.now self.old }
@@ -101,8 +101,8 @@ impl RecvQueue {
         grown
     }
 
-    /// Holds bytes that came early, `at` bytes behind the end of those in order. It answers false, and holds none of them, where the places held
-    /// would form more than sixteen runs.
+    /// Holds out-of-order bytes that begin `at` bytes after the end of those in order. Returns false, and holds none of them, where the places held would form
+    /// more than sixteen runs.
     pub fn hold(&mut self, at: usize, bytes: &[u8]) -> bool
         requires ahead { 0 < at }
         requires fits { length self.old.unread + at + length bytes.now ≤ 65535 }
@@ -120,28 +120,28 @@ impl RecvQueue {
         true
     }
 
-    /// How far behind the end of the bytes in order the last held byte ends. Nothing is held from there on.
+    /// How far past the end of the bytes in order the last held byte ends. Nothing is held from there on.
     pub fn held_to(&self) -> usize
         ensures { (k : ℕ) → holds_some (drop k self.now.early) ≡ nat_lt k result }
     {
         self.bytes.len() - self.in_order
     }
 
-    /// What a proof may know of what is held: no byte of it continues those in order.
+    /// A fact for proofs: no held byte continues those in order.
     pub fn has_gap(&self)
         ensures { front_run self.now.early ≡ [] }
     {
         let _in_order = self.in_order;
     }
 
-    /// What a proof may know of the runs that are held: there are at most sixteen.
+    /// A fact for proofs: at most sixteen runs are held.
     fn few(&self)
         ensures { run_count self.now.early ≤ most_runs }
     {
         let _none = self.early.is_empty();
     }
 
-    /// Moves the oldest bytes to the front of `buf`, as many as fit, and answers how many. The rest of `buf` stays.
+    /// Moves the oldest bytes to the beginning of `buf`, as many as fit, and returns how many. The rest of `buf` stays.
     pub fn read(&mut self, buf: &mut [u8]) -> usize
         ensures count { result ≡ min (length self.old.unread) (length buf.old) }
         ensures bytes { buf.new ≡ take result self.old.unread ++ drop result buf.old }
@@ -153,8 +153,8 @@ impl RecvQueue {
         count
     }
 
-    /// Copies the bytes in order from place `from` on to the front of `out`, as many as there are and fit, and answers how many. None is taken,
-    /// and the rest of `out` stays.
+    /// Copies the bytes in order, from place `from` on, to the beginning of `out`, as many as there are and fit, and returns how many. None is consumed, and
+    /// the rest of `out` stays.
     pub fn peek(&self, from: usize, out: &mut [u8]) -> usize
         ensures count { result ≡ min (length self.now.unread - from) (length out.old) }
         ensures bytes { out.new ≡ take result (drop from self.now.unread) ++ drop result out.old }
@@ -163,7 +163,7 @@ impl RecvQueue {
         copy_behind(&self.bytes, from, &mut out[..most])
     }
 
-    /// Forgets all bytes.
+    /// Drops all bytes.
     pub fn clear(&mut self)
         ensures { self.new ≡ empty_queue }
     {

@@ -1,15 +1,17 @@
-//! The sender's numbers and its timer (RFC 9293, 3.3.1 and 3.10.7.4; RFC 6298, 5, with ticks for time).
+//! The sender's numbers, its timer and its congestion window (RFC 9293, 3.3.1 and 3.10.7.4; RFC 6298, 5, in ticks; RFC 5681).
 
-ghost use Rattle.std.specs.Prelude.{◌≡◌, ◌<◌, ◌^◌, ◌==◌, if◌then◌else◌};
+ghost use Rattle.std.specs.Prelude.{◌≡◌, ◌<◌, ◌≤◌, ◌^◌, ◌==◌, min, if◌then◌else◌};
+ghost use Rattle.seq_arith.specs.Congestion.{most_window, growth, with_new_data, lowered_threshold, is_third};
 ghost use Rattle.tcp_buffers.specs.declared.send_state.AckKind.TheVariants.{Beyond};
 ghost use Rattle.tcp_buffers.specs.SendNumbers.{kind_of, is_window_used, edge_after, una_by, interval_by, left_by, IsUsed, ticked};
+ghost use Rattle.tcp_buffers.specs.SendNumbers.{congestion_of, segment_of, flight_of, congestion_by, duplicated, is_lost, expired};
 
 use seq_arith::Seq;
 
-/// What an acknowledgement is to the sender.
+/// How an acknowledgement counts for the sender.
 #[derive(Clone, Copy, Debug, PartialEq, Eq)]
 pub enum AckKind {
-    /// It acknowledges so many numbers that weren't: SND.UNA < SEG.ACK =< SND.NXT.
+    /// It acknowledges `units` numbers for the first time: SND.UNA < SEG.ACK =< SND.NXT.
     New { units: u32 },
     /// It acknowledges nothing new.
     Old,
@@ -24,9 +26,9 @@ pub struct SendState {
     pub una: Seq,
     /// SND.NXT: the next number to be sent.
     pub nxt: Seq,
-    /// SND.WND: how far the right edge is behind `una`, modulo 2^32. It is 2^31 or more where the peer's edge lies before `una`.
+    /// SND.WND: the distance from `una` to the right edge, modulo 2^32. It is 2^31 or more where the peer's edge is before `una`.
     pub wnd: u32,
-    /// SND.WL1: the number of the segment that moved the edge last.
+    /// SND.WL1: the number of the segment that last moved the edge.
     pub wl1: Seq,
     /// SND.WL2: what that segment acknowledged.
     pub wl2: Seq,
@@ -34,12 +36,21 @@ pub struct SendState {
     pub interval: u8,
     /// The ticks until the timer expires; 0 while it doesn't run.
     pub left: u8,
+    /// SMSS: the segment size, in bytes of text. Where something is computed from it, it counts as at most 2^31 - 1.
+    pub mss: u32,
+    /// cwnd: the congestion window, in bytes. Nothing new is sent past `una` plus this.
+    pub cwnd: u32,
+    /// ssthresh: the slow start threshold, in bytes.
+    pub ssthresh: u32,
+    /// The duplicate acknowledgements since `una` rose, counted up to four.
+    pub dups: u8,
 }
 
 impl SendState {
-    /// Uses the acknowledgement and the window of a segment whose number is `seq` (RFC 9293, 3.10.7.4, fifth check). The right edge moves
-    /// where the segment is newer than the one that moved it last, and stays where only `una` moves. What is acknowledged for the first
-    /// time brings the interval back to one tick, and starts the timer again or, with nothing outstanding, stops it (RFC 6298, 5.2, 5.3).
+    /// Uses the acknowledgement and the window of a segment whose number is `seq` (RFC 9293, 3.10.7.4, fifth check). The right edge moves where the segment is
+    /// newer than the one that last moved it, and stays where only `una` moves. An acknowledgement of something new sets the interval back to one tick. It
+    /// restarts the timer or, where nothing is left in flight, stops it (RFC 6298, 5.2 and 5.3). It also lets the congestion window grow, or ends fast recovery
+    /// (RFC 5681, 3.1 and 3.2).
     pub fn on_ack(&mut self, seq: Seq, ack: Seq, wnd: u16) -> AckKind
         ensures kind { result ≡ kind_of self.old.una.0 self.old.nxt.0 ack.0 }
         ensures used { IsUsed self.old self.new seq.0 ack.0 wnd }
@@ -51,6 +62,7 @@ impl SendState {
         let (wl1, wl2) = self.window_source(seq, ack);
         let una = una_by(kind, self.una, ack);
         let (interval, left) = self.timer_by(kind, ack);
+        let (cwnd, dups) = self.congestion_by(kind);
         *self = SendState {
             una,
             wnd: edge.minus(una),
@@ -58,18 +70,45 @@ impl SendState {
             wl2,
             interval,
             left,
+            cwnd,
+            dups,
             ..*self
         };
         kind
     }
 
-    /// Lets a tick pass, and answers whether the timer expires at it. It then starts again with twice the interval, at most 64 ticks
-    /// (RFC 6298, 5.5 and 5.6).
+    /// Counts a duplicate acknowledgement, and returns whether it is the third in a row, at which a segment has to be retransmitted at once. The third begins
+    /// fast recovery, and each further one widens the congestion window by a segment (RFC 5681, 3.2).
+    #[tactic(auto, unfolding(seq_arith::specs::Congestion::is_third, seq_arith::specs::Congestion::with_duplicate))]
+    pub fn on_duplicate(&mut self) -> bool
+        ensures third { result ≡ is_third (congestion_of self.old) }
+        ensures state { self.new ≡ duplicated self.old }
+    {
+        if self.dups >= 3 {
+            // Another segment has left the network.
+            self.cwnd = capped(u64::from(self.cwnd) + u64::from(self.segment()));
+            self.dups = 4;
+            return false;
+        }
+        if self.dups == 2 {
+            // Fast recovery begins. Three segments have left the network.
+            self.ssthresh = self.lowered_threshold();
+            self.cwnd = capped(u64::from(self.ssthresh) + 3 * u64::from(self.segment()));
+            self.dups = 3;
+            return true;
+        }
+        self.dups += 1;
+        false
+    }
+
+    /// Counts a tick, and returns whether the timer expires at it. The timer then restarts with twice the interval, at most 64 ticks (RFC 6298, 5.5 and 5.6).
+    /// What is in flight then counts as lost, where the peer's right edge leaves room for it (RFC 5681, 3.1).
     pub fn on_tick(&mut self) -> bool
         ensures expires { result ≡ (self.old.left == 1) }
         ensures state { self.new ≡ ticked self.old }
     {
         if self.left == 1 {
+            self.expire();
             self.interval = self.interval.min(32) * 2;
             self.left = self.interval;
             return true;
@@ -78,7 +117,89 @@ impl SendState {
         false
     }
 
-    /// Numbers are below 2^32, as a proof knows of those that are read.
+    /// What is in flight counts as lost, where the peer's right edge leaves room for it.
+    #[tactic(auto, unfolding(seq_arith::specs::Congestion::with_expiry))]
+    fn expire(&mut self)
+        ensures state { self.new ≡ expired self.old }
+        ensures interval { self.new.interval ≡ self.old.interval }
+    {
+        if !self.is_lost() {
+            return;
+        }
+        self.ssthresh = self.threshold_after_expiry();
+        self.cwnd = capped(u64::from(self.segment()));
+        self.dups = 0;
+    }
+
+    /// Whether something is in flight, and the peer's right edge leaves room for it.
+    fn is_lost(&self) -> bool
+        ensures { result ≡ is_lost self.now }
+    {
+        self.una != self.nxt && self.una.lt(self.una.add(self.wnd))
+    }
+
+    /// The slow start threshold after an expiry. Only the first expiry lowers it.
+    fn threshold_after_expiry(&self) -> u32
+        ensures { result ≡ (if self.now.interval == 1 then lowered_threshold (segment_of self.now) (flight_of self.now) else self.now.ssthresh) }
+    {
+        if self.interval == 1 {
+            self.lowered_threshold()
+        } else {
+            self.ssthresh
+        }
+    }
+
+    /// The segment size, but at most 2^31 - 1, so that twice as much fits 32 bits.
+    fn segment(&self) -> u32
+        ensures { result ≡ segment_of self.now }
+    {
+        self.mss.min(u32::MAX / 2)
+    }
+
+    /// Half of what is in flight, but at least two segments.
+    fn lowered_threshold(&self) -> u32
+        ensures { result ≡ lowered_threshold (segment_of self.now) (flight_of self.now) }
+    {
+        (self.nxt.minus(self.una) / 2).max(2 * self.segment())
+    }
+
+    /// The congestion window and the count of duplicates after an acknowledgement of this kind.
+    #[tactic(auto, unfolding(seq_arith::specs::Congestion::with_new_data))]
+    fn congestion_by(&self, kind: AckKind) -> (u32, u8)
+        ensures cwnd { result.0 ≡ (congestion_by kind self.now).cwnd }
+        ensures ssthresh { self.now.ssthresh ≡ (congestion_by kind self.now).ssthresh }
+        ensures dups { result.1 ≡ (congestion_by kind self.now).dups }
+    {
+        match kind {
+            AckKind::New { units } => (self.grown(units), 0),
+            _ => (self.cwnd, self.dups),
+        }
+    }
+
+    /// The congestion window once `units` units are newly acknowledged.
+    #[tactic(auto, unfolding(seq_arith::specs::Congestion::with_new_data))]
+    fn grown(&self, units: u32) -> u32
+        ensures { result ≡ (with_new_data (segment_of self.now) units (congestion_of self.now)).cwnd }
+    {
+        if self.dups >= 3 {
+            return capped(u64::from(self.ssthresh));
+        }
+        capped(u64::from(self.cwnd) + self.growth(units))
+    }
+
+    /// By how much the congestion window grows outside fast recovery.
+    fn growth(&self, units: u32) -> u64
+        ensures count { result ≡ growth (segment_of self.now) units (congestion_of self.now) }
+        ensures most { result ≤ 2 ^ 62 }
+    {
+        let segment = u64::from(self.segment());
+        if self.cwnd < self.ssthresh {
+            return u64::from(units).min(segment);
+        }
+        (segment * segment / u64::from(self.cwnd.max(1))).max(1)
+    }
+
+    /// Facts for proofs: numbers are below 2^32.
     fn numbers_fit(&self, ack: Seq)
         ensures una { self.now.una.0 < 2 ^ 32 }
         ensures nxt { self.now.nxt.0 < 2 ^ 32 }
@@ -90,7 +211,7 @@ impl SendState {
         let _wnd = self.wnd;
     }
 
-    /// What the acknowledgement is.
+    /// How the acknowledgement counts.
     fn kind_of(&self, ack: Seq) -> AckKind
         ensures { result ≡ kind_of self.now.una.0 self.now.nxt.0 ack.0 }
     {
@@ -105,7 +226,7 @@ impl SendState {
         }
     }
 
-    /// Whether the segment's window is used: SND.UNA =< SEG.ACK =< SND.NXT, and the segment isn't older than the one before.
+    /// Whether the segment's window is used: SND.UNA =< SEG.ACK =< SND.NXT, and the segment isn't older than the one that last moved the edge.
     fn is_window_used(&self, seq: Seq, ack: Seq) -> bool
         ensures { result ≡ is_window_used self.now seq.0 ack.0 }
     {
@@ -136,7 +257,7 @@ impl SendState {
         }
     }
 
-    /// The timer's interval and what is left of it, after an acknowledgement of this kind.
+    /// The timer's interval and the ticks left of it, after an acknowledgement of this kind.
     fn timer_by(&self, kind: AckKind, ack: Seq) -> (u8, u8)
         ensures interval { result.0 ≡ interval_by kind self.now.interval }
         ensures left { result.1 ≡ left_by kind self.now.nxt.0 ack.0 self.now.left }
@@ -147,6 +268,13 @@ impl SendState {
             _ => (self.interval, self.left),
         }
     }
+}
+
+/// A congestion window, capped at 2^20.
+fn capped(window: u64) -> u32
+    ensures { result ≡ min most_window window }
+{
+    window.min(1 << 20) as u32
 }
 
 /// SND.UNA after an acknowledgement of this kind.

@@ -1,19 +1,21 @@
 -- The own numbers, modulo 2^32, against the sender's offsets.
 use Rattle.std.proofs.Common.{◌≡◌, ℕ, ◌<◌, ◌≤◌, ◌+◌, ◌-◌, ◌%◌, ◌^◌, Bool, true, false, not, refl, sym, ap, arith, ◌∙◌, List, length, drop, min}
-use Rattle.std.specs.Prelude.{ℤ, pos, ◌==◌, ◌&&◌, ◌||◌, nat_abs, nat_le, nat_eq, int_le, if◌then◌else◌}
+use Rattle.std.specs.Prelude.{ℤ, pos, ◌==◌, ◌&&◌, ◌||◌, nat_abs, nat_lt, nat_le, nat_eq, int_le, if◌then◌else◌}
 use Rattle.std.proofs.lemmas.Int.{ints}
 use Rattle.std.proofs.lemmas.List.{drop_min}
 use Rattle.seq_arith.specs.Number.{distance, number_at, offset_of, precedes, precedes_or_is}
 use Rattle.seq_arith.specs.Arrival.{int_eq, is_new_ack}
+use Rattle.seq_arith.specs.Congestion.{with_new_data}
 use Rattle.seq_arith.proofs.Gaps.{offset_leads}
 use Rattle.tcp_buffers.specs.declared.send_state.AckKind.{AckKind}
 use Rattle.tcp_buffers.specs.declared.send_state.AckKind.TheVariants.{New, Old, Beyond}
 use Rattle.tcp_buffers.specs.declared.send_state.SendState.{SendState}
-use Rattle.tcp_buffers.specs.SendNumbers.{acks_new, acks_beyond, kind_of, una_by, interval_by, left_by, is_window_used, edge_of, IsUsed}
+use Rattle.tcp_buffers.specs.SendNumbers.{acks_new, acks_beyond, kind_of, una_by, interval_by, left_by, is_window_used, edge_of, congestion_of, congestion_by, segment_of, IsUsed}
 use Rattle.tcp_buffers.specs.Near.{is_ahead}
 use Rattle.tcp_buffers.proofs.NumbersTell.{ahead_is, WasSent, sent_by, from_is, up_to_is, new_is}
-use Rattle.tcp_endpoint.specs.Sending.{Sending, own, told_by, moves_edge, acknowledged, units_of, was_sent, NumbersFit, IsShort}
-use Rattle.ft_io.proofs.Booleans.{second_of_three, first_of_three}
+use Rattle.tcp_endpoint.specs.Sending.{Sending, own, told_by, moves_edge, acknowledged, units_of, was_sent, repeats, is_duplicate, duplicated, answered_by, NumbersFit, IsShort}
+use Rattle.std.proofs.lemmas.Bool.{false≢true}
+use Rattle.ft_io.proofs.Booleans.{left_true, and_when, second_of_three, first_of_three}
 
 pub first_is : (iss ack : ℕ) → ack < 2 ^ 32 → nat_eq ack ((iss + 1) % 2 ^ 32) ≡ int_eq (offset_of iss ack) (pos 0)
 first_is iss ack small = grind (arith, ints, offset_leads iss ack small)
@@ -48,15 +50,56 @@ new_test iss una nxt ack fits_una fits_nxt fits_ack short was =
     (λ i. acks_new (una_number iss una fits_una i) (nxt_number iss una nxt fits_una fits_nxt i) ack)
     ∙ new_is iss (own iss una) (own iss una + distance nxt una) ack (omega arith) short fits_ack was
 
+-- a duplicate, on numbers and on offsets: it acknowledges SND.UNA, ..
+at_una : (iss una ack : ℕ) → una < 2 ^ 32 → ack < 2 ^ 32 → own iss una ≤ 2 ^ 30 → int_eq (offset_of iss ack) (pos (own iss una)) ≡ nat_eq ack una
+at_una iss una ack fits_una fits_ack short = grind (arith, ints, offset_leads iss ack fits_ack)
+
+-- .. something is in flight, ..
+flight_test : (iss una nxt : ℕ) → una < 2 ^ 32 → nxt < 2 ^ 32 → nat_lt (own iss una) (own iss una + distance nxt una) ≡ not (nat_eq una nxt)
+flight_test iss una nxt fits_una fits_nxt = grind arith
+
+-- .. and the edge stands
+edge_stands : (iss una wnd window : ℕ) → una < 2 ^ 32 → wnd < 2 ^ 32 → window < 2 ^ 16 → own iss una ≤ 2 ^ 30
+    → nat_eq (own iss una + window) (own iss ((una + wnd) % 2 ^ 32)) ≡ nat_eq wnd window
+edge_stands iss una wnd window fits_una fits_wnd small short = grind arith
+
+at_offset : (u : ℕ) (z : ℤ) → int_eq z (pos u) ≡ true → nat_abs z ≡ u
+at_offset u z h = grind (arith, ints)
+
+repeated_is : (iss : ℕ) (n : SendState) (seq ack window : ℕ) → NumbersFit n seq ack → window < 2 ^ 16 → own iss n.una.0 ≤ 2 ^ 30
+    → repeats n ack window
+    ≡ (int_eq (offset_of iss ack) (pos (own iss n.una.0)) && nat_lt (own iss n.una.0) (own iss n.una.0 + distance n.nxt.0 n.una.0)
+    && nat_abs (offset_of iss ack) + window == own iss (edge_of n))
+repeated_is iss n seq ack window fits small short =
+    let z : ℤ = offset_of iss ack in
+    let at : int_eq z (pos (own iss n.una.0)) ≡ nat_eq ack n.una.0 = at_una iss n.una.0 ack fits.una fits.ack short in
+    sym ((λ i. at i && flight_test iss n.una.0 n.nxt.0 fits.una fits.nxt i && nat_eq (nat_abs z + window) (own iss (edge_of n)))
+    ∙ and_when (nat_eq ack n.una.0 && not (nat_eq n.una.0 n.nxt.0)) _ _ (λ h.
+    ap (λ k. nat_eq (k + window) (own iss (edge_of n))) (at_offset (own iss n.una.0) z (at ∙ left_true (nat_eq ack n.una.0) _ h))
+    ∙ edge_stands iss n.una.0 n.wnd window fits.una fits.wnd small short))
+
+duplicate_by : (s : Sending) (bare : Bool) (z : ℤ) (window : ℕ) (repeated : Bool)
+    → repeated ≡ (int_eq z (pos s.una) && nat_lt s.una s.sent && nat_abs z + window == s.edge) → (bare && repeated) ≡ is_duplicate s bare z window
+unfolding is_duplicate
+duplicate_by s true z window repeated is = is
+duplicate_by s false z window repeated is = refl
+
+pub duplicate_is : (iss : ℕ) (n : SendState) (seq ack window : ℕ) (syn_acked : Bool) (held : List ℕ) (closed fin_sent bare : Bool)
+    → NumbersFit n seq ack → window < 2 ^ 16 → IsShort (told_by iss syn_acked n held closed fin_sent)
+    → (bare && repeats n ack window) ≡ is_duplicate (told_by iss syn_acked n held closed fin_sent) bare (offset_of iss ack) window
+duplicate_is iss n seq ack window syn_acked held closed fin_sent bare fits small short =
+    duplicate_by (told_by iss syn_acked n held closed fin_sent) bare (offset_of iss ack) window (repeats n ack window)
+    (repeated_is iss n seq ack window fits small (omega (arith, short.sent)))
+
 -- a conjunction whose later parts are only looked at where the first holds
 guarded : (a b b' c c' d e : Bool) → (a ≡ true → b ≡ b') → (a ≡ true → c ≡ c') → (a && b && (d || (e && c))) ≡ (a && b' && (d || (e && c')))
 guarded true b b' c c' d e same_b same_c = λ i. true && same_b refl i && (d || (e && same_c refl i))
 guarded false b b' c c' d e same_b same_c = refl
 
-window_test : (iss : ℕ) (n : SendState) (seq ack : ℕ) (syn_acked : Bool) (held : List ℕ) (closed fin_sent : Bool) (mss : ℕ) → NumbersFit n seq ack
-    → IsShort (told_by iss syn_acked n held closed fin_sent mss) → WasSent (own iss n.una.0 + distance n.nxt.0 n.una.0) (offset_of iss ack)
-    → is_window_used n seq ack ≡ moves_edge (told_by iss syn_acked n held closed fin_sent mss) seq (offset_of iss ack)
-window_test iss n seq ack syn_acked held closed fin_sent mss fits short was =
+window_test : (iss : ℕ) (n : SendState) (seq ack : ℕ) (syn_acked : Bool) (held : List ℕ) (closed fin_sent : Bool) → NumbersFit n seq ack
+    → IsShort (told_by iss syn_acked n held closed fin_sent) → WasSent (own iss n.una.0 + distance n.nxt.0 n.una.0) (offset_of iss ack)
+    → is_window_used n seq ack ≡ moves_edge (told_by iss syn_acked n held closed fin_sent) seq (offset_of iss ack)
+window_test iss n seq ack syn_acked held closed fin_sent fits short was =
     let u : ℕ = own iss n.una.0 in
     let s : ℕ = u + distance n.nxt.0 n.una.0 in
     let w : ℕ = own iss n.wl2.0 in
@@ -93,6 +136,11 @@ held_field held false d k on = drop_min 0 held
 interval_field : (b : Bool) (d interval : ℕ) → interval_by (kind_by b d) interval ≡ (if b then 1 else interval)
 interval_field true d interval = refl
 interval_field false d interval = refl
+
+congestion_field : (n : SendState) (b : Bool) (d k : ℕ) → segment_of n ≡ n.mss → (b ≡ true → d ≡ k)
+    → congestion_by (kind_by b d) n ≡ (if b then with_new_data n.mss k (congestion_of n) else congestion_of n)
+congestion_field n true d k segment on = λ i. with_new_data (segment i) (on refl i) (congestion_of n)
+congestion_field n false d k segment on = refl
 
 left_field : (b c : Bool) (d nxt ack left : ℕ) → (b ≡ true → nat_eq ack nxt ≡ c)
     → left_by (kind_by b d) nxt ack left ≡ (if b then (if c then 0 else 1) else left)
@@ -145,8 +193,8 @@ kind_is una nxt ack b is_sent is = rw (is_sent, is) refl
 -- a sender whose fields are these
 same_sender : (s s' : Sending) → s.iss ≡ s'.iss → s.syn_acked ≡ s'.syn_acked → s.una ≡ s'.una → s.sent ≡ s'.sent → s.edge ≡ s'.edge
     → s.wl1 ≡ s'.wl1 → s.wl2 ≡ s'.wl2 → s.held ≡ s'.held → s.closed ≡ s'.closed → s.fin_sent ≡ s'.fin_sent → s.mss ≡ s'.mss
-    → s.interval ≡ s'.interval → s.rest ≡ s'.rest → s ≡ s'
-same_sender s s' iss syn_acked una sent edge wl1 wl2 held closed fin_sent mss interval rest = λ i. record {
+    → s.congestion ≡ s'.congestion → s.interval ≡ s'.interval → s.rest ≡ s'.rest → s ≡ s'
+same_sender s s' iss syn_acked una sent edge wl1 wl2 held closed fin_sent mss congestion interval rest = λ i. record {
   iss = iss i;
   syn_acked = syn_acked i;
   una = una i;
@@ -158,28 +206,29 @@ same_sender s s' iss syn_acked una sent edge wl1 wl2 held closed fin_sent mss in
   closed = closed i;
   fin_sent = fin_sent i;
   mss = mss i;
+  congestion = congestion i;
   interval = interval i;
   rest = rest i;
 }
 
 -- what an acknowledgement that isn't beyond SND.NXT makes of the numbers is what it makes of the offsets
-pub acknowledged_is : (iss : ℕ) (n n' : SendState) (seq ack window : ℕ) (syn_acked : Bool) (held : List ℕ) (closed fin_sent : Bool) (mss : ℕ)
-    → NumbersFit n seq ack → window < 2 ^ 16 → IsShort (told_by iss syn_acked n held closed fin_sent mss)
-    → IsUsed n n' seq ack window → acks_beyond n.nxt.0 ack ≡ false
-    → told_by iss syn_acked n' (drop (min (units_of (kind_of n.una.0 n.nxt.0 ack)) (length held)) held) closed fin_sent mss
-    ≡ acknowledged (told_by iss syn_acked n held closed fin_sent mss) seq (offset_of iss ack) window
+pub acknowledged_is : (iss : ℕ) (n n' : SendState) (seq ack window : ℕ) (syn_acked : Bool) (held : List ℕ) (closed fin_sent : Bool)
+    → NumbersFit n seq ack → window < 2 ^ 16 → IsShort (told_by iss syn_acked n held closed fin_sent)
+    → segment_of n ≡ n.mss → IsUsed n n' seq ack window → acks_beyond n.nxt.0 ack ≡ false
+    → told_by iss syn_acked n' (drop (min (units_of (kind_of n.una.0 n.nxt.0 ack)) (length held)) held) closed fin_sent
+    ≡ acknowledged (told_by iss syn_acked n held closed fin_sent) seq (offset_of iss ack) window
 unfolding acknowledged
-acknowledged_is iss n n' seq ack window syn_acked held closed fin_sent mss fits small short used is_sent =
+acknowledged_is iss n n' seq ack window syn_acked held closed fin_sent fits small short large used is_sent =
     let u : ℕ = own iss n.una.0 in
     let s : ℕ = u + distance n.nxt.0 n.una.0 in
     let z : ℤ = offset_of iss ack in
     let b : Bool = is_new_ack u s z in
     let was : is_ahead s z ≡ false = sym (ahead_test iss n.una.0 n.nxt.0 ack fits.una fits.nxt fits.ack short.sent) ∙ is_sent in
-    let before : Sending = told_by iss syn_acked n held closed fin_sent mss in
+    let before : Sending = told_by iss syn_acked n held closed fin_sent in
     let d : ℕ = distance ack n.una.0 in
     let is_new : acks_new n.una.0 n.nxt.0 ack ≡ b = new_test iss n.una.0 n.nxt.0 ack fits.una fits.nxt fits.ack short.sent was in
     let kind : kind_of n.una.0 n.nxt.0 ack ≡ kind_by b d = kind_is n.una.0 n.nxt.0 ack b is_sent is_new in
-    let moves : is_window_used n seq ack ≡ moves_edge before seq z = window_test iss n seq ack syn_acked held closed fin_sent mss fits short (sent_by s z was) in
+    let moves : is_window_used n seq ack ≡ moves_edge before seq z = window_test iss n seq ack syn_acked held closed fin_sent fits short (sent_by s z was) in
     let a : ℕ = nat_abs z in
     let on : b ≡ true → own iss ack ≡ a = λ h. own_is iss ack fits.ack (new_bounds u s z h).0 in
     let up : b ≡ true → u ≤ own iss ack = λ h. omega (arith, on h, (new_bounds u s z h).1) in
@@ -199,7 +248,9 @@ acknowledged_is iss n n' seq ack window syn_acked held closed fin_sent mss fits 
     (ap (own iss) used.wl2 ∙ wl2_field iss n.wl2.0 ack a _ _ moves moved)
     (ap (λ k. drop (min (units_of k) (length held)) held) kind
     ∙ held_field held b d (a - u) (λ h. new_distance iss n.una.0 ack fits.una fits.ack (up h) ∙ ap (λ v. v - u) (on h)))
-    refl refl refl
+    refl refl used.mss
+    (used.congestion ∙ ap (λ k. congestion_by k n) kind
+    ∙ congestion_field n b d (a - u) large (λ h. new_distance iss n.una.0 ack fits.una fits.ack (up h) ∙ ap (λ v. v - u) (on h)))
     (used.interval ∙ ap (λ k. interval_by k n.interval) kind ∙ interval_field b d n.interval)
     (used.left ∙ ap (λ k. left_by k n.nxt.0 ack n.left) kind
     ∙ left_field b (int_le (pos s) z) d n.nxt.0 ack n.left
@@ -215,28 +266,54 @@ choose b true x y z is on off = on is
 choose b false x y z is on off = off is
 
 -- what Sender::on_ack answers, ..
-pub sent_is : (iss : ℕ) (n : SendState) (seq ack : ℕ) (syn_acked : Bool) (held : List ℕ) (closed fin_sent : Bool) (mss : ℕ) (kind : AckKind)
-    → NumbersFit n seq ack → IsShort (told_by iss syn_acked n held closed fin_sent mss)
+pub sent_is : (iss : ℕ) (n : SendState) (seq ack : ℕ) (syn_acked : Bool) (held : List ℕ) (closed fin_sent : Bool) (kind : AckKind)
+    → NumbersFit n seq ack → IsShort (told_by iss syn_acked n held closed fin_sent)
     → kind ≡ kind_of n.una.0 n.nxt.0 ack
-    → was_sent kind ≡ not (is_ahead (told_by iss syn_acked n held closed fin_sent mss).sent (offset_of iss ack))
-sent_is iss n seq ack syn_acked held closed fin_sent mss kind fits short is =
+    → was_sent kind ≡ not (is_ahead (told_by iss syn_acked n held closed fin_sent).sent (offset_of iss ack))
+sent_is iss n seq ack syn_acked held closed fin_sent kind fits short is =
     ap was_sent is ∙ kind_sent (acks_beyond n.nxt.0 ack) (acks_new n.una.0 n.nxt.0 ack) (distance ack n.una.0)
     ∙ ap not (ahead_test iss n.una.0 n.nxt.0 ack fits.una fits.nxt fits.ack short.sent)
 
 -- .. and what it makes of the sender
-pub used_is : (iss : ℕ) (n n' : SendState) (seq ack window : ℕ) (syn_acked : Bool) (held held' : List ℕ) (closed fin_sent : Bool) (mss : ℕ) (kind : AckKind)
-    → NumbersFit n seq ack → window < 2 ^ 16 → IsShort (told_by iss syn_acked n held closed fin_sent mss)
+pub used_is : (iss : ℕ) (n n' : SendState) (seq ack window : ℕ) (syn_acked : Bool) (held held' : List ℕ) (closed fin_sent : Bool) (kind : AckKind)
+    → NumbersFit n seq ack → window < 2 ^ 16 → IsShort (told_by iss syn_acked n held closed fin_sent) → segment_of n ≡ n.mss
     → kind ≡ kind_of n.una.0 n.nxt.0 ack → IsUsed n n' seq ack window → (kind ≡ Beyond → n' ≡ n)
     → held' ≡ drop (min (units_of kind) (length held)) held
-    → told_by iss syn_acked n' held' closed fin_sent mss
-    ≡ (if is_ahead (told_by iss syn_acked n held closed fin_sent mss).sent (offset_of iss ack)
-    then told_by iss syn_acked n held closed fin_sent mss
-    else acknowledged (told_by iss syn_acked n held closed fin_sent mss) seq (offset_of iss ack) window)
-used_is iss n n' seq ack window syn_acked held held' closed fin_sent mss kind fits small short is used unused held_is =
-    let as_held : List ℕ → Sending = λ q. told_by iss syn_acked n' q closed fin_sent mss in
+    → told_by iss syn_acked n' held' closed fin_sent
+    ≡ (if is_ahead (told_by iss syn_acked n held closed fin_sent).sent (offset_of iss ack)
+    then told_by iss syn_acked n held closed fin_sent
+    else acknowledged (told_by iss syn_acked n held closed fin_sent) seq (offset_of iss ack) window)
+used_is iss n n' seq ack window syn_acked held held' closed fin_sent kind fits small short large is used unused held_is =
+    let as_held : List ℕ → Sending = λ q. told_by iss syn_acked n' q closed fin_sent in
     choose (acks_beyond n.nxt.0 ack) _ _ _ _ (ahead_test iss n.una.0 n.nxt.0 ack fits.una fits.nxt fits.ack short.sent)
     (λ h. let beyond : kind ≡ Beyond = is ∙ rw h refl in
     ap as_held (held_is ∙ ap (λ k. drop (min (units_of k) (length held)) held) beyond ∙ drop_min 0 held)
-    ∙ ap (λ m. told_by iss syn_acked m held closed fin_sent mss) (unused beyond))
+    ∙ ap (λ m. told_by iss syn_acked m held closed fin_sent) (unused beyond))
     (λ h. ap as_held (held_is ∙ ap (λ k. drop (min (units_of k) (length held)) held) is)
-    ∙ acknowledged_is iss n n' seq ack window syn_acked held closed fin_sent mss fits small short used h)
+    ∙ acknowledged_is iss n n' seq ack window syn_acked held closed fin_sent fits small short large used h)
+
+-- a duplicate acknowledges nothing new
+not_new : (u s : ℕ) (z : ℤ) → int_eq z (pos u) ≡ true → is_new_ack u s z ≡ false
+not_new u s z at = grind (arith, ints)
+
+at_first : (bare a b c : Bool) → (bare && a && b && c) ≡ true → a ≡ true
+at_first true true b c h = refl
+at_first true false b c h = h
+at_first false a b c h = absurd (false≢true h)
+
+-- so the congestion window is what it was when a duplicate is counted
+pub duplicate_keeps : (s : Sending) (bare : Bool) (seq : ℕ) (z : ℤ) (window : ℕ) → is_duplicate s bare z window ≡ true
+    → (acknowledged s seq z window).congestion ≡ s.congestion
+unfolding is_duplicate acknowledged
+duplicate_keeps s bare seq z window h = rw (not_new s.una s.sent z (at_first bare _ _ _ h)) refl
+
+-- what an acknowledgement makes of the sender, where it is no duplicate, and where it is one
+pub answered_once : (s : Sending) (bare : Bool) (seq : ℕ) (z : ℤ) (window : ℕ) → is_duplicate s bare z window ≡ false
+    → acknowledged s seq z window ≡ answered_by s bare seq z window
+unfolding answered_by
+answered_once s bare seq z window h = rw h refl
+
+pub answered_again : (s : Sending) (bare : Bool) (seq : ℕ) (z : ℤ) (window : ℕ) → is_duplicate s bare z window ≡ true
+    → duplicated (acknowledged s seq z window) ≡ answered_by s bare seq z window
+unfolding answered_by
+answered_again s bare seq z window h = rw h refl

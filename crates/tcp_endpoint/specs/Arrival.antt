@@ -1,5 +1,5 @@
--- What a segment that arrives makes of an endpoint: the checks of RFC 9293, 3.10.7, in their order, one definition a check.
-use Rattle.std.specs.Prelude.{ℕ, ℤ, Bool, true, pos, ◌+◌, ◌%◌, ◌^◌, ◌&&◌, ◌||◌, not, nat_lt, None, Some, if◌then◌else◌, ◌+ℤ◌, length, take}
+-- What an arriving segment does to an endpoint: the checks of RFC 9293, 3.10.7, in their order, one definition for each check.
+use Rattle.std.specs.Prelude.{ℕ, ℤ, Bool, true, pos, ◌+◌, ◌%◌, ◌^◌, ◌==◌, ◌&&◌, ◌||◌, not, nat_lt, None, Some, if◌then◌else◌, ◌+ℤ◌, length, take}
 use Rattle.seq_arith.specs.Arrival.{int_eq, is_acceptable_or_at_edge, is_allowed_at_zero}
 use Rattle.seq_arith.specs.Packet.{Segment, has_fin, has_syn, has_rst, has_ack}
 use Rattle.ft_io.specs.declared.Addr.{Addr}
@@ -11,7 +11,7 @@ use Rattle.tcp_endpoint.specs.declared.states.StateName.{StateName}
 use Rattle.tcp_endpoint.specs.declared.states.StateName.TheVariants.{Closed, Listen, SynSent, SynReceived, Established}
 use Rattle.tcp_endpoint.specs.States.{after_syn_acked, after_fin_acked, after_fin, is_time_wait}
 use Rattle.tcp_endpoint.specs.Receiving.{taken, next, window, with_segment}
-use Rattle.tcp_endpoint.specs.Sending.{with_syn_acked, acknowledged, fin_acked}
+use Rattle.tcp_endpoint.specs.Sending.{with_segment_size, with_syn_acked, is_third_duplicate, answered_by, fin_acked}
 use Rattle.tcp_endpoint.specs.Tcb.{Tcb}
 
 -- SEG.SEQ and SEG.ACK as offsets
@@ -24,7 +24,7 @@ ack_at e p = ack_of e.sending.iss p
 abbrev pub source : Segment → Addr
 source p = record { ip = p.head.src; port = p.head.sport }
 
--- a RST that answers a segment, with window 0
+-- a RST in answer to a segment, with window 0
 abbrev pub rst : Tcb → Segment → (seq ack flags : ℕ) → Head
 rst e p seq ack flags = record {
   src = e.local.ip;
@@ -54,7 +54,7 @@ owing_if b e = record e { owed = e.owed || b }
 abbrev pub killed : Tcb → Tcb
 killed e = record e { name = Closed; reset = true }
 
--- a state is entered. TIME-WAIT lasts four ticks
+-- enters a state. TIME-WAIT lasts four ticks
 abbrev pub entering : StateName → Tcb → Tcb
 entering name e = record e { name = name; wait = if is_time_wait name && not (is_time_wait e.name) then 4 else e.wait }
 
@@ -62,25 +62,25 @@ entering name e = record e { name = name; wait = if is_time_wait name && not (is
 unfoldable pub in_closed : Tcb → Segment → Tcb
 in_closed e p = if has_rst p then e else (if has_ack p then refusing e p else refusing_without_ack e p)
 
--- 3.10.7.2: LISTEN. A SYN makes a connection, whose SYN-ACK is due
+-- 3.10.7.2: LISTEN. A SYN opens a connection, and its SYN-ACK becomes due
 unfoldable pub begun : Tcb → Segment → Tcb
 begun e p = record e {
   remote = source p;
   name = SynReceived;
   receiving = record e.receiving { irs = p.head.seq };
-  sending = record e.sending { mss = segment_size p.head.mss };
+  sending = with_segment_size (segment_size p.head.mss) e.sending;
   again = true;
 }
 
 unfoldable pub in_listen : Tcb → Segment → Tcb
 in_listen e p = if has_rst p then e else (if has_ack p then refusing e p else (if has_syn p then begun e p else e))
 
--- 3.10.7.3: SYN-SENT. What was sent is the SYN alone, so one number acknowledges it
+-- 3.10.7.3: SYN-SENT. Only the SYN has been sent, so exactly one number acknowledges it
 unfoldable pub answered : Tcb → Segment → Tcb
 answered e p = record e {
   name = Established;
   receiving = record e.receiving { irs = p.head.seq };
-  sending = with_syn_acked (record e.sending { mss = segment_size p.head.mss }) p.head.seq p.head.window;
+  sending = with_syn_acked (with_segment_size (segment_size p.head.mss) e.sending) p.head.seq p.head.window;
   owed = true;
 }
 
@@ -98,50 +98,59 @@ with_text_and_fin e p =
     let taking = record e { receiving = with_segment e.receiving (first e p) p.payload (has_fin p) } in
     if taking.receiving.fin && not e.receiving.fin then entering (after_fin e.name) taking else taking
 
--- fifth check: an acknowledgement of the own FIN
+-- fifth check: our FIN is acknowledged
 unfoldable pub with_fin_acked : Tcb → Tcb
 with_fin_acked e = if fin_acked e.sending then entering (after_fin_acked e.name) e else e
 
--- fifth check, in SYN-RECEIVED: only the SYN is sent, so one number acknowledges it
+-- fifth check, in SYN-RECEIVED: only the SYN has been sent, so exactly one number acknowledges it
 unfoldable pub with_first_ack : Tcb → Segment → Tcb
 with_first_ack e p =
     if int_eq (ack_at e p) (pos 0)
     then with_text_and_fin (record e { name = after_syn_acked e.sending.closed; sending = with_syn_acked e.sending p.head.seq p.head.window }) p
     else refusing e p
 
+-- whether the segment has neither text nor FIN
+abbrev pub is_bare : Segment → Bool
+is_bare p = length p.payload == 0 && not (has_fin p)
+
+-- uses the acknowledgement. At the third duplicate in a row the first unacknowledged segment becomes due for retransmission (RFC 5681, 3.2)
+unfoldable pub with_ack_used : Tcb → Segment → Tcb
+with_ack_used e p = record e {
+  sending = answered_by e.sending (is_bare p) p.head.seq (ack_at e p) p.head.window;
+  again = e.again || is_third_duplicate e.sending (is_bare p) (ack_at e p) p.head.window;
+}
+
 -- fifth check, in the other states: an acknowledgement ahead of SND.NXT is owed an answer, and nothing of its segment is used
 unfoldable pub with_ack : Tcb → Segment → Tcb
 with_ack e p =
-    if is_ahead e.sending.sent (ack_at e p)
-    then owing_if true e
-    else with_text_and_fin (with_fin_acked (record e { sending = acknowledged e.sending p.head.seq (ack_at e p) p.head.window })) p
+    if is_ahead e.sending.sent (ack_at e p) then owing_if true e else with_text_and_fin (with_fin_acked (with_ack_used e p)) p
 
--- .. as the SYN is acknowledged or not: until then the state is SYN-RECEIVED
+-- fifth check. Until our SYN is acknowledged, the state is SYN-RECEIVED
 unfoldable pub check_ack : Tcb → Segment → Tcb
 check_ack e p = if has_ack p then (if e.sending.syn_acked then with_ack e p else with_first_ack e p) else e
 
--- fourth check: a SYN gets a challenge ACK. A segment that takes up numbers is owed an answer
+-- fourth check: a SYN gets a challenge ACK. A segment with SEG.LEN above 0 is owed an answer
 unfoldable pub check_syn : Tcb → Segment → Tcb
 check_syn e p = if has_syn p then owing_if true e else check_ack (owing_if (nat_lt 0 (length_of p)) e) p
 
--- second check: a RST resets at RCV.NXT, and gets a challenge ACK elsewhere in the window
+-- second check: a RST at RCV.NXT resets the connection. Any other that passed the first check gets a challenge ACK
 unfoldable pub check_rst : Tcb → Segment → Tcb
 check_rst e p = if has_rst p then (if int_eq (first e p) (pos (next e.receiving)) then killed e else owing_if true e) else check_syn e p
 
--- the peer's FIN comes again: it stands where all bytes end that are taken
+-- whether the segment repeats the peer's FIN: its FIN comes right after the bytes taken
 abbrev pub repeats_fin : Tcb → Segment → Bool
 repeats_fin e p = fin_of p && int_eq (first e p +ℤ pos (length p.payload)) (pos (taken e.receiving))
 
--- it starts TIME-WAIT again
+-- a repeated FIN restarts TIME-WAIT
 unfoldable pub waiting_again : Tcb → Segment → Tcb
 waiting_again e p = record e { wait = if is_time_wait e.name && repeats_fin e p then 4 else e.wait }
 
--- acceptable: by the four cases, or at the right edge
+-- acceptable by the four cases, or at the right edge
 unfoldable pub accepts : Tcb → Segment → Bool
 accepts e p = is_acceptable_or_at_edge (next e.receiving) (window e.receiving) (first e p) (length_of p)
 
--- special allowance: at a window of zero a segment at RCV.NXT is looked at further, in SYN-RECEIVED where it acknowledges the SYN. One with SYN or
--- without ACK comes to the ACK that an unacceptable one is owed in either way, and so does text: none of it, and no FIN, lies below the edge
+-- special allowance: at a zero window a segment at RCV.NXT is processed further, in SYN-RECEIVED only where it acknowledges the SYN. A segment with SYN or
+-- without ACK is owed the same ACK whether it is allowed or not. So is one with text or a FIN: neither is taken, since none of it is below the receive edge
 unfoldable pub is_allowed : Tcb → Segment → Bool
 is_allowed e p = is_allowed_at_zero (next e.receiving) (window e.receiving) (first e p) && (e.sending.syn_acked || int_eq (ack_at e p) (pos 0))
 
@@ -163,6 +172,6 @@ received_in name e p = in_others e p
 unfoldable pub received : Tcb → Segment → Tcb
 received e p = received_in e.name e p
 
--- a segment with no more text than IP's total length of two bytes has room for (RFC 791, 3.1)
+-- the segment with at most 65,535 bytes of text. IP's total length, which has two bytes, leaves room for no more (RFC 791, 3.1)
 abbrev pub within_ip : Segment → Segment
 within_ip p = record p { payload = take 65535 p.payload }

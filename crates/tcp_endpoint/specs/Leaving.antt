@@ -10,7 +10,7 @@ use Rattle.tcp_endpoint.specs.Receiving.{next, window, announced_edge}
 use Rattle.tcp_endpoint.specs.Sending.{in_flight, is_unacknowledged, must_run, timed, sendable, sends_fin, resent_length, with_sent, with_fin_sent}
 use Rattle.tcp_endpoint.specs.Tcb.{Tcb}
 
--- the head of every segment but a RST that answers: it acknowledges all that is taken, and announces the window
+-- the header of every segment except a RST in answer: it acknowledges all that is taken, and advertises the window
 unfoldable pub head_at : Tcb → (seq flags : ℕ) → Head
 head_at e seq flags = record {
   src = e.local.ip;
@@ -31,11 +31,11 @@ opening_segment e =
     then record { head = record (head_at e e.sending.iss 2) { ack = 0; mss = Some 1460 }; payload = [] }
     else record { head = record (head_at e e.sending.iss 18) { mss = Some 1460 }; payload = [] }
 
--- a segment that begins so many units behind SND.UNA, with these flags
+-- a segment that begins `place` units after SND.UNA, with these flags
 abbrev pub segment_at : Tcb → (place flags : ℕ) → List ℕ → Segment
 segment_at e place flags payload = record { head = head_at e (number_at e.sending.iss (e.sending.una + place)) flags; payload = payload }
 
--- n bytes of text from there on, with ACK alone
+-- `n` bytes of text from there on; the only flag is ACK
 unfoldable pub text_at : Tcb → (place n : ℕ) → Segment
 text_at e place n = segment_at e place 16 (take n (drop place e.sending.held))
 
@@ -43,7 +43,7 @@ text_at e place n = segment_at e place 16 (take n (drop place e.sending.held))
 unfoldable pub fin_at : Tcb → ℕ → Segment
 fin_at e place = segment_at e place 17 []
 
--- so many bytes from a place on, in at most k segments, each but the last of the segment size
+-- `left` bytes from `place` on, in at most k segments, each of the segment size except the last
 unfoldable pub texts : ℕ → Tcb → (place left : ℕ) → List Segment
 texts zero e place left = []
 texts (suc k) e place left =
@@ -51,7 +51,7 @@ texts (suc k) e place left =
     then text_at e place (min left e.sending.mss) ∷ texts k e (place + min left e.sending.mss) (left - min left e.sending.mss)
     else []
 
--- the RST that answers
+-- the RST in answer
 abbrev pub answer_segments : Option codec.Head → List Segment
 answer_segments None = []
 answer_segments (Some head) = record { head = said head; payload = [] } ∷ []
@@ -59,7 +59,7 @@ answer_segments (Some head) = record { head = said head; payload = [] } ∷ []
 unfoldable pub answer_out : Tcb → List Segment
 answer_out e = answer_segments e.answer
 
--- the first segment that is unacknowledged: the SYN or SYN-ACK, else the FIN where all bytes are acknowledged, else text
+-- the first unacknowledged segment: the SYN or SYN-ACK, then text, and the FIN once all bytes are acknowledged
 unfoldable pub again_segment : Tcb → Segment
 again_segment e =
     if not e.sending.syn_acked then opening_segment e
@@ -68,7 +68,7 @@ again_segment e =
 unfoldable pub again_out : Tcb → List Segment
 again_out e = if e.again && not (is_closed e.name) && is_unacknowledged e.sending then again_segment e ∷ [] else []
 
--- a probe goes out at SND.NXT: one byte, or the FIN where no byte waits
+-- a probe is sent at SND.NXT: one byte, or the FIN where no byte is waiting
 abbrev pub probes : Tcb → Bool
 probes e = e.probe && has_begun e.name && e.sending.syn_acked && not e.sending.fin_sent
 
@@ -87,7 +87,7 @@ with_probe e = record e {
   sending = if probes_text e then with_sent e.sending 1 else (if probes_fin e then with_fin_sent e.sending else e.sending);
 }
 
--- text goes out for the first time
+-- how many bytes of text are sent for the first time
 abbrev pub new_length : Tcb → ℕ
 new_length e = if has_begun e.name then sendable e.sending else 0
 
@@ -97,7 +97,7 @@ text_out e = texts (new_length e) e (in_flight e.sending) (new_length e)
 unfoldable pub with_text_sent : Tcb → Tcb
 with_text_sent e = record e { sending = with_sent e.sending (new_length e) }
 
--- and the FIN
+-- whether the FIN is sent for the first time
 abbrev pub new_fin : Tcb → Bool
 new_fin e = has_begun e.name && sends_fin e.sending
 
@@ -114,24 +114,24 @@ full_out e = answer_out e ++ again_out e ++ probe_out e ++ text_out (with_probe 
 unfoldable pub after_full : Tcb → Tcb
 after_full e = with_fin_out (with_text_sent (with_probe e))
 
--- a segment without data is owed: a rule asks for it, or what was last announced has changed
+-- a segment without data is owed: a rule requires it, or RCV.NXT or the right edge has changed since it was last sent
 unfoldable pub is_owed : Tcb → Bool
 is_owed e = has_begun e.name && (e.owed || not (e.told_next == next e.receiving) || not (e.told_edge == announced_edge e.receiving))
 
--- it stands at SND.NXT
+-- the segment without data, at SND.NXT
 unfoldable pub bare_segment : Tcb → Segment
 bare_segment e = segment_at e (in_flight e.sending) 16 []
 
--- what goes out where nothing else does: a segment without data, or its packet, where one is owed
+-- the list; or `bare` alone, where the list is empty and a segment without data is owed. The lists are of segments or of packets
 abbrev pub or_bare : {A : Type 0} → Bool → A → List A → List A
 or_bare owed bare [] = if owed then bare ∷ [] else []
 or_bare owed bare (first ∷ others) = first ∷ others
 
--- what leaves, in order: a segment without data only where no other goes out
+-- what is sent, in order: a segment without data only where no other is sent
 unfoldable pub leaving : Tcb → List Segment
 leaving e = or_bare (is_owed (after_full e)) (bare_segment (after_full e)) (full_out e)
 
--- what is announced in every segment of a connection that has begun
+-- notes what every segment of a connection that has begun advertises, and that nothing is due any more
 unfoldable pub announced : Tcb → Tcb
 announced e = record e {
   told_next = if has_begun e.name then next e.receiving else e.told_next;
@@ -142,7 +142,7 @@ announced e = record e {
   answer = None;
 }
 
--- the timer runs in a connection that sends and isn't closed
+-- the timer runs where it must, unless the state is CLOSED or LISTEN
 abbrev pub is_timed : Tcb → Bool
 is_timed e = (has_begun e.name || is_syn_sent e.name) && must_run e.sending
 
@@ -152,6 +152,6 @@ with_turn_ended e = record (announced e) { sending = timed (is_timed e) e.sendin
 unfoldable pub flushed : Tcb → Tcb
 flushed e = with_turn_ended (after_full e)
 
--- the packets that leave, as bytes
+-- the packets that are sent, as bytes
 unfoldable pub packets : List Segment → List (List ℕ)
 packets segments = map spelling segments

@@ -1,5 +1,5 @@
--- The receiving half of a connection, in offsets of the peer's stream: byte k has the offset k, and a FIN that is taken counts as one more
--- (RFC 9293, 3.3.1, receive sequence variables, and 3.10.7.4, first, seventh and eighth check).
+-- The receiving half of a connection, in offsets of the peer's stream: byte k has offset k, and a FIN that is taken counts as one more unit (RFC 9293, 3.3.1,
+-- receive sequence variables, and 3.10.7.4, first, seventh and eighth check).
 use Rattle.std.specs.Prelude.{ℕ, ℤ, Bool, false, ◌+◌, ◌-◌, ◌^◌, ◌≤◌, min, Option, List, [], ◌++◌, length, drop}
 use Rattle.seq_arith.specs.Coming.{Early, Came, nothing_early, comes, StandsBehind}
 use Rattle.seq_arith.specs.Offset.{one_if}
@@ -13,7 +13,7 @@ pub record Receiving : Type 0 where
   pub early : Early  -- the peer's text behind the bytes taken, and its FIN, that are held until the gap before them is filled
   pub limit : ℕ  -- the receive edge never passes this
 
--- the bytes taken
+-- how many bytes are taken
 abbrev pub taken : Receiving → ℕ
 taken r = r.read + length r.unread
 
@@ -21,11 +21,11 @@ taken r = r.read + length r.unread
 abbrev pub next : Receiving → ℕ
 next r = taken r + one_if r.fin
 
--- no byte is taken from here on: 65,535 bytes are buffered beyond what is read
+-- no byte from this offset on is taken: it is 65,535 bytes past what is read, and at most the limit
 abbrev pub receive_edge : Receiving → ℕ
 receive_edge r = min (r.read + 65535) r.limit
 
--- the edge that is announced: a taken FIN has used up one number
+-- the edge that is advertised: a FIN that is taken has used up one number
 abbrev pub announced_edge : Receiving → ℕ
 announced_edge r = receive_edge r + one_if r.fin
 
@@ -37,7 +37,7 @@ window r = receive_edge r - taken r
 abbrev pub receiving_up_to : ℕ → Receiving
 receiving_up_to limit = record { irs = 0; read = 0; unread = []; fin = false; early = nothing_early; limit = limit }
 
--- what the text and the FIN of a segment make of the stream
+-- what the text and the FIN of a segment do to the stream
 abbrev pub came : Receiving → ℤ → List ℕ → Bool → Came
 came r first text fin = comes (taken r) (receive_edge r) r.fin r.early first text fin
 
@@ -48,11 +48,11 @@ with_came r c = record r { unread = r.unread ++ c.added; early = c.early; fin = 
 abbrev pub with_segment : Receiving → ℤ → List ℕ → Bool → Receiving
 with_segment r first text fin = with_came r (came r first text fin)
 
--- the user reads so many bytes
+-- the user reads `n` bytes
 abbrev pub read_out : Receiving → ℕ → Receiving
 read_out r n = record r { read = r.read + n; unread = drop n r.unread }
 
--- what stays true of a receiver's fields
+-- the invariant of a receiver's fields
 pub record Keeps (read : ℕ) (queue : Queue) (fin : Bool) (held_fin : Option ℕ) (limit : ℕ) : Type 0 where
   pub within : read + length queue.unread ≤ limit
   pub queued : length queue.unread ≤ 65535

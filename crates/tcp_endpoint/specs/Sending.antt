@@ -1,13 +1,17 @@
--- The sending half of a connection, in offsets of the own stream: byte k has the offset k, and a FIN counts as one more (RFC 9293,
--- 3.3.1, send sequence variables, and 3.10.7.4, fifth check).
+-- The sending half of a connection, in offsets of our stream: byte k has offset k, and a FIN counts as one more unit (RFC 9293, 3.3.1, send sequence variables,
+-- and 3.10.7.4, fifth check; RFC 5681).
 use Rattle.std.specs.Prelude.{ℕ, ℤ, Bool, true, false, pos, ◌+◌, ◌-◌, ◌*◌, ◌%◌, ◌^◌, ◌<◌, ◌≤◌, ◌==◌, ◌&&◌, ◌||◌, not, nat_lt, nat_le, int_le, min, max, nat_abs, List, [], length, drop, if◌then◌else◌}
-use Rattle.seq_arith.specs.Arrival.{is_new_ack}
+use Rattle.seq_arith.specs.Arrival.{int_eq, is_new_ack}
+use Rattle.seq_arith.specs.Congestion.{Congestion, initial_congestion, with_new_data, is_third, with_duplicate, with_expiry}
 use Rattle.seq_arith.specs.Number.{distance, precedes}
-use Rattle.tcp_buffers.specs.SendNumbers.{edge_of}
+use Rattle.tcp_buffers.specs.Near.{is_ahead}
+use Rattle.tcp_buffers.specs.SendNumbers.{edge_of, congestion_of}
 use Rattle.tcp_buffers.specs.declared.send_state.AckKind.{AckKind}
 use Rattle.tcp_buffers.specs.declared.send_state.AckKind.TheVariants.{New, Beyond}
 use Rattle.tcp_buffers.specs.declared.send_state.SendState.{SendState}
 use Rattle.seq_arith.specs.Offset.{one_if}
+use Rattle.tcp_endpoint.specs.declared.sender.AckUse.{AckUse}
+use Rattle.tcp_endpoint.specs.declared.sender.AckUse.TheVariants.{Ahead, Used, Third}
 
 pub record Sending : Type 0 where
   pub iss : ℕ  -- ISS: the own initial number
@@ -21,6 +25,7 @@ pub record Sending : Type 0 where
   pub closed : Bool  -- whether the user has closed
   pub fin_sent : Bool  -- whether the FIN is sent
   pub mss : ℕ  -- the segment size, in bytes of text
+  pub congestion : Congestion  -- the congestion window, the slow start threshold, and the duplicate acknowledgements
   pub interval : ℕ  -- of the timer, in ticks
   pub rest : ℕ  -- the ticks until the timer expires; 0 while it doesn't run
 
@@ -38,22 +43,27 @@ sending_from iss = record {
   closed = false;
   fin_sent = false;
   mss = 536;
+  congestion = initial_congestion 536;
   interval = 1;
   rest = 0;
 }
 
--- the acknowledgement of the SYN, which alone is sent, by the segment of that number (3.10.7.3, fourth check; 3.10.7.4, fifth check)
+-- takes the segment size that the peer's SYN offers, and starts congestion control with it
+abbrev pub with_segment_size : ℕ → Sending → Sending
+with_segment_size mss s = record s { mss = mss; congestion = initial_congestion mss }
+
+-- our SYN, and nothing else, has been sent; a segment with number `seq` acknowledges it (3.10.7.3, fourth check; 3.10.7.4, fifth check)
 abbrev pub with_syn_acked : Sending → ℕ → ℕ → Sending
 with_syn_acked s seq window = record s { syn_acked = true; una = 0; sent = 0; edge = window; wl1 = seq; wl2 = 0; interval = 1; rest = 0 }
 
--- whether the window is used: SND.UNA =< SEG.ACK =< SND.NXT, and the segment isn't older than the one that moved the edge last: either
--- SND.WL1 < SEG.SEQ, or SND.WL1 = SEG.SEQ and SND.WL2 =< SEG.ACK
+-- whether the window is used: SND.UNA =< SEG.ACK =< SND.NXT, and the segment isn't older than the one that last moved the edge: either SND.WL1 < SEG.SEQ, or
+-- SND.WL1 = SEG.SEQ and SND.WL2 =< SEG.ACK
 abbrev pub moves_edge : Sending → ℕ → ℤ → Bool
 moves_edge s seq ack =
     int_le (pos s.una) ack && int_le ack (pos s.sent) && (precedes s.wl1 seq || (s.wl1 == seq && nat_le s.wl2 (nat_abs ack)))
 
--- an acknowledgement that isn't ahead of SND.NXT. What is acknowledged for the first time is let go, and starts the timer again (RFC 6298,
--- 5.2 and 5.3). Where the window isn't used, the edge stays
+-- an acknowledgement that isn't ahead of SND.NXT. Newly acknowledged bytes leave the send queue. The timer then stops if nothing else is in flight, and else
+-- restarts (RFC 6298, 5.2 and 5.3). Where the window isn't used, the edge stays
 unfoldable pub acknowledged : Sending → ℕ → ℤ → ℕ → Sending
 acknowledged s seq ack window = record s {
   una = if is_new_ack s.una s.sent ack then nat_abs ack else s.una;
@@ -63,52 +73,84 @@ acknowledged s seq ack window = record s {
   edge = if moves_edge s seq ack then nat_abs ack + window else s.edge;
   wl1 = if moves_edge s seq ack then seq else s.wl1;
   wl2 = if moves_edge s seq ack then nat_abs ack else s.wl2;
+  congestion = if is_new_ack s.una s.sent ack then with_new_data s.mss (nat_abs ack - s.una) s.congestion else s.congestion;
 }
-
--- whether the own FIN is acknowledged: it is the last unit that is ever sent
-abbrev pub fin_acked : Sending → Bool
-fin_acked s = s.fin_sent && s.una == s.sent
 
 -- the units sent and not acknowledged
 abbrev pub in_flight : Sending → ℕ
 in_flight s = s.sent - s.una
 
--- where all bytes that were written end. A FIN that is sent stands behind them
+-- A duplicate acknowledgement (RFC 5681, 2): `bare` says that its segment has neither text nor FIN. It acknowledges SND.UNA again while something is in flight,
+-- and leaves the right edge as it is
+unfoldable pub is_duplicate : Sending → (bare : Bool) → ℤ → ℕ → Bool
+is_duplicate s bare ack window = bare && int_eq ack (pos s.una) && nat_lt s.una s.sent && nat_abs ack + window == s.edge
+
+-- the third duplicate in a row
+abbrev pub is_third_duplicate : Sending → (bare : Bool) → ℤ → ℕ → Bool
+is_third_duplicate s bare ack window = is_duplicate s bare ack window && is_third s.congestion
+
+-- counts a duplicate
+abbrev pub duplicated : Sending → Sending
+duplicated s = record s { congestion = with_duplicate s.mss (in_flight s) s.congestion }
+
+-- all that an acknowledgement, a duplicate or not, does to the sender
+unfoldable pub answered_by : Sending → (bare : Bool) → ℕ → ℤ → ℕ → Sending
+answered_by s bare seq ack window =
+    if is_duplicate s bare ack window then duplicated (acknowledged s seq ack window) else acknowledged s seq ack window
+
+-- whether our FIN is acknowledged: it is the last unit that we ever send
+abbrev pub fin_acked : Sending → Bool
+fin_acked s = s.fin_sent && s.una == s.sent
+
+-- the end of the bytes written. A FIN that is sent follows them
 abbrev pub bytes_end : Sending → ℕ
 bytes_end s = if s.fin_sent then s.sent - 1 else s.una + length s.held
 
--- the units that are to be sent: the bytes written, and a FIN once the user has closed
+-- the end of what is to be sent: the bytes written, and a FIN once the user has closed
 abbrev pub target : Sending → ℕ
 target s = if s.fin_sent then s.sent else s.una + length s.held + one_if s.closed
 
--- something sent is unacknowledged: the SYN, text or the FIN
+-- whether something sent is unacknowledged: the SYN, text or the FIN
 abbrev pub is_unacknowledged : Sending → Bool
 is_unacknowledged s = not s.syn_acked || nat_lt s.una s.sent
 
--- the timer's last tick starts it again, with twice the interval, at most 64 ticks
+-- the timer's last tick: it restarts the timer with twice the interval, at most 64 ticks
 abbrev pub expires : Sending → Bool
 expires s = s.rest == 1
 
-abbrev pub ticked : Sending → Sending
-ticked s = if expires s then record s { interval = min 64 (2 * s.interval); rest = min 64 (2 * s.interval) } else record s { rest = s.rest - 1 }
+-- at such an expiry what is in flight counts as lost, where the peer's right edge leaves room for it
+abbrev pub is_lost : Sending → Bool
+is_lost s = nat_lt s.una s.sent && precedes s.una s.edge
 
--- the timer must run: something is unacknowledged, or waits to be sent
+abbrev pub congestion_expired : Sending → Congestion
+congestion_expired s = if is_lost s then with_expiry s.mss (in_flight s) (s.interval == 1) s.congestion else s.congestion
+
+abbrev pub ticked : Sending → Sending
+ticked s =
+    if expires s then record s { congestion = congestion_expired s; interval = min 64 (2 * s.interval); rest = min 64 (2 * s.interval) }
+    else record s { rest = s.rest - 1 }
+
+-- whether the timer must run: something is unacknowledged or waiting to be sent
 abbrev pub must_run : Sending → Bool
 must_run s = not s.syn_acked || nat_lt s.una (max s.sent (target s))
 
--- after a turn: it starts at one tick where it must run and doesn't, and stops where it needn't
+-- the timer after a turn: it starts with one tick where it must run and doesn't, and stops where it needn't run
 abbrev pub timed : Bool → Sending → Sending
 timed runs s = if runs then (if s.rest == 0 then record s { interval = 1; rest = 1 } else s) else record s { interval = 1; rest = 0 }
 
--- how many bytes may be sent for the first time: up to the right edge
+-- nothing new is sent from this offset on: it is the right edge or the end of the congestion window, whichever comes first
+abbrev pub send_edge : Sending → ℕ
+send_edge s = min s.edge (s.una + s.congestion.cwnd)
+
+-- how many bytes may be sent for the first time
 abbrev pub sendable : Sending → ℕ
-sendable s = if s.syn_acked && not s.fin_sent then min (s.una + length s.held) s.edge - s.sent else 0
+sendable s = if s.syn_acked && not s.fin_sent then min (s.una + length s.held) (send_edge s) - s.sent else 0
 
--- the FIN goes out: behind all text, and with room for it below the right edge
+-- whether the FIN is sent: it follows all text, and there is room for it
 abbrev pub sends_fin : Sending → Bool
-sends_fin s = s.syn_acked && s.closed && not s.fin_sent && s.sent == s.una + length s.held && nat_lt s.sent s.edge
+sends_fin s = s.syn_acked && s.closed && not s.fin_sent && s.sent == s.una + length s.held && nat_lt s.sent (send_edge s)
 
--- how many bytes go out again: a segment's worth of what was sent, but no more than the peer has room for, and at least one
+-- how many bytes are retransmitted: at most one segment of what is in flight, and no more than the peer has room for, where its room counts as at least one
 abbrev pub resent_length : Sending → ℕ
 resent_length s = min s.mss (min (min (in_flight s) (length s.held)) (max 1 (s.edge - s.una)))
 
@@ -118,13 +160,13 @@ with_sent s n = record s { sent = s.sent + n }
 abbrev pub with_fin_sent : Sending → Sending
 with_fin_sent s = record s { sent = s.sent + 1; fin_sent = true }
 
--- the offset that a number of the own stream names: byte 0 stands behind the SYN
+-- the offset that a number of our stream names: byte 0 follows the SYN
 abbrev pub own : ℕ → ℕ → ℕ
 own iss number = distance number ((iss + 1) % 2 ^ 32)
 
--- what the sender's numbers say in offsets
-abbrev pub told_by : (iss : ℕ) (syn_acked : Bool) → SendState → List ℕ → (closed fin_sent : Bool) → ℕ → Sending
-told_by iss syn_acked n held closed fin_sent mss = record {
+-- what the sender's numbers mean in offsets
+abbrev pub told_by : (iss : ℕ) (syn_acked : Bool) → SendState → List ℕ → (closed fin_sent : Bool) → Sending
+told_by iss syn_acked n held closed fin_sent = record {
   iss = iss;
   syn_acked = syn_acked;
   una = own iss n.una.0;
@@ -135,32 +177,38 @@ told_by iss syn_acked n held closed fin_sent mss = record {
   held = held;
   closed = closed;
   fin_sent = fin_sent;
-  mss = mss;
+  mss = n.mss;
+  congestion = congestion_of n;
   interval = n.interval;
   rest = n.left;
 }
 
--- what stays true of a sender's fields: no more is in flight than the held bytes and the FIN
-pub record Holds (n : SendState) (held : List ℕ) (fin_sent : Bool) (mss : ℕ) : Type 0 where
+-- the invariant of a sender's fields: no more is in flight than the held bytes and the FIN
+pub record Holds (n : SendState) (held : List ℕ) (fin_sent : Bool) : Type 0 where
   pub flight : distance n.nxt.0 n.una.0 ≤ length held + one_if fin_sent
   pub queued : length held ≤ 65535
-  pub least : 64 ≤ mss
-  pub most : mss ≤ 1460
+  pub least : 64 ≤ n.mss
+  pub most : n.mss ≤ 1460
 
--- the offsets are so small that numbers tell their order
+-- the offsets are so small that numbers modulo 2^32 show their order
 pub record IsShort (s : Sending) : Type 0 where
   pub sent : s.sent ≤ 2 ^ 30
   pub wl2 : s.wl2 ≤ 2 ^ 30
 
--- how many units an acknowledgement lets go
+-- whether, by the numbers, an acknowledgement and a window only repeat the current ones while something is in flight
+abbrev pub repeats : SendState → (ack window : ℕ) → Bool
+repeats n ack window = ack == n.una.0 && not (n.una.0 == n.nxt.0) && n.wnd == window
+
+-- how many units an acknowledgement newly acknowledges
 abbrev pub units_of : AckKind → ℕ
 units_of (New units) = units
 units_of kind = 0
 
--- numbers are below 2^32, as their types say
+-- numbers are below 2^32, by their types
 pub record NumbersFit (n : SendState) (segment acknowledgement : ℕ) : Type 0 where
   pub una : n.una.0 < 2 ^ 32
   pub nxt : n.nxt.0 < 2 ^ 32
+  pub wnd : n.wnd < 2 ^ 32
   pub wl2 : n.wl2.0 < 2 ^ 32
   pub seq : segment < 2 ^ 32
   pub ack : acknowledgement < 2 ^ 32
@@ -169,3 +217,7 @@ pub record NumbersFit (n : SendState) (segment acknowledgement : ℕ) : Type 0 w
 abbrev pub was_sent : AckKind → Bool
 was_sent Beyond = false
 was_sent kind = true
+
+-- how an acknowledgement counts for the sender
+abbrev pub use_of : Sending → (bare : Bool) → ℤ → ℕ → AckUse
+use_of s bare ack window = if is_ahead s.sent ack then Ahead else (if is_third_duplicate s bare ack window then Third else Used)

@@ -1,4 +1,4 @@
--- The states of a connection and how they follow one another (RFC 9293, 3.3.2, figure 5, and 3.10).
+-- The states of a connection and their transitions (RFC 9293, 3.3.2, figure 5, and 3.10).
 use Rattle.std.specs.Prelude.{Bool, true, false, if◌then◌else◌}
 use Rattle.tcp_endpoint.specs.declared.states.StateName.{StateName}
 use Rattle.tcp_endpoint.specs.declared.states.StateName.TheVariants.{Closed, Listen, SynSent, Established, FinWait1, FinWait2, CloseWait, Closing, LastAck, TimeWait}
@@ -11,11 +11,11 @@ after_close Established = FinWait1
 after_close CloseWait = LastAck
 after_close name = name
 
--- the SYN is acknowledged, by a user who may have closed before
+-- our SYN is acknowledged; the user may have closed before that
 abbrev pub after_syn_acked : Bool → StateName
 after_syn_acked closed = if closed then FinWait1 else Established
 
--- the own FIN is acknowledged (3.10.7.4, fifth check)
+-- our FIN is acknowledged (3.10.7.4, fifth check)
 abbrev pub after_fin_acked : StateName → StateName
 after_fin_acked FinWait1 = FinWait2
 after_fin_acked Closing = TimeWait

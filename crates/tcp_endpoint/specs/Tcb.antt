@@ -22,7 +22,7 @@ pub record Tcb : Type 0 where
   pub probe : Bool  -- a probe goes out,
   pub answer : Option Head  -- and this RST answers
 
--- the receive edge that an endpoint keeps to: 2^30 bytes, where a larger limit is asked for
+-- the largest receive edge of an endpoint: the limit that is asked for, and at most 2^30
 abbrev pub kept_limit : ℕ → ℕ
 kept_limit limit = min limit (2 ^ 30)
 

@@ -1,4 +1,4 @@
--- What a tick and the user's calls make of an endpoint (RFC 9293, 3.8.1, 3.8.6.1, 3.9.1 and 3.10).
+-- What a tick and the user's calls do to an endpoint (RFC 9293, 3.8.1, 3.8.6.1, 3.9.1 and 3.10).
 use Rattle.std.specs.Prelude.{ℕ, Bool, true, ◌-◌, ◌&&◌, ◌||◌, not, nat_lt, List, ◌++◌, length, if◌then◌else◌}
 use Rattle.seq_arith.specs.Number.{number_at}
 use Rattle.tcp_endpoint.specs.declared.states.StateName.TheVariants.{Closed}
@@ -7,7 +7,7 @@ use Rattle.tcp_endpoint.specs.Receiving.{read_out}
 use Rattle.tcp_endpoint.specs.Sending.{expires, ticked, is_unacknowledged}
 use Rattle.tcp_endpoint.specs.Tcb.{Tcb}
 
--- the timer of retransmissions and probes
+-- the timer for retransmissions and probes
 unfoldable pub timer_ticked : Tcb → Tcb
 timer_ticked e = record e {
   sending = ticked e.sending;

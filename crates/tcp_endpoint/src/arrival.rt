@@ -1,23 +1,24 @@
-//! A segment arrives: the checks of RFC 9293, 3.10.7, in their order, one function a check.
+//! A segment arrives: the checks of RFC 9293, 3.10.7, in their order, one function for each check.
 
 ghost use Rattle.std.specs.Prelude.{◌≡◌, ◌+◌, ◌/◌, ◌%◌, ◌^◌, ◌<◌, ◌≤◌, ◌==◌, ◌&&◌, not, nat_lt, Bool, true, false, length, if◌then◌else◌};
 ghost use Rattle.seq_arith.specs.Packet.{has_fin, has_syn, has_rst, has_ack};
 ghost use Rattle.segment_codec.specs.Value.{segment_of};
 ghost use Rattle.seq_arith.specs.Offset.{length_of};
 ghost use Rattle.std.specs.Bool.{OnTrue};
-ghost use Rattle.tcp_buffers.specs.Near.{IsNearFirst};
+ghost use Rattle.tcp_buffers.specs.Near.{is_ahead, IsNearFirst};
 ghost use Rattle.tcp_endpoint.specs.Sending.{IsShort};
 ghost use Rattle.tcp_endpoint.specs.Arrival.{first, ack_at, refusing, refusing_without_ack, owing_if, killed, entering, in_closed, begun, in_listen, answered};
-ghost use Rattle.tcp_endpoint.specs.Arrival.{in_syn_sent, with_text_and_fin, with_fin_acked, with_first_ack, with_ack, check_ack, check_syn, check_rst};
+ghost use Rattle.tcp_endpoint.specs.Arrival.{in_syn_sent, with_text_and_fin, with_fin_acked, with_first_ack, is_bare, with_ack_used, with_ack, check_ack, check_syn, check_rst};
 ghost use Rattle.tcp_endpoint.specs.Arrival.{waiting_again, is_allowed, check_place, in_others, received, within_ip};
 
 use crate::endpoint::Endpoint;
+use crate::sender::AckUse;
 use crate::states::StateName;
 use ft_io::Addr;
 use segment_codec::{Head, PacketRef};
 use seq_arith::{ACK, FIN, RST, SYN, Seq, has};
 
-/// The most bytes that a packet of IP can have.
+/// The most bytes that an IP packet can have.
 const LONGEST: usize = 65_535;
 
 fn has_fin(p: PacketRef<'_>) -> bool
@@ -44,7 +45,7 @@ fn has_ack(p: PacketRef<'_>) -> bool
     has(p.head.flags, ACK)
 }
 
-/// SEG.LEN: data and FIN, or the SYN alone; nothing of a RST.
+/// SEG.LEN: the text and the FIN, or only the SYN; 0 of a RST.
 fn length_of(p: PacketRef<'_>) -> u32
     requires { length p.payload.now ≤ 65535 }
     ensures count { result ≡ length_of (segment_of p.entry) }
@@ -59,7 +60,14 @@ fn length_of(p: PacketRef<'_>) -> u32
     p.payload.len() as u32 + u32::from(has_fin(p))
 }
 
-/// The packet with the first 65,535 bytes of its text. No packet of IP has more.
+/// Whether the segment has neither text nor FIN.
+fn is_bare(p: PacketRef<'_>) -> bool
+    ensures { result ≡ is_bare (segment_of p.entry) }
+{
+    p.payload.is_empty() && !has_fin(p)
+}
+
+/// The packet with the first 65,535 bytes of its text. No IP packet has more.
 #[tactic(auto, using(std::proofs::lemmas::List::take_all, std::proofs::lemmas::List::take_min))]
 fn shortened(p: PacketRef<'_>) -> PacketRef<'_>
     ensures short { length result.payload.now ≤ 65535 }
@@ -73,11 +81,11 @@ fn shortened(p: PacketRef<'_>) -> PacketRef<'_>
 }
 
 impl Endpoint {
-    /// A packet of the peer arrives. Text past 65,535 bytes, which is more than IP carries, isn't looked at. What the packet makes of the
-    /// endpoint is said where the endpoint's own offsets are at most 2^30, so that numbers tell their order.
+    /// A packet of the peer arrives. Text past 65,535 bytes is more than IP carries, and is ignored. The contract says what the packet does to the endpoint
+    /// where our offsets are at most 2^30, so that numbers modulo 2^32 show their order.
     pub fn on_packet(&mut self, p: PacketRef<'_>)
         ensures any { IsShort self.old.sending → self.new ≡ received self.old (within_ip (segment_of p.entry)) }
-        // So a packet of IP counts whole.
+        // So all of an IP packet counts.
         ensures whole { length p.entry.payload.now ≤ 65535 → IsShort self.old.sending → self.new ≡ received self.old (segment_of p.entry) }
     {
         self.receive(shortened(p));
@@ -114,7 +122,7 @@ impl Endpoint {
         });
     }
 
-    /// Answers a segment without ACK with a RST at 0 that acknowledges it.
+    /// Answers a segment without ACK with a RST at number 0 that acknowledges it.
     #[tactic(auto, unfolding(crate::specs::Arrival::refusing_without_ack))]
     fn refuse_without_ack(&mut self, p: PacketRef<'_>)
         requires { length p.payload.now ≤ 65535 }
@@ -133,7 +141,7 @@ impl Endpoint {
         });
     }
 
-    /// RFC 9293, 3.10.7.1.
+    /// CLOSED (RFC 9293, 3.10.7.1).
     #[tactic(auto, unfolding(crate::specs::Arrival::in_closed))]
     fn in_closed(&mut self, p: PacketRef<'_>)
         requires { length p.payload.now ≤ 65535 }
@@ -149,7 +157,7 @@ impl Endpoint {
         }
     }
 
-    /// A SYN makes a connection.
+    /// A SYN opens a connection.
     #[tactic(auto, unfolding(crate::specs::Arrival::begun))]
     fn begin(&mut self, p: PacketRef<'_>)
         ensures { self.new ≡ begun self.old (segment_of p.entry) }
@@ -164,7 +172,7 @@ impl Endpoint {
         self.again = true;
     }
 
-    /// RFC 9293, 3.10.7.2.
+    /// LISTEN (RFC 9293, 3.10.7.2).
     #[tactic(auto, unfolding(crate::specs::Arrival::in_listen))]
     fn in_listen(&mut self, p: PacketRef<'_>)
         ensures { self.new ≡ in_listen self.old (segment_of p.entry) }
@@ -179,7 +187,7 @@ impl Endpoint {
         }
     }
 
-    /// The peer's SYN acknowledges the own one.
+    /// The peer's SYN acknowledges ours.
     #[tactic(auto, unfolding(crate::specs::Arrival::answered))]
     fn answered(&mut self, p: PacketRef<'_>)
         ensures { self.new ≡ answered self.old (segment_of p.entry) }
@@ -191,7 +199,7 @@ impl Endpoint {
         self.owed = true;
     }
 
-    /// RFC 9293, 3.10.7.3.
+    /// SYN-SENT (RFC 9293, 3.10.7.3).
     #[tactic(auto, unfolding(crate::specs::Arrival::in_syn_sent))]
     fn in_syn_sent(&mut self, p: PacketRef<'_>)
         ensures { self.new ≡ in_syn_sent self.old (segment_of p.entry) }
@@ -230,7 +238,7 @@ impl Endpoint {
         self.name = name;
     }
 
-    /// A segment without data is owed.
+    /// Notes whether a segment without data is owed.
     fn owe(&mut self, is_owed: bool)
         ensures { self.new ≡ owing_if is_owed self.old }
     {
@@ -251,8 +259,7 @@ impl Endpoint {
         }
     }
 
-    /// First check, special allowance: at a window of zero a segment at RCV.NXT is looked at further, in SYN-RECEIVED where it acknowledges
-    /// the SYN.
+    /// First check, special allowance: at a zero window a segment at RCV.NXT is processed further, in SYN-RECEIVED only where it acknowledges the SYN.
     #[tactic(auto, unfolding(crate::specs::Arrival::is_allowed))]
     fn is_allowed(&self, p: PacketRef<'_>) -> bool
         ensures allowed { result ≡ is_allowed self.now (segment_of p.entry) }
@@ -263,7 +270,7 @@ impl Endpoint {
             && (self.sender.is_syn_acked() || self.sender.acks_syn(p.head.ack))
     }
 
-    /// The peer's FIN that comes again starts TIME-WAIT again.
+    /// A repeated FIN of the peer restarts TIME-WAIT.
     #[tactic(auto, unfolding(crate::specs::Arrival::waiting_again))]
     fn wait_again(&mut self, p: PacketRef<'_>)
         requires { length p.payload.now ≤ 65535 }
@@ -278,7 +285,7 @@ impl Endpoint {
         }
     }
 
-    /// Second check.
+    /// Second check: RST.
     #[tactic(auto, unfolding(crate::specs::Arrival::check_rst))]
     fn check_rst(&mut self, p: PacketRef<'_>)
         requires short { length p.payload.now ≤ 65535 }
@@ -294,7 +301,7 @@ impl Endpoint {
         }
     }
 
-    /// Fourth check.
+    /// Fourth check: SYN.
     #[tactic(auto, unfolding(crate::specs::Arrival::check_syn))]
     fn check_syn(&mut self, p: PacketRef<'_>)
         requires short { length p.payload.now ≤ 65535 }
@@ -309,7 +316,7 @@ impl Endpoint {
         self.check_ack(p);
     }
 
-    /// Fifth check.
+    /// Fifth check: ACK.
     #[tactic(auto, unfolding(crate::specs::Arrival::check_ack))]
     fn check_ack(&mut self, p: PacketRef<'_>)
         requires short { length p.payload.now ≤ 65535 }
@@ -349,15 +356,37 @@ impl Endpoint {
         requires near { IsNearFirst (first self.old (segment_of p)) }
         ensures { IsShort self.old.sending → self.new ≡ with_ack self.old (segment_of p.entry) }
     {
-        if !self.sender.on_ack(p.head.seq, p.head.ack, p.head.window) {
+        if self.note_ack(p) {
+            self.note_fin_acked();
+            self.take_text_and_fin(p);
+        } else {
             self.owe(true);
-            return;
         }
-        self.note_fin_acked();
-        self.take_text_and_fin(p);
     }
 
-    /// The state moves on where the own FIN is acknowledged.
+    /// Uses the acknowledgement and the window. Returns false, and changes nothing, where the acknowledgement is ahead of SND.NXT.
+    #[tactic(auto, unfolding(crate::specs::Arrival::with_ack_used))]
+    fn note_ack(&mut self, p: PacketRef<'_>) -> bool
+        ensures used { IsShort self.old.sending → result ≡ not (is_ahead self.old.sending.sent (ack_at self.old (segment_of p.entry))) }
+        ensures state { IsShort self.old.sending
+            → self.new ≡ (if is_ahead self.old.sending.sent (ack_at self.old (segment_of p.entry)) then self.old else with_ack_used self.old (segment_of p.entry)) }
+        ensures receiving { self.new.receiving ≡ self.old.receiving }
+    {
+        let head = p.head;
+        match self
+            .sender
+            .on_ack(head.seq, head.ack, head.window, is_bare(p))
+        {
+            AckUse::Ahead => false,
+            AckUse::Used => true,
+            AckUse::Third => {
+                self.again = true;
+                true
+            }
+        }
+    }
+
+    /// Enters the next state where our FIN is acknowledged.
     #[tactic(auto, unfolding(crate::specs::Arrival::with_fin_acked))]
     fn note_fin_acked(&mut self)
         ensures state { self.new ≡ with_fin_acked self.old }

@@ -14,11 +14,11 @@ use std::alloc::Global;
 use std::marker::Model;
 use tcp_buffers::{RecvQueue, SendQueue};
 
-/// A TCP endpoint of one connection (RFC 9293). `on_packet` and `on_tick` begin a turn and `flush` ends it, so one flush stands between any
-/// two of them. Contracts see a record in offsets of the two streams.
+/// A TCP endpoint for one connection (RFC 9293). `on_packet` and `on_tick` begin a turn and `flush` ends it, so there is one flush between any two of them. In
+/// contracts an endpoint is a record in offsets of the two streams.
 #[derive(Drop)]
 pub struct Endpoint {
-    /// The own address.
+    /// Our address.
     pub(crate) local: Addr,
     /// The peer's address, once it is known.
     pub(crate) remote: Addr,
@@ -26,23 +26,23 @@ pub struct Endpoint {
     pub(crate) name: StateName,
     /// Whether the peer has reset the connection.
     pub(crate) reset: bool,
-    /// What is known of the peer's stream: IRS, RCV.NXT, RCV.WND.
+    /// The peer's stream: IRS, RCV.NXT, RCV.WND.
     pub(crate) receiver: Receiver,
-    /// What is known of the own stream: ISS, SND.UNA, SND.NXT, SND.WND.
+    /// Our stream: ISS, SND.UNA, SND.NXT, SND.WND.
     pub(crate) sender: Sender,
-    /// The ticks that TIME-WAIT still lasts.
+    /// The ticks left in TIME-WAIT.
     pub(crate) wait: u8,
-    /// The acknowledgement that was sent last, as an offset in the peer's stream.
+    /// The acknowledgement last sent, as an offset in the peer's stream.
     pub(crate) told_next: u32,
-    /// The receive edge that was announced last, as such an offset.
+    /// The edge last advertised, as such an offset.
     pub(crate) told_edge: u32,
     /// Whether a segment without data is owed in this turn.
     pub(crate) owed: bool,
-    /// Whether the first unacknowledged segment goes out again in this turn.
+    /// Whether the first unacknowledged segment is due in this turn: the SYN or SYN-ACK, or a retransmission.
     pub(crate) again: bool,
-    /// Whether a probe goes out in this turn.
+    /// Whether a probe is due in this turn.
     pub(crate) probe: bool,
-    /// The RST that answers in this turn.
+    /// The RST in answer that is due in this turn.
     pub(crate) answer: Option<Head>,
 }
 
@@ -121,7 +121,7 @@ impl Endpoint {
         }
     }
 
-    /// SND.NXT.
+    /// SND.NXT; in LISTEN it is ISS.
     pub fn sent(&self) -> Seq
         ensures { result.0 ≡ sent_number self.now }
     {
@@ -131,7 +131,7 @@ impl Endpoint {
         self.sender.nxt()
     }
 
-    /// SND.UNA.
+    /// SND.UNA; it is ISS until our SYN is acknowledged.
     pub fn acked(&self) -> Seq
         ensures { result.0 ≡ acked_number self.now }
     {

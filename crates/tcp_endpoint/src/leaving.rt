@@ -1,4 +1,4 @@
-//! The end of a turn: what goes out, in order (RFC 9293, 3.7, 3.8.1, 3.8.6.1 and 3.10.7.4), and the timer.
+//! The end of a turn: what is sent, in order (RFC 9293, 3.7, 3.8.1, 3.8.6.1 and 3.10.7.4), and the timer.
 
 ghost use Rattle.std.specs.Prelude.{◌≡◌, ℕ, ◌+◌, ◌*◌, ◌-◌, ◌<◌, ◌≤◌, ◌==◌, ◌&&◌, ◌||◌, Bool, true, false, None, Some, List, [], ◌∷◌, ◌++◌, length};
 ghost use Rattle.std.specs.Prelude.{if◌then◌else◌};
@@ -18,7 +18,7 @@ use segment_codec::Head;
 use seq_arith::{ACK, FIN, SYN, Seq};
 
 impl Endpoint {
-    /// Ends the turn: puts into the outbox what goes out, which is at most 1,030 packets and 110,000 bytes.
+    /// Ends the turn: puts what is sent into the outbox, at most 1,030 packets and 110,000 bytes.
     #[tactic(auto, using(crate::proofs::Spelled::leaving_is), unfolding(crate::specs::Leaving::flushed, crate::specs::Leaving::after_full))]
     pub fn flush(&mut self, out: &mut Outbox)
         requires { out.old ≡ [] }
@@ -37,7 +37,7 @@ impl Endpoint {
         self.end_turn();
     }
 
-    /// The head of every segment but a RST that answers.
+    /// The header of every segment except a RST in answer.
     #[tactic(auto, unfolding(crate::specs::Leaving::head_at))]
     fn head(&self, seq: Seq, flags: u8) -> Head
         ensures head { said result ≡ head_at self.now seq.0 flags }
@@ -56,7 +56,7 @@ impl Endpoint {
         }
     }
 
-    /// The head of the SYN or of the SYN-ACK.
+    /// The header of the SYN or of the SYN-ACK.
     #[tactic(auto, unfolding(crate::specs::Leaving::opening_segment))]
     fn opening_head(&self) -> Head
         ensures { segment_with result [] ≡ opening_segment self.now }
@@ -76,7 +76,7 @@ impl Endpoint {
         }
     }
 
-    /// The RST that answers.
+    /// Sends the RST in answer, where one is due.
     #[tactic(auto, using(crate::proofs::Spelled::options_short, crate::proofs::Spelled::packets_one, crate::proofs::Spelled::packets_none), unfolding(crate::specs::Leaving::answer_out))]
     fn send_answer(&self, out: &mut Outbox)
         requires { out.old ≡ [] }
@@ -90,7 +90,7 @@ impl Endpoint {
         }
     }
 
-    /// A text of n bytes that begins so far behind SND.UNA.
+    /// Sends `n` bytes of text that begin `place` units after SND.UNA.
     #[tactic(auto, unfolding(crate::specs::Leaving::text_at))]
     fn send_text_at(&self, place: u32, n: u32, out: &mut Outbox)
         requires text { place + n ≤ length self.now.sending.held }
@@ -107,7 +107,7 @@ impl Endpoint {
         out.push_segment(&head, front, back);
     }
 
-    /// The FIN, so far behind SND.UNA.
+    /// Sends the FIN, `place` units after SND.UNA.
     #[tactic(auto, unfolding(crate::specs::Leaving::fin_at))]
     fn send_fin_at(&self, place: u32, out: &mut Outbox)
         requires count { length out.old < 1100 }
@@ -121,7 +121,7 @@ impl Endpoint {
         out.push_segment(&head, &[], &[]);
     }
 
-    /// The first segment that is unacknowledged, where it is due again.
+    /// Sends the first unacknowledged segment, where it is due.
     #[tactic(auto, using(crate::proofs::Spelled::options_short, crate::proofs::Spelled::packets_one, crate::proofs::Spelled::nothing_more), unfolding(crate::specs::Leaving::again_out, crate::specs::Leaving::again_segment))]
     fn send_again(&self, out: &mut Outbox)
         requires count { length out.old ≤ 1 }
@@ -143,7 +143,7 @@ impl Endpoint {
         }
     }
 
-    /// A probe, where it is due.
+    /// Sends a probe, where it is due.
     #[tactic(auto, using(crate::proofs::Spelled::packets_one, crate::proofs::Spelled::nothing_more), unfolding(crate::specs::Leaving::probe_out, crate::specs::Leaving::with_probe))]
     fn send_probe(&mut self, out: &mut Outbox)
         requires count { length out.old ≤ 2 }
@@ -171,7 +171,7 @@ impl Endpoint {
         }
     }
 
-    /// How many bytes go out for the first time.
+    /// How many bytes are sent for the first time.
     fn new_length(&self) -> u32
         ensures count { result ≡ new_length self.now }
         ensures held { 0 < result → in_flight self.now.sending + result ≤ length self.now.sending.held }
@@ -184,7 +184,7 @@ impl Endpoint {
         }
     }
 
-    /// Text that goes out for the first time.
+    /// Sends text for the first time.
     #[tactic(auto, unfolding(crate::specs::Leaving::text_out, crate::specs::Leaving::with_text_sent))]
     fn send_text(&mut self, out: &mut Outbox)
         requires count { length out.old ≤ 3 }
@@ -200,7 +200,7 @@ impl Endpoint {
         self.sender.note_sent(n);
     }
 
-    /// So many bytes of text from a place on, in segments of the segment size.
+    /// Sends `left` bytes of text from `place` on, in segments of the segment size.
     fn send_texts(&self, mut place: u32, mut left: u32, out: &mut Outbox)
         requires text { 0 < left → place + left ≤ length self.now.sending.held }
         requires near { place ≤ 65536 }
@@ -213,14 +213,14 @@ impl Endpoint {
         ensures readable { AreReadable (texts left self.now place left) }
     {
         while left > 0 {
-            let n = left.min(u32::from(self.sender.mss()));
+            let n = left.min(self.sender.mss());
             self.send_text_at(place, n, out);
             place += n;
             left -= n;
         }
     }
 
-    /// The FIN, where it goes out for the first time.
+    /// Sends the FIN for the first time, where it is due.
     #[tactic(auto, using(crate::proofs::Spelled::packets_one, crate::proofs::Spelled::nothing_more), unfolding(crate::specs::Leaving::fin_out, crate::specs::Leaving::with_fin_out))]
     fn send_fin(&mut self, out: &mut Outbox)
         requires count { length out.old ≤ 1027 }
@@ -248,14 +248,14 @@ impl Endpoint {
                 || self.told_edge != self.receiver.announced_edge())
     }
 
-    /// Whether the segment without data goes out: where it is owed and no other does.
+    /// Whether the segment without data is sent: it is owed, and no other is sent.
     fn sends_bare(&self, out: &Outbox) -> bool
         ensures { result ≡ ((length out.now == 0) && is_owed self.now) }
     {
         out.is_empty() && self.is_owed()
     }
 
-    /// The segment without data, where it is owed and no other goes out.
+    /// Sends the segment without data, where it is owed and no other is sent.
     #[tactic(auto, unfolding(crate::specs::Leaving::bare_segment))]
     fn send_owed(&self, out: &mut Outbox)
         requires count { length out.old ≤ 1028 }
@@ -272,7 +272,7 @@ impl Endpoint {
         }
     }
 
-    /// What is announced is noted, and nothing is due any more.
+    /// Notes what was advertised, and that nothing is due any more.
     #[tactic(auto, unfolding(crate::specs::Leaving::announced))]
     fn note_announced(&mut self)
         ensures { self.new ≡ announced self.old }
@@ -294,7 +294,7 @@ impl Endpoint {
         (self.name.has_begun() || self.name.is_syn_sent()) && self.sender.must_run()
     }
 
-    /// The turn is over.
+    /// Ends the turn.
     #[tactic(auto, unfolding(crate::specs::Leaving::with_turn_ended, crate::specs::Leaving::announced))]
     fn end_turn(&mut self)
         ensures { self.new ≡ with_turn_ended self.old }

@@ -1,4 +1,4 @@
-//! The packets that a turn sends, in order, in room that is made once.
+//! The packets that a turn sends, in order. Their room is allocated once.
 
 ghost use Rattle.std.specs.Prelude.{◌≡◌, ℕ, ◌+◌, ◌-◌, ◌<◌, ◌≤◌, ◌==◌, ◌&&◌, ◌↔◌, List, [], ◌∷◌, ◌++◌, Some, length, nat_lt, nat_le, IfOk, IsTrue, slice_get};
 ghost use Rattle.std.specs.Prelude.{slice_index, slice_set, take, drop, replicate, vec_capacity};
@@ -14,16 +14,16 @@ use segment_codec::{Head, write_header};
 use std::alloc::Global;
 use std::marker::Model;
 
-/// How many packets an outbox holds.
+/// The most packets that an outbox holds.
 const PACKET_ROOM: usize = 1_100;
 
-/// How many bytes these packets have in all.
+/// The most bytes that these packets have in all.
 const BYTE_ROOM: usize = 120_000;
 
-/// At most 1,100 packets of at most 120,000 bytes in all. Contracts see their list.
+/// At most 1,100 packets of at most 120,000 bytes in all. In contracts an outbox is the list of its packets.
 #[derive(Debug, Drop)]
 pub struct Outbox {
-    /// The bytes of all packets, one packet behind the other.
+    /// The bytes of all packets, one packet after another.
     bytes: Vec<u8>,
     /// Where each packet ends in these bytes.
     ends: Vec<usize>,
@@ -41,7 +41,7 @@ impl Model for Outbox {
 }
 
 impl Outbox {
-    /// An outbox without packets, with all its room.
+    /// An outbox without packets. All its room is allocated here.
     pub fn new(alloc: Global) -> Result<Outbox, NoMemory>
         ensures { IfOk result (λ out. out ≡ []) }
     {
@@ -65,7 +65,7 @@ impl Outbox {
         self.ends.is_empty()
     }
 
-    /// The bytes of packet `i`, from 0.
+    /// The bytes of packet `i`, counted from 0.
     #[tactic(auto, using(crate::proofs::Pieces::length_pieces, crate::proofs::Pieces::bounds_at, crate::proofs::Pieces::piece_at))]
     pub fn packet(&self, i: usize) -> &[u8]
         requires { i < length self.now }
@@ -75,21 +75,20 @@ impl Outbox {
         &self.bytes[start..end]
     }
 
-    /// The bytes of packet `i`, from 0, to be written over.
+    /// The bytes of packet `i`, counted from 0, for writing.
     #[tactic(auto, using(crate::proofs::Pieces::length_pieces, crate::proofs::Pieces::bounds_at, crate::proofs::Pieces::piece_at))]
     pub fn packet_mut(&mut self, i: usize) -> &mut [u8]
         requires { i < length self.old }
         ensures* writes_back { sem 𝓛 (LendsPacket self.entry i result) }
         ensures value { slice_get self.old i ≡ Some result.now }
-        // Bytes of the packet's length take its place, and the other packets stay.
+        // Bytes of the packet's length replace it, and the other packets stay.
         ensures same_length { (bytes : List ℕ) → length bytes ≡ length result.now → with_bytes_at self.old i bytes ≡ slice_set self.old i bytes }
     {
         let (start, end) = bounds(&self.ends, i);
         self.bytes.slice_mut(start..end)
     }
 
-    /// Puts a packet behind the others. It answers false, and changes nothing, where there would be more than 1,100 packets or more
-    /// than 120,000 bytes.
+    /// Appends a packet. Returns false, and changes nothing, where there would be more than 1,100 packets or more than 120,000 bytes.
     #[tactic(auto, using(crate::proofs::Pieces::length_pieces, crate::proofs::Pieces::byte_count_pieces, crate::proofs::Pieces::climbs_push, crate::proofs::Pieces::pieces_push))]
     pub fn push(&mut self, packet: &[u8]) -> bool
         ensures fits { IsTrue result ↔ (length self.old < PACKET_ROOM) × (byte_count self.old + length packet.now ≤ BYTE_ROOM) }
@@ -104,7 +103,7 @@ impl Outbox {
         true
     }
 
-    /// Puts a segment behind the others. Its text is given in two pieces. It is written once, where it stays.
+    /// Appends a segment. Its text is given in two pieces. It is written once, in its final place.
     #[tactic(auto, using(crate::proofs::Pieces::length_pieces, crate::proofs::Pieces::byte_count_pieces))]
     pub(crate) fn push_segment(&mut self, head: &Head, front: &[u8], back: &[u8])
         requires size { packet_length (segment_with head.now (front.now ++ back.now)) ≤ 1500 }
@@ -119,7 +118,7 @@ impl Outbox {
         note_end(self.bytes.len(), &mut self.ends);
     }
 
-    /// Takes all packets out.
+    /// Removes all packets.
     pub fn clear(&mut self)
         ensures { self.new ≡ [] }
     {
@@ -160,7 +159,7 @@ fn append_segment(head: &Head, front: &[u8], back: &[u8], bytes: &mut Vec<u8>)
     write_header(head, &mut bytes[start..]);
 }
 
-/// Appends room for headers, and a text behind it.
+/// Appends room for headers, and a text after it.
 fn append_text(mss: Option<u16>, front: &[u8], back: &[u8], bytes: &mut Vec<u8>)
     requires room { length bytes.old.items + (40 + length (mss_option mss)) + length (front.now ++ back.now) ≤ vec_capacity bytes.old }
     ensures begins { take (length bytes.old.items) bytes.new.items ≡ bytes.old.items }
@@ -185,7 +184,7 @@ fn append_blank(mss: Option<u16>, bytes: &mut Vec<u8>)
     }
 }
 
-/// Appends a part, which is mostly empty.
+/// Appends a part, which is usually empty.
 fn append_some(part: &[u8], bytes: &mut Vec<u8>)
     requires { length bytes.old.items + length part.now ≤ vec_capacity bytes.old }
     ensures items { bytes.new.items ≡ bytes.old.items ++ part.now }

@@ -1,5 +1,5 @@
-//! The receiving half of a connection: the one place that compares the peer's numbers, modulo 2^32. Contracts see offsets in the peer's
-//! stream, whatever its initial number.
+//! The receiving half of a connection: the only place that compares the peer's numbers, modulo 2^32. Contracts speak of offsets in the peer's stream, whatever
+//! its initial number.
 
 ghost use Rattle.std.specs.Prelude.{◌≡◌, ℕ, ◌+◌, ◌-◌, ◌^◌, ◌<◌, ◌≤◌, ◌==◌, ◌&&◌, ◌||◌, pos, negsuc, ◌+ℤ◌, int_lt, Bool, false, true, List, [], ◌++◌, length, min, take, drop, if◌then◌else◌};
 ghost use Rattle.std.specs.Bool.{OnTrue};
@@ -16,7 +16,7 @@ use seq_arith::Seq;
 use std::marker::Model;
 use tcp_buffers::RecvQueue;
 
-/// A receive edge goes no further than this, so that every offset is near to every other.
+/// The largest receive edge, chosen so that every offset is near to every other.
 const MOST: u32 = 1 << 30;
 
 /// What is known of the peer's stream.
@@ -26,13 +26,13 @@ pub(crate) struct Receiver {
     irs: Seq,
     /// How many bytes of the peer's stream the user has read.
     read: u32,
-    /// The bytes that are taken and not read. Behind them is RCV.NXT, and behind a gap text that is held.
+    /// The bytes taken and not read, and the out-of-order text that is held after them.
     queue: RecvQueue,
-    /// Whether the peer's FIN is taken, which RCV.NXT counts as one more.
+    /// Whether the peer's FIN is taken. RCV.NXT counts it as one more unit.
     fin: bool,
     /// The offset in the peer's stream of a FIN that is held until the text before it is taken.
     held_fin: Option<u32>,
-    /// The receive edge never passes this, in bytes of the peer's stream.
+    /// The receive edge never passes this offset of the peer's stream.
     limit: u32,
 }
 
@@ -76,7 +76,7 @@ impl Receiver {
         self.irs = irs;
     }
 
-    /// The bytes taken.
+    /// How many bytes are taken.
     fn taken(&self) -> u32
         ensures count { result ≡ taken self.now }
         ensures most { result ≤ 2 ^ 30 }
@@ -84,7 +84,7 @@ impl Receiver {
         self.read + self.queue.len() as u32
     }
 
-    /// What a proof may know of a number and of the fields: their ranges, and that all offsets are near to one another.
+    /// Facts for proofs: the ranges of a number and of the fields, and that all offsets are near to one another.
     fn ranges(&self, number: Seq)
         ensures number { number.0 < 2 ^ 32 }
         ensures next { next self.now ≤ 2 ^ 30 + 1 }
@@ -113,14 +113,14 @@ impl Receiver {
         self.irs.add(1).add(self.next())
     }
 
-    /// Up to where bytes are taken.
+    /// The offset up to which bytes are taken.
     fn receive_edge(&self) -> u32
         ensures { result ≡ receive_edge self.now }
     {
         (self.read + 65_535).min(self.limit)
     }
 
-    /// The edge that is announced.
+    /// The edge that is advertised.
     pub(crate) fn announced_edge(&self) -> u32
         ensures { result ≡ announced_edge self.now }
     {
@@ -185,7 +185,7 @@ impl Receiver {
         }
     }
 
-    /// The number of the announced edge.
+    /// The number of the advertised edge.
     fn edge_number(&self) -> Seq
         ensures { result.0 ≡ number_at self.now.irs (announced_edge self.now) }
     {
@@ -201,8 +201,8 @@ impl Receiver {
         seq == self.edge_number()
     }
 
-    /// Whether a segment of length 0 stands at exactly the right edge of an open window. A sender whose window is full, and who has lost a
-    /// segment, numbers its acknowledgements so.
+    /// Whether a segment of length 0 is at exactly the right edge of an open window. A sender that has filled the window and lost a segment numbers its
+    /// acknowledgements so.
     #[tactic(auto, using(crate::proofs::Places::near_of_place), unfolding(seq_arith::specs::Arrival::is_at_right_edge))]
     fn is_at_right_edge(&self, seq: Seq, len: u32) -> bool
         ensures edge { result ≡ is_at_right_edge (next self.now) (window self.now) (offset_of self.now.irs seq.0) len }
@@ -212,7 +212,7 @@ impl Receiver {
         len == 0 && self.window() > 0 && self.is_edge(seq)
     }
 
-    /// Whether a segment is acceptable, or without length at the right edge.
+    /// Whether a segment is acceptable, or of length 0 at the right edge.
     pub(crate) fn accepts(&self, seq: Seq, len: u32) -> bool
         requires { len ≤ 2 ^ 16 }
         ensures acceptable { result ≡ is_acceptable_or_at_edge (next self.now) (window self.now) (offset_of self.now.irs seq.0) len }
@@ -222,8 +222,8 @@ impl Receiver {
         self.is_acceptable(seq, len) || self.is_at_right_edge(seq, len)
     }
 
-    /// Whether this is RCV.NXT while the window is zero: the acknowledgement and the window of a segment there are used, whatever its length
-    /// (RFC 9293, 3.10.7.4, first check, special allowance).
+    /// Whether this is RCV.NXT while the window is zero. Of a segment there the acknowledgement and the window are used, whatever its length (RFC 9293,
+    /// 3.10.7.4, first check, special allowance).
     #[tactic(auto, using(crate::proofs::Places::near_of_place), unfolding(seq_arith::specs::Arrival::is_allowed_at_zero))]
     pub(crate) fn allows(&self, seq: Seq) -> bool
         ensures allowed { result ≡ is_allowed_at_zero (next self.now) (window self.now) (offset_of self.now.irs seq.0) }
@@ -234,14 +234,14 @@ impl Receiver {
         self.window() == 0 && self.is_next(seq)
     }
 
-    /// The number behind the bytes taken.
+    /// The number after the bytes taken.
     fn taken_number(&self) -> Seq
         ensures { result.0 ≡ number_at self.now.irs (taken self.now) }
     {
         self.irs.add(1).add(self.taken())
     }
 
-    /// Whether a text of this length ends where the bytes taken do.
+    /// Whether a text of this length ends where the bytes taken end.
     #[tactic(auto, using(crate::proofs::Places::ends_there))]
     pub(crate) fn ends(&self, seq: Seq, len: u32) -> bool
         requires { len ≤ 2 ^ 16 }
@@ -275,7 +275,7 @@ impl Receiver {
         0
     }
 
-    /// How much of a text was taken before.
+    /// How many bytes of a text were taken before.
     #[tactic(auto, using(crate::proofs::Places::skipped, crate::proofs::Places::none_skipped))]
     fn known(&self, seq: Seq, gap: u32) -> u32
         requires near { IsNearFirst (offset_of self.now.irs seq.0) }
@@ -289,7 +289,7 @@ impl Receiver {
         self.taken_number().minus(seq)
     }
 
-    /// Up to where text counts: a FIN that is taken or held bounds it too.
+    /// The offset up to which text counts: a FIN that is taken or held bounds it too.
     fn text_edge(&self) -> u32
         ensures { result ≡ text_edge (taken self.now) (receive_edge self.now) self.now.fin self.now.early }
     {
@@ -342,7 +342,8 @@ impl Receiver {
         }
     }
 
-    /// Where a text of this length ends, as an offset in the peer's stream. Where it ends before the stream this is past every offset.
+    /// Where a text of this length ends, as an offset in the peer's stream. If that is before the stream's beginning, the result is no smaller than the receive
+    /// edge.
     fn end(&self, seq: Seq, len: u32) -> u32
         requires near { IsNearFirst (offset_of self.now.irs seq.0) }
         requires short { len ≤ 2 ^ 16 }
@@ -353,8 +354,8 @@ impl Receiver {
         seq.add(len).minus(self.irs.add(1))
     }
 
-    /// Whether a FIN at this place is held, or taken at once: it stands below the receive edge and not below the bytes taken, no text at it
-    /// or past it is held, and no FIN is held or taken.
+    /// Whether a FIN at this place is held, or taken at once: the place is below the receive edge and not below the bytes taken, no text at it or past it is
+    /// held, and no FIN is held or taken.
     fn holds_fin(&self, place: u32) -> bool
         ensures { result ≡ holds_fin (taken self.now) (receive_edge self.now) (pos place) (nothing_came self.now.early self.now.fin) }
     {
@@ -366,7 +367,7 @@ impl Receiver {
             && !self.fin
     }
 
-    /// Holds a FIN behind a text of this length, or takes it where the bytes taken end there.
+    /// Holds a FIN after a text of this length, or takes it where the bytes taken end there.
     fn take_fin(&mut self, seq: Seq, len: u32, fin: bool)
         requires near { IsNearFirst (offset_of self.old.irs seq.0) }
         requires short { len ≤ 2 ^ 16 }
@@ -396,7 +397,7 @@ impl Receiver {
         self.fin
     }
 
-    /// Moves the first unread bytes into `buf`.
+    /// Moves the first unread bytes into `buf`, as many as fit.
     pub(crate) fn read(&mut self, buf: &mut [u8]) -> usize
         ensures count { result ≡ min (length self.old.unread) (length buf.old) }
         ensures bytes { buf.new ≡ take result self.old.unread ++ drop result buf.old }
@@ -407,7 +408,7 @@ impl Receiver {
         count
     }
 
-    /// Copies the unread bytes from place `from` on to the front of `out`, and takes none.
+    /// Copies unread bytes, from place `from` on, to the beginning of `out`. All of them stay unread.
     pub(crate) fn peek(&self, from: usize, out: &mut [u8]) -> usize
         ensures count { result ≡ min (length self.now.unread - from) (length out.old) }
         ensures bytes { out.new ≡ take result (drop from self.now.unread) ++ drop result out.old }
@@ -416,7 +417,7 @@ impl Receiver {
     }
 }
 
-/// The part of a text behind `known` bytes, at most `room` bytes.
+/// The part of a text after its first `known` bytes, at most `room` bytes.
 #[tactic(auto, using(std::proofs::lemmas::List::take_rest, std::proofs::lemmas::List::drop_min, std::proofs::lemmas::List::take_min))]
 fn part(text: &[u8], known: usize, room: usize) -> &[u8]
     ensures { result.now ≡ take room (drop known text.now) }
@@ -425,7 +426,7 @@ fn part(text: &[u8], known: usize, room: usize) -> &[u8]
     &rest[..room.min(rest.len())]
 }
 
-/// Appends bytes to those in order, with the held bytes that continue them, or holds them where they begin past those.
+/// Appends bytes to those in order, with the held bytes that continue them, or holds them where they begin after a gap.
 #[tactic(auto, using(crate::proofs::Steps::none_held))]
 fn put(queue: &mut RecvQueue, gap: usize, bytes: &[u8])
     requires fits { 0 < length bytes.now → length queue.old.unread + gap + length bytes.now ≤ 65535 }

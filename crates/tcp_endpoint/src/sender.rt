@@ -1,27 +1,40 @@
-//! The sending half of a connection: the one place that compares numbers of the own stream, modulo 2^32. Contracts see offsets in the own
-//! stream, whatever its initial number.
+//! The sending half of a connection: the only place that compares numbers of our stream, modulo 2^32. Contracts speak of offsets in our stream, whatever its
+//! initial number.
 
 ghost use Rattle.std.specs.Prelude.{◌≡◌, ℕ, ◌+◌, ◌-◌, ◌%◌, ◌^◌, ◌<◌, ◌≤◌, ◌==◌, ◌&&◌, pos, int_le, Bool, false, true, not, List, [], ◌++◌, length, min, take};
 ghost use Rattle.std.specs.Prelude.{drop, if◌then◌else◌};
 ghost use Rattle.seq_arith.specs.Number.{number_at, offset_of};
 ghost use Rattle.seq_arith.specs.Arrival.{int_eq};
+ghost use Rattle.seq_arith.specs.Congestion.{initial_window, is_third};
 ghost use Rattle.seq_arith.specs.Packet.{segment_size};
 ghost use Rattle.tcp_buffers.specs.Near.{is_ahead};
-ghost use Rattle.tcp_endpoint.specs.Sending.{sending_from, with_syn_acked, acknowledged, fin_acked, in_flight, is_unacknowledged, expires, ticked, must_run, timed};
-ghost use Rattle.tcp_endpoint.specs.Sending.{sendable, sends_fin, resent_length, with_sent, with_fin_sent, units_of, was_sent, NumbersFit, IsShort};
+ghost use Rattle.tcp_endpoint.specs.Sending.{sending_from, with_segment_size, with_syn_acked, fin_acked, in_flight, is_unacknowledged, expires, ticked, must_run, timed};
+ghost use Rattle.tcp_endpoint.specs.Sending.{send_edge, sendable, sends_fin, resent_length, with_sent, with_fin_sent, units_of, was_sent, repeats, acknowledged, is_duplicate, duplicated, answered_by, use_of, NumbersFit, IsShort};
+ghost use Rattle.tcp_endpoint.specs.declared.sender.AckUse.TheVariants.{Used, Third};
 
 use seq_arith::{Seq, segment_size};
 use std::marker::Model;
 use tcp_buffers::{AckKind, SendQueue, SendState};
 
-/// What is known of the own stream.
+/// How an acknowledgement counts for the sender.
+#[derive(Clone, Copy, Debug, PartialEq, Eq)]
+pub(crate) enum AckUse {
+    /// It is ahead of SND.NXT, and nothing of it is used.
+    Ahead,
+    /// It is used.
+    Used,
+    /// It is used, and is the third duplicate in a row.
+    Third,
+}
+
+/// What is known of our stream.
 #[derive(Drop)]
 pub(crate) struct Sender {
-    /// ISS: the own initial number.
+    /// ISS: our initial number.
     iss: Seq,
     /// Whether the SYN is acknowledged.
     syn_acked: bool,
-    /// SND.UNA, SND.NXT, SND.WND, SND.WL1, SND.WL2, and the timer.
+    /// SND.UNA, SND.NXT, SND.WND, SND.WL1, SND.WL2, the timer, the segment size and the congestion window.
     numbers: SendState,
     /// The bytes written and not acknowledged, from SND.UNA on.
     held: SendQueue,
@@ -29,8 +42,6 @@ pub(crate) struct Sender {
     closed: bool,
     /// Whether the FIN is sent.
     fin_sent: bool,
-    /// The segment size, in bytes of text.
-    mss: u16,
 }
 
 impl Model for Sender {
@@ -38,9 +49,9 @@ impl Model for Sender {
 
     ghost Value = { Sending };
 
-    ghost view = { λ s. told_by s.iss.0 s.syn_acked s.numbers s.held s.closed s.fin_sent s.mss };
+    ghost view = { λ s. told_by s.iss.0 s.syn_acked s.numbers s.held s.closed s.fin_sent };
 
-    ghost invariant = { λ s. Holds s.numbers s.held s.fin_sent s.mss };
+    ghost invariant = { λ s. Holds s.numbers s.held s.fin_sent };
 }
 
 impl Sender {
@@ -61,19 +72,29 @@ impl Sender {
                 wl2: first,
                 interval: 1,
                 left: 0,
+                mss: 536,
+                cwnd: initial_window(536),
+                ssthresh: 65_535,
+                dups: 0,
             },
             held,
             closed: false,
             fin_sent: false,
-            mss: 536,
         }
     }
 
-    /// Notes the segment size that the peer's SYN offers.
+    /// Notes the segment size that the peer's SYN offers, and starts congestion control with it.
     pub(crate) fn begin(&mut self, mss: Option<u16>)
-        ensures { self.new ≡ record self.old { mss = segment_size mss } }
+        ensures { self.new ≡ with_segment_size (segment_size mss) self.old }
     {
-        self.mss = segment_size(mss);
+        let mss = u32::from(segment_size(mss));
+        self.numbers = SendState {
+            mss,
+            cwnd: initial_window(mss),
+            ssthresh: 65_535,
+            dups: 0,
+            ..self.numbers
+        };
     }
 
     /// ISS.
@@ -133,7 +154,7 @@ impl Sender {
         ack == self.first()
     }
 
-    /// Uses the acknowledgement of the SYN.
+    /// Uses the acknowledgement of our SYN.
     pub(crate) fn open(&mut self, seq: Seq, window: u16)
         ensures { self.new ≡ with_syn_acked self.old seq.0 window }
     {
@@ -147,12 +168,39 @@ impl Sender {
             wl2: first,
             interval: 1,
             left: 0,
+            ..self.numbers
         };
     }
 
-    /// Uses an acknowledgement and a window (RFC 9293, 3.10.7.4, fifth check). It answers false, and changes nothing, where the
-    /// acknowledgement is ahead of SND.NXT.
-    pub(crate) fn on_ack(&mut self, seq: Seq, ack: Seq, window: u16) -> bool
+    /// Uses an acknowledgement and a window (RFC 9293, 3.10.7.4, fifth check; RFC 5681, 3). Nothing changes where the acknowledgement is ahead
+    /// of SND.NXT. `is_bare` says that the segment has neither text nor FIN.
+    pub(crate) fn on_ack(&mut self, seq: Seq, ack: Seq, window: u16, is_bare: bool) -> AckUse
+        ensures used { IsShort self.old → result ≡ use_of self.old is_bare (offset_of self.old.iss ack.0) window }
+        ensures state { IsShort self.old
+            → self.new ≡ (if is_ahead self.old.sent (offset_of self.old.iss ack.0) then self.old
+            else answered_by self.old is_bare seq.0 (offset_of self.old.iss ack.0) window) }
+    {
+        let is_duplicate = self.is_duplicate(ack, window, is_bare);
+        if !self.acknowledge(seq, ack, window) {
+            return AckUse::Ahead;
+        }
+        if is_duplicate {
+            self.count_duplicate()
+        } else {
+            AckUse::Used
+        }
+    }
+
+    /// Whether this is a duplicate: it acknowledges SND.UNA again while something is in flight, and leaves the right edge as it is.
+    fn is_duplicate(&self, ack: Seq, window: u16, is_bare: bool) -> bool
+        ensures { IsShort self.now → result ≡ is_duplicate self.now is_bare (offset_of self.now.iss ack.0) window }
+    {
+        fit(&self.numbers, self.iss, ack);
+        is_bare && repeats(&self.numbers, ack, window)
+    }
+
+    /// Uses an acknowledgement and a window, of a duplicate or not. Returns false, and changes nothing, where the acknowledgement is ahead of SND.NXT.
+    fn acknowledge(&mut self, seq: Seq, ack: Seq, window: u16) -> bool
         ensures used { IsShort self.old → result ≡ not (is_ahead self.old.sent (offset_of self.old.iss ack.0)) }
         ensures state { IsShort self.old
             → self.new ≡ (if is_ahead self.old.sent (offset_of self.old.iss ack.0) then self.old
@@ -165,7 +213,19 @@ impl Sender {
         was_sent(kind)
     }
 
-    /// Whether the own FIN is acknowledged.
+    /// Counts a duplicate acknowledgement.
+    fn count_duplicate(&mut self) -> AckUse
+        ensures third { result ≡ (if is_third self.old.congestion then Third else Used) }
+        ensures state { self.new ≡ duplicated self.old }
+    {
+        if self.numbers.on_duplicate() {
+            AckUse::Third
+        } else {
+            AckUse::Used
+        }
+    }
+
+    /// Whether our FIN is acknowledged.
     pub(crate) fn fin_acked(&self) -> bool
         ensures { result ≡ fin_acked self.now }
     {
@@ -182,7 +242,7 @@ impl Sender {
         self.numbers.nxt.minus(self.numbers.una)
     }
 
-    /// The number so many units behind SND.UNA.
+    /// The number `place` units after SND.UNA.
     pub(crate) fn number_behind(&self, place: u32) -> Seq
         ensures { result.0 ≡ number_at self.now.iss (self.now.una + place) }
     {
@@ -197,7 +257,7 @@ impl Sender {
         self.held.len()
     }
 
-    /// Up to how far behind SND.UNA the peer has room.
+    /// How many units past SND.UNA the peer has room for.
     fn room(&self) -> u32
         ensures { result ≡ self.now.edge - self.now.una }
     {
@@ -206,12 +266,19 @@ impl Sender {
     }
 
     /// The segment size.
-    pub(crate) fn mss(&self) -> u16
+    pub(crate) fn mss(&self) -> u32
         ensures size { result ≡ self.now.mss }
         ensures least { 64 ≤ result }
         ensures most { result ≤ 1460 }
     {
-        self.mss
+        self.numbers.mss
+    }
+
+    /// How many units past SND.UNA something new may be sent.
+    fn send_room(&self) -> u32
+        ensures { result ≡ send_edge self.now - self.now.una }
+    {
+        self.room().min(self.numbers.cwnd)
     }
 
     /// How many bytes may be sent for the first time.
@@ -224,7 +291,7 @@ impl Sender {
             return 0;
         }
         (self.held.len() as u32)
-            .min(self.room())
+            .min(self.send_room())
             .saturating_sub(self.in_flight())
     }
 
@@ -236,17 +303,17 @@ impl Sender {
             && self.closed
             && !self.fin_sent
             && self.in_flight() == self.held.len() as u32
-            && self.in_flight() < self.room()
+            && self.in_flight() < self.send_room()
     }
 
-    /// How many bytes go out again.
+    /// How many bytes are retransmitted.
     pub(crate) fn resent_length(&self) -> u32
         ensures count { result ≡ resent_length self.now }
         ensures most { result ≤ length self.now.held }
         ensures segment { result ≤ 1460 }
     {
         let sent = self.in_flight().min(self.held.len() as u32);
-        u32::from(self.mss).min(sent.min(self.room().max(1)))
+        self.mss().min(sent.min(self.room().max(1)))
     }
 
     /// How many more bytes may be written.
@@ -256,7 +323,7 @@ impl Sender {
         self.held.room()
     }
 
-    /// So many held bytes from a place on, in two pieces.
+    /// `n` held bytes from `place` on, in two pieces.
     pub(crate) fn text(&self, place: u32, n: u32) -> (&[u8], &[u8])
         requires { place + n ≤ length self.now.held }
         ensures { result.0.now ++ result.1.now ≡ take n (drop place self.now.held) }
@@ -264,7 +331,7 @@ impl Sender {
         self.held.text(place as usize, n as usize)
     }
 
-    /// Notes that so many bytes more are sent.
+    /// Notes that `n` more bytes are sent.
     pub(crate) fn note_sent(&mut self, n: u32)
         requires { 0 < n → in_flight self.old + n ≤ length self.old.held }
         ensures { self.new ≡ with_sent self.old n }
@@ -295,7 +362,7 @@ impl Sender {
         self.is_unacknowledged() || (!self.fin_sent && (!self.held.is_empty() || self.closed))
     }
 
-    /// Lets a tick pass, and answers whether the timer expires.
+    /// Counts a tick, and returns whether the timer expires.
     pub(crate) fn tick(&mut self) -> bool
         ensures expires { result ≡ expires self.old }
         ensures state { self.new ≡ ticked self.old }
@@ -316,7 +383,7 @@ impl Sender {
         }
     }
 
-    /// Takes the front of `bytes`, as much as fits.
+    /// Takes the first bytes of `bytes`, as many as fit, and returns how many.
     pub(crate) fn write(&mut self, bytes: &[u8]) -> usize
         ensures count { result ≡ min (65535 - length self.old.held) (length bytes.now) }
         ensures state { self.new ≡ record self.old { held = self.old.held ++ take result bytes.now } }
@@ -332,15 +399,31 @@ impl Sender {
     }
 }
 
-/// What a proof may know of numbers: they are below 2^32.
+/// Facts for proofs: numbers are below 2^32.
 fn fit(numbers: &SendState, seq: Seq, ack: Seq)
     ensures { NumbersFit numbers.now seq.0 ack.0 }
 {
     let _una = numbers.una.0;
     let _nxt = numbers.nxt.0;
+    let _wnd = numbers.wnd;
     let _wl2 = numbers.wl2.0;
     let _seq = seq.0;
     let _ack = ack.0;
+}
+
+/// Whether an acknowledgement and a window only repeat the current ones while something is in flight.
+fn repeats(numbers: &SendState, ack: Seq, window: u16) -> bool
+    ensures { result ≡ repeats numbers.now ack.0 window }
+{
+    ack == numbers.una && numbers.una != numbers.nxt && numbers.wnd == u32::from(window)
+}
+
+/// The initial congestion window.
+fn initial_window(mss: u32) -> u32
+    requires { mss ≤ 1460 }
+    ensures { result ≡ initial_window mss }
+{
+    if mss <= 1_095 { 4 * mss } else { 3 * mss }
 }
 
 /// Whether what is acknowledged was sent.
@@ -350,7 +433,7 @@ fn was_sent(kind: AckKind) -> bool
     !matches!(kind, AckKind::Beyond)
 }
 
-/// How many units are acknowledged for the first time.
+/// How many units are newly acknowledged.
 fn units_of(kind: AckKind) -> usize
     ensures { result ≡ units_of kind }
 {

@@ -1,4 +1,4 @@
-//! The states of a connection (RFC 9293, 3.3.2) and how they follow one another.
+//! The states of a connection (RFC 9293, 3.3.2) and their transitions.
 
 ghost use Rattle.std.specs.Prelude.{◌≡◌};
 ghost use Rattle.tcp_endpoint.specs.States.{after_close, after_syn_acked, after_fin_acked, after_fin, is_closed, is_listen, is_syn_sent, is_time_wait, has_begun};
@@ -19,7 +19,7 @@ pub enum StateName {
     TimeWait,
 }
 
-/// What an endpoint tells of its state.
+/// What an endpoint reports of its state.
 #[derive(Clone, Copy, Debug, PartialEq, Eq)]
 pub struct State {
     /// The state's name (RFC 9293, 3.3.2).
@@ -41,7 +41,7 @@ impl StateName {
         }
     }
 
-    /// The state once the own SYN is acknowledged, for a user who may have closed before.
+    /// The state once our SYN is acknowledged. The user may have closed before that.
     pub(crate) fn after_syn_acked(closed: bool) -> StateName
         ensures { result ≡ after_syn_acked closed }
     {
@@ -52,7 +52,7 @@ impl StateName {
         }
     }
 
-    /// The state once the own FIN is acknowledged (RFC 9293, 3.10.7.4, fifth check).
+    /// The state once our FIN is acknowledged (RFC 9293, 3.10.7.4, fifth check).
     pub(crate) fn after_fin_acked(self) -> StateName
         ensures { result ≡ after_fin_acked self }
     {

@@ -23,6 +23,18 @@ const LIMIT: u32 = 1 << 24;
 
 /// A segment of the peer arrives: number, acknowledgement, flags, text.
 fn arrive(endpoint: &mut Endpoint, seq: u32, ack: u32, flags: u8, payload: &[u8]) {
+    arrive_with(endpoint, 65_535, seq, ack, flags, payload);
+}
+
+/// So does one with this window.
+fn arrive_with(
+    endpoint: &mut Endpoint,
+    window: u16,
+    seq: u32,
+    ack: u32,
+    flags: u8,
+    payload: &[u8],
+) {
     let head = Head {
         src: REMOTE.ip,
         dst: LOCAL.ip,
@@ -31,7 +43,7 @@ fn arrive(endpoint: &mut Endpoint, seq: u32, ack: u32, flags: u8, payload: &[u8]
         seq: Seq(seq),
         ack: Seq(ack),
         flags,
-        window: 65_535,
+        window,
         mss: None,
     };
     endpoint.on_packet(PacketRef { head, payload });
@@ -136,5 +148,88 @@ fn early_text(rt: HostRuntime) -> Result<(), Fail> {
     let mut read = [0u8; 9];
     assert_eq!(rt; server.read(&mut read), 5);
     assert_eq!(rt; &read, b"hello\0\0\0\0");
+    Ok(())
+}
+
+/// Ends the turn, and says of each segment that goes out where its text begins, counted from the first byte, and how much there is.
+fn texts(
+    alloc: Global,
+    endpoint: &mut Endpoint,
+    out: &mut Outbox,
+) -> Result<Vec<(u32, usize)>, Fail> {
+    out.clear();
+    endpoint.flush(out);
+    let mut texts = Vec::new(alloc);
+    for i in 0..out.len() {
+        if let Ok(p) = read_packet(out.packet(i)) {
+            texts.push((p.head.seq.minus(Seq(5001)), p.payload.len()))?;
+        }
+    }
+    Ok(texts)
+}
+
+/// The congestion window in segments of 536 bytes, by RFC 5681: four at first; one more for each acknowledgement; at the third duplicate half of what is in
+/// flight and three, and then one for each duplicate; at the end of fast recovery half of what was in flight; and one when the timer expires.
+#[test]
+fn congestion_control(rt: HostRuntime) -> Result<(), Fail> {
+    let alloc = rt.alloc();
+    let mut out = Outbox::new(alloc)?;
+    let mut server = established(alloc, &mut out)?;
+    let text = vec![in alloc; 7u8; 10_000]?;
+    assert_eq!(rt; server.write(&text), 10_000);
+    let first = texts(alloc, &mut server, &mut out)?;
+    assert_eq!(rt;
+        first.as_slice(),
+        [(0, 536), (536, 536), (1_072, 536), (1_608, 536)].as_slice()
+    );
+    arrive(&mut server, 1001, 5001 + 536, ACK, b"");
+    let grown = texts(alloc, &mut server, &mut out)?;
+    assert_eq!(rt; grown.as_slice(), [(2_144, 536), (2_680, 536)].as_slice());
+    // In flight are 2,680 bytes, half of which is 1,340. With three segments these are 2,948.
+    for duplicate in 1..3 {
+        arrive(&mut server, 1001, 5001 + 536, ACK, b"");
+        let none = texts(alloc, &mut server, &mut out)?;
+        assert!(rt; none.is_empty(), "duplicate {duplicate}");
+    }
+    arrive(&mut server, 1001, 5001 + 536, ACK, b"");
+    let third = texts(alloc, &mut server, &mut out)?;
+    assert_eq!(rt; third.as_slice(), [(536, 536), (3_216, 268)].as_slice());
+    arrive(&mut server, 1001, 5001 + 536, ACK, b"");
+    let fourth = texts(alloc, &mut server, &mut out)?;
+    assert_eq!(rt; fourth.as_slice(), [(3_484, 536)].as_slice());
+    arrive(&mut server, 1001, 5001 + 4_020, ACK, b"");
+    let recovered = texts(alloc, &mut server, &mut out)?;
+    assert_eq!(rt;
+        recovered.as_slice(),
+        [(4_020, 536), (4_556, 536), (5_092, 268)].as_slice()
+    );
+    server.on_tick();
+    let lost = texts(alloc, &mut server, &mut out)?;
+    assert_eq!(rt; lost.as_slice(), [(4_020, 536)].as_slice());
+    Ok(())
+}
+
+/// Text, an older acknowledgement and another window make no duplicate.
+#[test]
+fn no_duplicates(rt: HostRuntime) -> Result<(), Fail> {
+    let alloc = rt.alloc();
+    let mut out = Outbox::new(alloc)?;
+    let mut server = established(alloc, &mut out)?;
+    // While nothing is in flight, nothing is a duplicate.
+    arrive(&mut server, 1001, 5001, ACK, b"");
+    let text = vec![in alloc; 7u8; 10_000]?;
+    assert_eq!(rt; server.write(&text), 10_000);
+    let _first = texts(alloc, &mut server, &mut out)?;
+    arrive(&mut server, 1001, 5001, ACK, b"a");
+    arrive(&mut server, 1002, 5001, ACK, b"b");
+    arrive(&mut server, 1003, 5000, ACK, b"");
+    arrive_with(&mut server, 65_534, 1003, 5001, ACK, b"");
+    arrive_with(&mut server, 65_534, 1003, 5001, ACK, b"");
+    arrive_with(&mut server, 65_534, 1003, 5001, ACK, b"");
+    let bare = texts(alloc, &mut server, &mut out)?;
+    assert_eq!(rt; bare.as_slice(), [(2_144, 0)].as_slice());
+    arrive_with(&mut server, 65_534, 1003, 5001, ACK, b"");
+    let third = texts(alloc, &mut server, &mut out)?;
+    assert_eq!(rt; third.as_slice(), [(0, 536), (2_144, 536)].as_slice());
     Ok(())
 }

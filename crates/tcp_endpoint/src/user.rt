@@ -17,7 +17,7 @@ impl Endpoint {
         self.tick_wait();
     }
 
-    /// At the timer's last tick the first unacknowledged segment goes out again, or else a probe goes out (RFC 9293, 3.8.1 and 3.8.6.1).
+    /// At the timer's last tick the first unacknowledged segment is retransmitted, or else a probe is sent (RFC 9293, 3.8.1 and 3.8.6.1).
     #[tactic(auto, unfolding(crate::specs::Turning::timer_ticked))]
     fn tick_timer(&mut self)
         ensures { self.new ≡ timer_ticked self.old }
@@ -42,8 +42,8 @@ impl Endpoint {
         self.wait = self.wait.saturating_sub(1);
     }
 
-    /// Copies the unread bytes from place `from` on to the front of `out`, as many as there are and fit, and answers how many. None is
-    /// taken: `read` still gives them all. The rest of `out` stays.
+    /// Copies unread bytes, from place `from` on, to the beginning of `out`, as many as there are and fit, and returns how many. None is consumed: `read` still
+    /// returns them all. The rest of `out` stays.
     pub fn peek(&self, from: usize, out: &mut [u8]) -> usize
         ensures count { result ≡ min (length self.now.receiving.unread - from) (length out.old) }
         ensures bytes { out.new ≡ take result (drop from self.now.receiving.unread) ++ drop result out.old }

@@ -1,4 +1,4 @@
--- What a trace gives of the premises that a server's contract has: how much of the log a fetching server has, and which move is a refusal.
+-- What a trace guarantees of the premises that a server's contract has: how much of the log a fetching server has, and which move is a refusal.
 use Rattle.std.specs.Prelude.{◌≡◌, Bool, true, false, IfSome}
 use Rattle.std.specs.List.{AllByRecursion}
 use Rattle.server_trait.specs.Service.{Machine}
@@ -12,8 +12,8 @@ use Rattle.ft_model.specs.Node.Stage.{Asking, Fetching, Serving, Fenced}
 use Rattle.ft_model.specs.Node.Input.{Packet_comes, Message_comes, Noise_comes, Tick_comes}
 use Rattle.ft_model.specs.Lawful.{fetched_then}
 
--- As far as it is fetched it is the front of an entry that is sound (FT-TCP, INFOCOM 2001: the restarted server is fed the reads that the log
--- keeps). So a server that replays reads before it has them all has a bound, too
+-- As far as it is fetched it is the prefix of an entry that is sound (FT-TCP, INFOCOM 2001: the restarted server is fed the reads that the log keeps). So there
+-- is a bound also for a server that replays reads before it has all of them
 pub record IsSoundFront {State : Type 0} (service : Machine State) (f : Fetched) : Type 0 where
   pub entry : Entry
   pub head : f.head ≡ head_of entry
@@ -32,7 +32,7 @@ HasSoundFronts service node (Packet_comes segment) stage = Unit {0}
 HasSoundFronts service node Noise_comes stage = Unit {0}
 HasSoundFronts service node Tick_comes stage = Unit {0}
 
--- a live client answers a SYN-ACK that acknowledges no SYN of its by a RST with that number (RFC 9293, 3.10.7.3)
+-- a live client answers a SYN-ACK that acknowledges no SYN of its own by a RST with that number (RFC 9293, 3.10.7.3)
 abbrev pub is_refusal : Move → Bool
 is_refusal (Refuse number) = true
 is_refusal (Syn mss) = false

@@ -1,5 +1,5 @@
-//! Laws of every joint trace, on which a server's contract rests: what comes to it is near, what it has fetched is sound, and nothing fences
-//! it. Nothing here runs; each function is a theorem.
+//! Laws of every joint trace on which a server's contract depends: what comes to it is near, what it has fetched is sound, and nothing fences it. Nothing here
+//! runs; each function is a theorem.
 #![tactic(auto)]
 
 ghost use Rattle.std.specs.Prelude.{◌≡◌, ℕ, ◌≤◌, ◌^◌, false, min, Some, None, List, [], ◌∷◌, ◌++◌, length, sum};
@@ -14,6 +14,7 @@ ghost use Rattle.ft_model.specs.Network.Packet.{To_server};
 ghost use Rattle.ft_model.specs.News.{News};
 ghost use Rattle.ft_model.specs.Point.{Point, target, answered_run, whole_run};
 ghost use Rattle.ft_model.specs.Restart.{Fetched, IsSound};
+ghost use Rattle.ft_model.specs.Sending.{send_edge};
 ghost use Rattle.ft_model.specs.Node.{Node, Stage, Input, is_for};
 ghost use Rattle.ft_model.specs.Lawful.{AreNear, IsNearInput, IsSoundInput, fence};
 ghost use Rattle.ft_model.specs.Legal.{Legal, machines, start_of};
@@ -29,14 +30,14 @@ ghost use Rattle.trace_laws.specs.Premises.{IsSoundFront, HasSoundFronts, is_ref
 
 use server_trait::Service;
 
-/// Every entry of the log is sound: the run over its reads has at most 2^24 bytes of output, and a FIN stands below 2^24.
+/// Every entry of the log is sound: the run over its reads has at most 2^24 bytes of output, and a FIN is below 2^24.
 pub fn logged_entries_are_sound<S: Service>()
     ensures { (kind : ℕ) (start : World) (trace : List Moment) → Joint (machine (S.started kind) S.after) start trace
         → AllByRecursion (IsSound (machine (S.started kind) S.after)) (world_after start trace).log.entries }
 {}
 
-/// Whatever comes to a server that fetches: each entry that it then has whole, and is to be restored, is sound. And what it has of any other is
-/// the front of a sound one.
+/// Whatever comes to a server that fetches: each entry that it then has completely, and that is to be restored, is sound. What it has of any other is the
+/// prefix of a sound one.
 pub fn fetched_entries_are_sound<S: Service>()
     ensures whole { (kind : ℕ) (start : World) (trace : List Moment) (node : Node) (input : Input) → Joint (machine (S.started kind) S.after) start trace
         → (world_after start trace).node ≡ Some node → MayCome (world_after start trace) input
@@ -46,8 +47,8 @@ pub fn fetched_entries_are_sound<S: Service>()
         → HasSoundFronts (machine (S.started kind) S.after) node input node.stage }
 {}
 
-/// A run over the front of a sound entry is short, in whichever order bytes and lengths come: its reads that have their bytes put out at most
-/// 2^24 bytes.
+/// A run over the prefix of a sound entry is short, in whichever order bytes and lengths come: the reads whose bytes are there make at most 2^24 bytes of
+/// output.
 pub fn fronts_run_short<S: Service>()
     ensures { (kind : ℕ) (f : Fetched) (lengths : List ℕ) → IsSoundFront (machine (S.started kind) S.after) f → IsPrefix lengths f.lengths
         → sum lengths ≤ length f.bytes
@@ -61,8 +62,8 @@ pub fn packets_are_near<S: Service>()
         → WasSent (world_after start trace) (To_server segment) → has_rst segment ≡ false → AreNear node.server segment node.stage }
 {}
 
-/// So is the packet of every move, RST or not, at each moment from then on, but for a live client's refusal of a wrong acknowledgement, which
-/// has the number that it refuses.
+/// So is the packet of every move, RST or not, at each moment from then on, except a live client's refusal of a wrong acknowledgement, which has the number
+/// that it refuses.
 pub fn moves_are_near<S: Service>()
     ensures { (kind number : ℕ) (start : World) (later earlier : List Moment) (moment : Moment) (node : Node)
         → Joint (machine (S.started kind) S.after) start (later ++ moment ∷ earlier)
@@ -87,21 +88,20 @@ pub fn premises_hold<S: Service>()
         → (world_after (start_of schedule) trace).node ≡ Some node → MayCome (world_after (start_of schedule) trace) input → fence node input ≡ None }
 {}
 
-/// What may leave, the output of the reads that are answered, is a front of the output of all reads.
+/// The output that may be sent, that of the answered reads, is a prefix of the output of all reads.
 pub fn answered_output_is_a_front<S: Service>()
     ensures { (kind : ℕ) (p : Point)
         → IsPrefix (answered_run (machine (S.started kind) S.after) p).output (whole_run (machine (S.started kind) S.after) p).output }
 {}
 
-/// A live turn sends all that may leave, up to the client's right edge.
+/// A live turn sends all that may be sent, up to the client's right edge and the end of the congestion window.
 pub fn turns_send_what_may_leave<S: Service>()
     ensures { (kind boot : ℕ) (server : Addr) (news : News) (before after : Point) (sent : List Packet)
         → LiveTurn (machine (S.started kind) S.after) server boot news before after sent
-        → min (target (machine (S.started kind) S.after) after) after.edge ≤ after.sent }
+        → min (target (machine (S.started kind) S.after) after) (send_edge after) ≤ after.sent }
 {}
 
-/// Nearness needs its premise: in a trace with one moment in which a client sends what is no move, a packet is under way that isn't near to a
-/// connection that is live.
+/// Nearness needs its premise: in a trace with one moment in which a client sends what is no move, a packet is in flight that isn't near to a live connection.
 pub fn far_packets_are_refused()
     ensures wrong_once { IsWrongOnce echo FirstPath.start [] FarPacket.wrong FirstPath.opening_trace }
     ensures up { FarPacket.wrong.world.node ≡ Some (FirstPath.node_live FirstPath.open_point) }
@@ -109,7 +109,7 @@ pub fn far_packets_are_refused()
     ensures not_near { AreNear (FirstPath.node_live FirstPath.open_point).server FarPacket.far (FirstPath.node_live FirstPath.open_point).stage → ⊥ }
 {}
 
-/// So does soundness: in a trace with one moment in which the log keeps a FIN behind 2^24 bytes, an entry isn't sound.
+/// So does soundness: in a trace with one moment in which the log keeps a FIN after 2^24 bytes, an entry isn't sound.
 pub fn late_fins_are_refused()
     ensures wrong_once { (bytes : List ℕ) → length bytes ≡ 2 ^ 24 → IsWrongOnce echo FirstPath.start [] (LateFin.wrong bytes) FirstPath.opening_trace }
     ensures not_sound { (bytes : List ℕ) → length bytes ≡ 2 ^ 24 → AllByRecursion (IsSound echo) (LateFin.wrong bytes).world.log.entries → ⊥ }

@@ -1,4 +1,4 @@
--- A trace with two loggers as one with a single log. What goes between the loggers is left out, and the packets are numbered anew.
+-- A trace with two loggers as one with a single log. What is sent between the loggers is left out, and the packets are renumbered.
 use Rattle.std.specs.Prelude.{ℕ, ◌+◌, ◌-◌, ◌==◌, ◌&&◌, not, Bool, Option, Some, None, option_map, List, [], ◌∷◌, ◌++◌, length, drop, slice_get, if◌then◌else◌}
 use Rattle.std.specs.Option.{option_map_or, option_to_list}
 use Rattle.seq_arith.specs.Message.{Message, is_answer}
@@ -31,7 +31,7 @@ outside [] = []
 outside (Outside packet ∷ sent) = packet ∷ outside sent
 outside (Inside between ∷ sent) = outside sent
 
--- parcels numbered anew, after so many packets
+-- parcels renumbered, after `n` packets
 abbrev pub numbers_of : ℕ → List Parcel → List ℕ
 numbers_of n [] = []
 numbers_of n (Outside packet ∷ sent) = (n + 1) ∷ numbers_of (n + 1) sent
@@ -56,7 +56,7 @@ kept_as event moment f = record f {
 abbrev pub left_out : TwinMoment → Flat → Flat
 left_out moment f = record f { numbers = f.numbers ++ numbers_of (length f.packets) moment.sent }
 
--- these packets, with what they ask, are delivered to the log in order
+-- these packets, with what they ask for, are delivered to the log in order
 abbrev pub delivered_to_log : World → List (ℕ × Request) → Flat → Flat
 delivered_to_log w [] f = f
 delivered_to_log w ((number, request) ∷ more) f =
@@ -70,12 +70,12 @@ both [] bs = []
 both (a ∷ as_) [] = []
 both (a ∷ as_) (b ∷ bs) = (a, b) ∷ both as_ bs
 
--- a turn of a logger that is alone is kept; that of a paired one is as it may be
+-- a turn of a logger that serves alone is kept. That of a paired one becomes `paired`
 abbrev pub kept_alone : TwinWorld → Event → TwinMoment → Flat → Flat → Flat
 kept_alone w event moment paired f =
     if w.pair.head_stopped then kept_as event moment f else (if w.pair.tail_stopped then kept_as event moment f else paired)
 
--- a request comes to a logger. That to a paired head is left out, and the head may take it
+-- a request arrives at a logger. One to a paired head is left out, and the head may take it
 abbrev pub asked_flat : TwinWorld → ℕ → Message → TwinMoment → Flat → Flat
 asked_flat w n message moment f =
     kept_alone w (Deliver (new_number f n)) moment
@@ -95,7 +95,7 @@ delivered_flat w n (Some (Outside packet)) moment f = kept_as (Deliver (new_numb
 delivered_flat w n (Some (Inside (Forward number request))) moment f = forwarded_flat w number moment f
 delivered_flat w n (Some (Inside (Got number))) moment f = left_out moment f
 
--- a flip of a packet is kept, but for one on its way to a logger that isn't alone; one between the loggers is left out
+-- a flip of a packet is kept, except of one to a logger that doesn't serve alone. One of a datagram between the loggers is left out
 abbrev pub flipped_flat : TwinWorld → ℕ → ℕ → Option Parcel → TwinMoment → Flat → Flat
 flipped_flat w n bit None moment f = f
 flipped_flat w n bit (Some (Outside (To_logger message))) moment f = kept_alone w (Flip (new_number f n) bit) moment (left_out moment f) f
@@ -114,7 +114,7 @@ flat_step w moment (Usual (Flip n bit)) f = flipped_flat w n bit (parcel_at w.pa
 flat_step w moment (Usual event) f = kept_as event moment f
 flat_step w moment (Stop part) f = stopped_flat w part moment f
 
--- the whole trace
+-- the complete trace
 abbrev pub flat : TwinWorld → List TwinMoment → Flat
 flat start [] = flat_start
 flat start (moment ∷ earlier) = flat_step (twin_after start earlier) moment moment.event (flat start earlier)

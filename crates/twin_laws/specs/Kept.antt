@@ -1,5 +1,5 @@
--- What a logger of two keeps of its history, and what it does with bytes: the same as its definition, told of what a program holds. A head keeps a count of what it
--- took and the bytes of what is unconfirmed; a tail keeps a count of what it applied.
+-- What one of two loggers stores of its history, and what it does with bytes: the same as its definition, in terms of what a program stores. A head stores a
+-- count of what it took and the bytes of what is unconfirmed. A tail stores a count of what it applied.
 use Rattle.std.specs.Prelude.{ℕ, Bool, true, false, ◌+◌, ◌-◌, ◌==◌, ◌&&◌, nat_lt, nat_le, map, Option, List, [], ◌∷◌, ◌++◌, length, drop, if◌then◌else◌}
 use Rattle.std.specs.Option.{option_to_list}
 use Rattle.seq_arith.specs.Message.{Message, is_answer}
@@ -25,11 +25,11 @@ pub record Kept : Type 0 where
 abbrev pub new_kept : Part → Kept
 new_kept part = record { part = part; alone = false; log = empty_log; number = 0; waiting = [] }
 
--- it is alone from now on
+-- it serves alone from now on
 abbrev pub left_alone : Kept → Kept
 left_alone kept = record kept { alone = true }
 
--- what is kept of a head, and of a tail
+-- what is stored of a head, and of a tail
 abbrev pub kept_head : Head → Kept
 kept_head head =
     record { part = parts.Head; alone = head.alone; log = head.log; number = length head.taken; waiting = map (λ r. r.bytes) (drop head.confirmed head.taken) }
@@ -37,12 +37,12 @@ kept_head head =
 abbrev pub kept_tail : Tail → Kept
 kept_tail tail = record { part = parts.Tail; alone = tail.alone; log = tail.log; number = tail.applied; waiting = [] }
 
--- what comes as bytes from a side
+-- what arrives as bytes from a side
 abbrev pub comes_from : Side → List ℕ → Comes
 comes_from sides.Server bytes = asked bytes (messages.reading bytes)
 comes_from sides.Other bytes = told (twins.reading bytes)
 
--- a state afterwards, and the datagrams that go out, in order, each with its side
+-- the next state, and the datagrams that are sent, in order, each with its side
 pub record KeptDoes : Type 0 where
   pub next : Kept
   pub sent : List (Side × List ℕ)
@@ -56,7 +56,7 @@ answers_sent answer = map (λ m. (sides.Server, messages.spelling m)) (option_to
 abbrev pub sent_to_other : List Between → List (Side × List ℕ)
 sent_to_other betweens = map (λ b. (sides.Other, bytes_of b)) betweens
 
--- the log takes a message, and what it answers goes out
+-- the log takes a message, and its answer is sent
 abbrev pub serves_alone : Message → Kept → KeptDoes
 serves_alone message kept = record { next = record kept { log = log_after kept.log message }; sent = answers_sent (answer_to kept.log message) }
 
@@ -85,7 +85,7 @@ keeps_request request kept = if has_kept_room kept then keeps_too request kept e
 abbrev pub kept_head_asked : Request → Kept → KeptDoes
 kept_head_asked request kept = if is_answer request.message.body then sends_nothing kept else sends_kept (keeps_request request kept)
 
--- a Got takes what it confirms away
+-- a Got removes what it confirms
 abbrev pub kept_confirmed : ℕ → Kept → Kept
 kept_confirmed number kept =
     if nat_lt (confirmed_of kept) number && nat_le number kept.number then record kept { waiting = drop (number - confirmed_of kept) kept.waiting } else kept
@@ -101,7 +101,7 @@ kept_tail_told number message kept =
     if number == kept.number + 1 then applies_kept message kept
     else (if nat_le number kept.number then record { next = kept; sent = sent_to_other (Got kept.number ∷ []) } else sends_nothing kept)
 
--- what a logger does that is alone, a head of a pair, and a tail of one
+-- what a logger does that serves alone, what a head of a pair does, and what a tail of one does
 abbrev pub kept_alone_does : Comes → Kept → KeptDoes
 kept_alone_does (Asks request) kept = serves_alone request.message kept
 kept_alone_does _ kept = sends_nothing kept

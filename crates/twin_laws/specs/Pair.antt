@@ -8,7 +8,7 @@ use Rattle.twin_laws.specs.declared.part.Part.TheVariants as parts
 use Rattle.twin_laws.specs.Twin.{Request, Between, Comes, Head, Tail, new_head, new_tail, head_does, tail_does}
 use Rattle.twin_laws.specs.Twin.Comes.{Asks, Tells, Is_noise}
 
--- The two with their histories
+-- The two loggers, with their histories
 pub record Pair : Type 0 where
   pub head : Head
   pub tail : Tail
@@ -22,8 +22,8 @@ pub record Pair : Type 0 where
 abbrev pub new_pair : Pair
 new_pair = record { head = new_head; tail = new_tail; from_head = []; from_tail = []; answers = []; given = []; head_stopped = false; tail_stopped = false }
 
--- A delivery of the network names anything that the other ever sent by its place, any number of times and in any order; what is never named is lost. From the server
--- any request may come to either
+-- A delivery of the network names anything that the other ever sent by its place, any number of times and in any order. What is never named is lost. Any
+-- request of the server may arrive at either
 pub data Delivery : Type 0 where
   Server_asks : Part → Request → Delivery
   Other_tells : Part → (place : ℕ) → Delivery
@@ -55,7 +55,7 @@ tail_has comes p =
     else (let d = tail_does comes p.tail in
     record p { tail = d.next; from_tail = p.from_tail ++ d.to_other; answers = p.answers ++ d.to_server; given = if p.head_stopped then p.given ++ asked_in comes else p.given })
 
--- one of them stops, and the other is told that it is alone
+-- one of them stops, and the other learns that it serves alone
 abbrev pub stopped_by : Part → Pair → Pair
 stopped_by parts.Head p = record p { head_stopped = true; tail = record p.tail { alone = true } }
 stopped_by parts.Tail p = record p { tail_stopped = true; head = record p.head { alone = true } }
@@ -87,10 +87,10 @@ abbrev pub given_if : Bool → List Request → List Request
 given_if true given = given
 given_if false given = []
 
--- Two loggers act as one. The tail's log is that of the first requests that the head took, as many as the tail has applied; the head's is that of all of them; and
--- the survivor's goes on with what it was asked alone. What went out to the server are the answers of one log to the applied requests and then to those that the survivor was
--- asked, each at its place. So whatever was answered before a stop is in the survivor's log. Nothing is confirmed that wasn't applied, and nothing applied that
--- wasn't taken
+-- Two loggers act as one. The tail's log is that of the first requests that the head took, as many as the tail has applied. The head's is that of all of them.
+-- The survivor's continues with what it was asked when it served alone. What was sent to the server is the answers of one log to the applied requests and then
+-- to those that the survivor was asked, each at its place. So whatever was answered before a stop is in the survivor's log. Nothing is confirmed that wasn't
+-- applied, and nothing applied that wasn't taken
 pub record ActsAsOne (p : Pair) : Type 0 where
   pub confirmed : p.head.confirmed ≤ p.tail.applied
   pub applied : p.tail.applied ≤ length p.head.taken

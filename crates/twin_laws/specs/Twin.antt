@@ -1,5 +1,5 @@
--- Two loggers that are seen as one: a chain of two (chain replication, van Renesse and Schneider, OSDI 2004). The head takes the server's messages, numbers them and
--- forwards them; the tail applies them in that order and answers. One of them may stop, and the other then serves alone.
+-- Two loggers that are seen as one: a chain of two (chain replication, van Renesse and Schneider, OSDI 2004). The head takes the server's messages, numbers
+-- them and forwards them. The tail applies them in that order and answers. One of them may stop, and the other then serves alone.
 use Rattle.std.specs.Prelude.{ℕ, Bool, true, false, ◌+◌, ◌-◌, ◌^◌, ◌==◌, ◌&&◌, nat_lt, nat_le, Result, Ok, Err, List, [], ◌∷◌, ◌++◌, length, drop, if◌then◌else◌}
 use Rattle.std.specs.Option.{option_to_list}
 use Rattle.seq_arith.specs.declared.kinds.BadMsg.{BadMsg}
@@ -11,17 +11,17 @@ use Rattle.seq_arith.specs.TwinDatagram.{TwinDatagram as datagrams}
 use Rattle.seq_arith.specs.TwinGrammar as twins
 use Rattle.ft_model.specs.Log.{Log, empty_log, log_after, answer_to}
 
--- a message of the server, with the bytes in which it came
+-- a message of the server, with the bytes in which it arrived
 pub record Request : Type 0 where
   pub bytes : List ℕ
   pub message : Message
 
--- what goes between the two
+-- what is sent between the two
 pub data Between : Type 0 where
   Forward : (number : ℕ) → Request → Between
   Got : (number : ℕ) → Between
 
--- what comes to one of them: a request of the server, a datagram of the other, or anything else
+-- what arrives at one of them: a request of the server, a datagram of the other, or anything else
 pub data Comes : Type 0 where
   Asks : Request → Comes
   Tells : Between → Comes
@@ -44,7 +44,7 @@ new_head = record { log = empty_log; taken = []; confirmed = 0; alone = false }
 abbrev pub new_tail : Tail
 new_tail = record { log = empty_log; applied = 0; alone = false }
 
--- what a logger does: its state afterwards, what it sends to the server, and then to the other logger
+-- what a logger does: its next state, what it sends to the server, and then to the other logger
 pub record Does (State : Type 0) : Type 0 where
   pub next : State
   pub to_server : List Message
@@ -67,7 +67,7 @@ with_taken request head = record head { log = log_after head.log request.message
 abbrev pub head_takes : Request → Head → Head
 head_takes request head = if has_room head then with_taken request head else head
 
--- requests with their numbers, the first with the one after this
+-- requests with their numbers. The first has the number after `n`
 abbrev pub numbered : ℕ → List Request → List Between
 numbered n [] = []
 numbered n (request ∷ requests) = Forward (n + 1) request ∷ numbered (n + 1) requests
@@ -87,7 +87,7 @@ head_paired request head = if is_answer request.message.body then nothing head e
 abbrev pub confirmed_to : ℕ → Head → Head
 confirmed_to number head = if nat_lt head.confirmed number && nat_le number (length head.taken) then record head { confirmed = number } else head
 
--- a logger that is alone is a log
+-- a logger that serves alone is a log
 abbrev pub head_alone : Request → Head → Does Head
 head_alone request head =
     record { next = record head { log = log_after head.log request.message }; to_server = option_to_list (answer_to head.log request.message); to_other = [] }
@@ -101,7 +101,7 @@ head_does (Asks request) head = if head.alone then head_alone request head else 
 head_does (Tells (Got number)) head = if head.alone then nothing head else nothing (confirmed_to number head)
 head_does _ head = nothing head
 
--- The tail applies the next request: it answers the server, and then confirms to the head. What it has applied before it only confirms
+-- The tail applies the next request: it answers the server, and then confirms to the head. A request that it has applied before it only confirms
 abbrev pub applies_next : Request → Tail → Does Tail
 applies_next request tail = record {
   next = record tail { log = log_after tail.log request.message; applied = tail.applied + 1 };
@@ -121,12 +121,12 @@ tail_does (Asks request) tail = if tail.alone then tail_alone request tail else 
 tail_does (Tells (Forward number request)) tail = if tail.alone then nothing tail else tail_applies number request tail
 tail_does _ tail = nothing tail
 
--- what bytes of the server ask
+-- what bytes of the server ask for
 abbrev pub asked : List ℕ → Result Message BadMsg → Comes
 asked bytes (Ok message) = Asks (record { bytes = bytes; message = message })
 asked bytes (Err why) = Is_noise
 
--- what bytes of the other logger tell. A forwarded message is read as the server's are; an Alone tells a logger nothing here
+-- what bytes of the other logger say. A forwarded message is read as the server's are. An Alone says nothing to a logger here
 abbrev pub forwarded_as : ℕ → Comes → Comes
 forwarded_as number (Asks request) = Tells (Forward number request)
 forwarded_as number _ = Is_noise
@@ -136,7 +136,7 @@ told (Ok (datagrams.Forward number bytes)) = forwarded_as number (asked bytes (m
 told (Ok (datagrams.Got number)) = Tells (Got number)
 told _ = Is_noise
 
--- the datagram that goes out, and its bytes. A forwarded message has the bytes in which it came
+-- the datagram that is sent, and its bytes. A forwarded message has the bytes in which it arrived
 abbrev pub datagram_of : Between → TwinDatagram
 datagram_of (Forward number request) = datagrams.Forward number request.bytes
 datagram_of (Got number) = datagrams.Got number

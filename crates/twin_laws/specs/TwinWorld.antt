@@ -1,5 +1,5 @@
--- The world with two loggers: clients, network and server as in the world with one, and a head and a tail in the place of its log. What isn't a logger's turn happens as
--- it happens there.
+-- The world with two loggers: clients, network and server as in the world with one, and a head and a tail in place of its log. What isn't a logger's turn
+-- happens as it does there.
 use Rattle.std.specs.Prelude.{◌≡◌, ℕ, zero, suc, ◌<◌, ◌*◌, Bool, true, false, length, map, Result, Ok, Err, Option, Some, None, List, [], ◌∷◌, ◌++◌, slice_get, if◌then◌else◌}
 use Rattle.ft_io.specs.declared.Addr.{Addr}
 use Rattle.seq_arith.specs.declared.kinds.BadMsg.{BadMsg}
@@ -48,7 +48,7 @@ pub data TwinEvent : Type 0 where
   Usual : Event → TwinEvent
   Stop : Part → TwinEvent
 
--- the parcel of a number, from 1
+-- the parcel with a number, counted from 1
 abbrev pub parcel_at : List Parcel → ℕ → Option Parcel
 parcel_at parcels zero = None
 parcel_at parcels (suc n) = slice_get parcels n
@@ -63,7 +63,7 @@ Elsewhere Goes before sent after =
 abbrev pub sent_by : {State : Type 0} → Does State → List Parcel
 sent_by d = map (λ m. Outside (From_logger m)) d.to_server ++ map Inside d.to_other
 
--- something comes to the head, or to the tail. One that has stopped sends nothing
+-- something arrives at the head, or at the tail. One that has stopped sends nothing
 abbrev pub HeadHas : Comes → TwinWorld → List Parcel → TwinWorld → Type 0
 HeadHas comes before sent after =
     (sent ≡ (if before.pair.head_stopped then [] else sent_by (head_does comes before.pair.head)))
@@ -74,12 +74,12 @@ TailHas comes before sent after =
     (sent ≡ (if before.pair.tail_stopped then [] else sent_by (tail_does comes before.pair.tail)))
     × (after ≡ record before { pair = tail_has comes before.pair; parcels = before.parcels ++ sent })
 
--- what the server sends goes to the head, and to the tail once the head has stopped
+-- what the server sends reaches the head, or the tail once the head has stopped
 abbrev pub LoggerHas : Bool → Comes → TwinWorld → List Parcel → TwinWorld → Type 0
 LoggerHas true comes before sent after = TailHas comes before sent after
 LoggerHas false comes before sent after = HeadHas comes before sent after
 
--- a message of the server's comes in its spelling
+-- a message of the server arrives in its spelling
 abbrev pub request_of : Message → Request
 request_of message = record { bytes = messages.spelling message; message = message }
 
@@ -90,11 +90,11 @@ ParcelComes service (Outside packet) before sent after = Elsewhere (λ w. Delive
 ParcelComes service (Inside (Forward number request)) before sent after = TailHas (Tells (Forward number request)) before sent after
 ParcelComes service (Inside (Got number)) before sent after = HeadHas (Tells (Got number)) before sent after
 
--- what goes between the loggers is read as what was sent
+-- what is sent between the loggers is read as what was sent
 abbrev pub CanBeSent : Between → Type 0
 CanBeSent between = twins.reading (bytes_of between) ≡ Ok (datagram_of between)
 
--- a datagram between the loggers comes with one bit changed. It is one of its bits
+-- a datagram between the loggers arrives with one bit changed. It is one of its bits
 abbrev pub ChangedFor : Between → ℕ → (Comes → TwinWorld → List Parcel → TwinWorld → Type 0) → TwinWorld → List Parcel → TwinWorld → Type 0
 ChangedFor between bit Has before sent after =
     CanBeSent between × (bit < 8 * length (bytes_of between)) × Has (told (twins.reading (flipped bit (bytes_of between)))) before sent after
@@ -109,7 +109,7 @@ ParcelFlipped service (Outside packet) bit before sent after = Elsewhere (λ w. 
 ParcelFlipped service (Inside (Forward number request)) bit before sent after = ChangedFor (Forward number request) bit TailHas before sent after
 ParcelFlipped service (Inside (Got number)) bit before sent after = ChangedFor (Got number) bit HeadHas before sent after
 
--- What may happen: as in the world with one logger, and besides one of the two may stop, once
+-- What may happen: what may happen in the world with one logger, and one of the two may stop, once
 abbrev pub TwinHappens : {State : Type 0} → Machine State → TwinWorld → TwinEvent → List Parcel → TwinWorld → Type 0
 TwinHappens service before (Usual (Deliver number)) sent after =
     (parcel : Parcel) × (parcel_at before.parcels number ≡ Some parcel) × ParcelComes service parcel before sent after

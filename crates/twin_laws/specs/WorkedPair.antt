@@ -28,7 +28,7 @@ server = record { ip = 3221226084; port = 7 }
 abbrev pub at_first : TwinWorld
 at_first = record { server = server; clients = []; pair = new_pair; parcels = []; boot = 0; node = None }
 
--- the server boots and says so
+-- the server boots and sends its Hello
 abbrev pub first_sent : List Parcel
 first_sent = Outside (To_logger hello) ∷ []
 

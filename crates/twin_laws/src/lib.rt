@@ -25,13 +25,13 @@ use server_trait::Service;
 
 mod part;
 
-/// A head and a tail act as one log, whatever is delivered, lost, repeated and reordered, and whichever of them stops. This is safety alone:
-/// a head that forwards nothing would satisfy it too. That each does what it should is the definitions' own, on which the code stands.
+/// A head and a tail act as one log, whatever is delivered, lost, repeated and reordered, and whichever of them stops. This is only safety: a head that
+/// forwards nothing would satisfy it too. That each does what it should is a matter of the definitions, which the code follows.
 pub fn two_loggers_act_as_one()
     ensures { (deliveries : List Delivery) → ActsAsOne (pair_over new_pair deliveries) }
 {}
 
-/// A joint trace with two loggers, made flat, is a joint trace with one log, and so its clients see one server that never crashed.
+/// A joint trace with two loggers, made flat, is a joint trace with one log. So its clients see one server that never crashed.
 pub fn flat_traces_are_masked<S: Service>()
     ensures joint { (kind : ℕ) (start : TwinWorld) (trace : List TwinMoment) → TwinJoint (machine (S.started kind) S.after) start trace
         → Joint (machine (S.started kind) S.after) (seen start []) (flat start trace).trace }
@@ -39,13 +39,13 @@ pub fn flat_traces_are_masked<S: Service>()
         → Masked (machine (S.started kind) S.after) (seen start []) (flat start trace).trace }
 {}
 
-/// A datagram between the loggers with one bit changed is noise to whom it reaches.
+/// A datagram between the loggers with one bit changed is noise where it arrives.
 pub fn flipped_datagrams_are_noise()
     ensures { (bit : ℕ) (bytes : List ℕ) (datagram : TwinDatagram) → reading bytes ≡ Ok datagram → bit < 8 * length bytes
         → told (reading (flipped bit bytes)) ≡ Is_noise }
 {}
 
-/// What a program keeps of a head or a tail does, given any bytes from either side, what the definition does.
+/// What a program stores of a head or a tail does, given any bytes from either side, what the definition does.
 pub fn kept_loggers_do_as_defined()
     ensures head { (side : Side) (bytes : List ℕ) (head : Head) → head.confirmed ≤ length head.taken
         → kept_does side bytes (kept_head head) ≡ in_bytes kept_head (head_does (comes_from side bytes) head) }

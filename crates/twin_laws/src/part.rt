@@ -1,4 +1,4 @@
-//! Which of two loggers is meant, and from where a datagram came to one of them.
+//! Which of two loggers is meant, and the sender of a datagram to one of them.
 
 /// One of two loggers.
 #[derive(Clone, Copy, Debug, PartialEq, Eq)]
@@ -9,7 +9,7 @@ pub enum Part {
     Tail,
 }
 
-/// Whom a logger of two talks to.
+/// The other end of a logger's datagrams.
 #[derive(Clone, Copy, Debug, PartialEq, Eq)]
 pub enum Side {
     /// The server.

@@ -1,6 +1,6 @@
 -- A segment leaves TCP sound, near or not.
 use Rattle.std.proofs.Common.{◌≡◌, ◌<◌, ◌≤◌, ◌^◌, Bool, true, false, not, length, refl, sym, subst, arith, ◌∙◌}
-use Rattle.std.specs.Prelude.{pos, ◌&&◌, ◌||◌, nat_lt, int_lt}
+use Rattle.std.specs.Prelude.{pos, ◌&&◌, ◌||◌, nat_lt, int_lt, if◌then◌else◌}
 use Rattle.std.proofs.lemmas.Bool.{false≢true}
 use Rattle.seq_arith.specs.Arrival.{int_eq, is_acceptable_or_at_edge, is_allowed_at_zero}
 use Rattle.seq_arith.specs.Offset.{one_if, length_of}
@@ -10,14 +10,14 @@ use Rattle.tcp_endpoint.specs.declared.states.StateName.{StateName}
 use Rattle.tcp_endpoint.specs.declared.states.StateName.TheVariants.{Closed, Listen, SynSent, SynReceived, Established, FinWait1, FinWait2, CloseWait, Closing, LastAck, TimeWait}
 use Rattle.tcp_endpoint.specs.States.{after_syn_acked, after_fin, after_fin_acked}
 use Rattle.tcp_endpoint.specs.Receiving.{Receiving, next, window, with_segment}
-use Rattle.tcp_endpoint.specs.Sending.{with_syn_acked, acknowledged, fin_acked}
+use Rattle.tcp_endpoint.specs.Sending.{Sending, with_syn_acked, acknowledged, is_duplicate, is_third_duplicate, duplicated, answered_by, fin_acked}
 use Rattle.tcp_endpoint.specs.Tcb.{Tcb}
-use Rattle.tcp_endpoint.specs.Arrival.{first, ack_at, received, received_in, in_closed, in_others, waiting_again, accepts, is_allowed, check_place, check_rst, check_syn, check_ack, with_ack, with_first_ack, with_fin_acked, with_text_and_fin, entering, owing_if, killed, refusing, refusing_without_ack}
+use Rattle.tcp_endpoint.specs.Arrival.{first, ack_at, received, received_in, in_closed, in_others, waiting_again, accepts, is_allowed, check_place, check_rst, check_syn, check_ack, is_bare, with_ack_used, with_ack, with_first_ack, with_fin_acked, with_text_and_fin, entering, owing_if, killed, refusing, refusing_without_ack}
 use Rattle.tcp_endpoint.proofs.Places.{near_of_usable}
 use Rattle.endpoint_laws.proofs.SendingLaw.{next_near, window_short, length_short}
 use Rattle.endpoint_laws.proofs.TakenLaw.{window_is}
 use Rattle.wrapped_conn.specs.Sound.{has_peer, IsSoundTcp}
-use Rattle.wrapped_conn.proofs.Kept.{GoesOnFrom, TakesOn, stays, goes_if, goes_when, fin_has_peer, acked_has_peer, syn_acked_has_peer, takes_segment, later_bounds, held_stays, kept_fields, first_bounds}
+use Rattle.wrapped_conn.proofs.Kept.{GoesOnFrom, TakesOn, stays, goes_if, goes_when, fin_has_peer, acked_has_peer, syn_acked_has_peer, takes_segment, later_bounds, duplicated_bounds, held_stays, kept_fields, first_bounds}
 use Rattle.endpoint_laws.proofs.Bounding.{other_bounds}
 
 -- the fields of a segment fit their bytes
@@ -97,11 +97,41 @@ later_used e p s fits near is_syn_acked =
       held = λ open_still. held (omega (arith, s.bounds.flight, no_fin e.sending.fin_sent e.sending.closed s.fin_last open_still));
     }
 
+-- a duplicate is counted, and may make something due again
+counts_again : (e : Tcb) (used : Sending) (duplicate again : Bool) → GoesOnFrom e (record e { sending = used })
+    → GoesOnFrom e (record e { sending = if duplicate then duplicated used else used; again = again })
+counts_again e used true again g = record {
+  sound = record { bounds = duplicated_bounds e.receiving used g.sound.bounds; buffered = g.sound.buffered; begun = g.sound.begun; fin_last = g.sound.fin_last };
+  read = refl;
+  limit = refl;
+  more = g.more;
+  iss = g.iss;
+  closed = g.closed;
+  sent = g.sent;
+  held = g.held;
+}
+counts_again e used false again g = record {
+  sound = record { bounds = g.sound.bounds; buffered = g.sound.buffered; begun = g.sound.begun; fin_last = g.sound.fin_last };
+  read = refl;
+  limit = refl;
+  more = g.more;
+  iss = g.iss;
+  closed = g.closed;
+  sent = g.sent;
+  held = g.held;
+}
+
+ack_goes : (e : Tcb) (p : Segment) → IsSoundTcp e → Fits p → IsNearFirst (first e p) → e.sending.syn_acked ≡ true → GoesOnFrom e (with_ack_used e p)
+unfolding with_ack_used answered_by
+ack_goes e p s fits near is_syn_acked =
+    counts_again e (acknowledged e.sending p.head.seq (ack_at e p) p.head.window) (is_duplicate e.sending (is_bare p) (ack_at e p) p.head.window)
+    (e.again || is_third_duplicate e.sending (is_bare p) (ack_at e p) p.head.window) (later_used e p s fits near is_syn_acked)
+
 later_goes : (e : Tcb) (p : Segment) → IsSoundTcp e → Fits p → IsNearFirst (first e p) → e.sending.syn_acked ≡ true → GoesOnFrom e (with_ack e p)
 unfolding with_ack
 later_goes e p s fits near is_syn_acked =
-    let used : Tcb = record e { sending = acknowledged e.sending p.head.seq (ack_at e p) p.head.window } in
-    goes_if (is_ahead e.sending.sent (ack_at e p)) e _ _ (owes e e true (stays e s)) (text_goes e (with_fin_acked used) p (acked_goes e used (later_used e p s fits near is_syn_acked)))
+    let used : Tcb = with_ack_used e p in
+    goes_if (is_ahead e.sending.sent (ack_at e p)) e _ _ (owes e e true (stays e s)) (text_goes e (with_fin_acked used) p (acked_goes e used (ack_goes e p s fits near is_syn_acked)))
 
 refuses : (e : Tcb) (p : Segment) → IsSoundTcp e → GoesOnFrom e (refusing e p)
 unfolding refusing

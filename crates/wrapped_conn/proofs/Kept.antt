@@ -7,12 +7,14 @@ use Rattle.seq_arith.specs.Number.{offset_of}
 use Rattle.seq_arith.specs.Arrival.{is_new_ack}
 use Rattle.seq_arith.specs.Coming.{Came, StandsBehind}
 use Rattle.seq_arith.proofs.Coming.{stays_behind, comes_within}
+use Rattle.seq_arith.specs.Congestion.{Congestion, with_new_data, IsOpen}
+use Rattle.seq_arith.proofs.Congested.{new_data_open, duplicate_open}
 use Rattle.tcp_buffers.specs.Near.{IsNearFirst}
 use Rattle.tcp_endpoint.specs.declared.states.StateName.{StateName}
 use Rattle.tcp_endpoint.specs.declared.states.StateName.TheVariants.{Closed, Listen, SynSent, SynReceived, Established, FinWait1, FinWait2, CloseWait, Closing, LastAck, TimeWait}
 use Rattle.tcp_endpoint.specs.States.{is_listen, after_syn_acked, after_fin, after_fin_acked}
 use Rattle.tcp_endpoint.specs.Receiving.{Receiving, taken, receive_edge, came, with_came, with_segment}
-use Rattle.tcp_endpoint.specs.Sending.{Sending, with_syn_acked, acknowledged, moves_edge}
+use Rattle.tcp_endpoint.specs.Sending.{Sending, with_syn_acked, acknowledged, moves_edge, in_flight, duplicated}
 use Rattle.tcp_endpoint.specs.Tcb.{Tcb}
 use Rattle.endpoint_laws.specs.Laws.{Bounds}
 use Rattle.endpoint_laws.proofs.SendingLaw.{held_field}
@@ -119,7 +121,11 @@ takes_segment r first text fin =
           subst P same (stays_behind (taken r) (receive_edge r) r.fin r.early first text fin order h);
     }
 
--- a later acknowledgement
+-- a later acknowledgement leaves the congestion window open
+used_open : (new : Bool) (mss units : ℕ) (c : Congestion) → IsOpen mss c → IsOpen mss (if new then with_new_data mss units c else c)
+used_open true mss units c o = new_data_open mss units c o
+used_open false mss units c o = o
+
 pub later_bounds : (r : Receiving) (s : Sending) (seq window : ℕ) (z : ℤ) → Bounds r s → IsNearFirst (offset_of r.irs seq) → seq < 2 ^ 32 → window ≤ 65535 → s.syn_acked ≡ true
     → Bounds r (acknowledged s seq z window)
 unfolding acknowledged
@@ -144,7 +150,28 @@ later_bounds r s seq window z b near fits small is_syn_acked =
       wl2 = choice_within (nat_abs z) s.wl2 una (moves_edge s seq z) (λ h. (moved h).0) (omega (arith, b.wl2, not_less s.una s.sent z));
       edge = choice_within (nat_abs z + window) s.edge (2 ^ 24 + 2 ^ 16 + 1) (moves_edge s seq z) (λ h. grind (arith, moved h, b.sent)) b.edge;
       reach = choice_within (nat_abs z + window) s.edge (una + 65535) (moves_edge s seq z) (λ h. omega (arith, (moved h).0, small)) (omega (arith, b.reach, not_less s.una s.sent z));
+      congestion = used_open (is_new_ack s.una s.sent z) s.mss (nat_abs z - s.una) s.congestion b.congestion;
     }
+
+-- and so does a duplicate
+pub duplicated_bounds : (r : Receiving) (s : Sending) → Bounds r s → Bounds r (duplicated s)
+duplicated_bounds r s b = record {
+  limit = b.limit;
+  taken = b.taken;
+  early = b.early;
+  order = b.order;
+  syn_unacked = b.syn_unacked;
+  shut = b.shut;
+  flight = b.flight;
+  written = b.written;
+  sent = b.sent;
+  wl1 = b.wl1;
+  wl1_fits = b.wl1_fits;
+  wl2 = b.wl2;
+  edge = b.edge;
+  reach = b.reach;
+  congestion = duplicate_open s.mss (in_flight s) s.congestion b.congestion;
+}
 
 -- what is held, where no FIN is sent
 pub held_stays : (s : Sending) (seq window : ℕ) (z : ℤ) → s.una ≤ s.sent → s.sent ≤ s.una + length s.held
@@ -178,4 +205,5 @@ first_bounds r s seq window b near fits small syn_unacked =
       wl2 = omega arith;
       edge = omega (arith, small);
       reach = omega (arith, small);
+      congestion = b.congestion;
     }

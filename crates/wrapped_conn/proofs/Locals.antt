@@ -4,9 +4,10 @@ use Rattle.std.specs.Prelude.{if◌then◌else◌, ◌&&◌, not, pos}
 use Rattle.ft_io.specs.declared.Addr.{Addr}
 use Rattle.seq_arith.specs.Arrival.{int_eq}
 use Rattle.seq_arith.specs.Packet.{Segment, has_rst, has_syn, has_ack, has_fin}
+use Rattle.tcp_buffers.specs.Near.{is_ahead}
 use Rattle.tcp_endpoint.specs.declared.states.StateName.{StateName}
 use Rattle.tcp_endpoint.specs.declared.states.StateName.TheVariants.{Closed, Listen, SynSent, SynReceived, Established, FinWait1, FinWait2, CloseWait, Closing, LastAck, TimeWait}
-use Rattle.tcp_endpoint.specs.Arrival.{received, received_in, in_closed, in_listen, in_syn_sent, in_others, refusing, refusing_without_ack, begun, answered, with_text_and_fin, with_fin_acked, with_first_ack, with_ack, check_ack, check_syn, check_rst, check_place, waiting_again, first, ack_at}
+use Rattle.tcp_endpoint.specs.Arrival.{received, received_in, in_closed, in_listen, in_syn_sent, in_others, refusing, refusing_without_ack, begun, answered, with_text_and_fin, with_fin_acked, with_first_ack, with_ack_used, with_ack, check_ack, check_syn, check_rst, check_place, waiting_again, first, ack_at}
 use Rattle.tcp_endpoint.specs.Receiving.{next, with_segment}
 use Rattle.tcp_endpoint.specs.Sending.{fin_acked}
 use Rattle.tcp_endpoint.specs.Leaving.{flushed, with_turn_ended, announced, after_full, with_fin_out, with_text_sent, with_probe}
@@ -46,8 +47,8 @@ unfolding with_first_ack refusing
 first_ack_local e p = either (int_eq (ack_at e p) (pos 0)) _ _ e.local (text_local _ p) refl
 
 ack_local : (e : Tcb) (p : Segment) → (with_ack e p).local ≡ e.local
-unfolding with_ack
-ack_local e p = either _ _ _ e.local refl (text_local _ p ∙ fin_local _)
+unfolding with_ack with_ack_used
+ack_local e p = either (is_ahead e.sending.sent (ack_at e p)) _ _ e.local refl (text_local (with_fin_acked (with_ack_used e p)) p ∙ fin_local (with_ack_used e p))
 
 check_ack_local : (e : Tcb) (p : Segment) → (check_ack e p).local ≡ e.local
 unfolding check_ack

@@ -246,6 +246,7 @@ close_bounds e b = record {
   wl2 = b.wl2;
   edge = b.edge;
   reach = b.reach;
+  congestion = b.congestion;
 }
 
 shut_on : {S : Type 0} (fetched : ℕ) (n : NorthState S) (e : Tcb) → AreSound fetched n e → ServedOn fetched n e (shut_north n) (shut_socket tcp_writer n e)

@@ -1,4 +1,4 @@
--- What news make of a connection, before its user's turn.
+-- What news does to a connection, before its user's turn.
 use Rattle.std.specs.Prelude.{Bool, ◌&&◌, not, if◌then◌else◌}
 use Rattle.seq_arith.specs.Packet.{Segment, has_rst}
 use Rattle.south_wrap.specs.Patching.{repeats_syn, inward}
@@ -7,7 +7,7 @@ use Rattle.wrapped_conn.specs.declared.stage.Before.{Before}
 use Rattle.wrapped_conn.specs.ConnState.{ConnState}
 use Rattle.wrapped_conn.specs.Numbers.{has_fin, is_over, bytes_taken, una_units, announced, owes}
 
--- what is known before a segment's turn: a connection that was over answers each but a RST
+-- what is known before a segment's turn: a connection that was over answers every segment except a RST
 abbrev pub before_segment : {S : Type 0} → ConnState S → Segment → Before
 before_segment c segment = record {
   taken = bytes_taken c;
@@ -18,7 +18,7 @@ before_segment c segment = record {
   owes = owes c segment;
 }
 
--- before a turn without a segment, in which the connection owes an answer or not
+-- what is known before a turn without a segment. `asks` says whether the connection owes an answer
 abbrev pub before_other : {S : Type 0} → Bool → ConnState S → Before
 before_other asks c = record { taken = bytes_taken c; fin = has_fin c.endpoint.name; una = una_units c; edge = announced c; asks = asks; owes = Bool.false }
 
@@ -26,7 +26,7 @@ before_other asks c = record { taken = bytes_taken c; fin = has_fin c.endpoint.n
 abbrev pub noted : {S : Type 0} → ConnState S → ConnState S
 noted c = record c { south = record c.south { taken = bytes_taken c; fin = has_fin c.endpoint.name; una = una_units c } }
 
--- a segment comes to TCP as the south wrapper passes it. The client's SYN again doesn't
+-- a segment reaches TCP as the south wrapper passes it, unless it repeats the client's SYN
 abbrev pub reached : {S : Type 0} → Segment → ConnState S → ConnState S
 reached segment c = if repeats_syn c.south segment then c else record c { endpoint = received c.endpoint (inward c.south segment) }
 

@@ -13,7 +13,7 @@ use Rattle.wrapped_conn.specs.declared.stage.ConnStage.TheVariants.{Live}
 use Rattle.wrapped_conn.specs.ConnState.{ConnState}
 use Rattle.wrapped_conn.specs.Numbers.{has_fin}
 
--- three parts that stand at one point: of what is logged there a FIN is one unit, and the rest was fetched
+-- three parts that are at one point: of what is logged there a FIN is one unit, and the rest was fetched
 abbrev pub joined_conn : {S : Type 0} → (boot : ℕ) → Key → Addr → SouthState → Tcb → NorthState S → ConnState S
 joined_conn boot key local south endpoint north = record {
   boot = boot;
@@ -35,7 +35,7 @@ syn key local cisn mss = record {
   payload = [];
 }
 
--- a new connection: its SYN has come to a fresh TCP
+-- a new connection: a fresh TCP has received its SYN
 unfoldable pub first_conn : {S : Type 0} → (boot : ℕ) → Key → Addr → (cisn sisn mss : ℕ) → S → ConnState S
 first_conn boot key local cisn sisn mss service =
     joined_conn boot key local (first_south cisn sisn) (received (listening local sisn (2 ^ 24)) (syn key local cisn mss)) (fresh_north service)

@@ -1,4 +1,4 @@
--- The calls that a turn of the north wrapper makes of TCP.
+-- The calls of TCP that a turn of the north wrapper makes.
 use Rattle.std.specs.Prelude.{ℕ, List, [], ◌∷◌, length, if◌then◌else◌}
 use Rattle.north_wrap.specs.RunState.{gives}
 use Rattle.north_wrap.specs.NorthState.{NorthState, unreleased, closes, given_north}
@@ -13,7 +13,7 @@ abbrev pub reads_of : List ℕ → List Call
 reads_of [] = []
 reads_of (k ∷ ks) = Reads k ∷ reads_of ks
 
--- output is written, TCP is closed where all is written, and these reads are made, but for those of the fetched rest and that of length 0
+-- output is written, TCP is closed where all is written, and these reads are made, except those of the fetched rest and that of length 0
 abbrev pub calls_of : {S : Type 0} → NorthState S → Tcb → List ℕ → List Call
 calls_of n e lengths =
     let reads : List Call = reads_of (off_socket (length n.rest) lengths)

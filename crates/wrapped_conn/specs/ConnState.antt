@@ -1,4 +1,4 @@
--- A wrapped connection: what its parts are.
+-- A wrapped connection: its parts.
 use Rattle.std.specs.Prelude.{ℕ, Bool}
 use Rattle.ft_io.specs.declared.Addr.{Addr}
 use Rattle.ft_io.specs.declared.Key.{Key}

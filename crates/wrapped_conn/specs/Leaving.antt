@@ -1,4 +1,4 @@
--- The segments that leave in a turn: those of TCP, each through the south wrapper, and those that the connection owes besides.
+-- The segments that a turn sends: TCP's, each through the south wrapper, and those that the connection owes in addition.
 use Rattle.std.specs.Prelude.{ℕ, Bool, ◌==◌, ◌&&◌, ◌||◌, not, Option, Some, None, List, [], ◌∷◌, ◌++◌, map, if◌then◌else◌}
 use Rattle.std.specs.List.{list_any}
 use Rattle.seq_arith.specs.Number.{number_at}
@@ -11,7 +11,7 @@ use Rattle.wrapped_conn.specs.declared.stage.Before.{Before}
 use Rattle.wrapped_conn.specs.ConnState.{ConnState}
 use Rattle.wrapped_conn.specs.Numbers.{announced, outer_sent, sent_units}
 
--- what TCP sends goes to the client. A RST, which goes out alone, doesn't
+-- what TCP sends is passed to the client. A RST, which is sent alone, isn't
 abbrev pub passed : SouthState → List Segment → List Segment
 passed s segments = if list_any has_rst segments then [] else map (outward s) segments
 
@@ -22,7 +22,7 @@ with_endpoint_flushed c = record c { endpoint = flushed c.endpoint }
 abbrev pub turn_ended : {S : Type 0} → ConnState S → ConnState S
 turn_ended c = record (with_endpoint_flushed c) { south = record c.south { sent = sent_units (with_endpoint_flushed c) } }
 
--- a segment of the connection itself acknowledges what may be acknowledged, with the window behind that
+-- a segment of the connection's own acknowledges what may be acknowledged, and its window begins there
 abbrev pub own_segment : {S : Type 0} → ConnState S → (seq flags : ℕ) → (mss : Option ℕ) → Segment
 own_segment c seq flags mss = record {
   head = record {
@@ -39,19 +39,19 @@ own_segment c seq flags mss = record {
   payload = [];
 }
 
--- the SYN-ACK with the logged numbers, and a segment without data, which stands behind all that is sent
+-- the SYN-ACK with the logged numbers, and a segment without data, which comes after all that is sent
 unfoldable pub syn_ack : {S : Type 0} → ConnState S → Segment
 syn_ack c = own_segment c c.south.sisn 18 (Some 1460)
 
 unfoldable pub bare : {S : Type 0} → ConnState S → Segment
 bare c = own_segment c (outer_sent c) 16 None
 
--- a segment without data is owed that TCP doesn't send: it doesn't know that more is answered, or that the connection was over or has become live;
--- and a TCP that is CLOSED sends none
+-- a segment without data is owed that TCP doesn't send: TCP doesn't know that more is answered, or that the connection was over or has become live; and a TCP
+-- that is CLOSED sends none
 abbrev pub is_owed : {S : Type 0} → Before → ConnState S → Bool
 is_owed before c = before.asks || (is_closed c.endpoint.name && (before.owes || not (before.edge == announced c)))
 
--- all that leaves, where TCP sends these segments
+-- all segments that a turn sends, where TCP sends these
 abbrev pub leaves : {S : Type 0} → Before → (repeats : Bool) → ConnState S → List Segment → List Segment
 leaves before repeats c segments =
     or_bare (is_owed before c) (bare c) (passed c.south segments ++ (if repeats then syn_ack c ∷ [] else []))

@@ -1,5 +1,5 @@
--- Where a connection stands in its two streams, as its parts tell it (RFC 9293, 3.3.1, and FT-TCP, INFOCOM 2001: the inner TCP's numbers are
--- delta below the client's).
+-- The offsets of a connection in its two streams, as its parts show them (RFC 9293, 3.3.1, and FT-TCP, INFOCOM 2001: the inner TCP's numbers are delta below
+-- the client's).
 use Rattle.std.specs.Prelude.{ℕ, Bool, true, false, pos, ◌+◌, ◌-◌, ◌%◌, ◌^◌, ◌&&◌, ◌||◌, not, nat_lt, int_lt, min, max, length, if◌then◌else◌}
 use Rattle.seq_arith.specs.Arrival.{int_eq, is_acceptable_or_at_edge}
 use Rattle.seq_arith.specs.Number.{number_at, distance, offset_of}
@@ -21,7 +21,7 @@ has_fin TimeWait = true
 has_fin Closed = true
 has_fin name = false
 
--- .. and those in which its own FIN is acknowledged besides
+-- .. and those in which its own FIN is acknowledged as well
 abbrev pub is_over : StateName → Bool
 is_over TimeWait = true
 is_over Closed = true
@@ -37,15 +37,15 @@ bytes_taken c = fetched_or_read c + length c.endpoint.receiving.unread
 abbrev pub units_taken : {S : Type 0} → ConnState S → ℕ
 units_taken c = bytes_taken c + one_if (has_fin c.endpoint.name)
 
--- the receive edge that TCP announces
+-- the receive edge that TCP advertises
 abbrev pub announced : {S : Type 0} → ConnState S → ℕ
 announced c = min (fetched_or_read c + 65535) (2 ^ 24) + one_if (has_fin c.endpoint.name)
 
--- the units of output that the client has acknowledged, none before the SYN is; a stream has at most 2^24 bytes and a FIN
+-- the units of output that the client has acknowledged, 0 until the SYN is; a stream has at most 2^24 bytes and a FIN
 abbrev pub una_units : {S : Type 0} → ConnState S → ℕ
 una_units c = min (from_start (offset_of c.south.sisn (raised c.south (acked_number c.endpoint)))) (2 ^ 24 + 1)
 
--- the number behind what TCP has sent, as the client knows it, and the units that are sent
+-- the number after what TCP has sent, as the client knows it, and the units that are sent
 abbrev pub outer_sent : {S : Type 0} → ConnState S → ℕ
 outer_sent c = raised c.south (sent_number c.endpoint)
 
@@ -64,13 +64,12 @@ resets c segment = has_rst segment && int_eq (first_of c.south.cisn segment) (po
 abbrev pub accepts : {S : Type 0} → ConnState S → Segment → Bool
 accepts c segment = is_acceptable_or_at_edge (units_taken c) (announced c - units_taken c) (first_of c.south.cisn segment) (length_of segment)
 
--- an answer is owed to an acceptable segment: a challenge ACK to a RST elsewhere than at the next number and to a SYN, and an ACK to what takes
--- up numbers ..
+-- an answer is owed to an acceptable segment: a challenge ACK to a SYN and to a RST that isn't at the next number, and an ACK to a segment with a length ..
 abbrev pub owes_acceptable : {S : Type 0} → ConnState S → Segment → Bool
 owes_acceptable c segment =
     if has_rst segment then not (int_eq (first_of c.south.cisn segment) (pos (units_taken c)))
     else (has_syn segment || nat_lt 0 (length_of segment))
 
--- .. and to each other one, unless it has RST
+-- .. and to every other one, unless it has RST
 unfoldable pub owes : {S : Type 0} → ConnState S → Segment → Bool
 owes c segment = if accepts c segment then owes_acceptable c segment else not (has_rst segment)

@@ -1,4 +1,4 @@
--- What stays true of a connection from its beginning on, whatever comes.
+-- The invariant of a connection from its beginning on, whatever arrives.
 use Rattle.std.specs.Prelude.{◌≡◌, ℕ, Bool, true, false, ◌+◌, ◌≤◌, ◌<◌, ◌%◌, ◌^◌, max, length}
 use Rattle.seq_arith.specs.Number.{distance}
 use Rattle.seq_arith.specs.Offset.{one_if}
@@ -11,21 +11,21 @@ use Rattle.wrapped_conn.specs.ConnState.{ConnState}
 use Rattle.wrapped_conn.specs.Numbers.{bytes_taken}
 use Rattle.wrapped_conn.specs.Telling.{AreTellable}
 
--- the states of an endpoint that a SYN has come to
+-- the states of an endpoint that has received a SYN
 abbrev pub has_peer : StateName → Bool
 has_peer Listen = false
 has_peer SynSent = false
 has_peer name = true
 
--- of TCP
+-- TCP's part of it
 pub record IsSoundTcp (e : Tcb) : Type 0 where
   pub bounds : IsBounded e
   pub buffered : length e.receiving.unread ≤ 65535
   pub begun : has_peer e.name ≡ true
   pub fin_last : e.sending.fin_sent ≡ true → e.sending.closed ≡ true
 
--- of the north wrapper beside it, where so many bytes were fetched: what is read is what TCP has given and what was fetched, and all output
--- that isn't given has room in the stream
+-- the part of the north wrapper and TCP, where `fetched` bytes were fetched: what is read is what TCP has given and what was fetched, and all output that isn't
+-- given has room in the stream
 pub record AreSound {S : Type 0} (fetched : ℕ) (n : NorthState S) (e : Tcb) : Type 0 where
   pub tcp : IsSoundTcp e
   pub limit : e.receiving.limit + fetched ≤ 2 ^ 24

@@ -1,4 +1,4 @@
--- Where a connection stands, by its point: its parts, its numbers, and what a turn of it leads to.
+-- What it means that a connection is at a point: its parts, its numbers, and what a turn of it leads to.
 use Rattle.std.specs.Prelude.{◌≡◌, ◌≤◌, ℕ, true, false, List, ◌++◌, length, map}
 use Rattle.std.specs.Bool.{MatchBool}
 use Rattle.ft_io.specs.declared.Addr.{Addr}
@@ -19,7 +19,7 @@ use Rattle.wrapped_conn.specs.ConnState.{ConnState}
 use Rattle.wrapped_conn.specs.Numbers.{units_taken, una_units, sent_units, logged_units}
 use Rattle.wrapped_conn.specs.Telling.{is_done}
 
--- what a connection keeps beside TCP and north wrapper. The logger hasn't answered that it has ended
+-- what a connection stores besides TCP and the north wrapper. The logger hasn't answered that it has ended
 pub record Keeps {S : Type 0} (p : Point) (c : ConnState S) : Type 0 where
   pub key : c.key ≡ p.key
   pub south : c.south ≡ south_at c.south.delta p
@@ -37,13 +37,13 @@ pub record StandsLive {S : Type 0} (service : Machine S) (p : Point) (c : ConnSt
   pub parts : PartsRest service u i c.south.delta given p c.north c.endpoint
   pub local : c.endpoint.local ≡ c.local
 
--- the numbers of the point that its TCP tells ..
+-- the numbers of the point that its TCP shows ..
 pub record TcpTells {S : Type 0} (p : Point) (c : ConnState S) : Type 0 where
   pub taken : units_taken c ≡ taken_units p
   pub una : una_units c ≡ p.una
   pub sent : sent_units c ≡ p.sent
 
--- .. and all that can be looked at
+-- .. and all that can be read from outside
 pub record Tells {S : Type 0} (p : Point) (c : ConnState S) : Type 0 where
   pub tcp : TcpTells p c
   pub answered : logged_units c ≡ p.answered
@@ -79,7 +79,7 @@ pub record IsSpelled (sent : List Packet) (segments messages : List (List ℕ)) 
   pub segments_are : segments ≡ map packet.spelling to_client
   pub messages_are : messages ≡ map message.spelling to_logger
 
--- a turn leads by the laws to a point after it, at which the connection stands again, and what leaves is what the laws say
+-- a turn leads by the laws to a point after it, the connection is then at that point, and what is sent is what the laws say
 pub record Leads {S : Type 0} (service : Machine S) (server : Addr) (boot : ℕ) (news : News) (before : Point) (new : ConnState S) (segments messages : List (List ℕ)) : Type 0 where
   pub after : Point
   pub sent : List Packet

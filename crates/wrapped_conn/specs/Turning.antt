@@ -1,4 +1,4 @@
--- The turns of a connection, over its three parts: what its TCP makes of what comes and of its user's calls, and what leaves then.
+-- The turns of a connection, over its three parts: what its TCP does with what arrives and with its user's calls, and what is sent then.
 use Rattle.std.specs.Prelude.{◌≡◌, ℕ, Bool, true, false, ◌+◌, ◌==◌, ◌&&◌, List, [], ◌++◌, length, drop, nat_lt, nat_le, if◌then◌else◌}
 use Rattle.std.specs.Bool.{MatchBool}
 use Rattle.seq_arith.specs.Offset.{one_if}
@@ -35,24 +35,24 @@ tcp_used c reads = used (calls_of c.north c.endpoint (lengths_of reads)) c.endpo
 abbrev pub served : {S : Type 0} → NorthState S → List ReadRecord → ConnState S → ConnState S
 served north reads c = record c { north = north; endpoint = tcp_used c reads; south = record c.south { read = north.read } }
 
--- the reads that a turn made are those behind the ones of before that weren't known to be logged
+-- the reads that a turn made: those after the earlier ones that weren't known to be logged
 abbrev pub new_reads : {S : Type 0} → (old new : ConnState S) → List ReadRecord
 new_reads old new = drop (length old.north.reads) new.north.reads
 
--- a turn from where its news have arrived: the north wrapper's turn, the end of TCP's, and what leaves
+-- the rest of a turn, once its news has arrived: the north wrapper's turn, the end of TCP's, and what is sent
 pub record GoesOn {S : Type 0} (after : S → List ℕ → Served S) (before : Before) (repeats : Bool) (copied : List Body) (old new : ConnState S) (segments messages : List (List ℕ)) : Type 0 where
   pub north : Turns after tcp_reader tcp_writer (una_units old) old.north old.endpoint (new_reads old new) new.north (tcp_used old (new_reads old new))
   pub state : new ≡ turn_ended (served new.north (new_reads old new) old)
   pub goes_out : segments ≡ packets (leaves before repeats new (leaving (tcp_used old (new_reads old new))))
   pub told : messages ≡ spelled old.boot (copied ++ messages_of old.key (new_reads old new))
 
--- a connection that is as before, of which nothing leaves
+-- a connection that stays as it was and sends nothing
 pub record Rests {S : Type 0} (old new : ConnState S) (segments messages : List (List ℕ)) : Type 0 where
   pub state : new ≡ old
   pub goes_out : segments ≡ []
   pub told : messages ≡ []
 
--- one that has ended tells that, and nothing else
+-- one that has ended reports that, and nothing else
 pub record TellsDone {S : Type 0} (old new : ConnState S) (segments messages : List (List ℕ)) : Type 0 where
   pub state : new ≡ with_done old
   pub goes_out : segments ≡ []
@@ -62,14 +62,14 @@ pub record TellsDone {S : Type 0} (old new : ConnState S) (segments messages : L
 abbrev pub Starts : {S : Type 0} → (S → List ℕ → Served S) → (old new : ConnState S) → (segments messages : List (List ℕ)) → Type 0
 Starts after old new segments messages = GoesOn after (before_other true old) false [] old new segments messages
 
--- a segment comes
+-- a segment arrives
 abbrev pub Receives : {S : Type 0} → (S → List ℕ → Served S) → Segment → (old new : ConnState S) → (segments messages : List (List ℕ)) → Type 0
 Receives after segment old new segments messages =
     MatchBool old.reset (Rests old new segments messages)
     (MatchBool (resets old segment) (TellsDone (record old { reset = true }) new segments messages)
     (GoesOn after (before_segment old segment) (repeats_syn old.south segment) (copies (before_segment old segment) segment (arrived segment old)) (arrived segment old) new segments messages))
 
--- so much is answered
+-- the logger has answered that it has this much of the connection
 abbrev pub heard : {S : Type 0} → (length : ℕ) → (fin : Bool) → (reads : ℕ) → ConnState S → ConnState S
 heard length fin reads c = record c { south = with_stable (length + one_if fin) c.south; north = answered_on reads c.north }
 
@@ -81,7 +81,7 @@ Hears after length fin reads old new segments messages =
     MatchBool old.reset (Rests (heard length fin reads old) new segments messages)
     (GoesOn after (before_other (is_news length fin old) (heard length fin reads old)) false [] (heard length fin reads old) new segments messages)
 
--- a message comes
+-- a message arrives
 abbrev pub IsTold : {S : Type 0} → (S → List ℕ → Served S) → Said → (old new : ConnState S) → (segments messages : List (List ℕ)) → Type 0
 IsTold after (StableMsg key length fin reads) old new segments messages = Hears after length (is_set fin) reads old new segments messages
 IsTold after (ReadsMsg key length fin reads) old new segments messages = Hears after length (is_set fin) reads old new segments messages
@@ -99,7 +99,7 @@ is_end_tick c = is_over c.endpoint.name && nat_le (units_taken c) (logged_units 
 abbrev pub counted : {S : Type 0} → ConnState S → ConnState S
 counted c = record c { end_ticks = if is_end_tick c && nat_lt c.end_ticks 4 then c.end_ticks + 1 else c.end_ticks }
 
--- a connection that isn't reset tells all reads again that aren't known to be logged, and at the fourth end tick, and from then on, that it has
+-- a connection that isn't reset sends all reads again that aren't known to be logged, and at the fourth end tick, and from then on, it reports that it has
 -- ended
 pub record TicksLive {S : Type 0} (old new : ConnState S) (segments messages : List (List ℕ)) : Type 0 where
   pub state : new ≡ (if (counted (ticked old)).end_ticks == 4 then with_done (counted (ticked old)) else counted (ticked old))

@@ -18,7 +18,7 @@ use std::alloc::Global;
 use std::marker::Model;
 use tcp_endpoint::{Endpoint, StateName};
 
-/// The bytes of a stream.
+/// The most bytes of a stream.
 pub(crate) const STREAM: u32 = 16_777_216;
 
 /// One wrapped connection with the client `key` at the server's address `local`.
@@ -66,8 +66,8 @@ impl<S: Service> Model for Conn<S> {
 }
 
 impl<S: Service> Conn<S> {
-    /// A connection that this incarnation opens: its client's SYN has come to a fresh TCP, whose SYN-ACK `start` sends. `mss` is the segment
-    /// size, 64 to 1,460 bytes, and `kind` that of the service.
+    /// A connection that this incarnation opens: a fresh TCP has received its client's SYN, and `start` sends TCP's SYN-ACK. `mss` is the segment size, 64 to
+    /// 1,460 bytes, and `kind` that of the service.
     pub fn first(
         alloc: Global,
         boot: u64,
@@ -95,7 +95,7 @@ impl<S: Service> Conn<S> {
         Ok(Conn::joined(boot, key, local, south, endpoint, north))
     }
 
-    /// A connection whose three parts stand at one point, as at the end of a restart.
+    /// A connection whose three parts are at one point, as at the end of a restart.
     pub fn joined(
         boot: u64,
         key: Key,
@@ -150,7 +150,7 @@ impl<S: Service> Conn<S> {
     }
 }
 
-/// What a proof may know of a number: it fits its type.
+/// A fact for proofs: a number fits its type.
 fn fit(number: Seq)
     ensures { number.0 < 2 ^ 32 }
 {

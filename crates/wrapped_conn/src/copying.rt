@@ -1,4 +1,4 @@
-//! What of the client's stream a connection tells the logger as a segment arrives.
+//! What part of the client's stream a connection sends to the logger when a segment arrives.
 
 ghost use Rattle.std.specs.Prelude.{◌≡◌, ◌≤◌, ◌+◌, ◌-◌, ◌*◌, ◌^◌, ◌∷◌, ◌++◌, [], true, Bool, List, min, length, take, drop, IsOk, IfOk};
 ghost use Rattle.seq_arith.specs.PacketGrammar.{reading};
@@ -21,8 +21,8 @@ use tcp_endpoint::Outbox;
 const DATA: u32 = 1_460;
 
 impl<S: Service> Conn<S> {
-    /// The copied part of a segment, and behind it the text and the FIN that were held and are taken now. Where that is nothing, that the
-    /// client has acknowledged more.
+    /// Sends the copied part of a segment, and after it the text and the FIN that were held and are taken now. Where there is nothing of these, it reports that
+    /// the client has acknowledged more, if that is so.
     pub(crate) fn tell_copy(&self, packet: &[u8], before: Before, out: &mut Outbox)
         requires sound { IsSound self.now }
         requires accepted { IsOk (reading packet.now) }
@@ -39,7 +39,7 @@ impl<S: Service> Conn<S> {
         self.tell_una(before.una, out);
     }
 
-    /// The copied part of a segment. Whether the client's FIN goes with it.
+    /// Sends the copied part of a segment, and returns whether that includes the client's FIN.
     fn tell_own(&self, packet: &[u8], out: &mut Outbox) -> bool
         requires sound { IsSound self.now }
         requires accepted { IsOk (reading packet.now) }
@@ -77,7 +77,7 @@ impl<S: Service> Conn<S> {
         self.has_fin() && !before.fin && !own && self.logged() <= self.taken()
     }
 
-    /// The unread text from this offset on, in Data of 1,460 bytes each but the last, which has the FIN.
+    /// Sends the unread text from this offset on, in Data of 1,460 bytes each except the last, which has the FIN.
     fn tell_further(&self, start: u32, fin: bool, out: &mut Outbox)
         requires sound { IsSound self.now }
         requires start { fin ≡ true → start ≤ 2 ^ 24 }
@@ -95,7 +95,7 @@ impl<S: Service> Conn<S> {
         }
     }
 
-    /// Of the `count` unread bytes from place `from` on all but the last 1,460 at most, in Data of 1,460 bytes. How many these have.
+    /// Sends the `count` unread bytes from place `from` on, except the last 1,460 at most, in Data of 1,460 bytes. Returns how many bytes these have.
     fn tell_full(&self, start: u32, from: u32, count: u32, out: &mut Outbox) -> u32
         requires sound { IsSound self.now }
         requires start { start ≤ fetched_or_read self.now + from }
@@ -117,7 +117,7 @@ impl<S: Service> Conn<S> {
         told
     }
 
-    /// The unread text from a place on as one Data, at most 1,460 bytes of it.
+    /// Sends the unread text from a place on as one Data, at most 1,460 bytes of it.
     fn tell_piece(&self, offset: u32, from: u32, fin: bool, out: &mut Outbox)
         requires boot { 1 ≤ self.now.boot }
         requires within { offset + min (length self.now.endpoint.receiving.unread - from) 1460 ≤ 2 ^ 24 }
@@ -138,7 +138,7 @@ impl<S: Service> Conn<S> {
         self.tell_data(offset, self.una(), fin, &bytes[..count], out);
     }
 
-    /// Where no Data has gone out, that the client has acknowledged more.
+    /// Where no Data has been sent, reports that the client has acknowledged more, if that is so.
     fn tell_una(&self, una_before: u32, out: &mut Outbox)
         requires sound { IsSound self.now }
         requires few { length out.old ≤ 46 }
@@ -153,7 +153,7 @@ impl<S: Service> Conn<S> {
         }
     }
 
-    /// The client's bytes that are known to be logged.
+    /// How many bytes of the client are known to be logged.
     fn logged_bytes(&self) -> u32
         requires { IsSound self.now }
         ensures value { result ≡ min (logged_units self.now) (bytes_taken self.now) }

@@ -1,4 +1,4 @@
-//! The numbers of a connection, to be looked at from outside.
+//! The numbers of a connection, as they can be read from outside.
 
 ghost use Rattle.std.specs.Prelude.{◌≡◌};
 ghost use Rattle.wrapped_conn.specs.Numbers.{units_taken, una_units, sent_units, logged_units};
@@ -27,7 +27,7 @@ pub struct Inside {
 }
 
 impl<S: Service> Conn<S> {
-    /// Its numbers, by what its parts tell.
+    /// Its numbers, as its parts show them.
     pub fn inside(&self) -> Inside
         requires { IsSound self.now }
         ensures delta { result.delta ≡ self.now.south.delta }

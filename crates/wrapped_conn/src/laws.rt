@@ -1,4 +1,4 @@
-//! What a turn of a connection is: a lawful one of the server's model, with the packets that the model says, byte for byte.
+//! A turn of a connection is a lawful turn of the server's model, with the packets that the model says, byte for byte.
 
 ghost use Rattle.std.specs.Prelude.{◌≡◌, ℕ, List, length};
 ghost use Rattle.ft_io.specs.declared.Addr.{Addr};
@@ -27,7 +27,7 @@ ghost use Rattle.wrapped_conn.specs.Turning.{Starts, Receives, IsTold, Ticks as 
 
 use server_trait::Service;
 
-/// Three parts with which a restart goes on from an entry of the log stand at the point of that entry.
+/// Three parts with which a restart continues from an entry of the log are at the point of that entry.
 pub fn joined_connections_stand_at_the_entry<S: Service>()
     ensures { (fresh : S) (boot : ℕ) (local : Addr) (e : Entry) (i : ℕ) (n : NorthState S) → GoesOnFrom (machine fresh S.after) e i
         → HasReplayed (machine fresh S.after) (point_of (machine fresh S.after) e) (resumed_at (machine fresh S.after) e) n
@@ -36,8 +36,8 @@ pub fn joined_connections_stand_at_the_entry<S: Service>()
         (spliced e.key local e.cisn (length e.bytes) e.mss i e.fin) n) (point_of (machine fresh S.after) e) }
 {}
 
-/// The turn in which a connection becomes live: a new one from the point that its client's SYN opens, and one at the end of a restart from where its
-/// parts stand.
+/// The turn in which a connection becomes live: a new one from the point that its client's SYN opens, and one at the end of a restart from the point at which
+/// its parts are.
 pub fn connections_start_as_the_law_says<S: Service>()
     ensures new { (fresh : S) (boot : ℕ) (local : Addr) (numbers : Numbers) (new : ConnState S) (segments messages : List (List ℕ)) → MayOpen numbers
         → IsSound new
@@ -48,7 +48,7 @@ pub fn connections_start_as_the_law_says<S: Service>()
         → Starts S.after old new segments messages → Leads (machine fresh S.after) old.local old.boot Begins p new segments messages }
 {}
 
-/// A segment's turn, also of one that resets the connection, and of one that comes after that.
+/// A segment's turn, also that of one that resets the connection, and of one that arrives after that.
 pub fn connections_receive_as_the_law_says<S: Service>()
     ensures { (fresh : S) (p : Point) (segment : Segment) (old new : ConnState S) (segments messages : List (List ℕ)) → IsSound old → IsSound new
         → Stands (machine fresh S.after) old p
@@ -84,7 +84,7 @@ pub fn connections_tick_as_the_law_says<S: Service>()
         → TicksOn old new segments messages → Leads (machine fresh S.after) old.local old.boot Ticks p new segments messages }
 {}
 
-/// Between two turns what `inside` lends are the point's numbers, also of a connection that its client has reset.
+/// Between two turns what `inside` returns are the point's numbers, also for a connection that its client has reset.
 pub fn connections_tell_their_point<S: Service>()
     ensures { (fresh : S) (p : Point) (c : ConnState S) → IsSound c → Stands (machine fresh S.after) c p → Tells p c }
 {}

@@ -1,4 +1,4 @@
-//! The segments that leave in a turn: those of TCP, each through the south wrapper, and those that the connection owes besides.
+//! The segments that a turn sends: TCP's, each through the south wrapper, and those that the connection owes in addition.
 
 ghost use Rattle.std.specs.Prelude.{◌≡◌, ◌≤◌, ◌<◌, ◌+◌, ◌==◌, ◌∷◌, ◌++◌, [], Some, None, List, Option, ℕ, length, IsOk, slice_get, if◌then◌else◌};
 ghost use Rattle.std.specs.List.{AllByRecursion};
@@ -44,7 +44,7 @@ impl<S: Service> Conn<S> {
         pass_outward(&mut self.south, out);
     }
 
-    /// The head of a segment that the connection sends itself.
+    /// The header of a segment of the connection's own.
     fn head(&self, seq: Seq, flags: u8, mss: Option<u16>) -> Head
         ensures head { record { head = said result; payload = [] } ≡ own_segment self.now seq.0 flags mss }
         ensures size { result.mss ≡ mss }
@@ -63,7 +63,7 @@ impl<S: Service> Conn<S> {
         }
     }
 
-    /// The SYN-ACK with the logged numbers, where the client's SYN has come again.
+    /// Sends the SYN-ACK with the logged numbers, where the client has repeated its SYN.
     #[tactic(auto, unfolding(crate::specs::Leaving::syn_ack))]
     pub(crate) fn send_syn_ack(&self, repeats: bool, out: &mut Outbox)
         requires count { length out.old ≤ 1030 }
@@ -79,7 +79,7 @@ impl<S: Service> Conn<S> {
         out.push(&packet);
     }
 
-    /// A segment without data, where one is owed and no other segment goes out.
+    /// Sends a segment without data, where one is owed and no other segment is sent.
     #[tactic(auto, unfolding(crate::specs::Leaving::bare))]
     pub(crate) fn send_bare(&self, owed: bool, out: &mut Outbox)
         ensures { out.new ≡ or_bare owed (spelling (bare self.now)) out.old }
@@ -92,8 +92,8 @@ impl<S: Service> Conn<S> {
         out.push(&packet);
     }
 
-    /// Whether a segment without data is owed that its TCP doesn't send: it doesn't know that more is answered, or that the connection was over or
-    /// has become live; and a TCP that is CLOSED sends none.
+    /// Whether a segment without data is owed that its TCP doesn't send: TCP doesn't know that more is answered, or that the connection was over or has become
+    /// live; and a TCP that is CLOSED sends none.
     pub(crate) fn is_owed(&self, before: Before) -> bool
         requires { IsSound self.now }
         ensures { result ≡ is_owed before self.now }
@@ -102,7 +102,7 @@ impl<S: Service> Conn<S> {
     }
 }
 
-/// What TCP sends goes to the client. A RST, which goes out alone, doesn't.
+/// What TCP sends is passed to the client. A RST, which is sent alone, isn't.
 fn pass_outward(south: &mut South, out: &mut Outbox)
     requires { AllByRecursion (λ packet. IsOk (reading packet)) out.old }
     ensures south { south.new ≡ south.old }

@@ -1,4 +1,4 @@
-//! Where a connection stands in its two streams, as its parts tell it.
+//! The offsets of a connection in its two streams, as its parts show them.
 
 ghost use Rattle.std.specs.Prelude.{◌≡◌, ◌≤◌, ◌+◌, ◌-◌, ◌^◌, ◌%◌, pos, nat_abs, length, max, min};
 ghost use Rattle.seq_arith.specs.Arrival.{is_acceptable, is_acceptable_or_at_edge, is_at_right_edge, lies_in};
@@ -83,7 +83,7 @@ impl<S: Service> Conn<S> {
         self.taken() + u32::from(self.has_fin())
     }
 
-    /// The receive edge that TCP announces.
+    /// The receive edge that TCP advertises.
     #[tactic(auto, using(crate::proofs::Small::taken_small))]
     pub(crate) fn edge(&self) -> u32
         requires { IsSound self.now }
@@ -102,7 +102,7 @@ impl<S: Service> Conn<S> {
         units(offset(self.south.sisn(), outer))
     }
 
-    /// The number behind what TCP has sent, as the client knows it.
+    /// The number after what TCP has sent, as the client knows it.
     pub(crate) fn sent_number(&self) -> Seq
         ensures { result.0 ≡ outer_sent self.now }
     {
@@ -131,7 +131,7 @@ impl<S: Service> Conn<S> {
         offset(self.south.cisn(), head.seq)
     }
 
-    /// Where a segment's text ends in the client's stream, and 0 where that is before its first byte.
+    /// Where a segment's text ends in the client's stream; 0 where that is before its first byte.
     pub(crate) fn text_end(&self, segment: &PacketRef<'_>) -> u32
         requires { length segment.now.payload.now ≤ 1460 }
         ensures { result ≡ min (from_start (end_of (segment_of segment.now) self.now)) (2 ^ 24 + 1) }
@@ -179,7 +179,7 @@ fn offset(isn: Seq, number: Seq) -> i64
     number.signed_gap(isn.add(1))
 }
 
-/// An offset as units of a stream: none before its first byte.
+/// An offset as units of a stream; 0 before its first byte.
 fn units(offset: i64) -> u32
     requires { nat_abs offset ≤ 2 ^ 32 }
     ensures value { result ≡ min (from_start offset) (2 ^ 24 + 1) }
@@ -200,7 +200,7 @@ fn accepts(next: u32, room: u32, first: i64, len: u32) -> bool
     is_acceptable(next, room, first, len) || is_at_right_edge(next, room, first, len)
 }
 
-/// The four cases.
+/// TCP's four cases.
 fn is_acceptable(next: u32, room: u32, first: i64, len: u32) -> bool
     requires first { nat_abs first ≤ 2 ^ 31 }
     requires len { len ≤ 2 ^ 16 }
@@ -212,7 +212,7 @@ fn is_acceptable(next: u32, room: u32, first: i64, len: u32) -> bool
     lies_in(next, room, first) || (0 < len && lies_in(next, room, first + i64::from(len - 1)))
 }
 
-/// A sender whose window is full, and who has lost a segment, numbers its acknowledgements so.
+/// A sender that has filled the window and lost a segment numbers its acknowledgements so.
 #[tactic(auto, unfolding(seq_arith::specs::Arrival::is_at_right_edge))]
 fn is_at_right_edge(next: u32, room: u32, first: i64, len: u32) -> bool
     ensures { result ≡ is_at_right_edge next room first len }
@@ -227,7 +227,7 @@ fn lies_in(next: u32, room: u32, offset: i64) -> bool
     i64::from(next) <= offset && offset < i64::from(next) + i64::from(room)
 }
 
-/// SEG.LEN: data and FIN, or the SYN alone; nothing of a RST.
+/// SEG.LEN: the text and the FIN, or only the SYN; 0 of a RST.
 fn length_of(segment: &PacketRef<'_>) -> u32
     requires { length segment.now.payload.now ≤ 1460 }
     ensures value { result ≡ length_of_lem (segment_of segment.now) }

@@ -5,13 +5,13 @@
 pub enum ConnStage {
     /// Until the first Done is sent.
     Live,
-    /// From there on until the logger answers it.
+    /// From then on until the logger answers it.
     Ending,
     /// From that answer on.
     Done,
 }
 
-/// What a turn needs to know of the connection before it.
+/// What a turn has to know of the connection before it.
 #[derive(Clone, Copy, Debug)]
 pub(crate) struct Before {
     /// The client's bytes that were taken.
@@ -22,7 +22,7 @@ pub(crate) struct Before {
     pub una: u32,
     /// The receive edge.
     pub edge: u32,
-    /// Whether the connection owes an answer that its TCP doesn't know of.
+    /// Whether the connection owes an answer of which its TCP doesn't know.
     pub asks: bool,
     /// Whether TCP's rules owe one.
     pub owes: bool,

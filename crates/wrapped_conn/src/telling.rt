@@ -1,4 +1,4 @@
-//! What a connection tells the logger.
+//! The messages of a connection to the logger.
 
 ghost use Rattle.std.specs.Prelude.{◌≡◌, ◌≤◌, ◌<◌, ◌+◌, ◌*◌, ◌^◌, ◌∷◌, ◌++◌, [], length};
 ghost use Rattle.seq_arith.specs.MessageGrammar.{spelling};
@@ -20,7 +20,7 @@ use tcp_endpoint::Outbox;
 const MESSAGE: usize = 2_048;
 
 impl<S: Service> Conn<S> {
-    /// A part of the client's stream.
+    /// Sends a part of the client's stream.
     pub(crate) fn tell_data(
         &self,
         offset: u32,
@@ -56,7 +56,7 @@ impl<S: Service> Conn<S> {
         tell(self.boot, body, out);
     }
 
-    /// The reads of this turn.
+    /// Reports the reads of this turn.
     pub(crate) fn tell_reads(&self, reads: &ReadRecords, out: &mut Outbox)
         requires boot { 1 ≤ self.now.boot }
         requires tellable { AreTellable reads.now }
@@ -69,7 +69,7 @@ impl<S: Service> Conn<S> {
         tell_reads(self.boot, self.key, reads, out);
     }
 
-    /// That the connection has ended, until that is logged.
+    /// Reports that the connection has ended, until that is logged.
     pub(crate) fn tell_done(&mut self, out: &mut Outbox)
         requires boot { 1 ≤ self.old.boot }
         requires few { length out.old ≤ 78 }
@@ -86,7 +86,7 @@ impl<S: Service> Conn<S> {
     }
 }
 
-/// One message.
+/// Sends one message.
 fn tell(boot: u64, body: Body<'_>, out: &mut Outbox)
     requires sendable { IsSendable (record { boot = boot; body = body }) }
     requires few { length out.old ≤ 80 }
@@ -100,7 +100,7 @@ fn tell(boot: u64, body: Body<'_>, out: &mut Outbox)
     out.push(&message[..len]);
 }
 
-/// A Read for each of these reads, by index.
+/// Sends a Read for each of these reads, by index.
 fn tell_reads(boot: u64, key: Key, reads: &ReadRecords, out: &mut Outbox)
     requires boot { 1 ≤ boot }
     requires tellable { AreTellable reads.now }
@@ -117,7 +117,7 @@ fn tell_reads(boot: u64, key: Key, reads: &ReadRecords, out: &mut Outbox)
     }
 }
 
-/// What a proof may know of a key and a boot number: they fit their types.
+/// Facts for proofs: a key and a boot number fit their types.
 fn fit(key: Key, boot: u64)
     ensures ip { key.ip < 2 ^ 32 }
     ensures port { key.port < 2 ^ 16 }

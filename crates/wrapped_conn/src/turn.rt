@@ -33,8 +33,8 @@ use std::alloc::Global;
 use tcp_endpoint::Outbox;
 
 impl<S: Service> Conn<S> {
-    /// The turn in which the connection becomes live. A new one sends its SYN-ACK; one at the end of a restart sends the acknowledgement with the
-    /// true window, and makes the reads that are due.
+    /// The turn in which the connection becomes live. A new one sends its SYN-ACK. One at the end of a restart sends the acknowledgement with the true window,
+    /// and makes the reads that are due.
     pub fn start(&mut self, alloc: Global, out: &mut TurnOut) -> Result<(), NoMemory>
         requires sound { IsSound self.old }
         requires no_segment { out.old.segments ≡ [] }
@@ -46,7 +46,7 @@ impl<S: Service> Conn<S> {
         self.go_on(alloc, before, false, out)
     }
 
-    /// A segment of the client. A RST at exactly the next number resets the connection, which then only tells the logger that it has ended.
+    /// The turn of a client's segment. A RST at exactly the next number resets the connection, which then only reports to the logger that it has ended.
     pub fn on_packet(
         &mut self,
         alloc: Global,
@@ -71,7 +71,7 @@ impl<S: Service> Conn<S> {
         self.take_packet(alloc, packet, out)
     }
 
-    /// A segment that doesn't reset the connection.
+    /// The turn of a segment that doesn't reset the connection.
     fn take_packet(
         &mut self,
         alloc: Global,
@@ -92,7 +92,7 @@ impl<S: Service> Conn<S> {
         self.go_on(alloc, before, repeats, out)
     }
 
-    /// What a turn with this segment needs to know of the connection before it.
+    /// What a turn with this segment has to know of the connection before it.
     fn before_segment(&self, packet: &[u8]) -> Before
         requires sound { IsSound self.now }
         requires accepted { IsOk (reading packet.now) }
@@ -110,7 +110,7 @@ impl<S: Service> Conn<S> {
         }
     }
 
-    /// What a turn without a segment needs to know, in which the connection owes an answer or not.
+    /// What a turn without a segment has to know. `asks` says whether the connection owes an answer.
     fn before(&self, asks: bool) -> Before
         requires sound { IsSound self.now }
         ensures { result ≡ before_other asks self.now }
@@ -125,7 +125,7 @@ impl<S: Service> Conn<S> {
         }
     }
 
-    /// A segment arrives, and what is taken now and not answered goes to the logger. Whether it is the client's SYN again.
+    /// A segment arrives, and what is taken now and not answered is sent to the logger. Returns whether the segment repeats the client's SYN.
     fn arrive(&mut self, packet: &mut [u8], before: Before, messages: &mut Outbox) -> bool
         requires sound { IsSound self.old }
         requires accepted { IsOk (reading packet.old) }
@@ -144,7 +144,7 @@ impl<S: Service> Conn<S> {
         repeats
     }
 
-    /// A segment reaches TCP, unless it is the client's SYN again.
+    /// Passes a segment to TCP, unless it repeats the client's SYN. Returns whether it does.
     fn reach_tcp(&mut self, packet: &mut [u8]) -> bool
         requires sound { IsSound self.old }
         requires accepted { IsOk (reading packet.old) }
@@ -193,7 +193,7 @@ impl<S: Service> Conn<S> {
         Ok(())
     }
 
-    /// A turn from where its news have arrived.
+    /// The rest of a turn, once its news has arrived.
     fn go_on(
         &mut self,
         alloc: Global,
@@ -218,7 +218,7 @@ impl<S: Service> Conn<S> {
         Ok(())
     }
 
-    /// A message of the logger.
+    /// The turn of a message from the logger.
     pub fn on_msg(&mut self, alloc: Global, m: &Msg<'_>, out: &mut TurnOut) -> Result<(), NoMemory>
         requires sound { IsSound self.old }
         requires sendable { IsSendable m.now }
@@ -248,7 +248,7 @@ impl<S: Service> Conn<S> {
         }
     }
 
-    /// So much of the connection is logged.
+    /// The turn of an answer that says how much of the connection is logged.
     fn hear(
         &mut self,
         alloc: Global,
@@ -272,7 +272,7 @@ impl<S: Service> Conn<S> {
         self.go_on(alloc, before, false, out)
     }
 
-    /// Both wrappers learn what is logged. Whether that is news.
+    /// Both wrappers learn what is logged. Returns whether that is news.
     fn note_logged(&mut self, length: u32, fin: bool, reads: u32) -> bool
         requires sound { IsSound self.old }
         requires most { length ≤ 2 ^ 24 }
@@ -284,7 +284,7 @@ impl<S: Service> Conn<S> {
         self.south.on_stable(length, fin).is_some()
     }
 
-    /// A tick. It takes no memory: each turn before it has made all reads that are due.
+    /// A tick's turn. It allocates nothing: each turn before it has made all reads that are due.
     pub fn on_tick(&mut self, out: &mut TurnOut)
         requires sound { IsSound self.old }
         requires no_segment { out.old.segments ≡ [] }
@@ -312,7 +312,7 @@ impl<S: Service> Conn<S> {
         self.endpoint.on_tick();
     }
 
-    /// A tick of a connection that isn't reset, before it may have ended.
+    /// A tick of a connection that isn't reset, without the report that it has ended.
     fn tick(&mut self, out: &mut TurnOut)
         requires sound { IsSound self.old }
         requires no_segment { out.old.segments ≡ [] }
@@ -330,7 +330,7 @@ impl<S: Service> Conn<S> {
         self.count_end_tick();
     }
 
-    /// A tick counts where both FINs are through and all that is taken is known to be logged.
+    /// Counts an end tick, where both FINs are through and all that is taken is known to be logged.
     fn count_end_tick(&mut self)
         requires sound { IsSound self.old }
         ensures state { self.new ≡ counted self.old }
@@ -342,7 +342,7 @@ impl<S: Service> Conn<S> {
     }
 }
 
-/// What a proof may know of a head: its fields fit their types.
+/// Facts for proofs: a header's fields fit their types.
 fn fields_fit(head: &Head)
     ensures seq { head.now.seq.0 < 2 ^ 32 }
     ensures window { head.now.window ≤ 65535 }

@@ -6,8 +6,7 @@ use ft_io::NoMemory;
 use std::alloc::Global;
 use tcp_endpoint::Outbox;
 
-/// The segments and the messages that a connection sends in one turn, each list in order, in room that is made once. A turn has at most 79
-/// messages.
+/// The segments and the messages that a connection sends in one turn, each list in order, in room that is allocated once. A turn has at most 79 messages.
 #[derive(Drop)]
 pub struct TurnOut {
     /// To the client, in order.
@@ -17,7 +16,7 @@ pub struct TurnOut {
 }
 
 impl TurnOut {
-    /// Room for a turn, with nothing in it.
+    /// An empty turn, with its room allocated.
     pub fn new(alloc: Global) -> Result<TurnOut, NoMemory>
         ensures segments { IfOk result (λ out. out.segments ≡ []) }
         ensures messages { IfOk result (λ out. out.messages ≡ []) }
@@ -41,7 +40,7 @@ impl TurnOut {
         self.messages.len()
     }
 
-    /// The bytes of message `i`, from 0.
+    /// The bytes of message `i`, counted from 0.
     pub fn message(&self, i: usize) -> &[u8]
         requires { i < length self.now.messages }
         ensures { slice_get self.now.messages i ≡ Some result.now }
@@ -49,7 +48,7 @@ impl TurnOut {
         self.messages.packet(i)
     }
 
-    /// Takes all out.
+    /// Removes everything.
     pub fn clear(&mut self)
         ensures segments { self.new.segments ≡ [] }
         ensures messages { self.new.messages ≡ [] }

@@ -1,5 +1,5 @@
--- A FIN is lost, and the acknowledgement that the client sends behind it comes: it begins past the next number, takes up no number, and is owed no
--- answer. Else two ends that each miss a segment would answer each other for ever.
+-- A FIN is lost, and the acknowledgement that the client sends after it arrives. It begins past the next number, takes up no number, and is owed no answer:
+-- otherwise two ends that each miss a segment would answer each other forever.
 use Rattle.std.specs.Prelude.{pos, true, None, List, [], ◌∷◌}
 use Rattle.seq_arith.specs.Packet.{Segment}
 use Rattle.seq_arith.specs.Message.Body.{SummaryMsg, OpenedMsg}

@@ -1,11 +1,11 @@
--- A logger that takes a Data with a changed bit for one of its own server: it keeps a byte that no client sent, and answers. A packet with a
--- changed bit isn't one of the message grammar, so the law has nothing happen.
+-- A logger takes a Data with a changed bit for one of its own server: it keeps a byte that no client sent, and answers. By the message grammar a packet with a
+-- changed bit is no message, so by the law nothing happens.
 use Rattle.std.specs.Prelude.{codes, List, [], ◌∷◌}
 use Rattle.ft_model.specs.World.{Moment}
 use Rattle.ft_model.specs.declared.event.Event.TheVariants.{Flip}
 use Rattle.ft_model.specs.WorkedRuns.FirstPath.{moment, opening_trace, moment_11, moment_12, packet_12, opened_entry, log_with}
 
--- the first path, until the Data is under way
+-- the first path, until the Data is in flight
 abbrev pub earlier : List Moment
 earlier = moment_12 ∷ moment_11 ∷ opening_trace
 

@@ -1,5 +1,5 @@
--- A client that acknowledges more than the restarted server has sent: its acknowledgement is lowered to that, and used in full when the same
--- output was sent again.
+-- A client acknowledges more than the restarted server has sent. Its acknowledgement is lowered to what was sent, and used in full once the same output is sent
+-- again.
 use Rattle.std.specs.Prelude.{pos, true, false, None, List, [], ◌∷◌}
 use Rattle.seq_arith.specs.Packet.{Segment}
 use Rattle.seq_arith.specs.Message.{EntryHead}
@@ -7,13 +7,13 @@ use Rattle.seq_arith.specs.Message.Body.{SummaryMsg, ListMsg, EntryMsg, BytesMsg
 use Rattle.ft_model.specs.Point.{Point, blank_point}
 use Rattle.ft_model.specs.Restart.{Fetched}
 use Rattle.ft_model.specs.Lawful.{Turn}
-use Rattle.ft_model.specs.WorkedRuns.Common.{key, hello_text, client_segment, to_client, to_log, part_with, on_message, on_segment, serving_at, fetching, head_with, fetched_with}
+use Rattle.ft_model.specs.WorkedRuns.Common.{key, hello_text, client_segment, to_client, to_log, part_with, on_message, on_segment, serving_at, fetching, head_with, fetched_with, congestion_with}
 
 -- the client has all five bytes
 abbrev pub known : Segment
 known = client_segment 16 1006 5006 65535 []
 
--- the entry that the log has, and as its parts come
+-- the log's entry, and as its parts come
 abbrev pub head : EntryHead
 head = head_with 5 false 1 0
 
@@ -40,7 +40,7 @@ abbrev pub resumed : Point
 resumed = record restarted { edge = 65535; sent = 5 }
 
 abbrev pub acknowledged : Point
-acknowledged = record resumed { una = 5; edge = 65540; wl2 = 5; rest = 0 }
+acknowledged = record resumed { una = 5; edge = 65540; wl2 = 5; congestion = congestion_with 2149 65535 0; rest = 0 }
 
 abbrev pub restart_1 : Turn
 restart_1 = on_message 2 (SummaryMsg 1) (to_log 2 (ListMsg 0) ∷ []) (fetching 2 900000 [])
@@ -57,7 +57,7 @@ restart_4 = on_message 2 (PartMsg key 0 hello_text) (to_client 16 5001 1006 6553
 abbrev pub restart_5 : Turn
 restart_5 = on_segment known (to_client 16 5001 1006 65535 None hello_text ∷ []) (serving_at 2 900000 resumed)
 
--- a Data without bytes tells the acknowledgement
+-- a Data without bytes reports the acknowledgement
 abbrev pub restart_6 : Turn
 restart_6 = on_segment known (to_log 2 (DataMsg (part_with 5 5 false [])) ∷ []) (serving_at 2 900000 acknowledged)
 

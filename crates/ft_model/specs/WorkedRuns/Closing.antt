@@ -1,5 +1,5 @@
--- Both sides close. The client's FIN is logged and read before it is acknowledged and answered by the server's own; after a crash the server
--- sends its FIN again, and at the fourth end tick it is done.
+-- Both sides close. The client's FIN is logged and read before it is acknowledged and before the server's own answers it. After a crash the server retransmits
+-- its FIN, and at the fourth end tick it is done.
 use Rattle.std.specs.Prelude.{ℕ, pos, true, false, Some, None, List, [], ◌∷◌}
 use Rattle.seq_arith.specs.Packet.{Segment}
 use Rattle.seq_arith.specs.Message.{EntryHead}
@@ -9,7 +9,7 @@ use Rattle.ft_model.specs.Point.{Point}
 use Rattle.ft_model.specs.Opening.{point_opened}
 use Rattle.ft_model.specs.Restart.{Fetched}
 use Rattle.ft_model.specs.Lawful.{Turn}
-use Rattle.ft_model.specs.WorkedRuns.Common.{key, client_segment, to_client, to_log, numbers, kept_with, part_with, on_message, on_segment, on_tick, serving_at, idle, opening_at, fetching, head_with, fetched_with}
+use Rattle.ft_model.specs.WorkedRuns.Common.{key, client_segment, to_client, to_log, numbers, kept_with, part_with, on_message, on_segment, on_tick, serving_at, idle, opening_at, fetching, head_with, fetched_with, congestion_with}
 
 -- the client's segments
 abbrev pub syn : Segment
@@ -24,7 +24,7 @@ fin = client_segment 17 1001 5001 65535 []
 abbrev pub last_ack : Segment
 last_ack = client_segment 16 1002 5002 65535 []
 
--- the connection when it begins, is open, has the FIN, hears that it is logged, sends its own, and is over
+-- the connection when it begins, is open, has the FIN, learns that it is logged, sends its own, and is over
 abbrev pub begun : Point
 begun = record (point_opened numbers) { rest = 1 }
 
@@ -41,16 +41,16 @@ abbrev pub closed : Point
 closed = record logged { reads_answered = 1; sent = 1; rest = 1 }
 
 abbrev pub over : Point
-over = record closed { una = 1; edge = 65536; wl1 = pos 1; wl2 = 1; rest = 0 }
+over = record closed { una = 1; edge = 65536; wl1 = pos 1; wl2 = 1; congestion = congestion_with 2145 65535 0; rest = 0 }
 
--- the entry that the log has
+-- the log's entry
 abbrev pub head : EntryHead
 head = head_with 0 true 1 1
 
 abbrev pub bare_entry : Fetched
 bare_entry = fetched_with head [] []
 
--- the connection when it is restarted, when its FIN is sent again, when that is acknowledged, and at the end ticks
+-- the connection when it is restarted, when its FIN is retransmitted, when that is acknowledged, and at the end ticks
 abbrev pub restarted : Point
 restarted = record logged { reads_answered = 1; edge = 0; rest = 1 }
 
@@ -58,7 +58,7 @@ abbrev pub closed_again : Point
 closed_again = record restarted { edge = 65535; wl1 = pos 1; sent = 1 }
 
 abbrev pub over_again : Point
-over_again = record closed_again { una = 1; edge = 65536; wl2 = 1; rest = 0 }
+over_again = record closed_again { una = 1; edge = 65536; wl2 = 1; congestion = congestion_with 2145 65535 0; rest = 0 }
 
 abbrev pub ticked : ℕ → Point
 ticked = λ n. record over_again { end_ticks = n }
@@ -83,7 +83,7 @@ first_5 = on_segment fin (to_client 16 5001 1001 65535 None [] ∷ to_log 1 (Dat
 abbrev pub first_6 : Turn
 first_6 = on_message 1 (StableMsg (kept_with 0 true 0)) (to_client 16 5001 1002 65535 None [] ∷ []) (serving_at 1 5000 logged)
 
--- its read is logged, so the server's own FIN leaves
+-- its read is logged, so the server's own FIN is sent
 abbrev pub first_7 : Turn
 first_7 = on_message 1 (ReadsMsg (kept_with 0 true 1)) (to_client 17 5001 1002 65535 None [] ∷ []) (serving_at 1 5000 closed)
 
@@ -91,7 +91,7 @@ first_7 = on_message 1 (ReadsMsg (kept_with 0 true 1)) (to_client 17 5001 1002 6
 abbrev pub first_8 : Turn
 first_8 = on_segment last_ack (to_log 1 (DataMsg (part_with 0 1 false [])) ∷ []) (serving_at 1 5000 over)
 
--- Wrong turns: the server's FIN leaves in the turn of the closing read, ..
+-- Wrong turns: the server's FIN is sent in the turn of the closing read, ..
 abbrev pub fin_with_read : List Packet
 fin_with_read = to_client 17 5001 1001 65535 None [] ∷ to_log 1 (DataMsg (part_with 0 0 true [])) ∷ to_log 1 (ReadMsg key 0 0) ∷ []
 
@@ -113,7 +113,7 @@ second_2 = on_message 2 (EntryMsg 0 head) (to_log 2 (CutsMsg key 0) ∷ []) (fet
 abbrev pub second_3 : Turn
 second_3 = on_message 2 (LensMsg key 0 (0 ∷ [])) (to_client 16 5001 1002 65535 None [] ∷ []) (serving_at 2 900000 restarted)
 
--- the client acknowledges more than this incarnation sent: the FIN is sent again
+-- the client acknowledges more than this incarnation sent: the FIN is retransmitted
 abbrev pub second_4 : Turn
 second_4 = on_segment last_ack (to_client 17 5001 1002 65535 None [] ∷ []) (serving_at 2 900000 closed_again)
 

@@ -2,6 +2,7 @@
 use Rattle.std.specs.Prelude.{ℕ, Bool, false, ◌==◌, Option, None, List, [], ◌∷◌, length}
 use Rattle.ft_io.specs.declared.Addr.{Addr}
 use Rattle.ft_io.specs.declared.Key.{Key}
+use Rattle.seq_arith.specs.Congestion.{Congestion}
 use Rattle.seq_arith.specs.Packet.{Segment}
 use Rattle.seq_arith.specs.Message.{Numbers, Kept, EntryHead, Part, Body}
 use Rattle.server_trait.specs.Service.{Served, Machine}
@@ -89,11 +90,11 @@ on_segment segment sent node = record { input = Packet_comes segment; sent = sen
 abbrev pub on_tick : List Packet → Node → Turn
 on_tick sent node = record { input = Tick_comes; sent = sent; node = node }
 
--- an incarnation with client 1's connection alone, which is the first that it restarted or opened
+-- an incarnation with only client 1's connection, the first that it restarted or opened
 abbrev pub serving_at : (boot isn : ℕ) → Point → Node
 serving_at boot isn p = record { server = server; boot = boot; isn = isn; stage = Serving 1 (Lives p ∷ []) }
 
--- an incarnation that serves nobody, and one that has asked for client 1's opening
+-- an incarnation that serves no client, and one that has asked for client 1's opening
 abbrev pub idle : (boot isn : ℕ) → Node
 idle boot isn = record { server = server; boot = boot; isn = isn; stage = Serving 0 [] }
 
@@ -111,6 +112,10 @@ head_with len fin reads acked = record { key = key; cisn = 1000; sisn = 5000; ms
 abbrev pub fetched_with : EntryHead → List ℕ → List ℕ → Fetched
 fetched_with head bytes lengths = record { head = head; bytes = bytes; lengths = lengths }
 
--- no lawful turn from there, by this input, sends this
+-- a congestion window, a slow start threshold, and a count of duplicate acknowledgements
+abbrev pub congestion_with : (cwnd ssthresh dups : ℕ) → Congestion
+congestion_with cwnd ssthresh dups = record { cwnd = cwnd; ssthresh = ssthresh; dups = dups }
+
+-- no lawful turn from this state, by this input, sends these packets
 abbrev pub IsUnlawful : Node → Input → List Packet → Type 0
 IsUnlawful before input sent = (after : Node) → LawfulTurn echo before input sent after → ⊥

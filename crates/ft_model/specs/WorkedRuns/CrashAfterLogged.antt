@@ -1,5 +1,5 @@
--- A crash after the text and its read are logged, and before the client hears of it: the second incarnation fetches both, stands where
--- the first one stood, and sends the output.
+-- A crash after the text and its read are logged, and before the client learns of it: the second incarnation fetches both, comes to the state of the first one,
+-- and sends the output.
 use Rattle.std.specs.Prelude.{pos, true, false, None, List, [], ◌∷◌}
 use Rattle.seq_arith.specs.Packet.{Segment}
 use Rattle.seq_arith.specs.Message.{EntryHead}
@@ -9,7 +9,7 @@ use Rattle.ft_model.specs.Restart.{Fetched}
 use Rattle.ft_model.specs.Lawful.{Turn}
 use Rattle.ft_model.specs.WorkedRuns.Common.{key, hello_text, client_segment, to_client, to_log, on_message, on_segment, serving_at, fetching, head_with, fetched_with}
 
--- the entry that the log has
+-- the log's entry
 abbrev pub head : EntryHead
 head = head_with 5 false 1 0
 
@@ -24,7 +24,7 @@ entry_with_lengths = fetched_with head [] (5 ∷ [])
 abbrev pub room : Segment
 room = client_segment 16 1006 5001 65535 []
 
--- the connection in the turn of the last missing answer, and when the client has given it room
+-- the connection in the turn of the last missing answer, and when the client has advertised room
 abbrev pub restarted : Point
 restarted = record (blank_point key 1000 5000 536) {
   fetched = 5;
@@ -53,7 +53,7 @@ restart_3 = on_message 2 (LensMsg key 0 (5 ∷ [])) (to_log 2 (BytesMsg key 0) �
 abbrev pub restart_4 : Turn
 restart_4 = on_message 2 (PartMsg key 0 hello_text) (to_client 16 5001 1006 65535 None [] ∷ []) (serving_at 2 900000 restarted)
 
--- the client acknowledges nothing new and gives room: the output leaves
+-- the client acknowledges nothing new and advertises room: the output is sent
 abbrev pub restart_5 : Turn
 restart_5 = on_segment room (to_client 16 5001 1006 65535 None hello_text ∷ []) (serving_at 2 900000 resumed)
 

@@ -1,4 +1,4 @@
--- A crash after the opening is logged and before the SYN-ACK leaves: the second incarnation answers the client's SYN with the kept numbers.
+-- A crash after the opening is logged and before the SYN-ACK is sent: the second incarnation answers the client's SYN with the logged numbers.
 use Rattle.std.specs.Prelude.{true, false, Some, None, List, [], ◌∷◌}
 use Rattle.seq_arith.specs.Packet.{Segment}
 use Rattle.seq_arith.specs.Message.{EntryHead}
@@ -12,7 +12,7 @@ use Rattle.ft_model.specs.WorkedRuns.Common.{client_segment, to_client, to_log, 
 abbrev pub syn : Segment
 syn = client_segment 2 1000 0 65535 []
 
--- the entry that the log has
+-- the log's entry
 abbrev pub head : EntryHead
 head = head_with 0 false 0 0
 

@@ -1,5 +1,5 @@
--- A server that passes TCP's own acknowledgement on: the client is told that its five bytes are received before they are logged, and the
--- crash loses them. The law Acknowledgement refuses the turn.
+-- A server passes TCP's own acknowledgement on: its client learns that its five bytes are received before they are logged, and the crash loses them. The law
+-- Acknowledgement refuses the turn.
 use Rattle.std.specs.Prelude.{false, Some, None, List, [], ◌∷◌}
 use Rattle.seq_arith.specs.Message.{Message}
 use Rattle.seq_arith.specs.Message.Body.{HelloMsg, SummaryMsg, DataMsg}
@@ -14,7 +14,7 @@ use Rattle.ft_model.specs.WorkedRuns.FirstPath.{moment, opening_trace, moment_11
 abbrev pub earlier : List Moment
 earlier = moment_11 ∷ opening_trace
 
--- the text comes, and all of it is acknowledged
+-- the text arrives, and all of it is acknowledged
 abbrev pub wrong : Moment
 wrong = moment (Deliver 8) passed_on (record moment_11.world { node = Some (node_live taken_point) })
 
@@ -22,14 +22,14 @@ wrong = moment (Deliver 8) passed_on (record moment_11.world { node = Some (node
 abbrev pub data_message : Message
 data_message = record { boot = 1; body = DataMsg (part_with 0 0 false hello_text) }
 
--- the client hears it, ..
+-- the client receives that, ..
 abbrev pub fooled_client : Client
 fooled_client = record told_client { acknowledged = 5 }
 
 abbrev pub moment_13 : Moment
 moment_13 = moment (Deliver 9) [] (record wrong.world { clients = fooled_client ∷ [] })
 
--- .. the server crashes, and the log hears of the next boot before the Data
+-- .. the server crashes, and the next boot's Hello reaches the log before the Data
 abbrev pub moment_14 : Moment
 moment_14 = moment Crash [] (record moment_13.world { node = None })
 

@@ -23,7 +23,7 @@ start = start_with hello_text
 abbrev pub moment : Event → List Packet → World → Moment
 moment event sent world = record { event = event; sent = sent; world = record world { packets = world.packets ++ sent } }
 
--- the packets, numbered as they are sent
+-- the packets, numbered in the order in which they are sent
 abbrev pub packet_1 : Packet
 packet_1 = to_log 1 HelloMsg
 
@@ -69,7 +69,7 @@ packet_14 = from_log 1 (ReadsMsg (kept_with 5 false 1))
 abbrev pub packet_15 : Packet
 packet_15 = to_client 16 5001 1006 65535 None hello_text
 
--- the client after it has said that it opens, after the SYN-ACK, after its text, and after the echo
+-- the client after its SYN, after the SYN-ACK, after its text, and after the echo
 abbrev pub opening : Client
 opening = record (client_with hello_text) { phase = Opening; edge = 65535 }
 
@@ -150,7 +150,7 @@ moment_10 = moment (Deliver 7) [] (record moment_9.world { node = Some (node_liv
 abbrev pub moment_11 : Moment
 moment_11 = moment (Send 1 0 5) (packet_8 ∷ []) (record moment_10.world { clients = told_client ∷ [] })
 
--- before the text is logged, what is acknowledged doesn't move
+-- before the text is logged, the acknowledgement doesn't move
 abbrev pub moment_12 : Moment
 moment_12 = moment (Deliver 8) (packet_9 ∷ packet_10 ∷ packet_11 ∷ []) (record moment_11.world { node = Some (node_live taken_point) })
 
@@ -164,7 +164,7 @@ moment_14 = moment (Deliver 12) (packet_13 ∷ []) (record moment_13.world { nod
 abbrev pub moment_15 : Moment
 moment_15 = moment (Deliver 11) (packet_14 ∷ []) (record moment_14.world { log = log_with (read_entry ∷ []) })
 
--- and in the turn of Reads the output leaves
+-- and in the turn of Reads the output is sent
 abbrev pub moment_16 : Moment
 moment_16 = moment (Deliver 14) (packet_15 ∷ []) (record moment_15.world { node = Some (node_live released_point) })
 
@@ -190,7 +190,7 @@ one_too_high = to_client 16 5001 1002 65535 None [] ∷ packet_10 ∷ packet_11 
 abbrev pub passed_on : List Packet
 passed_on = to_client 16 5001 1006 65535 None [] ∷ packet_10 ∷ packet_11 ∷ []
 
--- .. the Read goes before the Data, ..
+-- .. the Read is sent before the Data, ..
 abbrev pub read_first : List Packet
 read_first = packet_9 ∷ packet_11 ∷ packet_10 ∷ []
 
@@ -198,7 +198,7 @@ read_first = packet_9 ∷ packet_11 ∷ packet_10 ∷ []
 abbrev pub one_index_off : List Packet
 one_index_off = packet_9 ∷ packet_10 ∷ to_log 1 (ReadMsg key 1 5) ∷ []
 
--- .. or the output leaves before its read is logged
+-- .. or the output is sent before its read is logged
 abbrev pub released_early : List Packet
 released_early = to_client 16 5001 1001 65535 None hello_text ∷ packet_10 ∷ packet_11 ∷ []
 
@@ -212,7 +212,7 @@ text_comes = Packet_comes (client_segment 16 1001 5001 65535 hello_text)
 abbrev pub stable_comes : Input
 stable_comes = Message_comes (record { boot = 1; body = StableMsg (kept_with 5 false 0) })
 
--- the connection when the text was read in two pieces, and the Reads that a tick sends again: out of order is wrong
+-- the connection when the text was read in two pieces, and the Reads that a tick sends again; out of order is wrong
 abbrev pub twice_read_point : Point
 twice_read_point = record taken_point { lengths = 2 ∷ 3 ∷ [] }
 

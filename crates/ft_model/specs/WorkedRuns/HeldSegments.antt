@@ -1,5 +1,5 @@
--- Two segments of a client come in the wrong order: the second one's text is held until the first one fills the gap, and is taken and copied then.
--- Fourteen events, fourteen packets.
+-- Two segments of a client arrive in the wrong order. The second one's text is held until the first one fills the gap, and is then taken and copied. Fourteen
+-- events, fourteen packets.
 use Rattle.std.specs.Prelude.{ℕ, codes, false, None, Some, List, [], ◌∷◌, pos}
 use Rattle.seq_arith.specs.Message.Body.{DataMsg}
 use Rattle.ft_model.specs.Client.{Client}
@@ -42,7 +42,7 @@ second_sent = from_client 16 1003 5001 65535 second_text
 abbrev pub telling_client : Client
 telling_client = record open_client { sent = 2 }
 
--- the connection when the second text is held behind a gap of two bytes, and when both are taken and read
+-- the connection when the second text is held after a gap of two bytes, and when both are taken and read
 abbrev pub held_point : Point
 held_point = record open_point { early = record { text = None ∷ None ∷ Some 108 ∷ Some 108 ∷ Some 111 ∷ []; fin = None }; wl1 = pos 2 }
 
@@ -65,7 +65,7 @@ moment_11 = moment (Send 1 0 2) (first_sent ∷ []) (record moment_10.world { cl
 abbrev pub moment_12 : Moment
 moment_12 = moment (Send 1 2 3) (second_sent ∷ []) (record moment_11.world { clients = told_client ∷ [] })
 
--- the second one comes first: it is owed an answer, and held
+-- the second one arrives first: it is owed an answer, and held
 abbrev pub moment_13 : Moment
 moment_13 = moment (Deliver 9) (bare_ack ∷ []) (record moment_12.world { node = Some (node_live held_point) })
 
@@ -81,11 +81,11 @@ trace = moment_14 ∷ moment_13 ∷ moment_12 ∷ moment_11 ∷ opening_trace
 abbrev pub without_held : List Packet
 without_held = bare_ack ∷ first_copy ∷ packet_11 ∷ []
 
--- .. it goes before the segment's own part, ..
+-- .. it is sent before the segment's own part, ..
 abbrev pub held_first : List Packet
 held_first = bare_ack ∷ second_copy ∷ first_copy ∷ packet_11 ∷ []
 
--- .. or both go out as one Data
+-- .. or both are sent as one Data
 abbrev pub as_one : List Packet
 as_one = bare_ack ∷ packet_10 ∷ packet_11 ∷ []
 

@@ -1,5 +1,5 @@
--- A server that answers as CLOSED while it fetches the log: the client is reset, although its connection is logged. The law Restart refuses the
--- turn: before its entry has come, a client gets no answer.
+-- A server answers as CLOSED while it fetches the log: the client is reset, although its connection is logged. The law Restart refuses the turn: before its
+-- entry has come, a client gets no answer.
 use Rattle.std.specs.Prelude.{Some, None, List, [], ◌∷◌}
 use Rattle.seq_arith.specs.Message.Body.{HelloMsg, SummaryMsg, ListMsg}
 use Rattle.ft_model.specs.Client.{Client}
@@ -10,7 +10,7 @@ use Rattle.ft_model.specs.declared.event.Event.TheVariants.{Boot, Crash, Deliver
 use Rattle.ft_model.specs.WorkedRuns.Common.{server, from_client, to_client, to_log, from_log, fetching}
 use Rattle.ft_model.specs.WorkedRuns.FirstPath.{moment, trace, moment_17, served_client, read_entry}
 
--- the first path, then a crash, and the log has heard of the next boot
+-- the first path, then a crash, and the next boot's Hello has reached the log
 abbrev pub moment_18 : Moment
 moment_18 = moment Crash [] (record moment_17.world { node = None })
 

@@ -1,5 +1,5 @@
--- A restart that asks for lengths and bytes in turns, so that each read can be replayed as soon as it is whole: the bytes of the reads whose lengths
--- have come, then further lengths, and at last the bytes behind all reads. The log's answers are short here.
+-- A restart asks for lengths and bytes in turns, so that each read can be replayed as soon as it is complete: the bytes of the reads whose lengths have come,
+-- then further lengths, and at last the bytes after all reads. The log's answers are short here.
 use Rattle.std.specs.Prelude.{pos, true, false, None, List, [], ◌∷◌}
 use Rattle.seq_arith.specs.Message.{EntryHead}
 use Rattle.seq_arith.specs.Message.Body.{SummaryMsg, ListMsg, EntryMsg, BytesMsg, PartMsg, CutsMsg, LensMsg, ReadMsg}
@@ -12,7 +12,7 @@ use Rattle.ft_model.specs.WorkedRuns.Common.{key, hello_text, to_client, to_log,
 abbrev pub head : EntryHead
 head = head_with 5 false 2 0
 
--- the connection when all has come: the bytes behind the logged reads are read in the same turn
+-- the connection when all has come: the bytes after the logged reads are read in the same turn
 abbrev pub restarted : Point
 restarted = record (blank_point key 1000 5000 536) {
   fetched = 5;
@@ -46,7 +46,7 @@ turn_5 = on_message 2 (PartMsg key 1 (101 ∷ [])) (to_log 2 (CutsMsg key 1) ∷
 abbrev pub turn_6 : Turn
 turn_6 = on_message 2 (LensMsg key 1 (1 ∷ [])) (to_log 2 (BytesMsg key 2) ∷ []) (fetching 2 900000 (fetched_with head (104 ∷ 101 ∷ []) (2 ∷ 1 ∷ []) ∷ []))
 
--- no length is missing any more, but the bytes that no logged read has taken
+-- no length is missing any more, only the bytes that no logged read has taken
 abbrev pub turn_7 : Turn
 turn_7 = on_message 2 (PartMsg key 2 (108 ∷ [])) (to_log 2 (BytesMsg key 3) ∷ []) (fetching 2 900000 (fetched_with head (104 ∷ 101 ∷ 108 ∷ []) (2 ∷ 1 ∷ []) ∷ []))
 

@@ -1,5 +1,5 @@
--- A client whose segments fill the server's window, and of which the first is lost, numbers what it sends next at the right edge: the acknowledgement
--- and the window of such a segment are used and it is owed no answer, and a RST there is challenged.
+-- A client has filled the server's window, and its first segment is lost. It numbers what it sends next at the right edge. The acknowledgement and the window
+-- of such a segment are used and it is owed no answer. A RST there gets a challenge ACK.
 use Rattle.std.specs.Prelude.{pos, None, List, [], ◌∷◌}
 use Rattle.seq_arith.specs.Packet.{Segment}
 use Rattle.ft_model.specs.Point.{Point}
@@ -18,7 +18,7 @@ reset = client_segment 4 66536 0 0 []
 abbrev pub beyond : Segment
 beyond = client_segment 16 66537 5001 5 []
 
--- the connection when it has the window
+-- the connection when it has received the window
 abbrev pub given : Point
 given = record opened { edge = 5; wl1 = pos 65535 }
 
@@ -32,7 +32,7 @@ edge_6 = on_segment reset (to_client 16 5001 1001 65535 None [] ∷ []) (serving
 abbrev pub edge_turns : List Turn
 edge_turns = edge_6 ∷ edge_5 ∷ probe_4 ∷ probe_3 ∷ probe_2 ∷ probe_1 ∷ []
 
--- past the edge nothing is used: the connection stays, and the client is told so
+-- past the edge nothing is used: the connection stays as it is, and the client gets an ACK
 abbrev pub beyond_5 : Turn
 beyond_5 = on_segment beyond (to_client 16 5001 1001 65535 None [] ∷ []) (serving_at 1 5000 opened)
 

@@ -1,4 +1,4 @@
--- A segment that comes while the server fetches: it is held off with window 0, and taken when it comes again after the restart.
+-- A segment that arrives while the server fetches: it is held off with window 0, and taken when it is sent again after the restart.
 use Rattle.std.specs.Prelude.{pos, true, false, None, List, [], ◌∷◌}
 use Rattle.seq_arith.specs.Packet.{Segment}
 use Rattle.seq_arith.specs.Message.{EntryHead}
@@ -13,7 +13,7 @@ use Rattle.ft_model.specs.WorkedRuns.Common.{key, hello_text, client_segment, to
 abbrev pub more : Segment
 more = client_segment 16 1006 5001 65535 (33 ∷ [])
 
--- the entry that the log has, and as its parts come
+-- the log's entry, and as its parts come
 abbrev pub head : EntryHead
 head = head_with 5 false 1 0
 
@@ -45,7 +45,7 @@ restart_1 = on_message 2 (SummaryMsg 1) (to_log 2 (ListMsg 0) ∷ []) (fetching 
 abbrev pub restart_2 : Turn
 restart_2 = on_message 2 (EntryMsg 0 head) (to_log 2 (CutsMsg key 0) ∷ []) (fetching 2 900000 (bare_entry ∷ []))
 
--- neither a RST nor silence: what is logged, and no room
+-- neither a RST nor silence: the client gets an acknowledgement of what is logged, and no room
 abbrev pub restart_3 : Turn
 restart_3 = on_segment more (to_client 16 5001 1006 0 None [] ∷ []) (fetching 2 900000 (bare_entry ∷ []))
 
@@ -55,7 +55,7 @@ restart_4 = on_message 2 (LensMsg key 0 (5 ∷ [])) (to_log 2 (BytesMsg key 0) �
 abbrev pub restart_5 : Turn
 restart_5 = on_message 2 (PartMsg key 0 hello_text) (to_client 16 5001 1006 65535 None [] ∷ []) (serving_at 2 900000 restarted)
 
--- the output of the fetched read leaves, and the new byte is copied and read
+-- the output of the fetched read is sent, and the new byte is copied and read
 abbrev pub restart_6 : Turn
 restart_6 = on_segment more (to_client 16 5001 1006 65535 None hello_text ∷ to_log 2 (DataMsg (part_with 5 0 false (33 ∷ []))) ∷ to_log 2 (ReadMsg key 1 1) ∷ []) (serving_at 2 900000 taken)
 
@@ -63,6 +63,6 @@ restart_6 = on_segment more (to_client 16 5001 1006 65535 None hello_text ∷ to
 abbrev pub restart_turns : List Turn
 restart_turns = restart_6 ∷ restart_5 ∷ restart_4 ∷ restart_3 ∷ restart_2 ∷ restart_1 ∷ []
 
--- a wrong turn: the segment that comes meanwhile is reset, as one of an unknown client would be
+-- a wrong turn: the segment is answered by a RST, as one of an unknown client would be
 abbrev pub reset_meanwhile : List Packet
 reset_meanwhile = to_client 4 5001 0 0 None [] ∷ []

@@ -1,5 +1,5 @@
--- A read that a crash takes away: the first incarnation reads three bytes, and neither Data nor Read reaches the log before it goes down. The
--- second one, to which the client sends all five bytes, reads them at once. The service's output tells the lengths of its reads.
+-- A crash takes a read away: the first incarnation reads three bytes, and neither Data nor Read reaches the log before it goes down. The second one, to which
+-- the client sends all five bytes, reads them at once. The service's output shows the lengths of its reads.
 use Rattle.std.specs.Prelude.{ℕ, Bool, false, ◌==◌, Some, None, List, [], ◌∷◌, length}
 use Rattle.seq_arith.specs.Message.Body.{HelloMsg, SummaryMsg, ListMsg, EntryMsg, DataMsg, StableMsg, ReadMsg, ReadsMsg}
 use Rattle.server_trait.specs.Service.{Served, Machine}
@@ -24,7 +24,7 @@ meter = record { fresh = false; after = metered }
 abbrev pub first_text : List ℕ
 first_text = 104 ∷ 101 ∷ 108 ∷ []
 
--- what the first incarnation tells the client when they come: a bare acknowledgement, or the output of its read
+-- what the first incarnation sends the client when they arrive: a bare acknowledgement, or the output of its read
 abbrev pub bare : Packet
 bare = to_client 16 5001 1001 65535 None []
 
@@ -70,7 +70,7 @@ filled_entry = record opened_entry { bytes = hello_text }
 abbrev pub moment_11 : Moment
 moment_11 = moment (Send 1 0 3) (from_client 16 1001 5001 65535 first_text ∷ []) (record moment_10.world { clients = begun_client ∷ [] })
 
--- from here on by what is told then
+-- the moments from here on, given what is sent to the client then
 abbrev pub moment_12 : Packet → Moment
 moment_12 told = moment (Deliver 8) (told ∷ first_data ∷ first_read ∷ []) (record moment_11.world { node = Some (node_live first_point) })
 
@@ -101,7 +101,7 @@ moment_20 told = moment (Deliver 17) (bare ∷ second_data ∷ second_read ∷ [
 abbrev pub moment_21 : Packet → Moment
 moment_21 told = moment (Deliver 19) (from_log 2 (StableMsg (kept_with 5 false 0)) ∷ []) (record (moment_20 told).world { log = log_with filled_entry })
 
--- the first incarnation's text has come to it, and then all until the second one's Data is logged
+-- the trace until the client has sent its first text, and the moments from then until the second one's Data is logged
 abbrev pub sent_trace : List Moment
 sent_trace = moment_11 ∷ opening_trace
 
@@ -109,8 +109,7 @@ abbrev pub restart_trace : Packet → List Moment
 restart_trace told =
     moment_21 told ∷ moment_20 told ∷ moment_19 told ∷ moment_18 told ∷ moment_17 told ∷ moment_16 told ∷ moment_15 told ∷ moment_14 told ∷ moment_13 told ∷ []
 
--- Early output. The output leaves before its read is logged, and is lost in the network until the second read is logged: the law Output refuses
--- the turn.
+-- Early output. The output is sent before its read is logged, and the network delivers it only once the second read is logged. The law Output refuses the turn.
 abbrev pub early_22 : Moment
 early_22 = moment (Deliver 20) (from_log 2 (ReadsMsg (kept_with 5 false 1)) ∷ []) (record (moment_21 early).world { log = log_with (record filled_entry { lengths = 5 ∷ [] }) })
 
@@ -123,8 +122,8 @@ early_23 = moment (Deliver 9) [] (record early_22.world { clients = early_client
 abbrev pub after_early : List Moment
 after_early = early_23 ∷ early_22 ∷ restart_trace early
 
--- No fence. The log hears the first incarnation's Read after the second one's Data: the log's law refuses it, since the boot is older. So the
--- second one takes its own read for logged, and what leaves is another's output.
+-- No fence. The first incarnation's Read reaches the log after the second one's Data. The log's law refuses it, since its boot is older. Where the log keeps
+-- it, the second one takes its own read for logged, and what it sends is the output of another.
 abbrev pub before_unfenced : List Moment
 before_unfenced = moment_21 bare ∷ moment_20 bare ∷ moment_19 bare ∷ moment_18 bare ∷ moment_17 bare ∷ moment_16 bare ∷ moment_15 bare ∷ moment_14 bare ∷ moment_13 bare ∷ moment_12 bare ∷ sent_trace
 

@@ -1,5 +1,5 @@
--- The run with a client without room, whole: clients, log and server, from the boot to the output that is sent again. Twenty-five events,
--- nineteen packets.
+-- The complete run with a client without room: clients, log and server, from the boot to the output that is retransmitted. Twenty-five events, nineteen
+-- packets.
 use Rattle.std.specs.Prelude.{ℕ, codes, false, Some, List, [], ◌∷◌}
 use Rattle.seq_arith.specs.Message.Body.{HelloMsg, SummaryMsg, OpenedMsg, StableMsg, ReadsMsg}
 use Rattle.ft_model.specs.Client.{Client}
@@ -9,7 +9,7 @@ use Rattle.ft_model.specs.World.{World, Moment}
 use Rattle.ft_model.specs.Legal.{start_of}
 use Rattle.ft_model.specs.WorkedRuns.Common.{server, key, hello_text, client_with, to_log, from_log, numbers, kept_with, idle, opening_at, serving_at}
 use Rattle.ft_model.specs.WorkedRuns.FirstPath.{moment, log_with, opened_entry, filled_entry, read_entry}
-use Rattle.ft_model.specs.WorkedRuns.ZeroWindow.{syn, first_ack, text, room, begun, opened, taken, logged, waiting, probed, given, probe_2, probe_3, probe_5, probe_6, probe_8, probe_10, probe_11, probe_15}
+use Rattle.ft_model.specs.WorkedRuns.ZeroWindow.{syn, first_ack, text, room, begun, opened, taken, logged, waiting, probed, given, lost, probe_2, probe_3, probe_5, probe_6, probe_8, probe_10, probe_11, probe_15}
 use Rattle.ft_model.specs.declared.event.Event.TheVariants.{Boot, Tick, Deliver, Begin, Send, Ack}
 use Rattle.ft_model.specs.declared.phase.Phase.TheVariants.{Opening, Established}
 use Rattle.ft_model.specs.declared.schedule.Schedule.{Schedule}
@@ -28,7 +28,7 @@ schedule = record {
 abbrev pub start : World
 start = start_of schedule
 
--- the client after it has said that it opens, after the SYN-ACK, after its text, and when it has room
+-- the client after its SYN, after the SYN-ACK, after its text, and when it has room
 abbrev pub opening : Client
 opening = record (client_with hello_text) { phase = Opening }
 
@@ -65,7 +65,7 @@ moment_7 = moment (Deliver 5) probe_3.sent (record moment_6.world { node = Some 
 abbrev pub moment_8 : Moment
 moment_8 = moment (Deliver 6) [] (record moment_7.world { clients = open_client ∷ [] })
 
--- it has no room still
+-- it still has no room
 abbrev pub moment_9 : Moment
 moment_9 = moment (Ack 1 0) (To_server first_ack ∷ []) moment_8.world
 
@@ -101,7 +101,7 @@ moment_18 = moment Tick [] (record moment_17.world { node = Some (serving_at 1 5
 abbrev pub moment_19 : Moment
 moment_19 = moment Tick probe_10.sent (record moment_18.world { node = Some (serving_at 1 5000 (probed 4 4)) })
 
--- room comes
+-- there is room
 abbrev pub moment_20 : Moment
 moment_20 = moment (Ack 1 5) (To_server room ∷ []) (record moment_19.world { clients = roomy_client ∷ [] })
 
@@ -117,9 +117,9 @@ moment_23 = moment Tick [] (record moment_22.world { node = Some (serving_at 1 5
 abbrev pub moment_24 : Moment
 moment_24 = moment Tick [] (record moment_23.world { node = Some (serving_at 1 5000 (given 4 1)) })
 
--- and what it doesn't acknowledge is sent again after four ticks more
+-- and what it doesn't acknowledge is retransmitted after four more ticks
 abbrev pub moment_25 : Moment
-moment_25 = moment Tick probe_15.sent (record moment_24.world { node = Some (serving_at 1 5000 (given 8 8)) })
+moment_25 = moment Tick probe_15.sent (record moment_24.world { node = Some (serving_at 1 5000 lost) })
 
 -- the whole trace, newest moment first
 abbrev pub trace : List Moment

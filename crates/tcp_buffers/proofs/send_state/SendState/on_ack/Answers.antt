@@ -1,6 +1,6 @@
 use Rattle.std.proofs.Common.{◌≡◌, ◌<◌, ◌^◌, false, refl, sym, ap, ◌∙◌}
 use Rattle.seq_arith.specs.Number.{distance}
-use Rattle.tcp_buffers.specs.SendNumbers.{kind_of, is_window_used, edge_of, una_by, interval_by, left_by}
+use Rattle.tcp_buffers.specs.SendNumbers.{kind_of, is_window_used, edge_of, una_by, interval_by, left_by, congestion_by}
 use Rattle.tcp_buffers.proofs.Outstanding.{beyond_is_unused, edge_from_una, window_to_edge, edge_fits, una_fits, same_state}
 use Rattle.tcp_buffers.proofs.send_state.SendState.on_ack.Goals as goal
 
@@ -16,6 +16,10 @@ returns-clause-used c =
       edge = rw c.minus.ensures (edge_from_una c.una_by-una.result.0 c.edge_after-edge.result.0 una_range edge_range ∙ c.edge_after-edge.ensures);
       wl1 = c.window_source.ensures.wl1;
       wl2 = c.window_source.ensures.wl2;
+      mss = refl;
+      congestion =
+          (λ i. record { cwnd = c.congestion_by-cwnd.ensures.cwnd i; ssthresh = c.congestion_by-cwnd.ensures.ssthresh i; dups = c.congestion_by-cwnd.ensures.dups i })
+          ∙ ap (λ k. congestion_by k s) is_kind;
       interval = c.timer_by-interval.ensures.interval ∙ ap (λ k. interval_by k s.interval) is_kind;
       left = c.timer_by-interval.ensures.left ∙ ap (λ k. left_by k s.nxt.0 ack s.left) is_kind;
     }
@@ -32,4 +36,6 @@ returns-clause-beyond c is_beyond =
     let wl2 : c.window_source.result.1.0 ≡ s.wl2.0 = c.window_source.ensures.wl2 ∙ rw unused refl in
     let interval : c.timer_by-interval.result.0 ≡ s.interval = c.timer_by-interval.ensures.interval ∙ ap (λ k. interval_by k s.interval) is_beyond in
     let left : c.timer_by-interval.result.1 ≡ s.left = c.timer_by-interval.ensures.left ∙ ap (λ k. left_by k s.nxt.0 ack s.left) is_beyond in
-    same_state s _ _ _ _ _ _ una wl1 wl2 wnd interval left
+    let cwnd : c.congestion_by-cwnd.result.0 ≡ s.cwnd = c.congestion_by-cwnd.ensures.cwnd ∙ ap (λ k. (congestion_by k s).cwnd) is_beyond in
+    let dups : c.congestion_by-cwnd.result.1 ≡ s.dups = c.congestion_by-cwnd.ensures.dups ∙ ap (λ k. (congestion_by k s).dups) is_beyond in
+    same_state s _ _ _ _ _ _ _ _ una wl1 wl2 wnd interval left cwnd dups

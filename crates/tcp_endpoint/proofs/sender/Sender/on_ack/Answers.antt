@@ -1,16 +1,37 @@
-use Rattle.std.proofs.Common.{◌∙◌, ap, arith, drop}
-use Rattle.tcp_endpoint.proofs.Acks.{sent_is, used_is}
+use Rattle.std.proofs.Common.{◌≡◌, ◌∙◌, true, false, refl, sym, ap}
+use Rattle.seq_arith.specs.Congestion.{is_third}
+use Rattle.seq_arith.specs.Number.{offset_of}
+use Rattle.tcp_buffers.specs.Near.{is_ahead}
+use Rattle.ft_io.proofs.Booleans.{not_true}
+use Rattle.tcp_endpoint.specs.Sending.{Sending, acknowledged, is_duplicate, duplicated}
+use Rattle.tcp_endpoint.proofs.Acks.{duplicate_keeps, answered_once, answered_again}
 use Rattle.tcp_endpoint.proofs.sender.Sender.on_ack.Goals as goal
 
-pub returns-clause-used : goal.returns-clause-used
-returns-clause-used c = rw (← c.self.view_is) (λ short.
-    let i = c.self.inside in
-    c.was_sent.ensures
-    ∙ sent_is i.iss.0 i.numbers c.args.seq.0 c.args.ack.0 i.syn_acked i.held i.closed i.fin_sent i.mss c.on_ack-kind.result c.fit.ensures short c.on_ack-kind.ensures.kind)
+pub returns-then-is_duplicate-clause-used : goal.returns-then-is_duplicate-clause-used
+returns-then-is_duplicate-clause-used c short =
+    let s = c.args.self.now in
+    let z = offset_of s.iss c.args.ack.0 in
+    let sent : is_ahead s.sent z ≡ false = not_true _ (sym (c.acknowledge.ensures.used short) ∙ c.if-not-acknowledge.false) in
+    let acked : c.acknowledge.new.self ≡ acknowledged s c.args.seq.0 z c.args.window = c.acknowledge.ensures.state short ∙ rw sent refl in
+    let again : is_duplicate s c.args.is_bare z c.args.window ≡ true = sym (c.is_duplicate-is_duplicate.ensures short) ∙ c.if-is_duplicate.true in
+    let third : is_third c.acknowledge.new.self.congestion ≡ is_third s.congestion =
+    ap (λ (t : Sending). is_third t.congestion) acked ∙ ap is_third (duplicate_keeps s c.args.is_bare c.args.seq.0 z c.args.window again) in
+    rw (sent, again, ← third) c.count_duplicate.ensures.third
 
-pub returns-clause-state : goal.returns-clause-state
-returns-clause-state c = rw (← c.self.view_is) (λ short.
-    let i = c.self.inside in
-    used_is i.iss.0 i.numbers c.on_ack-kind.new.self c.args.seq.0 c.args.ack.0 c.args.window i.syn_acked i.held c.drop_front.new.self i.closed i.fin_sent i.mss
-    c.on_ack-kind.result c.fit.ensures (omega arith) short c.on_ack-kind.ensures.kind c.on_ack-kind.ensures.used c.on_ack-kind.ensures.beyond
-    (c.drop_front.ensures ∙ ap (λ k. drop k i.held) (cc (c.min-units.ensures, c.units_of.ensures, c.len.ensures.count))))
+pub returns-then-is_duplicate-clause-state : goal.returns-then-is_duplicate-clause-state
+returns-then-is_duplicate-clause-state c short =
+    let s = c.args.self.now in
+    let z = offset_of s.iss c.args.ack.0 in
+    let sent : is_ahead s.sent z ≡ false = not_true _ (sym (c.acknowledge.ensures.used short) ∙ c.if-not-acknowledge.false) in
+    let acked : c.acknowledge.new.self ≡ acknowledged s c.args.seq.0 z c.args.window = c.acknowledge.ensures.state short ∙ rw sent refl in
+    let again : is_duplicate s c.args.is_bare z c.args.window ≡ true = sym (c.is_duplicate-is_duplicate.ensures short) ∙ c.if-is_duplicate.true in
+    rw sent (c.count_duplicate.ensures.state ∙ ap duplicated acked ∙ answered_again s c.args.is_bare c.args.seq.0 z c.args.window again)
+
+pub returns-else-is_duplicate-clause-state : goal.returns-else-is_duplicate-clause-state
+returns-else-is_duplicate-clause-state c short =
+    let s = c.args.self.now in
+    let z = offset_of s.iss c.args.ack.0 in
+    let sent : is_ahead s.sent z ≡ false = not_true _ (sym (c.acknowledge.ensures.used short) ∙ c.if-not-acknowledge.false) in
+    let acked : c.acknowledge.new.self ≡ acknowledged s c.args.seq.0 z c.args.window = c.acknowledge.ensures.state short ∙ rw sent refl in
+    let once : is_duplicate s c.args.is_bare z c.args.window ≡ false = sym (c.is_duplicate-is_duplicate.ensures short) ∙ c.if-is_duplicate.false in
+    rw sent (acked ∙ answered_once s c.args.is_bare c.args.seq.0 z c.args.window once)
