@@ -1,6 +1,7 @@
 pub mod Lens
-pub mod Sizes
 pub mod Numbers
+pub mod Placed
 pub mod Sendable
 pub mod Placing
+pub mod Putting
 pub mod Assembled

@@ -15,9 +15,10 @@ big_at at (suc width) bytes =
     in let later : big_from (suc at) width bytes ≡ number_from width (drop 1 (drop at bytes)) = big_at (suc at) width bytes ∙ ap (number_from width) rest
     in cc (first, later)
 
-pub big_is : (width : ℕ) (bytes : List ℕ) → big_number width bytes ≡ number_in width bytes
+pub byte_is : (bytes : List ℕ) (at : ℕ) → slice_index bytes at ≡ number_in 1 (drop at bytes)
 unfolding number_in
-big_is width bytes = big_at 0 width bytes
+byte_is bytes at =
+    let same : slice_index (drop at bytes) 0 ≡ slice_index bytes at = get_or-drop at bytes 0 0 ∙ ap (λ n. get_or bytes n 0) (add-zero at) in omega (arith, same)
 
 -- every byte is below 256
 abbrev pub AreBytes : List ℕ → Type 0

@@ -1,35 +1,45 @@
 -- What is read may be sent: its numbers are those that were read, and each of them is in its range.
-use Rattle.std.proofs.Common.{◌≡◌, ℕ, zero, suc, ◌≤◌, ◌+◌, ◌-◌, ◌%◌, ◌^◌, Bool, true, not, List, [], ◌∷◌, length, length-drop, take, drop, ap, refl, sym, subst, arith, ◌∙◌}
-use Rattle.std.specs.Prelude.{◌&&◌, ◌||◌, nat_eq, nat_le, slice_index}
+use Rattle.std.proofs.Common.{◌≡◌, ℕ, zero, suc, ◌≤◌, ◌+◌, ◌%◌, ◌^◌, Bool, true, not, List, [], ◌∷◌, length, length-drop, drop, ap, refl, sym, subst, arith, ◌∙◌}
+use Rattle.std.specs.Prelude.{Result, Ok, Err, IfOk, ◌&&◌, ◌||◌, nat_eq, nat_le, slice_index}
 use Rattle.std.specs.List.{list_all}
 use Rattle.std.proofs.lemmas.Bool.{leb-true, and_from, and_parts}
-use Rattle.std.proofs.lemmas.List.{take_rest}
+use Rattle.seq_arith.specs.declared.kinds.BadMsg.{BadMsg}
 use Rattle.seq_arith.specs.declared.kinds.Kind.{Kind}
 use Rattle.seq_arith.specs.declared.kinds.Kind.TheVariants as kinds
 use Rattle.seq_arith.specs.declared.kinds.Field.{Field}
 use Rattle.seq_arith.specs.Bytes.{two}
-use Rattle.seq_arith.specs.Message.{Body, Message}
-use Rattle.seq_arith.specs.MessageGrammar.{number_in, fields_of, most_behind, width, behind_at, has_length, is_lens, all_in_range, numbers_in, lens_in, lens_bytes, kind_of, numbers_of, behind_of, lens_of, flag, body_in, message_in, is_sound, is_sound_in, AllFit, IsSpellable}
+use Rattle.seq_arith.specs.Message.{Body}
+use Rattle.seq_arith.specs.MessageGrammar.{number_in, fields_of, most_behind, width, behind_at, has_length, is_lens, all_in_range, numbers_in, lens_in, lens_bytes, kind_of, numbers_of, behind_of, lens_of, flag, body_in, message_in, is_sound, is_sound_in, reading_of, AllFit, IsSpellable}
 use Rattle.seq_arith.proofs.MessageSpelling.{bounded}
 use Rattle.logger_wire.specs.declared.Msg.{Msg}
-use Rattle.logger_wire.specs.Tested.{flags_in, left_over_in}
-use Rattle.logger_wire.specs.Value.{IsSendable, message_of, flags_of, left_over}
+use Rattle.logger_wire.specs.Places.{IsPlain}
+use Rattle.logger_wire.specs.Value.{IsSendable, message_of, seen}
 use Rattle.logger_wire.proofs.Numbers.{AreBytes, bytes_left, number_small}
+use Rattle.logger_wire.proofs.Placed.{tests_passed}
 
 abbrev are_flags : List ℕ → Bool
 are_flags flags = list_all (λ n. nat_le n 1) flags
 
-pub flag_again : (n : ℕ) → nat_le n 1 ≡ true → flag (nat_eq n 1) ≡ n
+flag_again : (n : ℕ) → nat_le n 1 ≡ true → flag (nat_eq n 1) ≡ n
 flag_again zero h = refl
 flag_again (suc zero) h = refl
 flag_again (suc (suc n)) h = absurd (omega (arith, leb-true (suc (suc n)) 1 h))
 
+-- the flags among a kind's numbers, and how many of the bytes behind them are left over where a length has two
+abbrev flags_in : Kind → List ℕ → List ℕ
+flags_in kinds.Entry numbers = slice_index numbers 7 ∷ slice_index numbers 8 ∷ []
+flags_in kinds.Data numbers = slice_index numbers 4 ∷ []
+flags_in kinds.Stable numbers = slice_index numbers 3 ∷ []
+flags_in kinds.Reads numbers = slice_index numbers 3 ∷ []
+flags_in _ numbers = []
+
+abbrev left_over_in : Kind → List ℕ → ℕ
+left_over_in kinds.Lens behind = length behind % 2
+left_over_in _ behind = 0
+
 -- the numbers of a kind's fields
 abbrev read : Kind → List ℕ → List ℕ
 read kind bytes = numbers_in (fields_of kind) bytes
-
-abbrev pub message_with : ℕ → Body → Message
-message_with boot body = record { boot = boot; body = body }
 
 same_kind : (kind : Kind) (numbers behind : List ℕ) → kind_of (body_in kind numbers behind) ≡ kind
 same_kind kinds.Hello numbers behind = refl
@@ -176,9 +186,6 @@ no_rest kind n behind is size =
     let even : (not (is_lens kind) || nat_eq (n % 2) 0) ≡ true = (and_parts _ _ size).1
     in none_left kind behind (ap (λ k. not (is_lens kind) || nat_eq (k % 2) 0) (sym is) ∙ even)
 
-pub long_enough : (kind : Kind) (n : ℕ) → has_length kind n ≡ true → behind_at kind ≤ n
-long_enough kind n size = let least = (bounded kind n size).0 in omega arith
-
 -- a message that was read has a spelling
 read_spellable : (kind : Kind) (bytes : List ℕ) → AreBytes bytes → has_length kind (length bytes) ≡ true → is_sound_in kind bytes ≡ true
     → IsSpellable (message_in kind bytes)
@@ -209,44 +216,10 @@ read_spellable kind bytes are size sound =
       size = subst (λ k. Sized k (length (behind_of body))) kind_is sized;
     }
 
--- what stands from a place on, as the code's slices say it
-abbrev pub part : ℕ → List ℕ → List ℕ
-part at bytes = take (length bytes - at) (drop at bytes)
-
-pub read_sendable : (kind : Kind) (bytes : List ℕ) (msg : Msg) → AreBytes bytes → has_length kind (length bytes) ≡ true → is_sound_in kind bytes ≡ true
-    → message_of msg ≡ message_in kind bytes → flags_of msg.body ≡ flags_in kind (read kind (part 16 bytes)) → (at : ℕ) → at ≡ behind_at kind
-    → left_over msg.body ≡ left_over_in kind (part at bytes) → IsSendable msg
-unfolding is_sound is_sound_in message_in
-read_sendable kind bytes msg are size sound says flags at at_is lens =
-    let behind : List ℕ = drop (behind_at kind) bytes
-    in let count : length bytes ≡ behind_at kind + length behind = omega (arith, length-drop (behind_at kind) bytes, long_enough kind (length bytes) size)
-    in let good = (and_parts _ _ (and_parts _ _ sound).0).1
-    in record {
-      flags = ap are_flags (flags ∙ ap (λ b. flags_in kind (read kind b)) (take_rest bytes 16)) ∙ flags_good kind (number_in 8 (drop 8 bytes)) (length behind) (drop 16 bytes) good;
-      lens = lens ∙ ap (left_over_in kind) (take_rest bytes at ∙ ap (λ n. drop n bytes) at_is) ∙ no_rest kind (length bytes) behind count size;
-      spellable = subst IsSpellable (sym says) (read_spellable kind bytes are size sound);
-    }
-
-body_whole : (kind : Kind) (bytes : List ℕ) (at : ℕ) (body : Body) → at ≡ behind_at kind → body ≡ body_in kind (read kind (part 16 bytes)) (part at bytes)
-    → body ≡ body_in kind (read kind (drop 16 bytes)) (drop (behind_at kind) bytes)
-body_whole kind bytes at body at_is body_is =
-    body_is ∙ ap (λ b. body_in kind (read kind b) (part at bytes)) (take_rest bytes 16)
-    ∙ ap (body_in kind (read kind (drop 16 bytes))) (take_rest bytes at ∙ ap (λ n. drop n bytes) at_is)
-
--- a message that was read part by part
-pub says : (kind : Kind) (bytes : List ℕ) (at boot : ℕ) (body : Body) → at ≡ behind_at kind → boot ≡ number_in 8 (drop 8 bytes)
-    → body ≡ body_in kind (read kind (part 16 bytes)) (part at bytes) → message_with boot body ≡ message_in kind bytes
-unfolding message_in
-says kind bytes at boot body at_is boot_is body_is = let whole = body_whole kind bytes at body at_is body_is in cc (boot_is, whole)
-
-pub sound_is : (kind : Kind) (bytes : List ℕ) (at boot : ℕ) (body : Body) → at ≡ behind_at kind → boot ≡ number_in 8 (drop 8 bytes)
-    → body ≡ body_in kind (read kind (part 16 bytes)) (part at bytes)
-    → is_sound kind boot (length (part at bytes)) (read kind (part 16 bytes)) (lens_of body) ≡ is_sound_in kind bytes
-unfolding message_in is_sound_in
-sound_is kind bytes at boot body at_is boot_is body_is =
-    let whole = body_whole kind bytes at body at_is body_is
-    in let behind : part at bytes ≡ drop (behind_at kind) bytes = take_rest bytes at ∙ ap (λ n. drop n bytes) at_is
-    in ap (λ b. is_sound kind boot (length b) (read kind (part 16 bytes)) (lens_of body)) behind
-    ∙ ap (λ b. is_sound kind boot (length (drop (behind_at kind) bytes)) (read kind b) (lens_of body)) (take_rest bytes 16)
-    ∙ ap (λ n. is_sound kind n (length (drop (behind_at kind) bytes)) (read kind (drop 16 bytes)) (lens_of body)) boot_is
-    ∙ ap (λ b. is_sound kind (number_in 8 (drop 8 bytes)) (length (drop (behind_at kind) bytes)) (read kind (drop 16 bytes)) (lens_of b)) whole
+-- what is read may be sent, if its flags are 0 or 1 and its lengths have two bytes each
+pub all_sendable : (kind : Kind) (bytes : List ℕ) (result : Result Msg BadMsg) → AreBytes bytes → seen result ≡ reading_of kind bytes
+    → IfOk result (λ msg. IsPlain msg.body) → IfOk result (λ msg. IsSendable msg)
+all_sendable kind bytes (Err bad) are says plain = tt
+all_sendable kind bytes (Ok msg) are says plain =
+    let tests = tests_passed kind bytes (message_of msg) says
+    in record { flags = plain.0; lens = plain.1; spellable = subst IsSpellable (sym tests.2) (read_spellable kind bytes are tests.0 tests.1) }

@@ -1,3 +1,4 @@
 pub mod Value
-pub mod Tested
+pub mod Places
+pub mod Records
 pub mod Written

@@ -1,4 +1,4 @@
--- What the code's messages say, in the plain records of the message grammar, and which of them may be sent.
+-- What the code's messages say, as plain records of the message grammar, and which of them may be sent.
 use Rattle.std.specs.Prelude.{ℕ, Bool, true, List, [], ◌∷◌, ◌≡◌, ◌==◌, ◌%◌, length, nat_le, Result, Ok, Err}
 use Rattle.std.specs.List.{list_all}
 use Rattle.seq_arith.specs.declared.kinds.BadMsg.{BadMsg}

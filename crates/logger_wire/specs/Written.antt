@@ -1,8 +1,45 @@
 -- A message as it is written, part by part.
-use Rattle.std.specs.Prelude.{ℕ, List, ◌++◌}
+use Rattle.std.specs.Prelude.{ℕ, Bool, true, false, List, ◌++◌, ◌+◌, length, take, drop}
+use Rattle.seq_arith.specs.declared.kinds.Kind.{Kind}
+use Rattle.seq_arith.specs.Checksum.{checksum}
 use Rattle.seq_arith.specs.Message.{Body}
-use Rattle.seq_arith.specs.MessageGrammar.{fields_of, kind_of, numbers_bytes, numbers_of, behind_of}
+use Rattle.seq_arith.specs.Message.{Body as bodies}
+use Rattle.seq_arith.specs.MessageGrammar.{fields_of, kind_of, numbers_bytes, numbers_of, behind_of, header}
 
--- what stands behind the header
+-- these bytes at a place, and all others as they were
+unfoldable pub put : ℕ → List ℕ → List ℕ → List ℕ
+put at new bytes = take at bytes ++ new ++ drop (at + length new) bytes
+
+-- what follows the header
 unfoldable pub body_bytes : Body → List ℕ
 body_bytes body = numbers_bytes (fields_of (kind_of body)) (numbers_of body) ++ behind_of body
+
+-- a message of a kind with this checksum, and with its own
+unfoldable pub text : Kind → (boot : ℕ) → (behind : List ℕ) → (check : ℕ) → List ℕ
+text kind boot behind check = header kind (16 + length behind) check boot ++ behind
+
+unfoldable pub sealed : Kind → (boot : ℕ) → (behind : List ℕ) → List ℕ
+sealed kind boot behind = text kind boot behind (checksum (text kind boot behind 0))
+
+-- what becomes of bytes when a message's header is written before what is already in its place
+unfoldable pub framed : Kind → (boot len : ℕ) → List ℕ → List ℕ
+framed kind boot len bytes = put 0 (sealed kind boot (drop 16 (take len bytes))) bytes
+
+-- the bodies that are made of one of the records
+abbrev pub has_numbers : Body → Bool
+has_numbers (bodies.OpenMsg numbers) = true
+has_numbers (bodies.OpenedMsg numbers) = true
+has_numbers _ = false
+
+abbrev pub has_kept : Body → Bool
+has_kept (bodies.StableMsg kept) = true
+has_kept (bodies.ReadsMsg kept) = true
+has_kept _ = false
+
+abbrev pub has_entry : Body → Bool
+has_entry (bodies.EntryMsg index entry) = true
+has_entry _ = false
+
+abbrev pub has_part : Body → Bool
+has_part (bodies.DataMsg part) = true
+has_part _ = false

@@ -1,5 +1,5 @@
-//! Messages between server and logger as bytes: reading and writing. What a string of bytes says, and which refusal it gets, is the
-//! message grammar of `seq_arith`. Nothing here takes memory.
+//! Messages between server and logger as bytes: reading and writing. What a string of bytes says, and which refusal it gets, is defined by the message grammar
+//! of `seq_arith`. Nothing here allocates.
 #![tactic(auto)]
 
 ghost use Rattle.std.specs.Prelude.{◌≡◌, ◌+◌, ◌*◌, ◌<◌, length, slice_index};
@@ -9,15 +9,20 @@ use byteorder::{BigEndian, ByteOrder};
 use ft_io::Key;
 pub use reading::{checksum_of, read_msg, word_at};
 pub use seq_arith::BadMsg;
-pub use writing::{checksum_of_both, write_msg};
+pub use writing::{checksum_of_both, put_msg, write_msg};
 
+mod fields;
+mod places;
 mod reading;
-mod table;
+mod records;
 #[cfg(test)]
 mod tests;
 mod writing;
 
-/// A message, with the boot number of the server that it comes from or answers.
+/// The version of every message.
+const VERSION: u8 = 1;
+
+/// A message, with the boot number of the server that sends it or that it answers.
 #[derive(Clone, Copy, Debug)]
 pub struct Msg<'a> {
     /// At least 1.
@@ -25,10 +30,9 @@ pub struct Msg<'a> {
     pub body: Body<'a>,
 }
 
-/// What a message says, with the bytes of `PartMsg` and `DataMsg` and the lengths of `LensMsg` where they were read from. An index of a
-/// log entry is at most 63 and a count of entries at most 64, a segment size is 64 to 1,460 bytes, a length and an offset with its bytes
-/// are at most 2^24 bytes, counts of reads and of acknowledged units at most 2^24 + 1, and the length of a read is at most 2,048 bytes.
-/// Flags are 0 or 1.
+/// What a message says. The bytes of `PartMsg` and `DataMsg` and the lengths of `LensMsg` stay where they were read from. An index of a log entry is at most 63
+/// and a count of entries at most 64. A segment size is 64 to 1,460 bytes. A length and an offset with its bytes are at most 2^24 bytes. Counts of reads and of
+/// acknowledged units are at most 2^24 + 1. The length of a read is at most 2,048 bytes. Flags are 0 or 1.
 #[derive(Clone, Copy, Debug)]
 pub enum Body<'a> {
     /// A server has started.
@@ -136,7 +140,7 @@ pub enum Body<'a> {
     },
 }
 
-/// The ith length, from 0, of those that `LensMsg` lends.
+/// Length `i`, counted from 0, of those that `LensMsg` lends.
 #[tactic(auto, using(std::proofs::lemmas::List::take_rest, crate::proofs::Lens::len_found))]
 pub fn len_at(lens: &[u8], i: usize) -> u16
     requires { 2 * i + 1 < length lens.now }

@@ -1,22 +1,24 @@
-//! Reading a message where it lies: the tests in the grammar's order, the fields by the table, and the bytes or lengths behind them as
-//! a part of the message.
+//! Reading a message in place: one match on the kind, and each field at its constant place. The bytes or lengths after the fields are lent as a part of the
+//! message.
 
-ghost use Rattle.std.specs.Prelude.{◌≡◌, ◌≤◌, ◌<◌, ◌+◌, ◌^◌, [], true, length, drop, IfOk, nat_le};
+ghost use Rattle.std.specs.Prelude.{◌≡◌, ◌≤◌, ◌<◌, ◌+◌, ◌^◌, true, length, IfOk, nat_le};
 ghost use Rattle.std.specs.List.{list_all};
 ghost use Rattle.seq_arith.specs.Bytes.{word_at as word_at_lem};
 ghost use Rattle.seq_arith.specs.Checksum.{checksum};
-ghost use Rattle.seq_arith.specs.MessageGrammar.{all_in_range, numbers_in, number_in, fields_of as fields_lem, fields_length, behind_at as behind_at_lem};
-ghost use Rattle.seq_arith.specs.MessageGrammar.{has_length as has_length_lem, body_in, is_sound as is_sound_lem, reading_of, reading, lens_in, lens_of};
-ghost use Rattle.logger_wire.specs.Value.{body_of as said_body, flags_of, left_over, seen, IsSendable};
-ghost use Rattle.logger_wire.specs.Tested.{tested, flags_in, left_over_in};
+ghost use Rattle.seq_arith.specs.MessageGrammar.{kind_numbered, reading_of, reading, lens_in};
+ghost use Rattle.logger_wire.specs.Value.{seen, IsSendable};
+ghost use Rattle.logger_wire.specs.Places.{opened, placed, IsPlain};
 
-use crate::table::{
-    HEADER, MAGIC, VERSION, behind_at, fields_of, has_length, is_in_range, kind_of_number, width,
+use crate::fields::{
+    behind, count, flag, huge, key, long, newer, offset, place, read_length, segment_size, units,
 };
-use crate::{Body, Msg};
+use crate::records::{EntryHead, Kept, Numbers, Part};
+use crate::{Body, Msg, VERSION};
 use byteorder::{BigEndian, ByteOrder};
-use ft_io::Key;
-use seq_arith::{BadMsg, Field, Kind, Sum16};
+use seq_arith::{BadMsg, Kind, Sum16};
+
+/// What every message begins with: "FT".
+const MAGIC: u16 = 0x4654;
 
 /// Reads a message, or says which test of the grammar it fails first. It copies none of its bytes.
 #[tactic(auto, unfolding(seq_arith::specs::MessageGrammar::reading))]
@@ -25,7 +27,7 @@ pub fn read_msg(bytes: &[u8]) -> Result<Msg<'_>, BadMsg>
     // What is read may be sent.
     ensures sendable { IfOk result (λ msg. IsSendable msg) }
 {
-    if bytes.len() < HEADER {
+    if bytes.len() < 16 {
         return Err(BadMsg::Short);
     }
     if word_at(bytes, 0) != MAGIC {
@@ -49,60 +51,7 @@ pub fn word_at(bytes: &[u8], at: usize) -> u16
     BigEndian::read_u16(&bytes[at..])
 }
 
-/// Reads a message of a known kind.
-#[tactic(auto, using(crate::proofs::Sendable::long_enough), unfolding(seq_arith::specs::MessageGrammar::reading_of, crate::specs::Tested::tested))]
-fn read_kind(kind: Kind, bytes: &[u8]) -> Result<Msg<'_>, BadMsg>
-    requires { 16 ≤ length bytes.now }
-    ensures value { seen result ≡ reading_of kind bytes.now }
-    ensures sendable { IfOk result (λ msg. IsSendable msg) }
-{
-    if usize::from(word_at(bytes, 4)) != bytes.len() || !has_length(kind, bytes.len()) {
-        return Err(BadMsg::Length);
-    }
-    if checksum_of(bytes) != 0 {
-        return Err(BadMsg::Sum);
-    }
-    read_fields(kind, bytes)
-}
-
-/// Reads the fields of a message whose length is right.
-#[tactic(auto, using(std::proofs::lemmas::List::take_rest), unfolding(crate::specs::Tested::tested))]
-fn read_fields(kind: Kind, bytes: &[u8]) -> Result<Msg<'_>, BadMsg>
-    requires whole { has_length_lem kind (length bytes.now) ≡ true }
-    requires long { behind_at_lem kind ≤ length bytes.now }
-    requires short { length bytes.now < 2 ^ 16 }
-    ensures value { seen result ≡ tested kind bytes.now }
-    ensures sendable { IfOk result (λ msg. IsSendable msg) }
-{
-    let fields = &bytes[HEADER..];
-    let behind = &bytes[behind_at(kind)..];
-    let boot = boot_in(bytes);
-    let body = read_body(kind, Fields { rest: fields }, behind);
-    if !is_sound(kind, boot, fields, behind.len(), &body) {
-        return Err(BadMsg::Field);
-    }
-    Ok(Msg { boot, body })
-}
-
-/// Whether all is in its range, in a message with these fields and so many bytes behind them.
-#[tactic(auto, unfolding(seq_arith::specs::MessageGrammar::is_sound))]
-fn is_sound(kind: Kind, boot: u64, fields: &[u8], behind: usize, body: &Body<'_>) -> bool
-    requires room { fields_length (fields_lem kind) ≤ length fields.now }
-    requires few { behind ≤ 65536 }
-    ensures { result ≡ is_sound_lem kind boot behind (numbers_in (fields_lem kind) fields.now) (lens_of (said_body body.now)) }
-{
-    boot >= 1 && are_in_range(fields_of(kind), fields, boot, behind) && lens_are_in_range(body)
-}
-
-#[tactic(auto, using(std::proofs::lemmas::List::take_rest), unfolding(seq_arith::specs::MessageGrammar::number_in))]
-fn boot_in(bytes: &[u8]) -> u64
-    requires { 16 ≤ length bytes.now }
-    ensures { result ≡ number_in 8 (drop 8 bytes.now) }
-{
-    BigEndian::read_u64(&bytes[8..])
-}
-
-/// The checksum of a whole message, with what stands in its checksum's place.
+/// The checksum of a complete message, computed over whatever is in the checksum's place.
 pub fn checksum_of(bytes: &[u8]) -> u16
     requires { length bytes.now < 2 ^ 16 }
     ensures { result ≡ checksum bytes.now }
@@ -112,205 +61,346 @@ pub fn checksum_of(bytes: &[u8]) -> u16
     sum.check()
 }
 
-/// Whether each field is in its range, in a message of this boot number with so many bytes behind its fields.
-#[tactic(auto, using(std::proofs::lemmas::List::take_rest, crate::proofs::Numbers::big_is))]
-fn are_in_range(fields: &[Field], bytes: &[u8], boot: u64, behind: usize) -> bool
-    requires room { fields_length fields.now ≤ length bytes.now }
-    requires few { behind ≤ 65536 }
-    ensures { result ≡ all_in_range boot behind fields.now (numbers_in fields.now bytes.now) }
+/// The kind with a number on the wire, if there is one.
+#[tactic(auto, unfolding(seq_arith::specs::MessageGrammar::kind_numbered))]
+fn kind_of_number(number: u8) -> Option<Kind>
+    ensures { result ≡ kind_numbered number }
 {
-    let mut rest = bytes;
-    for field in fields {
-        let width = width(*field);
-        if !is_in_range(*field, BigEndian::read_uint(rest, width), boot, behind) {
-            return false;
-        }
-        rest = &rest[width..];
+    match number {
+        1 => Some(Kind::Hello),
+        2 => Some(Kind::Summary),
+        3 => Some(Kind::List),
+        4 => Some(Kind::Entry),
+        5 => Some(Kind::Bytes),
+        6 => Some(Kind::Part),
+        7 => Some(Kind::Cuts),
+        8 => Some(Kind::Lens),
+        9 => Some(Kind::Open),
+        10 => Some(Kind::Opened),
+        11 => Some(Kind::Data),
+        12 => Some(Kind::Stable),
+        13 => Some(Kind::Read),
+        14 => Some(Kind::Reads),
+        15 => Some(Kind::Done),
+        16 => Some(Kind::Ended),
+        17 => Some(Kind::Stale),
+        18 => Some(Kind::Full),
+        _ => None,
     }
-    true
 }
 
-/// The body of a kind, with these fields and these bytes behind them.
-fn read_body<'a>(kind: Kind, mut fields: Fields<'_>, behind: &'a [u8]) -> Body<'a>
-    requires { fields_length (fields_lem kind) ≤ length fields.rest.now }
-    ensures value { said_body result ≡ body_in kind (numbers_in (fields_lem kind) fields.entry.rest.now) behind.now }
-    ensures flags { flags_of result ≡ flags_in kind (numbers_in (fields_lem kind) fields.entry.rest.now) }
-    ensures lens { left_over result ≡ left_over_in kind behind.now }
+/// Reads a message of a kind.
+fn read_kind(kind: Kind, bytes: &[u8]) -> Result<Msg<'_>, BadMsg>
+    requires { 16 ≤ length bytes.now }
+    ensures value { seen result ≡ placed kind bytes.now }
+    ensures plain { IfOk result (λ msg. IsPlain msg.body) }
 {
     match kind {
-        Kind::Hello => Body::HelloMsg,
-        Kind::Summary => Body::SummaryMsg {
-            count: fields.word(),
-        },
-        Kind::List => Body::ListMsg {
-            index: fields.word(),
-        },
-        Kind::Entry => read_entry(fields),
-        Kind::Bytes => Body::BytesMsg {
-            key: fields.key(),
-            offset: fields.long(),
-        },
-        Kind::Part => Body::PartMsg {
-            key: fields.key(),
-            offset: fields.long(),
-            bytes: behind,
-        },
-        Kind::Cuts => Body::CutsMsg {
-            key: fields.key(),
-            first: fields.long(),
-        },
-        Kind::Lens => Body::LensMsg {
-            key: fields.key(),
-            first: fields.long(),
-            lens: behind,
-        },
-        Kind::Open => Body::OpenMsg {
-            key: fields.key(),
-            cisn: fields.long(),
-            sisn: fields.long(),
-            mss: fields.word(),
-        },
-        Kind::Opened => Body::OpenedMsg {
-            key: fields.key(),
-            cisn: fields.long(),
-            sisn: fields.long(),
-            mss: fields.word(),
-        },
-        Kind::Data => Body::DataMsg {
-            key: fields.key(),
-            offset: fields.long(),
-            acked: fields.long(),
-            fin: fields.byte(),
-            bytes: behind,
-        },
-        Kind::Stable => Body::StableMsg {
-            key: fields.key(),
-            length: fields.long(),
-            fin: fields.byte(),
-            reads: fields.long(),
-        },
-        Kind::Read => Body::ReadMsg {
-            key: fields.key(),
-            index: fields.long(),
-            length: fields.word(),
-        },
-        Kind::Reads => Body::ReadsMsg {
-            key: fields.key(),
-            length: fields.long(),
-            fin: fields.byte(),
-            reads: fields.long(),
-        },
-        Kind::Done => Body::DoneMsg { key: fields.key() },
-        Kind::Ended => Body::EndedMsg { key: fields.key() },
-        Kind::Stale => Body::StaleMsg {
-            newer: fields.huge(),
-        },
-        Kind::Full => Body::FullMsg { key: fields.key() },
+        Kind::Hello => read_hello(bytes),
+        Kind::Summary => read_summary(bytes),
+        Kind::List => read_list(bytes),
+        Kind::Entry => read_entry(bytes),
+        Kind::Bytes => read_bytes(bytes),
+        Kind::Part => read_part(bytes),
+        Kind::Cuts => read_cuts(bytes),
+        Kind::Lens => read_lens(bytes),
+        Kind::Open => read_open(bytes),
+        Kind::Opened => read_opened(bytes),
+        Kind::Data => read_data(bytes),
+        Kind::Stable => read_stable(bytes),
+        Kind::Read => read_read(bytes),
+        Kind::Reads => read_reads(bytes),
+        Kind::Done => read_done(bytes),
+        Kind::Ended => read_ended(bytes),
+        Kind::Stale => read_stale(bytes),
+        Kind::Full => read_full(bytes),
     }
 }
 
-fn read_entry<'a>(mut fields: Fields<'_>) -> Body<'a>
-    requires { fields_length (fields_lem Kind.Entry) ≤ length fields.rest.now }
-    ensures value { said_body result ≡ body_in Kind.Entry (numbers_in (fields_lem Kind.Entry) fields.entry.rest.now) [] }
-    ensures flags { flags_of result ≡ flags_in Kind.Entry (numbers_in (fields_lem Kind.Entry) fields.entry.rest.now) }
-    ensures lens { left_over result ≡ 0 }
+/// The boot number of a message, whose length is within these bounds and as it says, and which sums to its checksum.
+#[tactic(auto, unfolding(crate::specs::Places::opened))]
+fn open(bytes: &[u8], least: usize, most: usize) -> Result<u64, BadMsg>
+    requires { 16 ≤ length bytes.now }
+    ensures value { result ≡ opened least most bytes.now }
+    ensures long { IfOk result (λ _. least ≤ length bytes.now) }
+    ensures short { IfOk result (λ _. length bytes.now ≤ 65535) }
 {
-    let index = fields.word();
-    let key = fields.key();
-    let (cisn, sisn, mss) = (fields.long(), fields.long(), fields.word());
-    let length = fields.long();
-    let (fin, done) = (fields.byte(), fields.byte());
-    let (reads, acked) = (fields.long(), fields.long());
-    Body::EntryMsg {
+    let len = bytes.len();
+    if usize::from(word_at(bytes, 4)) != len || len < least || most < len {
+        return Err(BadMsg::Length);
+    }
+    if checksum_of(bytes) != 0 {
+        return Err(BadMsg::Sum);
+    }
+    let boot = huge(bytes, 8);
+    if boot == 0 {
+        return Err(BadMsg::Field);
+    }
+    Ok(boot)
+}
+
+fn read_hello(bytes: &[u8]) -> Result<Msg<'_>, BadMsg>
+    requires { 16 ≤ length bytes.now }
+    ensures value { seen result ≡ placed Kind.Hello bytes.now }
+    ensures plain { IfOk result (λ msg. IsPlain msg.body) }
+{
+    let boot = open(bytes, 16, 16)?;
+    let body = Body::HelloMsg;
+    Ok(Msg { boot, body })
+}
+
+fn read_summary(bytes: &[u8]) -> Result<Msg<'_>, BadMsg>
+    requires { 16 ≤ length bytes.now }
+    ensures value { seen result ≡ placed Kind.Summary bytes.now }
+    ensures plain { IfOk result (λ msg. IsPlain msg.body) }
+{
+    let boot = open(bytes, 18, 18)?;
+    let body = Body::SummaryMsg {
+        count: count(bytes, 16)?,
+    };
+    Ok(Msg { boot, body })
+}
+
+fn read_list(bytes: &[u8]) -> Result<Msg<'_>, BadMsg>
+    requires { 16 ≤ length bytes.now }
+    ensures value { seen result ≡ placed Kind.List bytes.now }
+    ensures plain { IfOk result (λ msg. IsPlain msg.body) }
+{
+    let boot = open(bytes, 18, 18)?;
+    let body = Body::ListMsg {
+        index: place(bytes, 16)?,
+    };
+    Ok(Msg { boot, body })
+}
+
+fn read_entry(bytes: &[u8]) -> Result<Msg<'_>, BadMsg>
+    requires { 16 ≤ length bytes.now }
+    ensures value { seen result ≡ placed Kind.Entry bytes.now }
+    ensures plain { IfOk result (λ msg. IsPlain msg.body) }
+{
+    let boot = open(bytes, 48, 48)?;
+    let index = place(bytes, 16)?;
+    let entry = EntryHead::read(bytes)?;
+    let body = Body::EntryMsg {
         index,
-        key,
-        cisn,
-        sisn,
-        mss,
-        length,
-        fin,
-        done,
-        reads,
-        acked,
-    }
+        key: entry.key,
+        cisn: entry.cisn,
+        sisn: entry.sisn,
+        mss: entry.mss,
+        length: entry.length,
+        fin: u8::from(entry.fin),
+        done: u8::from(entry.done),
+        reads: entry.reads,
+        acked: entry.acked,
+    };
+    Ok(Msg { boot, body })
 }
 
-/// What is left of a message's fields.
-#[derive(Drop)]
-struct Fields<'a> {
-    rest: &'a [u8],
+fn read_bytes(bytes: &[u8]) -> Result<Msg<'_>, BadMsg>
+    requires { 16 ≤ length bytes.now }
+    ensures value { seen result ≡ placed Kind.Bytes bytes.now }
+    ensures plain { IfOk result (λ msg. IsPlain msg.body) }
+{
+    let boot = open(bytes, 26, 26)?;
+    let body = Body::BytesMsg {
+        key: key(bytes, 16),
+        offset: offset(bytes, 22, 26)?,
+    };
+    Ok(Msg { boot, body })
 }
 
-#[tactic(auto, using(std::proofs::lemmas::List::take_rest), unfolding(seq_arith::specs::MessageGrammar::number_in))]
-impl Fields<'_> {
-    fn byte(&mut self) -> u8
-        requires { 1 ≤ length self.old.rest.now }
-        ensures value { result ≡ number_in 1 self.old.rest.now }
-        ensures rest { self.new.rest.now ≡ drop 1 self.old.rest.now }
-        ensures left { length self.new.rest.now + 1 ≡ length self.old.rest.now }
-    {
-        let byte = self.rest[0];
-        self.rest = &self.rest[1..];
-        byte
-    }
+fn read_part(bytes: &[u8]) -> Result<Msg<'_>, BadMsg>
+    requires { 16 ≤ length bytes.now }
+    ensures value { seen result ≡ placed Kind.Part bytes.now }
+    ensures plain { IfOk result (λ msg. IsPlain msg.body) }
+{
+    let boot = open(bytes, 27, 1050)?;
+    let body = Body::PartMsg {
+        key: key(bytes, 16),
+        offset: offset(bytes, 22, 26)?,
+        bytes: behind(bytes, 26),
+    };
+    Ok(Msg { boot, body })
+}
 
-    fn word(&mut self) -> u16
-        requires { 2 ≤ length self.old.rest.now }
-        ensures value { result ≡ number_in 2 self.old.rest.now }
-        ensures rest { self.new.rest.now ≡ drop 2 self.old.rest.now }
-        ensures left { length self.new.rest.now + 2 ≡ length self.old.rest.now }
-    {
-        let word = BigEndian::read_u16(self.rest);
-        self.rest = &self.rest[2..];
-        word
-    }
+fn read_cuts(bytes: &[u8]) -> Result<Msg<'_>, BadMsg>
+    requires { 16 ≤ length bytes.now }
+    ensures value { seen result ≡ placed Kind.Cuts bytes.now }
+    ensures plain { IfOk result (λ msg. IsPlain msg.body) }
+{
+    let boot = open(bytes, 26, 26)?;
+    let body = Body::CutsMsg {
+        key: key(bytes, 16),
+        first: units(bytes, 22)?,
+    };
+    Ok(Msg { boot, body })
+}
 
-    fn long(&mut self) -> u32
-        requires { 4 ≤ length self.old.rest.now }
-        ensures value { result ≡ number_in 4 self.old.rest.now }
-        ensures rest { self.new.rest.now ≡ drop 4 self.old.rest.now }
-        ensures left { length self.new.rest.now + 4 ≡ length self.old.rest.now }
-    {
-        let long = BigEndian::read_u32(self.rest);
-        self.rest = &self.rest[4..];
-        long
+fn read_lens(bytes: &[u8]) -> Result<Msg<'_>, BadMsg>
+    requires { 16 ≤ length bytes.now }
+    ensures value { seen result ≡ placed Kind.Lens bytes.now }
+    ensures plain { IfOk result (λ msg. IsPlain msg.body) }
+{
+    if bytes.len() % 2 != 0 {
+        return Err(BadMsg::Length);
     }
+    let boot = open(bytes, 28, 1050)?;
+    let lens = behind(bytes, 26);
+    if !lens_in_range(lens) {
+        return Err(BadMsg::Field);
+    }
+    let body = Body::LensMsg {
+        key: key(bytes, 16),
+        first: units(bytes, 22)?,
+        lens,
+    };
+    Ok(Msg { boot, body })
+}
 
-    fn huge(&mut self) -> u64
-        requires { 8 ≤ length self.old.rest.now }
-        ensures value { result ≡ number_in 8 self.old.rest.now }
-        ensures rest { self.new.rest.now ≡ drop 8 self.old.rest.now }
-        ensures left { length self.new.rest.now + 8 ≡ length self.old.rest.now }
-    {
-        let huge = BigEndian::read_u64(self.rest);
-        self.rest = &self.rest[8..];
-        huge
-    }
+fn read_open(bytes: &[u8]) -> Result<Msg<'_>, BadMsg>
+    requires { 16 ≤ length bytes.now }
+    ensures value { seen result ≡ placed Kind.Open bytes.now }
+    ensures plain { IfOk result (λ msg. IsPlain msg.body) }
+{
+    let boot = open(bytes, 32, 32)?;
+    let numbers = Numbers::read(bytes)?;
+    let body = Body::OpenMsg {
+        key: numbers.key,
+        cisn: numbers.cisn,
+        sisn: numbers.sisn,
+        mss: numbers.mss,
+    };
+    Ok(Msg { boot, body })
+}
 
-    fn key(&mut self) -> Key
-        requires { 6 ≤ length self.old.rest.now }
-        ensures ip { result.ip ≡ number_in 4 self.old.rest.now }
-        ensures port { result.port ≡ number_in 2 (drop 4 self.old.rest.now) }
-        ensures rest { self.new.rest.now ≡ drop 2 (drop 4 self.old.rest.now) }
-        ensures left { length self.new.rest.now + 6 ≡ length self.old.rest.now }
-    {
-        Key {
-            ip: self.long(),
-            port: self.word(),
-        }
-    }
+fn read_opened(bytes: &[u8]) -> Result<Msg<'_>, BadMsg>
+    requires { 16 ≤ length bytes.now }
+    ensures value { seen result ≡ placed Kind.Opened bytes.now }
+    ensures plain { IfOk result (λ msg. IsPlain msg.body) }
+{
+    let boot = open(bytes, 32, 32)?;
+    let numbers = Numbers::read(bytes)?;
+    let body = Body::OpenedMsg {
+        key: numbers.key,
+        cisn: numbers.cisn,
+        sisn: numbers.sisn,
+        mss: numbers.mss,
+    };
+    Ok(Msg { boot, body })
+}
+
+fn read_data(bytes: &[u8]) -> Result<Msg<'_>, BadMsg>
+    requires { 16 ≤ length bytes.now }
+    ensures value { seen result ≡ placed Kind.Data bytes.now }
+    ensures plain { IfOk result (λ msg. IsPlain msg.body) }
+{
+    let boot = open(bytes, 31, 1491)?;
+    let part = Part::read(bytes)?;
+    let body = Body::DataMsg {
+        key: part.key,
+        offset: part.offset,
+        acked: part.acked,
+        fin: u8::from(part.fin),
+        bytes: part.bytes,
+    };
+    Ok(Msg { boot, body })
+}
+
+fn read_stable(bytes: &[u8]) -> Result<Msg<'_>, BadMsg>
+    requires { 16 ≤ length bytes.now }
+    ensures value { seen result ≡ placed Kind.Stable bytes.now }
+    ensures plain { IfOk result (λ msg. IsPlain msg.body) }
+{
+    let boot = open(bytes, 31, 31)?;
+    let kept = Kept::read(bytes)?;
+    let body = Body::StableMsg {
+        key: kept.key,
+        length: kept.length,
+        fin: u8::from(kept.fin),
+        reads: kept.reads,
+    };
+    Ok(Msg { boot, body })
+}
+
+fn read_read(bytes: &[u8]) -> Result<Msg<'_>, BadMsg>
+    requires { 16 ≤ length bytes.now }
+    ensures value { seen result ≡ placed Kind.Read bytes.now }
+    ensures plain { IfOk result (λ msg. IsPlain msg.body) }
+{
+    let boot = open(bytes, 28, 28)?;
+    let body = Body::ReadMsg {
+        key: key(bytes, 16),
+        index: units(bytes, 22)?,
+        length: read_length(bytes, 26)?,
+    };
+    Ok(Msg { boot, body })
+}
+
+fn read_reads(bytes: &[u8]) -> Result<Msg<'_>, BadMsg>
+    requires { 16 ≤ length bytes.now }
+    ensures value { seen result ≡ placed Kind.Reads bytes.now }
+    ensures plain { IfOk result (λ msg. IsPlain msg.body) }
+{
+    let boot = open(bytes, 31, 31)?;
+    let kept = Kept::read(bytes)?;
+    let body = Body::ReadsMsg {
+        key: kept.key,
+        length: kept.length,
+        fin: u8::from(kept.fin),
+        reads: kept.reads,
+    };
+    Ok(Msg { boot, body })
+}
+
+fn read_done(bytes: &[u8]) -> Result<Msg<'_>, BadMsg>
+    requires { 16 ≤ length bytes.now }
+    ensures value { seen result ≡ placed Kind.Done bytes.now }
+    ensures plain { IfOk result (λ msg. IsPlain msg.body) }
+{
+    let boot = open(bytes, 22, 22)?;
+    let body = Body::DoneMsg {
+        key: key(bytes, 16),
+    };
+    Ok(Msg { boot, body })
+}
+
+fn read_ended(bytes: &[u8]) -> Result<Msg<'_>, BadMsg>
+    requires { 16 ≤ length bytes.now }
+    ensures value { seen result ≡ placed Kind.Ended bytes.now }
+    ensures plain { IfOk result (λ msg. IsPlain msg.body) }
+{
+    let boot = open(bytes, 22, 22)?;
+    let body = Body::EndedMsg {
+        key: key(bytes, 16),
+    };
+    Ok(Msg { boot, body })
+}
+
+fn read_stale(bytes: &[u8]) -> Result<Msg<'_>, BadMsg>
+    requires { 16 ≤ length bytes.now }
+    ensures value { seen result ≡ placed Kind.Stale bytes.now }
+    ensures plain { IfOk result (λ msg. IsPlain msg.body) }
+{
+    let boot = open(bytes, 24, 24)?;
+    let body = Body::StaleMsg {
+        newer: newer(bytes, 16, boot)?,
+    };
+    Ok(Msg { boot, body })
+}
+
+fn read_full(bytes: &[u8]) -> Result<Msg<'_>, BadMsg>
+    requires { 16 ≤ length bytes.now }
+    ensures value { seen result ≡ placed Kind.Full bytes.now }
+    ensures plain { IfOk result (λ msg. IsPlain msg.body) }
+{
+    let boot = open(bytes, 22, 22)?;
+    let body = Body::FullMsg {
+        key: key(bytes, 16),
+    };
+    Ok(Msg { boot, body })
 }
 
 /// Whether each length is in its range.
-fn lens_are_in_range(body: &Body<'_>) -> bool
-    ensures { result ≡ list_all (λ len. nat_le len 2048) (lens_of (said_body body.now)) }
-{
-    match body {
-        Body::LensMsg { lens, .. } => lens_in_range(lens),
-        _ => true,
-    }
-}
-
 #[tactic(auto, using(std::proofs::lemmas::List::take_rest, crate::proofs::Lens::lens_step, crate::proofs::Lens::lens_end))]
 fn lens_in_range(lens: &[u8]) -> bool
     ensures { result ≡ list_all (λ len. nat_le len 2048) (lens_in lens.now) }

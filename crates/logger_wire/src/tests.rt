@@ -120,6 +120,9 @@ fn message_bytes(rt: HostRuntime) {
     };
     assert_eq!(rt; write_msg(&summary, &mut out), 18);
     assert_eq!(rt; &out[..18], &SUMMARY[..]);
+    let mut room = [0xEEu8; 18];
+    assert_eq!(rt; put_msg(&summary, &mut room), 18);
+    assert_eq!(rt; &room, SUMMARY);
     let data = Msg {
         boot: 1,
         body: Body::DataMsg {

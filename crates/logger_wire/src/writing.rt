@@ -1,91 +1,76 @@
-//! Writing a message in its one spelling. The checksum is summed over what will stand there, with zero in its place.
+//! Writing a message in its one spelling, each field at its constant place. The header comes last: the checksum is computed over the rest, with zero in its own
+//! place.
 
 ghost use Rattle.std.specs.Prelude.{◌≡◌, ◌≤◌, ◌<◌, ◌+◌, ◌%◌, ◌^◌, ◌++◌, length, take, drop, Ok, true};
-ghost use Rattle.std.specs.List.{list_all};
-ghost use Rattle.std.specs.Prelude.{nat_le};
 ghost use Rattle.seq_arith.specs.Checksum.{checksum};
-ghost use Rattle.seq_arith.specs.MessageGrammar.{fields_of as fields_lem, fields_length, kind_of as kind_lem, numbers_of, number_bytes, numbers_bytes, lens_in};
-ghost use Rattle.seq_arith.specs.MessageGrammar.{lens_bytes, behind_of as behind_lem, message_length, header as header_lem, spelling, reading, AllFit};
-ghost use Rattle.logger_wire.specs.Written.{body_bytes};
-ghost use Rattle.logger_wire.specs.Value.{body_of as said_body, message_of, flags_of, left_over, IsSendable};
+ghost use Rattle.seq_arith.specs.Message.Body.{HelloMsg, SummaryMsg, PartMsg, ReadMsg, DoneMsg, StaleMsg};
+ghost use Rattle.seq_arith.specs.MessageGrammar.{kind_of as kind_lem, kind_number, lens_in, lens_bytes, message_length};
+ghost use Rattle.seq_arith.specs.MessageGrammar.{header, spelling, reading};
+ghost use Rattle.logger_wire.specs.Written.{put, body_bytes, sealed, framed, has_numbers, has_kept, has_entry, has_part};
+ghost use Rattle.logger_wire.specs.Value.{body_of as said_body, message_of, left_over, IsSendable};
 
-use crate::table::{HEADER, MAGIC, VERSION, fields_of, number_of, width};
-use crate::{Body, Msg};
-use byteorder::{BigEndian, ByteOrder};
+use crate::places::{put_bytes, put_huge, put_key, put_long, put_word};
+use crate::reading::checksum_of;
+use crate::records::{EntryHead, Kept, Numbers, Part};
+use crate::{Body, Msg, VERSION};
 use ft_io::Key;
-use seq_arith::{Field, Kind, Sum16};
+use seq_arith::{Kind, Sum16};
 
-/// Writes a message at the front of `out`, which has room for 2,048 bytes, and says how many bytes it has: at most 1,491.
+/// Writes a message at the beginning of `out`, which has room for 2,048 bytes, and returns how many bytes it has: at most 1,491.
 pub fn write_msg(m: &Msg<'_>, out: &mut [u8]) -> usize
     requires sendable { IsSendable m.now }
     requires room { 2048 ≤ length out.old }
     ensures length { result ≡ message_length (said_body m.now.body) }
     ensures bytes { out.new ≡ spelling (message_of m.now) ++ drop result out.old }
-    // What was written is read again.
+    // What was written is read back.
     ensures read { reading (take result out.new) ≡ Ok (message_of m.now) }
 {
-    let (front, rest) = out.split_at_mut(HEADER);
-    let count = put_body(&m.body, rest);
-    let len = HEADER + count;
-    let kind = kind_of(&m.body);
-    let blank = header(kind, len as u16, 0, m.boot);
-    let check = checksum_of_both(&blank, &rest[..count]);
-    front.copy_from_slice(&header(kind, len as u16, check, m.boot));
-    len
+    put_msg(m, out)
 }
 
-/// Writes a body at the front of `out`, and says how many bytes it has.
-fn put_body(body: &Body<'_>, out: &mut [u8]) -> usize
-    requires flags { list_all (λ flag. nat_le flag 1) (flags_of body.now) ≡ true }
-    requires lens { left_over body.now ≡ 0 }
-    requires fit { AllFit (fields_lem (kind_lem (said_body body.now))) (numbers_of (said_body body.now)) }
-    requires short { length (behind_lem (said_body body.now)) ≤ 1475 }
-    requires room { 2032 ≤ length out.old }
-    ensures length { result ≡ length (body_bytes (said_body body.now)) }
-    ensures bytes { out.new ≡ body_bytes (said_body body.now) ++ drop result out.old }
+/// Writes a message at the beginning of `out`, which has room for it, and returns how many bytes it has.
+pub fn put_msg(m: &Msg<'_>, out: &mut [u8]) -> usize
+    requires sendable { IsSendable m.now }
+    requires room { message_length (said_body m.now.body) ≤ length out.old }
+    ensures length { result ≡ message_length (said_body m.now.body) }
+    ensures bytes { out.new ≡ spelling (message_of m.now) ++ drop result out.old }
+    // What was written is read back.
+    ensures read { reading (take result out.new) ≡ Ok (message_of m.now) }
 {
-    let at = put_fields(body, out);
-    let behind = behind_of(body);
-    let len = at + behind.len();
-    out[at..len].copy_from_slice(behind);
-    len
+    put_kind(m, out)
 }
 
-/// The kind that says such a body.
-fn kind_of(body: &Body<'_>) -> Kind
-    ensures { result ≡ kind_lem (said_body body.now) }
+/// Writes a message of each kind.
+#[tactic(auto, unfolding(crate::specs::Written::body_bytes))]
+fn put_kind(m: &Msg<'_>, out: &mut [u8]) -> usize
+    requires lens { left_over m.now.body ≡ 0 }
+    requires short { message_length (said_body m.now.body) ≤ 1491 }
+    requires room { message_length (said_body m.now.body) ≤ length out.old }
+    ensures length { result ≡ message_length (said_body m.now.body) }
+    ensures bytes { out.new ≡ put 0 (sealed (kind_lem (said_body m.now.body)) m.now.boot (body_bytes (said_body m.now.body))) out.old }
 {
-    match body {
-        Body::HelloMsg => Kind::Hello,
-        Body::SummaryMsg { .. } => Kind::Summary,
-        Body::ListMsg { .. } => Kind::List,
-        Body::EntryMsg { .. } => Kind::Entry,
-        Body::BytesMsg { .. } => Kind::Bytes,
-        Body::PartMsg { .. } => Kind::Part,
-        Body::CutsMsg { .. } => Kind::Cuts,
-        Body::LensMsg { .. } => Kind::Lens,
-        Body::OpenMsg { .. } => Kind::Open,
-        Body::OpenedMsg { .. } => Kind::Opened,
-        Body::DataMsg { .. } => Kind::Data,
-        Body::StableMsg { .. } => Kind::Stable,
-        Body::ReadMsg { .. } => Kind::Read,
-        Body::ReadsMsg { .. } => Kind::Reads,
-        Body::DoneMsg { .. } => Kind::Done,
-        Body::EndedMsg { .. } => Kind::Ended,
-        Body::StaleMsg { .. } => Kind::Stale,
-        Body::FullMsg { .. } => Kind::Full,
-    }
-}
-
-/// What stands behind a body's fields.
-fn behind_of<'a>(body: &Body<'a>) -> &'a [u8]
-    requires { left_over body.now ≡ 0 }
-    ensures { result.now ≡ behind_lem (said_body body.now) }
-{
-    match *body {
-        Body::PartMsg { bytes, .. } | Body::DataMsg { bytes, .. } => bytes,
-        Body::LensMsg { lens, .. } => two_bytes_each(lens),
-        _ => &[],
+    let boot = m.boot;
+    match m.body {
+        Body::HelloMsg => put_hello(boot, out),
+        Body::SummaryMsg { count } => put_count(Kind::Summary, boot, count, out),
+        Body::ListMsg { index } => put_count(Kind::List, boot, index, out),
+        Body::EntryMsg { .. } => put_entry(m, out),
+        Body::BytesMsg { key, offset } => put_from(Kind::Bytes, boot, key, offset, &[], out),
+        Body::PartMsg { key, offset, bytes } => put_from(Kind::Part, boot, key, offset, bytes, out),
+        Body::CutsMsg { key, first } => put_from(Kind::Cuts, boot, key, first, &[], out),
+        Body::LensMsg { key, first, lens } => {
+            put_from(Kind::Lens, boot, key, first, two_bytes_each(lens), out)
+        }
+        Body::OpenMsg { .. } => put_opening(Kind::Open, m, out),
+        Body::OpenedMsg { .. } => put_opening(Kind::Opened, m, out),
+        Body::DataMsg { .. } => put_data(m, out),
+        Body::StableMsg { .. } => put_kept(Kind::Stable, m, out),
+        Body::ReadMsg { key, index, length } => put_read(boot, key, index, length, out),
+        Body::ReadsMsg { .. } => put_kept(Kind::Reads, m, out),
+        Body::DoneMsg { key } => put_only_key(Kind::Done, boot, key, out),
+        Body::EndedMsg { key } => put_only_key(Kind::Ended, boot, key, out),
+        Body::StaleMsg { newer } => put_stale(boot, newer, out),
+        Body::FullMsg { key } => put_only_key(Kind::Full, boot, key, out),
     }
 }
 
@@ -97,185 +82,161 @@ fn two_bytes_each(lens: &[u8]) -> &[u8]
     lens
 }
 
-/// Writes a body's fields at the front of `out`, and says how many bytes they have.
-#[tactic(auto, using(crate::proofs::Sendable::flag_again))]
-fn put_fields(body: &Body<'_>, out: &mut [u8]) -> usize
-    requires flags { list_all (λ flag. nat_le flag 1) (flags_of body.now) ≡ true }
-    requires fit { AllFit (fields_lem (kind_lem (said_body body.now))) (numbers_of (said_body body.now)) }
+fn put_hello(boot: u64, out: &mut [u8]) -> usize
+    requires { 16 ≤ length out.old }
+    ensures length { result ≡ 16 }
+    ensures bytes { out.new ≡ put 0 (sealed Kind.Hello boot (body_bytes HelloMsg)) out.old }
+{
+    finish(Kind::Hello, boot, 16, out)
+}
+
+/// Writes a Summary, or a List.
+fn put_count(kind: Kind, boot: u64, n: u16, out: &mut [u8]) -> usize
+    requires { 18 ≤ length out.old }
+    ensures length { result ≡ 18 }
+    ensures bytes { out.new ≡ put 0 (sealed kind boot (body_bytes (SummaryMsg n))) out.old }
+{
+    put_word(out, 16, n);
+    finish(kind, boot, 18, out)
+}
+
+fn put_entry(m: &Msg<'_>, out: &mut [u8]) -> usize
+    requires entry { has_entry (said_body m.now.body) ≡ true }
     requires room { 48 ≤ length out.old }
-    ensures length { result ≡ fields_length (fields_lem (kind_lem (said_body body.now))) }
-    ensures bytes { out.new ≡ numbers_bytes (fields_lem (kind_lem (said_body body.now))) (numbers_of (said_body body.now)) ++ drop result out.old }
+    ensures length { result ≡ 48 }
+    ensures bytes { out.new ≡ put 0 (sealed Kind.Entry m.now.boot (body_bytes (said_body m.now.body))) out.old }
 {
-    let fields = fields_of(kind_of(body));
-    match *body {
-        Body::HelloMsg => put_numbers(fields, &[], out),
-        Body::SummaryMsg { count } => put_numbers(fields, &[u64::from(count)], out),
-        Body::ListMsg { index } => put_numbers(fields, &[u64::from(index)], out),
-        Body::EntryMsg {
-            index,
-            key,
-            cisn,
-            sisn,
-            mss,
-            length,
-            fin,
-            done,
-            reads,
-            acked,
-        } => put_numbers(
-            fields,
-            &[
-                u64::from(index),
-                u64::from(key.ip),
-                u64::from(key.port),
-                u64::from(cisn),
-                u64::from(sisn),
-                u64::from(mss),
-                u64::from(length),
-                u64::from(fin),
-                u64::from(done),
-                u64::from(reads),
-                u64::from(acked),
-            ],
-            out,
-        ),
-        Body::BytesMsg { key, offset } | Body::PartMsg { key, offset, .. } => {
-            put_numbers(
-                fields,
-                &[u64::from(key.ip), u64::from(key.port), u64::from(offset)],
-                out,
-            )
-        }
-        Body::CutsMsg { key, first } | Body::LensMsg { key, first, .. } => {
-            put_numbers(
-                fields,
-                &[u64::from(key.ip), u64::from(key.port), u64::from(first)],
-                out,
-            )
-        }
-        Body::OpenMsg {
-            key,
-            cisn,
-            sisn,
-            mss,
-        }
-        | Body::OpenedMsg {
-            key,
-            cisn,
-            sisn,
-            mss,
-        } => put_numbers(
-            fields,
-            &[
-                u64::from(key.ip),
-                u64::from(key.port),
-                u64::from(cisn),
-                u64::from(sisn),
-                u64::from(mss),
-            ],
-            out,
-        ),
-        Body::DataMsg {
-            key,
-            offset,
-            acked,
-            fin,
-            ..
-        } => put_numbers(
-            fields,
-            &[
-                u64::from(key.ip),
-                u64::from(key.port),
-                u64::from(offset),
-                u64::from(acked),
-                u64::from(fin),
-            ],
-            out,
-        ),
-        Body::StableMsg {
-            key,
-            length,
-            fin,
-            reads,
-        }
-        | Body::ReadsMsg {
-            key,
-            length,
-            fin,
-            reads,
-        } => put_numbers(
-            fields,
-            &[
-                u64::from(key.ip),
-                u64::from(key.port),
-                u64::from(length),
-                u64::from(fin),
-                u64::from(reads),
-            ],
-            out,
-        ),
-        Body::ReadMsg { key, index, length } => put_numbers(
-            fields,
-            &[
-                u64::from(key.ip),
-                u64::from(key.port),
-                u64::from(index),
-                u64::from(length),
-            ],
-            out,
-        ),
-        Body::DoneMsg { key } | Body::EndedMsg { key } | Body::FullMsg { key } => {
-            put_numbers(fields, &[u64::from(key.ip), u64::from(key.port)], out)
-        }
-        Body::StaleMsg { newer } => put_numbers(fields, &[newer], out),
-    }
+    let (index, entry) = EntryHead::of(&m.body);
+    entry.put(index, out);
+    finish(Kind::Entry, m.boot, 48, out)
 }
 
-/// Writes the numbers of fields one behind the other at the front of `out`, and says how many bytes they have.
-fn put_numbers(fields: &[Field], numbers: &[u64], out: &mut [u8]) -> usize
-    requires fit { AllFit fields.now numbers.now }
-    requires room { fields_length fields.now ≤ length out.old }
-    ensures length { result ≡ fields_length fields.now }
-    ensures bytes { out.new ≡ numbers_bytes fields.now numbers.now ++ drop result out.old }
+/// Writes a kind that begins with a key and where its bytes or lengths start.
+fn put_from(kind: Kind, boot: u64, key: Key, start: u32, behind: &[u8], out: &mut [u8]) -> usize
+    requires short { 26 + length behind.now ≤ 1491 }
+    requires room { 26 + length behind.now ≤ length out.old }
+    ensures length { result ≡ 26 + length behind.now }
+    ensures bytes { out.new ≡ put 0 (sealed kind boot (body_bytes (PartMsg key start behind.now))) out.old }
 {
-    let mut at = 0;
-    for (i, field) in fields.iter().enumerate() {
-        let width = width(*field);
-        put_number(out, at, width, numbers[i]);
-        at += width;
-    }
-    at
+    put_key(out, 16, key);
+    put_long(out, 22, start);
+    finish_with(kind, boot, 26, behind, out)
 }
 
-/// Writes a number in so many bytes at a place.
-#[tactic(auto, unfolding(seq_arith::specs::MessageGrammar::number_bytes))]
-fn put_number(out: &mut [u8], at: usize, width: usize, n: u64)
-    requires some { 1 ≤ width }
-    requires few { width ≤ 8 }
-    requires room { at + width ≤ length out.old }
-    requires fits { n < 256 ^ width }
-    ensures front { take (at + width) out.new ≡ take at out.old ++ number_bytes width n }
-    ensures rest { drop (at + width) out.new ≡ drop (at + width) out.old }
+/// Writes an Open, or an Opened.
+fn put_opening(kind: Kind, m: &Msg<'_>, out: &mut [u8]) -> usize
+    requires numbers { has_numbers (said_body m.now.body) ≡ true }
+    requires room { 32 ≤ length out.old }
+    ensures length { result ≡ 32 }
+    ensures bytes { out.new ≡ put 0 (sealed kind m.now.boot (body_bytes (said_body m.now.body))) out.old }
 {
-    BigEndian::write_uint(&mut out[at..], n, width);
+    Numbers::of(&m.body).put(out);
+    finish(kind, m.boot, 32, out)
 }
 
-/// The header of a message of a kind with this length, checksum and boot number.
-#[tactic(auto, unfolding(seq_arith::specs::MessageGrammar::header, seq_arith::specs::MessageGrammar::number_bytes, seq_arith::specs::Bytes::two))]
-fn header(kind: Kind, len: u16, check: u16, boot: u64) -> [u8; HEADER]
-    ensures { result ≡ header_lem kind len check boot }
+fn put_data(m: &Msg<'_>, out: &mut [u8]) -> usize
+    requires part { has_part (said_body m.now.body) ≡ true }
+    requires short { message_length (said_body m.now.body) ≤ 1491 }
+    requires room { message_length (said_body m.now.body) ≤ length out.old }
+    ensures length { result ≡ message_length (said_body m.now.body) }
+    ensures bytes { out.new ≡ put 0 (sealed Kind.Data m.now.boot (body_bytes (said_body m.now.body))) out.old }
 {
-    let mut header = [0; HEADER];
-    BigEndian::write_u16(&mut header, MAGIC);
-    header[2] = VERSION;
-    header[3] = number_of(kind);
-    BigEndian::write_u16(&mut header[4..], len);
-    BigEndian::write_u16(&mut header[6..], check);
-    BigEndian::write_u64(&mut header[8..], boot);
-    header
+    let part = Part::of(&m.body);
+    part.put(out);
+    finish_with(Kind::Data, m.boot, 31, part.bytes, out)
 }
 
-/// The checksum of two strings of bytes, one behind the other.
+/// Writes a Stable, or a Reads.
+fn put_kept(kind: Kind, m: &Msg<'_>, out: &mut [u8]) -> usize
+    requires kept { has_kept (said_body m.now.body) ≡ true }
+    requires room { 31 ≤ length out.old }
+    ensures length { result ≡ 31 }
+    ensures bytes { out.new ≡ put 0 (sealed kind m.now.boot (body_bytes (said_body m.now.body))) out.old }
+{
+    Kept::of(&m.body).put(out);
+    finish(kind, m.boot, 31, out)
+}
+
+fn put_read(boot: u64, key: Key, index: u32, len: u16, out: &mut [u8]) -> usize
+    requires { 28 ≤ length out.old }
+    ensures length { result ≡ 28 }
+    ensures bytes { out.new ≡ put 0 (sealed Kind.Read boot (body_bytes (ReadMsg key index len))) out.old }
+{
+    put_key(out, 16, key);
+    put_long(out, 22, index);
+    put_word(out, 26, len);
+    finish(Kind::Read, boot, 28, out)
+}
+
+/// Writes a kind that has only a key.
+fn put_only_key(kind: Kind, boot: u64, key: Key, out: &mut [u8]) -> usize
+    requires { 22 ≤ length out.old }
+    ensures length { result ≡ 22 }
+    ensures bytes { out.new ≡ put 0 (sealed kind boot (body_bytes (DoneMsg key))) out.old }
+{
+    put_key(out, 16, key);
+    finish(kind, boot, 22, out)
+}
+
+fn put_stale(boot: u64, newer: u64, out: &mut [u8]) -> usize
+    requires { 24 ≤ length out.old }
+    ensures length { result ≡ 24 }
+    ensures bytes { out.new ≡ put 0 (sealed Kind.Stale boot (body_bytes (StaleMsg newer))) out.old }
+{
+    put_huge(out, 16, newer);
+    finish(Kind::Stale, boot, 24, out)
+}
+
+/// Writes the header before a body that is already in its place, and returns how long the message is.
+fn finish(kind: Kind, boot: u64, len: usize, out: &mut [u8]) -> usize
+    requires long { 16 ≤ len }
+    requires short { len < 2 ^ 16 }
+    requires room { len ≤ length out.old }
+    ensures length { result ≡ len }
+    ensures bytes { out.new ≡ framed kind boot len out.old }
+{
+    put_header(kind, boot, len as u16, out);
+    let check = checksum_of(&out[..len]);
+    put_word(out, 6, check);
+    len
+}
+
+/// Writes the header, and the bytes after the fields too. The checksum is computed over these where they come from: reading back what was just written is
+/// slower.
+fn finish_with(kind: Kind, boot: u64, at: usize, behind: &[u8], out: &mut [u8]) -> usize
+    requires long { 16 ≤ at }
+    requires short { at + length behind.now < 2 ^ 16 }
+    requires room { at + length behind.now ≤ length out.old }
+    ensures length { result ≡ at + length behind.now }
+    ensures bytes { out.new ≡ framed kind boot (at + length behind.now) (put at behind.now out.old) }
+{
+    let len = at + behind.len();
+    put_bytes(out, at, behind);
+    put_header(kind, boot, len as u16, out);
+    let check = checksum_of_both(&out[..at], behind);
+    put_word(out, 6, check);
+    len
+}
+
+/// Writes a header, with zero in its checksum's place.
+fn put_header(kind: Kind, boot: u64, len: u16, out: &mut [u8])
+    requires { 16 ≤ length out.old }
+    ensures { out.new ≡ put 0 (header kind len 0 boot) out.old }
+{
+    put_bytes(out, 0, &[b'F', b'T', VERSION, number_of(kind)]);
+    put_word(out, 4, len);
+    put_word(out, 6, 0);
+    put_huge(out, 8, boot);
+}
+
+/// A kind's number on the wire.
+fn number_of(kind: Kind) -> u8
+    ensures { result ≡ kind_number kind }
+{
+    kind as u8
+}
+
+/// The checksum of two strings of bytes, one after the other.
 pub fn checksum_of_both(front: &[u8], rest: &[u8]) -> u16
     requires { length front.now + length rest.now < 2 ^ 16 }
     ensures { result ≡ checksum (front.now ++ rest.now) }

@@ -1,0 +1,5 @@
+use Rattle.logger_wire.proofs.Assembled.{header_put}
+use Rattle.logger_wire.proofs.writing.put_header.Goals as goal
+
+pub returns : goal.returns
+returns c = cc (header_put c.args.kind c.args.boot c.args.len c.args.out.now c.requires)

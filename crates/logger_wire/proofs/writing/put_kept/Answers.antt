@@ -1,0 +1,9 @@
+use Rattle.std.proofs.Common.{refl}
+use Rattle.seq_arith.specs.Message.{Body as bodies}
+use Rattle.logger_wire.specs.Records.{kept_said}
+use Rattle.logger_wire.proofs.Assembled.{written}
+use Rattle.logger_wire.proofs.writing.put_kept.Goals as goal
+
+pub returns-clause-bytes : goal.returns-clause-bytes
+returns-clause-bytes c =
+    cc (written c.args.kind c.args.m.now.boot 31 (bodies.StableMsg (kept_said c.of.result)) c.args.out.now refl c.requires.room)

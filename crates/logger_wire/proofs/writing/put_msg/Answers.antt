@@ -1,0 +1,20 @@
+use Rattle.std.proofs.Common.{◌++◌, ◌∙◌, ap, sym, take, drop}
+use Rattle.seq_arith.specs.Message.{Message}
+use Rattle.seq_arith.specs.MessageGrammar.{spelling, reading}
+use Rattle.logger_wire.specs.Value.{message_of}
+use Rattle.logger_wire.proofs.Assembled.{not_longer, message_written, read_back}
+use Rattle.logger_wire.proofs.writing.put_msg.Goals as goal
+
+pub put_kind-requires-clause-short : goal.put_kind-requires-clause-short
+put_kind-requires-clause-short c = not_longer (message_of c.args.m.now) c.requires.sendable.spellable
+
+pub returns-clause-bytes : goal.returns-clause-bytes
+returns-clause-bytes c =
+    let message : Message = message_of c.args.m.now
+    in message_written message c.args.out.now c.put_kind.new.out c.put_kind.ensures.bytes
+    ∙ ap (λ n. spelling message ++ drop n c.args.out.now) (sym c.put_kind.ensures.length)
+
+pub returns-clause-read : goal.returns-clause-read
+returns-clause-read c =
+    ap (λ xs. reading (take c.put_kind.result xs)) (returns-clause-bytes c)
+    ∙ read_back (message_of c.args.m.now) c.args.out.now c.put_kind.result c.requires.sendable.spellable c.put_kind.ensures.length

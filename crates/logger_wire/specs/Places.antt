@@ -1,0 +1,58 @@
+-- How the code reads a message, each field at its constant place. The grammar walks over the fields. It is proved that both say the same.
+use Rattle.std.specs.Prelude.{ℕ, Bool, not, List, [], ◌∷◌, length, drop, ◌+◌, ◌%◌, ◌==◌, ◌&&◌, ◌||◌, ◌≡◌, true, nat_le, Result, Ok, Err, if◌then◌else◌}
+use Rattle.std.specs.List.{list_all}
+use Rattle.seq_arith.specs.declared.kinds.BadMsg.{BadMsg}
+use Rattle.seq_arith.specs.declared.kinds.BadMsg.TheVariants as bad
+use Rattle.seq_arith.specs.declared.kinds.Kind.{Kind}
+use Rattle.seq_arith.specs.declared.kinds.Field.{Field}
+use Rattle.seq_arith.specs.Bytes.{word_at}
+use Rattle.seq_arith.specs.Checksum.{checksum}
+use Rattle.seq_arith.specs.Message.{Body, Message}
+use Rattle.logger_wire.specs.declared.Body.{Body as Said}
+use Rattle.logger_wire.specs.Value.{flags_of, left_over}
+use Rattle.seq_arith.specs.MessageGrammar.{number_in, width, fields_of, fewest_behind, most_behind, behind_at, is_lens, all_in_range, lens_of, body_in}
+
+-- the number in `width` bytes at a place
+unfoldable pub number_at : (width at : ℕ) → List ℕ → ℕ
+number_at width at bytes = number_in width (drop at bytes)
+
+-- the numbers of fields that follow one another from a place on
+abbrev pub numbers_at : List Field → (at : ℕ) → List ℕ → List ℕ
+numbers_at [] at bytes = []
+numbers_at (field ∷ rest) at bytes = number_at (width field) at bytes ∷ numbers_at rest (at + width field) bytes
+
+-- what is read, where it is in its range
+abbrev pub checked : {X : Type 0} → Bool → X → Result X BadMsg
+checked is_good read = if is_good then Ok read else Err bad.Field
+
+-- the boot number of a message that has its length, within these bounds, and its checksum
+unfoldable pub opened : (least most : ℕ) → List ℕ → Result ℕ BadMsg
+opened least most bytes =
+    if not (word_at bytes 4 == length bytes) || not (nat_le least (length bytes) && nat_le (length bytes) most) then Err bad.Length
+    else (if not (checksum bytes == 0) then Err bad.Sum else checked (nat_le 1 (number_at 8 8 bytes)) (number_at 8 8 bytes))
+
+-- the body of a kind
+abbrev pub body_at : Kind → (boot : ℕ) → List ℕ → Result Body BadMsg
+body_at kind boot bytes =
+    let numbers = numbers_at (fields_of kind) 16 bytes
+    in let behind = drop (behind_at kind) bytes
+    in let body = body_in kind numbers behind
+    in checked (list_all (λ len. nat_le len 2048) (lens_of body) && all_in_range boot (length behind) (fields_of kind) numbers) body
+
+abbrev pub with_body : ℕ → Result Body BadMsg → Result Message BadMsg
+with_body boot (Ok body) = Ok (record { boot = boot; body = body })
+with_body boot (Err bad) = Err bad
+
+abbrev pub with_boot : Result ℕ BadMsg → (ℕ → Result Body BadMsg) → Result Message BadMsg
+with_boot (Ok boot) body = with_body boot (body boot)
+with_boot (Err bad) body = Err bad
+
+-- a message of a kind
+abbrev pub placed : Kind → List ℕ → Result Message BadMsg
+placed kind bytes =
+    if is_lens kind && not (length bytes % 2 == 0) then Err bad.Length
+    else with_boot (opened (behind_at kind + fewest_behind kind) (behind_at kind + most_behind kind) bytes) (λ boot. body_at kind boot bytes)
+
+-- what the code's messages say beyond those of the grammar: flags are 0 or 1, and no byte is left over where lengths have two each
+abbrev pub IsPlain : Said → Type 0
+IsPlain body = (list_all (λ flag. nat_le flag 1) (flags_of body) ≡ true) × (left_over body ≡ 0)

@@ -1,0 +1,166 @@
+//! Fields at their places in a message, and their ranges.
+
+ghost use Rattle.std.specs.Prelude.{◌≡◌, ◌≤◌, ◌<◌, ◌+◌, ◌==◌, length, drop};
+ghost use Rattle.seq_arith.specs.MessageGrammar.{is_in_range};
+ghost use Rattle.logger_wire.specs.Places.{number_at, checked};
+
+use byteorder::{BigEndian, ByteOrder};
+use ft_io::Key;
+use seq_arith::{BadMsg, Field};
+
+/// The longest stream, in bytes.
+const STREAM: u32 = 1 << 24;
+
+#[tactic(auto, using(crate::proofs::Numbers::byte_is), unfolding(crate::specs::Places::number_at))]
+pub(crate) fn byte(bytes: &[u8], at: usize) -> u8
+    requires { at < length bytes.now }
+    ensures { result ≡ number_at 1 at bytes.now }
+{
+    bytes[at]
+}
+
+#[tactic(auto, using(std::proofs::lemmas::List::take_rest), unfolding(crate::specs::Places::number_at, seq_arith::specs::MessageGrammar::number_in))]
+pub(crate) fn word(bytes: &[u8], at: usize) -> u16
+    requires { at + 2 ≤ length bytes.now }
+    ensures { result ≡ number_at 2 at bytes.now }
+{
+    BigEndian::read_u16(&bytes[at..])
+}
+
+#[tactic(auto, using(std::proofs::lemmas::List::take_rest), unfolding(crate::specs::Places::number_at, seq_arith::specs::MessageGrammar::number_in))]
+pub(crate) fn long(bytes: &[u8], at: usize) -> u32
+    requires { at + 4 ≤ length bytes.now }
+    ensures { result ≡ number_at 4 at bytes.now }
+{
+    BigEndian::read_u32(&bytes[at..])
+}
+
+#[tactic(auto, using(std::proofs::lemmas::List::take_rest), unfolding(crate::specs::Places::number_at, seq_arith::specs::MessageGrammar::number_in))]
+pub(crate) fn huge(bytes: &[u8], at: usize) -> u64
+    requires { at + 8 ≤ length bytes.now }
+    ensures { result ≡ number_at 8 at bytes.now }
+{
+    BigEndian::read_u64(&bytes[at..])
+}
+
+/// The bytes from a place on.
+#[tactic(auto, using(std::proofs::lemmas::List::take_rest))]
+pub(crate) fn behind(bytes: &[u8], at: usize) -> &[u8]
+    requires { at ≤ length bytes.now }
+    ensures bytes { result.now ≡ drop at bytes.now }
+    ensures length { length result.now + at ≡ length bytes.now }
+{
+    &bytes[at..]
+}
+
+/// A key: its address, and then its port.
+pub(crate) fn key(bytes: &[u8], at: usize) -> Key
+    requires { at + 6 ≤ length bytes.now }
+    ensures ip { result.ip ≡ number_at 4 at bytes.now }
+    ensures port { result.port ≡ number_at 2 (at + 4) bytes.now }
+{
+    Key {
+        ip: long(bytes, at),
+        port: word(bytes, at + 4),
+    }
+}
+
+/// A count of log entries.
+pub(crate) fn count(bytes: &[u8], at: usize) -> Result<u16, BadMsg>
+    requires { at + 2 ≤ length bytes.now }
+    ensures { result ≡ checked (is_in_range 0 0 Field.Count (number_at 2 at bytes.now)) (number_at 2 at bytes.now) }
+{
+    let n = word(bytes, at);
+    if n <= 64 { Ok(n) } else { Err(BadMsg::Field) }
+}
+
+/// The place of a log entry.
+pub(crate) fn place(bytes: &[u8], at: usize) -> Result<u16, BadMsg>
+    requires { at + 2 ≤ length bytes.now }
+    ensures { result ≡ checked (is_in_range 0 0 Field.Place (number_at 2 at bytes.now)) (number_at 2 at bytes.now) }
+{
+    let n = word(bytes, at);
+    if n <= 63 { Ok(n) } else { Err(BadMsg::Field) }
+}
+
+pub(crate) fn segment_size(bytes: &[u8], at: usize) -> Result<u16, BadMsg>
+    requires { at + 2 ≤ length bytes.now }
+    ensures { result ≡ checked (is_in_range 0 0 Field.Mss (number_at 2 at bytes.now)) (number_at 2 at bytes.now) }
+{
+    let n = word(bytes, at);
+    if 64 <= n && n <= 1460 {
+        Ok(n)
+    } else {
+        Err(BadMsg::Field)
+    }
+}
+
+pub(crate) fn read_length(bytes: &[u8], at: usize) -> Result<u16, BadMsg>
+    requires { at + 2 ≤ length bytes.now }
+    ensures { result ≡ checked (is_in_range 0 0 Field.ReadLength (number_at 2 at bytes.now)) (number_at 2 at bytes.now) }
+{
+    let n = word(bytes, at);
+    if n <= 2048 { Ok(n) } else { Err(BadMsg::Field) }
+}
+
+/// A count of logged bytes.
+pub(crate) fn stream_length(bytes: &[u8], at: usize) -> Result<u32, BadMsg>
+    requires { at + 4 ≤ length bytes.now }
+    ensures { result ≡ checked (is_in_range 0 0 Field.Length (number_at 4 at bytes.now)) (number_at 4 at bytes.now) }
+{
+    let n = long(bytes, at);
+    if n <= STREAM {
+        Ok(n)
+    } else {
+        Err(BadMsg::Field)
+    }
+}
+
+/// A count of reads, or of bytes with the FIN after them.
+pub(crate) fn units(bytes: &[u8], at: usize) -> Result<u32, BadMsg>
+    requires { at + 4 ≤ length bytes.now }
+    ensures { result ≡ checked (is_in_range 0 0 Field.Units (number_at 4 at bytes.now)) (number_at 4 at bytes.now) }
+{
+    let n = long(bytes, at);
+    if n <= STREAM + 1 {
+        Ok(n)
+    } else {
+        Err(BadMsg::Field)
+    }
+}
+
+/// Where the bytes from `start` on begin in a stream. They stay within it.
+pub(crate) fn offset(bytes: &[u8], at: usize, start: usize) -> Result<u32, BadMsg>
+    requires room { at + 4 ≤ length bytes.now }
+    requires start { start ≤ length bytes.now }
+    requires short { length bytes.now ≤ 65535 }
+    ensures { result ≡ checked (is_in_range 0 (length (drop start bytes.now)) Field.Offset (number_at 4 at bytes.now)) (number_at 4 at bytes.now) }
+{
+    let n = long(bytes, at);
+    if u64::from(n) + (bytes.len() - start) as u64 <= u64::from(STREAM) {
+        Ok(n)
+    } else {
+        Err(BadMsg::Field)
+    }
+}
+
+/// A boot number above this one.
+pub(crate) fn newer(bytes: &[u8], at: usize, boot: u64) -> Result<u64, BadMsg>
+    requires { at + 8 ≤ length bytes.now }
+    ensures { result ≡ checked (is_in_range boot 0 Field.Newer (number_at 8 at bytes.now)) (number_at 8 at bytes.now) }
+{
+    let n = huge(bytes, at);
+    if boot < n { Ok(n) } else { Err(BadMsg::Field) }
+}
+
+pub(crate) fn flag(bytes: &[u8], at: usize) -> Result<bool, BadMsg>
+    requires { at < length bytes.now }
+    ensures { result ≡ checked (is_in_range 0 0 Field.Flag (number_at 1 at bytes.now)) (number_at 1 at bytes.now == 1) }
+{
+    let n = byte(bytes, at);
+    if n <= 1 {
+        Ok(n == 1)
+    } else {
+        Err(BadMsg::Field)
+    }
+}
