@@ -3,10 +3,11 @@
 
 REPORTS is a folder with the reports of the worked runs. Of each the turns of the server are taken, and what the report says that the server sends
 is what must be printed. Packets and messages are spelled here, apart from the repository's codecs. The other cases are set by hand below, but for
-those on held segments: what a server does there is told by the model in tools/model.py.
+those on held segments and on congestion control: what a server does there is told by the model in tools/model.py.
 """
 import os
 import pathlib
+import random
 import struct
 import sys
 
@@ -203,6 +204,12 @@ play_report("held_segments", "a text that comes before the one in front of it", 
     13: [(K, numbers(0, 0, 0, 0, 0, 0, 0))],
     14: [(K, numbers(0, 5, 0, 5, 1, 0, 0))],
 }.items())
+play_report("congestion_window", "four segments leave at first, and the third duplicate sends one again", {
+    18: [(K, numbers(0, 8, 8, 8, 1, 0, 2144))],
+    21: [(K, numbers(0, 8, 8, 8, 1, 536, 3216))],
+    26: [(K, numbers(0, 8, 8, 8, 1, 536, 3216))],
+    27: [(K, numbers(0, 8, 8, 8, 1, 536, 3484))],
+}.items())
 play_report("early_acknowledgement", "an acknowledgement past the next number", {
     11: [(K, numbers(0, 0, 0, 0, 0, 0, 0))],
 }.items())
@@ -374,6 +381,12 @@ class Played:
         self.server = model.Server(boot, isn, self.service)
         self.turn(f"boot {SERVICES[self.service]} {boot} {isn}", self.server.asked())
         self.drain()
+        self.knows_deltas(isn)
+
+    def knows_deltas(self, isn):
+        """The TCP inside the nth restored connection counts from an initial number of this boot, from the unit on with which output goes on."""
+        restored = [(key, place) for key, place in self.server.places.items() if isinstance(place, model.Connection)]
+        self.deltas = {key: (place.sisn + place.una - (isn + 65536 * n)) % 2**32 for n, (key, place) in enumerate(restored)}
 
     def turn(self, line, sent):
         says = []
@@ -405,7 +418,7 @@ class Played:
 
     def shows(self, key=K):
         place = self.server.places[key]
-        delta = (place.sisn - self.server.isn) % 2**32
+        delta = self.deltas.get(key, 0)  # A new connection's TCP has the number that the client knows.
         say(conn(key_of(key)), numbers(delta, place.taken(), place.answered, place.consumed, len(place.lengths), place.una, place.sent))
 
 def letters(start, stop):
@@ -485,6 +498,52 @@ assert [said.name for said in it.sent] == ["Data"] * 46 + ["Read"] * 32
 assert [said.fields["fin"] for said in it.sent[:46]] == [0] * 45 + [1] and {said.fields["acked"] for said in it.sent[:46]} == {1}
 it.shows()
 
+# ---- congestion control, by the model --------------------------------------------------------------------------------------------------------
+
+def sends_up_to(it, sent, key=K):
+    """What the model has sent by now, by hand: the two have to agree."""
+    assert it.server.places[key].sent == sent, (it.server.places[key].sent, sent)
+    it.shows(key)
+
+REQUESTS = b"\0\0\7\xff" * 4
+say("# a restart while the congestion window is small: the next server begins with four segments, from what is known to be acknowledged")
+it = Played("transfer")
+it.begins()
+it.comes(0, REQUESTS)
+it.drain()
+sends_up_to(it, 2144)
+it.comes(16, ack=536)
+it.drain()
+for _ in range(3):
+    it.comes(16, ack=536)
+sends_up_to(it, 3484)
+it.comes(16, ack=3484)
+it.drain()
+sends_up_to(it, 3484 + 1340)
+it.boot(2, 900000)
+sends_up_to(it, 3484)
+it.comes(16, ack=3484 + 1340)
+sends_up_to(it, 3484 + 2144)
+it.comes(16, ack=3484 + 1340)
+sends_up_to(it, 3484 + 1340 + 2680)
+say("# two clients: the duplicates of one are none of the other's, and each has its own window")
+it = Played("transfer")
+it.begins()
+it.begins(OTHER)
+it.comes(0, REQUESTS)
+it.drain()
+it.comes(0, REQUESTS, ack=65536, key=OTHER)
+it.drain()
+for _ in range(2):
+    it.comes(16)
+    it.comes(16, ack=65536, key=OTHER)
+sends_up_to(it, 2144)
+sends_up_to(it, 2144, OTHER)
+it.comes(16)
+it.comes(16, ack=65536 + 1, key=OTHER)
+sends_up_to(it, 2680)
+sends_up_to(it, 2146, OTHER)
+
 say("# hostile datagrams: a server that asks and one that fetches say nothing, and go on as if none had come")
 say("boot 1 1 5000", to_logger(HELLO))
 say("attack 10000 1", "silent")
@@ -506,6 +565,141 @@ say(msg(opening("Opened", 1, A, 1000, 5000)), to_client(A, packet(SERVER, A, "AS
 say(pkt(packet(A, SERVER, "A", 1001, 5001, 65535, None, b"")))
 say("attack 10000 4", "wrong 0")
 say(conn(Z), numbers((77 - 5000) % 2**32, 2, 2, 2, 1, 0, 0))
+# ---- one client against the others, by the model -----------------------------------------------------------------------------------------------
+
+HOSTILE = "192.0.2.66:666"
+GOOD = ["192.0.2.11:40000", "192.0.2.12:40000", "192.0.2.13:7"]
+
+
+class Struck(Played):
+    """The same, with a fourth client that sends hostile datagrams between all turns. The log doesn't answer what that client's connection tells."""
+
+    def __init__(self, service, strikes):
+        self.draws, self.strikes, self.said_of, self.may_open = random.Random(46), strikes, {}, False
+        super().__init__(service)
+
+    def turn(self, line, sent):
+        super().turn(line, sent)
+        for key, content in sent:
+            self.said_of.setdefault(key or content.fields.get("key"), []).append(content)
+        self.sent = [it for it in self.sent if it.fields.get("key") != HOSTILE]
+
+    def drain(self):
+        waiting = self.sent
+        while waiting:
+            answer, waiting = self.log.answer(waiting[0]), waiting[1:]
+            if answer:
+                self.strike()
+                self.says(answer)
+                waiting = waiting + self.sent
+
+    def says(self, answer):
+        words = packet_words(answer).split()
+        self.turn(msg(told(words[0], words[1:])), self.server.on_message(answer))
+
+    def strike(self, times=None):
+        for _ in range(self.strikes if times is None else times):
+            kept_sent = self.sent
+            it = self.hostile()
+            self.turn(pkt(segment("1>S", packet_words(it).split(), {"1": key_of(HOSTILE)})), self.server.on_segment(HOSTILE, it))
+            self.sent = kept_sent
+
+    def hostile(self):
+        """Acknowledgements far ahead, wrong edges, RSTs beside the number, SYNs, and text that overlaps with other bytes."""
+        draws, place = self.draws, self.server.places.get(HOSTILE)
+        live = isinstance(place, model.Connection)
+        cisn, sisn, taken = (place.cisn, place.sisn, place.taken()) if live else (77, 5000, 0)
+        kind, seq, ack = draws.choice([0, 1, 2, 3, 4, 5] if self.may_open else [0, 1, 2, 4, 5]), cisn + 1 + taken, sisn + 1 + (place.sent if live else 0)
+        text = bytes(draws.randrange(256) for _ in range(draws.randrange(1, 20)))
+        if kind == 0:
+            it = ("A", seq, ack + draws.randrange(1, 1 << 30), b"")
+        elif kind == 1:
+            it = ("A", seq + 65535 + draws.randrange(-1, 3), ack, text[: draws.randrange(2)])
+        elif kind == 2:
+            it = ("R", seq + draws.choice([-1, 1, 2, 65534, 65536]), 0, b"")
+        elif kind == 3:
+            it = ("S", cisn + draws.choice([0, 0, 1, 70000]), 0, b"")
+        elif kind == 4:
+            it = ("A", seq - draws.randrange(12), ack - draws.randrange(3), text)
+        else:
+            it = (draws.choice(["AF", "AR", "AS", "F", "A"]), seq + draws.randrange(2, 9), draws.randrange(1 << 32) if not live else ack - 70000, text)
+        flags, seq, ack, text = it
+        return model.Segment(flags, seq % 2**32, ack % 2**32 if "A" in flags else 0, draws.randrange(65536), None, text)
+
+    def opens_hostile(self):
+        """The log answers the fourth client's opening after all: it has a connection."""
+        opening = self.server.places[HOSTILE]
+        self.says(self.log.answer(model.Message("Open", self.server.boot, {"key": HOSTILE, **opening})))
+
+    def resets_hostile(self):
+        place = self.server.places[HOSTILE]
+        it = model.Segment("R", (place.cisn + 1 + place.taken()) % 2**32, 0, 0, None, b"")
+        self.turn(pkt(segment("1>S", packet_words(it).split(), {"1": key_of(HOSTILE)})), self.server.on_segment(HOSTILE, it))
+        self.says(self.log.answer(model.Message("Done", self.server.boot, {"key": HOSTILE})))
+
+    def says_of(self, number, at, text=b"", flags="A", ack=0):
+        """A segment of one of the three, whose server's numbers follow one another."""
+        self.strike()
+        self.comes(at, text, flags, 65536 * number + ack, GOOD[number])
+
+    def ticks(self, times):
+        for _ in range(times):
+            self.strike()
+            self.turn("tick", self.server.on_tick())
+            self.drain()
+
+    def boots_again(self, boot, isn):
+        """A crash and a restart. The three clients' entries are fetched while the fourth goes on."""
+        self.strike()
+        self.server = model.Server(boot, isn, self.service)
+        self.turn(f"boot {SERVICES[self.service]} {boot} {isn}", self.server.asked())
+        self.strike()
+        self.drain()
+        self.knows_deltas(isn)
+        self.strike()
+
+
+def serve_three(strikes):
+    """Three clients say something in two segments, over a restart, and close. Returns what each of them and the log heard of it."""
+    it = Struck("echo", strikes)
+    for number, key in enumerate(GOOD):
+        it.says_of(number, -1, flags="S")
+        it.drain()
+        it.says_of(number, 0)
+    it.may_open = True                  # the three have their numbers
+    it.strike(3 * strikes)
+    if strikes:
+        it.opens_hostile()
+    words = [b"left alone", b"as if nobody", b"else were there"]
+    for number, word in enumerate(words):
+        it.says_of(number, 0, word[:4])
+        it.drain()
+        it.says_of(number, 7, word[7:], ack=4)
+        it.drain()
+    it.boots_again(2, 900000)
+    for number, word in enumerate(words):
+        it.says_of(number, 4, word[4:], ack=4)
+        it.drain()
+        it.shows(GOOD[number])
+    if strikes:
+        it.resets_hostile()
+    for number, word in enumerate(words):
+        it.says_of(number, len(word), flags="AF", ack=len(word))
+        it.drain()
+        it.says_of(number, len(word) + 1, ack=len(word) + 1)
+    it.ticks(5)
+    assert all(it.server.places[key] == "done" for key in GOOD)
+    it.strike()
+    return {key: it.said_of[key] for key in GOOD}
+
+
+say("# three clients are served to their ends, over a restart, while a fourth sends far acknowledgements, wrong edges, RSTs beside the number, SYNs and text")
+say("# that overlaps, between all turns and in every stage of its own: unknown, pending, live, restarted, reset and done")
+struck = serve_three(4)
+alone, lines_kept, prints_kept = None, list(lines), list(prints)
+alone = serve_three(0)
+lines[:], prints[:] = lines_kept, prints_kept
+assert struck == alone
 open(f"{OUT}/stdin", "w").write("\n".join(lines) + "\n")
 open(f"{OUT}/stdout", "w").write("\n".join(prints) + "\n")
 print(len(lines), "lines,", len(prints), "printed")

@@ -1,5 +1,5 @@
 -- The turns of a connection, each as the node has it.
-use Rattle.std.proofs.Common.{◌≡◌, ◌∙◌, ℕ, ◌<◌, ◌≤◌, Bool, true, false, refl, ap, subst, Some, Ok, List, length, slice_index, arith}
+use Rattle.std.proofs.Common.{◌≡◌, ◌∙◌, ℕ, ◌<◌, ◌≤◌, Bool, true, false, refl, sym, ap, subst, Some, Ok, List, length, slice_index, arith}
 use Rattle.std.specs.Prelude.{IfOk, ◌==◌}
 use Rattle.std.specs.Bool.{MatchBool}
 use Rattle.ft_io.specs.declared.Addr.{Addr}
@@ -8,8 +8,8 @@ use Rattle.seq_arith.specs.PacketGrammar.{reading}
 use Rattle.seq_arith.specs.Message.{Kept, Numbers}
 use Rattle.server_trait.specs.Service.{Machine}
 use Rattle.logger_wire.specs.declared.Body.{Body as Said}
-use Rattle.logger_wire.specs.declared.Body.TheVariants.{StableMsg, ReadsMsg}
-use Rattle.logger_wire.specs.Value.{body_of}
+use Rattle.logger_wire.specs.declared.Body.TheVariants.{StableMsg, ReadsMsg, EndedMsg}
+use Rattle.logger_wire.specs.Value.{body_of, is_set}
 use Rattle.ft_model.specs.News.{News}
 use Rattle.ft_model.specs.News.News.{Comes, Logged, Ticks, Begins as Becomes_live}
 use Rattle.ft_model.specs.Offset.{IsNear}
@@ -37,42 +37,54 @@ use Rattle.server_node.proofs.Came.{fits, text_fits}
 use Rattle.server_node.proofs.Turned.{IsTyped, acts}
 use Rattle.ft_io.proofs.Choices.{holds_if}
 
--- a connection keeps its address and its boot number in each turn
-record IsSame {S : Type 0} (c now : ConnState S) : Type 0 where
-  local : now.local ≡ c.local
-  boot : now.boot ≡ c.boot
+-- a connection keeps its client, its address and its boot number in each turn
+pub record IsSame {S : Type 0} (c now : ConnState S) : Type 0 where
+  pub key : now.key ≡ c.key
+  pub local : now.local ≡ c.local
+  pub boot : now.boot ≡ c.boot
 
-either : {P Q R : Type 0} (b : Bool) → MatchBool b P Q → (P → R) → (Q → R) → R
+pub either : {P Q R : Type 0} (b : Bool) → MatchBool b P Q → (P → R) → (Q → R) → R
 either true m f g = f m
 either false m f g = g m
 
-arrived_same : {S : Type 0} (segment : Segment) (c : ConnState S) → IsSame c (arrived segment c)
+pub arrived_same : {S : Type 0} (segment : Segment) (c : ConnState S) → IsSame c (arrived segment c)
 unfolding arrived
 arrived_same segment c = record {
+  key = holds_if (λ x. x.key ≡ c.key) (repeats_syn c.south segment) c _ (λ t. refl) (λ t. refl);
   local = holds_if (λ x. x.local ≡ c.local) (repeats_syn c.south segment) c _ (λ t. refl) (λ t. refl);
   boot = holds_if (λ x. x.boot ≡ c.boot) (repeats_syn c.south segment) c _ (λ t. refl) (λ t. refl);
 }
 
-receives_same : {S : Type 0} (service : Machine S) (segment : Segment) (c now : ConnState S) (out messages : List (List ℕ)) → Receives service.after segment c now out messages → IsSame c now
+pub receives_same : {S : Type 0} (service : Machine S) (segment : Segment) (c now : ConnState S) (out messages : List (List ℕ)) → Receives service.after segment c now out messages → IsSame c now
 receives_same service segment c now out messages r =
-    either c.reset r (λ k. record { local = ap (λ x. x.local) k.state; boot = ap (λ x. x.boot) k.state })
-    (λ m. either (resets c segment) m (λ k. record { local = ap (λ x. x.local) k.state; boot = ap (λ x. x.boot) k.state })
-    (λ k. let same = arrived_same segment c in record { local = ap (λ x. x.local) k.state ∙ same.local; boot = ap (λ x. x.boot) k.state ∙ same.boot }))
+    either c.reset r (λ k. record { key = ap (λ x. x.key) k.state; local = ap (λ x. x.local) k.state; boot = ap (λ x. x.boot) k.state })
+    (λ m. either (resets c segment) m (λ k. record { key = ap (λ x. x.key) k.state; local = ap (λ x. x.local) k.state; boot = ap (λ x. x.boot) k.state })
+    (λ k. let same = arrived_same segment c in record { key = ap (λ x. x.key) k.state ∙ same.key; local = ap (λ x. x.local) k.state ∙ same.local; boot = ap (λ x. x.boot) k.state ∙ same.boot }))
 
-hears_same : {S : Type 0} (service : Machine S) (kept : Kept) (c now : ConnState S) (out messages : List (List ℕ)) → Hears service.after kept.length kept.fin kept.reads c now out messages → IsSame c now
+pub hears_same : {S : Type 0} (service : Machine S) (kept : Kept) (c now : ConnState S) (out messages : List (List ℕ)) → Hears service.after kept.length kept.fin kept.reads c now out messages → IsSame c now
 hears_same service kept c now out messages r =
-    either c.reset r (λ k. record { local = ap (λ x. x.local) k.state; boot = ap (λ x. x.boot) k.state }) (λ k. record { local = ap (λ x. x.local) k.state; boot = ap (λ x. x.boot) k.state })
+    either c.reset r (λ k. record { key = ap (λ x. x.key) k.state; local = ap (λ x. x.local) k.state; boot = ap (λ x. x.boot) k.state }) (λ k. record { key = ap (λ x. x.key) k.state; local = ap (λ x. x.local) k.state; boot = ap (λ x. x.boot) k.state })
 
-ticks_same : {S : Type 0} (c now : ConnState S) (out messages : List (List ℕ)) → TicksOn c now out messages → IsSame c now
+pub ticks_same : {S : Type 0} (c now : ConnState S) (out messages : List (List ℕ)) → TicksOn c now out messages → IsSame c now
 ticks_same c now out messages r =
-    either c.reset r (λ k. record { local = ap (λ x. x.local) k.state; boot = ap (λ x. x.boot) k.state })
+    either c.reset r (λ k. record { key = ap (λ x. x.key) k.state; local = ap (λ x. x.local) k.state; boot = ap (λ x. x.boot) k.state })
     (λ k. record {
+      key = ap (λ x. x.key) k.state ∙ holds_if (λ x. x.key ≡ c.key) ((counted (ticked c)).end_ticks == 4) (with_done (counted (ticked c))) (counted (ticked c)) (λ t. refl) (λ t. refl);
       local = ap (λ x. x.local) k.state ∙ holds_if (λ x. x.local ≡ c.local) ((counted (ticked c)).end_ticks == 4) (with_done (counted (ticked c))) (counted (ticked c)) (λ t. refl) (λ t. refl);
       boot = ap (λ x. x.boot) k.state ∙ holds_if (λ x. x.boot ≡ c.boot) ((counted (ticked c)).end_ticks == 4) (with_done (counted (ticked c))) (counted (ticked c)) (λ t. refl) (λ t. refl);
     })
 
-starts_same : {S : Type 0} (service : Machine S) (c now : ConnState S) (out messages : List (List ℕ)) → Starts service.after c now out messages → IsSame c now
-starts_same service c now out messages k = record { local = ap (λ x. x.local) k.state; boot = ap (λ x. x.boot) k.state }
+pub starts_same : {S : Type 0} (service : Machine S) (c now : ConnState S) (out messages : List (List ℕ)) → Starts service.after c now out messages → IsSame c now
+starts_same service c now out messages k = record { key = ap (λ x. x.key) k.state; local = ap (λ x. x.local) k.state; boot = ap (λ x. x.boot) k.state }
+
+rests_same : {S : Type 0} (c was now : ConnState S) → IsSame c was → now ≡ was → IsSame c now
+rests_same c was now same is = subst (IsSame c) (sym is) same
+
+pub told_same : {S : Type 0} (service : Machine S) (said : Said) (c now : ConnState S) (out messages : List (List ℕ)) → IsTold service.after said c now out messages → IsSame c now
+told_same service (StableMsg key len fin reads) c now out messages r = hears_same service (record { key = key; length = len; fin = is_set fin; reads = reads }) c now out messages r
+told_same service (ReadsMsg key len fin reads) c now out messages r = hears_same service (record { key = key; length = len; fin = is_set fin; reads = reads }) c now out messages r
+told_same service (EndedMsg key) c now out messages r = rests_same c _ now (record { key = refl; local = refl; boot = refl }) r.state
+told_same service _ c now out messages r = rests_same c c now (record { key = refl; local = refl; boot = refl }) r.state
 
 -- no more reads are known to be logged than were made
 counts : {S : Type 0} (service : Machine S) (c : ConnState S) (p : Point) (given : ℕ) → NorthStands service p given c.north → p.reads_answered ≤ length p.lengths
@@ -110,7 +122,7 @@ segment_acts service server boot p c now bytes segment segments messages small t
     (ours service server boot (Comes segment) p c now segments messages st.1 (receives service p c now segment segments messages s s_now st.0 (fits p bytes segment small reads near) r))
 
 -- what a message says is logged is what the connection hears
-heard_in : {S : Type 0} (service : Machine S) (said : Said) (kept : Kept) (c now : ConnState S) (segments messages : List (List ℕ)) → logged_in (body_of said) ≡ Some kept
+pub heard_in : {S : Type 0} (service : Machine S) (said : Said) (kept : Kept) (c now : ConnState S) (segments messages : List (List ℕ)) → logged_in (body_of said) ≡ Some kept
     → IsTold service.after said c now segments messages → Hears service.after kept.length kept.fin kept.reads c now segments messages
 heard_in service (StableMsg key length fin reads) kept c now segments messages e r =
     subst (λ (k : Kept). Hears service.after k.length k.fin k.reads c now segments messages) (some_is _ kept e) r

@@ -11,12 +11,12 @@ use Rattle.ft_model.specs.Restart.{Fetched, Wanted, wanted, is_fetched, fetched_
 use Rattle.ft_model.specs.Restart.Wanted.{An_entry, Its_bytes, Its_lengths}
 use Rattle.ft_model.specs.Node.{Node}
 use Rattle.ft_model.specs.Lawful.{fetched_then}
-use Rattle.reincarnate.specs.Asking.{FetchingState, heard, answered, head_fits, with_head, with_newest, part_on, lens_on}
+use Rattle.reincarnate.specs.Asking.{FetchingState, entry_known, entries_of, heard, answered, head_fits, with_head, with_newest, part_on, lens_on}
 use Rattle.reincarnate.specs.Progress.{EntryState}
 use Rattle.server_node.specs.declared.identity.Identity.{Identity}
 use Rattle.server_node.specs.Restarting.{AreDistinct, FetchingStands, IsOwn}
 use Rattle.ft_io.proofs.Booleans.{not_true}
-use Rattle.ft_model.proofs.Lists.{same_key}
+use Rattle.ft_model.proofs.Lists.{same_key, none_is_some, some_is, found_passes}
 
 chosen : {A : Type 0} (P : A → Type 0) (b : Bool) (x : A) → (b ≡ true → P x) → IfSome (if b then Some x else None) P
 chosen P true x p = p refl
@@ -139,3 +139,11 @@ same_ok {X} {E} r x y a b = ap (λ o. Rattle.std.specs.Result.result_unwrap_or o
 pub own_stands : {S : Type 0} (started : ℕ → S) (after : S → List ℕ → Served S) (who : Identity) (f : FetchingState S) (count : ℕ) (fetched : List Fetched) → IsOwn who f
     → FetchingStands (machine (started who.kind) after) count fetched f → FetchingStands (machine (started f.kind) after) count fetched f
 own_stands started after who f count fetched own st = subst (λ k. FetchingStands (machine (started k) after) count fetched f) (sym own.kind) st
+
+-- the entry that is known of a key has that key
+pub known_key : {S : Type 0} (key : Key) (head : EntryHead) (s : FetchingState S) → Some head ≡ option_map (λ e. e.head) (entry_known key s) → head.key ≡ key
+known_key {S} key head s is = go (entry_known key s) refl is
+  where
+    go : (o : Option (EntryState S)) → entry_known key s ≡ o → Some head ≡ option_map (λ e. e.head) o → head.key ≡ key
+    go None f e = none_is_some head (sym e)
+    go (Some e) f is = ap (λ h. h.key) (some_is head e.head is) ∙ same_key e.head.key key (found_passes (λ x. key_eq x.head.key key) (entries_of s) e f)

@@ -30,6 +30,9 @@ use Rattle.ft_model.proofs.Lists.{key_is}
 pub only_its_client : (node : Node) (segment : Segment) (k : Key) → key_eq (source_of segment) k ≡ false → concerns node (Packet_comes segment) k ≡ false
 only_its_client node segment k other = and_right (is_for node.server segment) _ other
 
+pub its_client : (node : Node) (segment : Segment) (key : Key) → is_for node.server segment ≡ true → source_of segment ≡ key → concerns node (Packet_comes segment) key ≡ true
+its_client node segment key mine from = rw (mine) (ap (λ k. key_eq k key) from ∙ key_is key)
+
 module _ {S : Type 0} (service : Machine S) (node : Node) (segment : Segment) (mine : is_for node.server segment ≡ true) where
   itself : (k : Key) → k ≡ source_of segment → key_eq (source_of segment) k ≡ true
   itself k same = ap (key_eq (source_of segment)) same ∙ key_is (source_of segment)

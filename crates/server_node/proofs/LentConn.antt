@@ -6,6 +6,7 @@ use Rattle.std.specs.Option.{option_copied}
 use Rattle.ft_model.proofs.Lists.{some_is, none_is_some}
 use Rattle.std.proofs.lemmas.Bool.{false≢true}
 use Rattle.ft_io.specs.declared.Addr.{Addr}
+use Rattle.ft_io.specs.declared.Key.{Key}
 use Rattle.seq_arith.specs.Number.{distance}
 use Rattle.server_trait.specs.Service.{Machine}
 use Rattle.ft_model.specs.Point.{Point, made, is_over}
@@ -20,6 +21,7 @@ use Rattle.wrapped_conn.specs.Sound as sound
 use Rattle.wrapped_conn.specs.Standing.{StandsLive, StandsReset}
 use Rattle.wrapped_conn.proofs.Lending.{tells}
 use Rattle.wrapped_conn.proofs.Receiving.{parts_live}
+use Rattle.server_node.specs.declared.identity.Identity.{Identity}
 use Rattle.server_node.specs.declared.slot.Slot.{Slot}
 use Rattle.server_node.specs.declared.slot.Slot.TheVariants as slot
 use Rattle.server_node.specs.Conn.{Stands, IsSound}
@@ -78,8 +80,9 @@ tells_its_point service server boot p c s st = record {
 }
 
 -- .. and it is sound, as its slot is
-pub sound_lent : {S : Type 0} (has : Slot S) (lent : Option (Bor (ConnState S))) → IsSoundSlot has → option_copied lent ≡ conn_in (Some has) → IfSome lent (λ c. IsSound c.now)
-sound_lent has None s e = tt
-sound_lent (slot.Live now) (Some c) s e = subst IsSound (sym (some_is c.now now e)) s
-sound_lent (slot.Pending o) (Some c) s e = none_is_some c.now (sym e)
-sound_lent slot.Done (Some c) s e = none_is_some c.now (sym e)
+pub sound_lent : {S : Type 0} (who : Identity) (key : Key) (has : Slot S) (lent : Option (Bor (ConnState S))) → IsSoundSlot who key has → option_copied lent ≡ conn_in (Some has)
+    → IfSome lent (λ c. IsSound c.now)
+sound_lent who key has None s e = tt
+sound_lent who key (slot.Live now) (Some c) s e = subst IsSound (sym (some_is c.now now e)) s.sound
+sound_lent who key (slot.Pending o) (Some c) s e = none_is_some c.now (sym e)
+sound_lent who key slot.Done (Some c) s e = none_is_some c.now (sym e)

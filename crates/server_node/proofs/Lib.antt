@@ -25,3 +25,12 @@ pub mod Turned
 pub mod Came
 pub mod Acting
 pub mod LentConn
+pub mod Whose
+pub mod Found
+pub mod Keyed
+pub mod Ticked
+pub mod Knocking
+pub mod Apart
+pub mod Strange
+pub mod StagedApart
+pub mod Runs

@@ -22,12 +22,14 @@ use Rattle.wrapped_conn.specs.ConnState.{ConnState}
 use Rattle.server_node.specs.declared.slot.Slot.{Slot}
 use Rattle.server_node.specs.declared.slot.Slot.TheVariants as slot
 use Rattle.server_node.specs.declared.slot.Opening.{Opening}
+use Rattle.server_node.specs.Alone.{SlotsAlone}
 use Rattle.server_node.specs.Conn.{ConnGoes}
 use Rattle.server_node.specs.Hearing.{opening_in, ended}
 use Rattle.server_node.specs.Refusing.{AreSent}
 use Rattle.server_node.specs.Slots.{numbers_of, SlotStands, SlotGoes, SlotLeaves, AllStand, AllSlotsGo}
 use Rattle.server_node.proofs.OneKey.{place_meets, place_key, one_goes, none_goes, none_found, all_units}
 use Rattle.server_node.proofs.Heard.{only_its_key, its_key}
+use Rattle.server_node.proofs.Keyed.{same_alone}
 
 -- an opening that is found stands in its slot
 pub pending_found : {S : Type 0} (found : Option (Slot S)) (o : Opening) → opening_in found ≡ Some o → found ≡ Some (slot.Pending o)
@@ -135,23 +137,28 @@ module _ {S : Type 0} (service : Machine S) (node : Node) (message : Message) (b
   opening_refused says (Ended k) o old new st told = absurd st
 
   -- a message that only a pending opening heeds, where none is pending
-  pub none_pending : ((p : Rattle.ft_model.specs.Point.Point) → Hears service node message.body (Lives p) (Lives p ∷ []) []) → ((k : Key) → Hears service node message.body (Ended k) (Ended k ∷ []) [])
-      → (es : List (Key × Slot S)) (places : List Place) (told : List Wire) → IsDistinct key_eq (keys_of es) → opening_in (lookup (key_eq key) es) ≡ None → AllStand service node es places
-      → AllSlotsGo service node (Message_comes message) places es told told
-  none_pending live done es places told distinct none st = go (lookup (key_eq key) es) refl
-    where
-      one : (s : Slot S) → opening_in (Some s) ≡ None → (place : Place) → SlotStands service node key s place → SlotGoes service node (Message_comes message) key place s told told
-      one (slot.Pending o) free place at = absurd (true≢false (ap Rattle.std.specs.Option.is_some free))
-      one (slot.Live c) free (Lives p) at = quiet (Lives p) (slot.Live c) told at (live p)
-      one (slot.Live c) free (Opens n) at = absurd at
-      one (slot.Live c) free (Ended k) at = absurd at
-      one slot.Done free (Ended k) at = quiet (Ended k) slot.Done told at (done k)
-      one slot.Done free (Lives p) at = absurd at
-      one slot.Done free (Opens n) at = absurd at
+  module _ (live : (p : Rattle.ft_model.specs.Point.Point) → Hears service node message.body (Lives p) (Lives p ∷ []) []) (done : (k : Key) → Hears service node message.body (Ended k) (Ended k ∷ []) []) where
+    unpending : (s : Slot S) (told : List Wire) → opening_in (Some s) ≡ None → (place : Place) → SlotStands service node key s place → SlotGoes service node (Message_comes message) key place s told told
+    unpending (slot.Pending o) told free place at = absurd (true≢false (ap Rattle.std.specs.Option.is_some free))
+    unpending (slot.Live c) told free (Lives p) at = quiet (Lives p) (slot.Live c) told at (live p)
+    unpending (slot.Live c) told free (Opens n) at = absurd at
+    unpending (slot.Live c) told free (Ended k) at = absurd at
+    unpending slot.Done told free (Ended k) at = quiet (Ended k) slot.Done told at (done k)
+    unpending slot.Done told free (Lives p) at = absurd at
+    unpending slot.Done told free (Opens n) at = absurd at
 
-      go : (found : Option (Slot S)) → lookup (key_eq key) es ≡ found → AllSlotsGo service node (Message_comes message) places es told told
-      go None f = none_goes service node (Message_comes message) key (only_its_key node message key named) es places told st (none_found (key_eq key) es f)
-      go (Some s) f =
-          subst (λ xs. AllSlotsGo service node (Message_comes message) places xs told told) (set_same (key_eq key) es s f)
-          (one_goes service node (Message_comes message) key (only_its_key node message key named) (λ place. Unit {0}) es places s s told told st distinct f (all_units places)
-          (λ place u at. one s (sym (ap opening_in f) ∙ none) place at))
+    pub none_pending : (es : List (Key × Slot S)) (places : List Place) (told : List Wire) → IsDistinct key_eq (keys_of es) → opening_in (lookup (key_eq key) es) ≡ None
+        → AllStand service node es places → AllSlotsGo service node (Message_comes message) places es told told
+    none_pending es places told distinct none st = go (lookup (key_eq key) es) refl
+      where
+        go : (found : Option (Slot S)) → lookup (key_eq key) es ≡ found → AllSlotsGo service node (Message_comes message) places es told told
+        go None f = none_goes service node (Message_comes message) key (only_its_key node message key named) es places told st (none_found (key_eq key) es f)
+        go (Some s) f =
+            subst (λ xs. AllSlotsGo service node (Message_comes message) places xs told told) (set_same (key_eq key) es s f)
+            (one_goes service node (Message_comes message) key (only_its_key node message key named) (λ place. Unit {0}) es places s s told told st distinct f (all_units places)
+            (λ place u at. unpending s told (sym (ap opening_in f) ∙ none) place at))
+
+    pub none_pending_alone : (es : List (Key × Slot S)) (told : List Wire) → opening_in (lookup (key_eq key) es) ≡ None → SlotsAlone service node (Message_comes message) es es told told
+    none_pending_alone es told none =
+        same_alone service node (Message_comes message) key (only_its_key node message key named) (its_key node message key boot named key refl) es told
+        (λ s f. unpending s told (sym (ap opening_in f) ∙ none))

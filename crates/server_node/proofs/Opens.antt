@@ -21,7 +21,7 @@ use Rattle.server_node.specs.Opening.{ArePut, slot_opens, all_opens, is_pending_
 use Rattle.server_node.specs.Slots.{SlotStands, AllStand}
 use Rattle.server_node.proofs.Collecting.{take_more}
 
-slot_is : {S : Type 0} (service : Machine S) (node : Node) (input : Input) (key : Key) (s : Slot S) (place : Place) → SlotStands service node key s place
+pub slot_is : {S : Type 0} (service : Machine S) (node : Node) (input : Input) (key : Key) (s : Slot S) (place : Place) → SlotStands service node key s place
     → opens_at node input place ≡ slot_opens node input key s
 slot_is service node input key (slot.Pending o) (Opens n) st = ap (λ x. opens_at node input (Opens x)) st
 slot_is service node input key (slot.Pending o) (Lives p) st = absurd st

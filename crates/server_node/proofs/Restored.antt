@@ -8,7 +8,7 @@ use Rattle.ft_io.specs.Key.{key_eq}
 use Rattle.server_trait.specs.Service.{Machine}
 use Rattle.std.proofs.lemmas.Bool.{false≢true, or_parts}
 use Rattle.ft_model.specs.Log.{Entry}
-use Rattle.ft_model.proofs.Lists.{none_is_some, key_is}
+use Rattle.ft_model.proofs.Lists.{none_is_some, key_is, same_key}
 use Rattle.ft_model.specs.Node.{Node}
 use Rattle.ft_model.specs.Node.Place.{Lives, Ended}
 use Rattle.ft_model.specs.Node.Input.{Tick_comes}
@@ -19,6 +19,7 @@ use Rattle.ft_model.specs.Wire.{Wire}
 use Rattle.reincarnate.specs.declared.entries.Restored.{Restored}
 use Rattle.reincarnate.specs.Progress.{EntryState}
 use Rattle.reincarnate.specs.Standing.{StandsWhole, RestoredIs, FirstIs}
+use Rattle.server_node.specs.declared.identity.Identity.{Identity}
 use Rattle.server_node.specs.declared.serving.Serving.{Serving}
 use Rattle.server_node.specs.declared.slot.Slot.{Slot}
 use Rattle.server_node.specs.declared.slot.Slot.TheVariants as slot
@@ -33,13 +34,14 @@ use Rattle.server_node.proofs.Opens.{put_on}
 use Rattle.ft_model.proofs.Keys.{key_eq_turns}
 
 -- a slot more stays sound, wherever it comes to stand
-pub sound_insert : {S : Type 0} (key : Key) (es : List (Key × Slot S)) (now : Slot S) → AllSound es → IsSoundSlot now → AllSound (insert_entry key_eq es key now)
-sound_insert key [] now sound s = (s, tt)
-sound_insert key (e ∷ es) now sound s = go (key_eq key e.0) (sound_insert key es now sound.1 s)
+pub sound_insert : {S : Type 0} (who : Identity) (key : Key) (es : List (Key × Slot S)) (now : Slot S) → AllSound who es → IsSoundSlot who key now
+    → AllSound who (insert_entry key_eq es key now)
+sound_insert who key [] now sound s = (s, tt)
+sound_insert who key (e ∷ es) now sound s = go (key_eq key e.0) refl (sound_insert who key es now sound.1 s)
   where
-    go : (b : Bool) → AllSound (insert_entry key_eq es key now) → AllSound (if b then (e.0, now) ∷ es else e ∷ insert_entry key_eq es key now)
-    go true rest = (s, sound.1)
-    go false rest = (sound.0, rest)
+    go : (b : Bool) → key_eq key e.0 ≡ b → AllSound who (insert_entry key_eq es key now) → AllSound who (if b then (e.0, now) ∷ es else e ∷ insert_entry key_eq es key now)
+    go true t rest = (subst (λ k. IsSoundSlot who k now) (same_key key e.0 t) s, sound.1)
+    go false t rest = (sound.0, rest)
 
 -- a key that isn't that of the last entry is found among the others
 behind_others : {X : Type 0} (key last : Key) (es : List (Key × X)) (x : X) → key_eq key last ≡ false → lookup (key_eq key) es ≡ None → lookup (key_eq key) (es ++ (last, x) ∷ []) ≡ None
@@ -53,7 +55,7 @@ behind_others key last (e ∷ es) x other none = go (key_eq key e.0) refl (behin
         ∙ rest (sym (ap (λ b. cond b (Some e.1) (lookup (key_eq key) es)) t) ∙ none)
 
 -- one that isn't there yet is found at the end
-found_last : {X : Type 0} (key : Key) (es : List (Key × X)) (x : X) → lookup (key_eq key) es ≡ None → lookup (key_eq key) (es ++ (key, x) ∷ []) ≡ Some x
+pub found_last : {X : Type 0} (key : Key) (es : List (Key × X)) (x : X) → lookup (key_eq key) es ≡ None → lookup (key_eq key) (es ++ (key, x) ∷ []) ≡ Some x
 found_last key [] x none = ap (λ b. cond b (Some x) None) (key_is key)
 found_last key (e ∷ es) x none = go (key_eq key e.0) refl (found_last key es x)
   where

@@ -1,5 +1,5 @@
 -- What a turn of a connection sends is for its client or for the logger, and each number in it fits its field.
-use Rattle.std.proofs.Common.{◌≡◌, ℕ, ◌+◌, ◌-◌, ◌<◌, ◌≤◌, ◌^◌, true, ◌&&◌, ◌||◌, nat_le, refl, sym, subst, Option, Some, None, IfSome, List, [], ◌∷◌, ◌++◌, map, length, take, drop, arith, length-drop, length-take}
+use Rattle.std.proofs.Common.{◌≡◌, ℕ, ◌+◌, ◌<◌, ◌≤◌, ◌^◌, true, ◌&&◌, ◌||◌, nat_le, refl, sym, subst, Option, Some, None, IfSome, List, [], ◌∷◌, ◌++◌, map, length, take, drop, arith, length-drop, length-take}
 use Rattle.std.specs.List.{AllByRecursion}
 use Rattle.std.proofs.lemmas.Bool.{and_from, le-leb}
 use Rattle.ft_io.specs.declared.Addr.{Addr}

@@ -1,8 +1,10 @@
 -- A connection, as far as the node needs it. `Begins`, `Stands` and `IsSound` are opaque to the node.
 use Rattle.std.specs.Prelude.{◌≡◌, ◌≤◌, ℕ, List, ◌++◌, map}
 use Rattle.std.specs.List.{AllByRecursion, AllByRecursion-prop}
+use Rattle.std.proofs.Math.Nat.{ℕ_set}
 use Rattle.std.proofs.Props.{props}
 use Rattle.ft_io.specs.declared.Addr.{Addr}
+use Rattle.ft_io.specs.declared.Key.{Key}
 use Rattle.server_trait.specs.Service.{Machine}
 use Rattle.ft_model.specs.Network.{Packet}
 use Rattle.ft_model.specs.Point.{Point}
@@ -14,6 +16,7 @@ use Rattle.wrapped_conn.specs.ConnState.{ConnState}
 use Rattle.wrapped_conn.specs.Sound.{IsSound as IsSoundConn}
 use Rattle.wrapped_conn.specs.Standing.{StandsBefore, Stands as StandsConn}
 use Rattle.wrapped_conn.specs.Telling.{IsTellable, AreTellable}
+use Rattle.server_node.specs.declared.identity.Identity.{Identity}
 use Rattle.server_node.specs.Sending.{wires_of}
 
 -- a connection of the incarnation with this address and boot number, whose segments fit a packet
@@ -34,12 +37,28 @@ Stands service server boot c p = StandsConn service c p × IsOurs server boot c 
 unfoldable pub IsSound : {S : Type 0} → ConnState S → Type 0
 IsSound c = IsSoundConn c
 
+-- it is that of this client, in this incarnation
+pub record Belongs {S : Type 0} (who : Identity) (key : Key) (c : ConnState S) : Type 0 where
+  pub sound : IsSound c
+  pub client : c.key ≡ key
+  pub incarnation : c.boot ≡ who.boot
+
 tellable-prop : (reads : List ReadRecord) → IsProp (AreTellable reads)
 tellable-prop reads = AllByRecursion-prop IsTellable (λ read. hlevel props) reads
 
 pub IsSound-prop : {S : Type 0} (c : ConnState S) → IsProp (IsSound c)
 unfolding IsSound
 IsSound-prop c = hlevel (props, tellable-prop)
+
+key-set : (a b : Key) → IsProp (a ≡ b)
+key-set a b = hlevel props
+
+pub Belongs-prop : {S : Type 0} (who : Identity) (key : Key) (c : ConnState S) → IsProp (Belongs who key c)
+Belongs-prop who key c = λ a b i. record {
+  sound = IsSound-prop c a.sound b.sound i;
+  client = key-set c.key key a.client b.client i;
+  incarnation = ℕ_set c.boot who.boot a.incarnation b.incarnation i;
+}
 
 -- a turn of a connection: it stands at a next point, and what it gave out is that of a lawful turn
 pub record Acts {S : Type 0} (service : Machine S) (server : Addr) (boot : ℕ) (news : News) (p : Point) (c : ConnState S) (segments messages : List (List ℕ)) : Type 0 where

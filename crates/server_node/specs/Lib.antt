@@ -14,3 +14,6 @@ pub mod Stages
 pub mod Reviving
 pub mod Lending
 pub mod Numbered
+pub mod Whose
+pub mod Alone
+pub mod Runs

@@ -13,7 +13,8 @@ use Rattle.ft_model.specs.Wire.{Wire, wire_of, HasWire}
 use Rattle.server_node.specs.declared.slot.Slot.{Slot}
 use Rattle.server_node.specs.declared.slot.Slot.TheVariants as slot
 use Rattle.server_node.specs.declared.slot.Opening.{Opening}
-use Rattle.server_node.specs.Conn.{Stands, IsSound, IsSound-prop}
+use Rattle.server_node.specs.declared.identity.Identity.{Identity}
+use Rattle.server_node.specs.Conn.{Stands, Belongs, Belongs-prop}
 
 abbrev pub numbers_of : Key → Opening → Numbers
 numbers_of key o = record { key = key; cisn = o.cisn.0; sisn = o.sisn.0; mss = o.mss }
@@ -30,19 +31,19 @@ AllStand service node [] [] = Unit {0}
 AllStand service node (e ∷ es) (q ∷ qs) = SlotStands service node e.0 e.1 q × AllStand service node es qs
 AllStand service node _ _ = ⊥
 
--- a live connection's calls may be made, and an opening can be asked for, whatever came
-abbrev pub IsSoundSlot : {S : Type 0} → Slot S → Type 0
-IsSoundSlot (slot.Live c) = IsSound c
-IsSoundSlot (slot.Pending o) = (64 ≤ o.mss) × (o.mss ≤ 1460)
-IsSoundSlot _ = Unit {0}
+-- a live connection is that of its key and its calls may be made, and an opening can be asked for, whatever came
+abbrev pub IsSoundSlot : {S : Type 0} → Identity → Key → Slot S → Type 0
+IsSoundSlot who key (slot.Live c) = Belongs who key c
+IsSoundSlot who key (slot.Pending o) = (64 ≤ o.mss) × (o.mss ≤ 1460)
+IsSoundSlot who key _ = Unit {0}
 
-abbrev pub AllSound : {S : Type 0} → List (Key × Slot S) → Type 0
-AllSound es = AllByRecursion (λ e. IsSoundSlot e.1) es
+abbrev pub AllSound : {S : Type 0} → Identity → List (Key × Slot S) → Type 0
+AllSound who es = AllByRecursion (λ e. IsSoundSlot who e.0 e.1) es
 
-pub IsSoundSlot-prop : {S : Type 0} (s : Slot S) → IsProp (IsSoundSlot s)
-IsSoundSlot-prop (slot.Live c) = IsSound-prop c
-IsSoundSlot-prop (slot.Pending o) = ×_prop le_prop le_prop
-IsSoundSlot-prop slot.Done = Unit-prop
+pub IsSoundSlot-prop : {S : Type 0} (who : Identity) (key : Key) (s : Slot S) → IsProp (IsSoundSlot who key s)
+IsSoundSlot-prop who key (slot.Live c) = Belongs-prop who key c
+IsSoundSlot-prop who key (slot.Pending o) = ×_prop le_prop le_prop
+IsSoundSlot-prop who key slot.Done = Unit-prop
 
 -- one slot's turn
 pub record SlotGoes {S : Type 0} (service : Machine S) (node : Node) (input : Input) (key : Key) (place : Place) (now : Slot S) (old new : List Wire) : Type 0 where

@@ -1,6 +1,7 @@
 -- Where a node stands, and its turn by the law.
-use Rattle.std.specs.Prelude.{◌≡◌, ℕ, List, map}
-use Rattle.std.specs.Coded.{Unit-prop}
+use Rattle.std.specs.Prelude.{◌≡◌, ◌%◌, ℕ, List, map}
+use Rattle.std.specs.Coded.{×_prop, Unit-prop, le_prop}
+use Rattle.std.proofs.Math.Nat.{ℕ_set}
 use Rattle.std.specs.List.{AllByRecursion, AllByRecursion-prop}
 use Rattle.server_trait.specs.Service.{Machine}
 use Rattle.ft_model.specs.Network.{Packet}
@@ -17,6 +18,7 @@ use Rattle.server_node.specs.declared.input.TurnEnd.TheVariants as end
 use Rattle.server_node.specs.Identity.{node_of}
 use Rattle.server_node.specs.Restarting.{FetchingStands, IsOwn, IsOwn-prop}
 use Rattle.server_node.specs.Numbered.{AllNumbered, fetched_by}
+use Rattle.server_node.specs.Opening.{IsCounted}
 use Rattle.server_node.specs.Slots.{AllSound, IsSoundSlot, IsSoundSlot-prop}
 use Rattle.server_node.specs.Serving.{ServingStands}
 
@@ -29,13 +31,14 @@ StageStands service node stage.Lost = ⊥
 -- the stage's calls may be made, whatever came
 abbrev pub IsSoundStage : {S : Type 0} → Identity → Stage S → Type 0
 IsSoundStage who (stage.Fetching f) = IsOwn who f
-IsSoundStage who (stage.Serving s) = AllSound s.slots.entries
+IsSoundStage who (stage.Serving s) = AllSound who s.slots.entries × IsCounted who.isn s.next.0
 IsSoundStage who _ = Unit {0}
 
 pub IsSoundStage-prop : {S : Type 0} (who : Identity) (at : Stage S) → IsProp (IsSoundStage who at)
 IsSoundStage-prop who stage.Asking = Unit-prop
 IsSoundStage-prop who (stage.Fetching f) = IsOwn-prop who f
-IsSoundStage-prop who (stage.Serving s) = AllByRecursion-prop (λ e. IsSoundSlot e.1) (λ e. IsSoundSlot-prop e.1) s.slots.entries
+IsSoundStage-prop who (stage.Serving s) =
+    ×_prop (AllByRecursion-prop (λ e. IsSoundSlot who e.0 e.1) (λ e. IsSoundSlot-prop who e.0 e.1) s.slots.entries) (×_prop (ℕ_set (s.next.0 % 65536) (who.isn % 65536)) le_prop)
 IsSoundStage-prop who stage.Lost = Unit-prop
 
 -- a turn by the law: it stands elsewhere, and the packets of the turn are what it sent, each in its one spelling. Where it ends a restart, the

@@ -11,9 +11,12 @@ ghost use Rattle.logger_wire.specs.Value.{message_of, IsSendable};
 ghost use Rattle.ft_model.specs.Node.{Node, Place, Stage};
 ghost use Rattle.ft_model.specs.Node.Input.{Message_comes};
 ghost use Rattle.ft_model.specs.Wire.{Wire};
+ghost use Rattle.server_node.specs.Alone.{SlotsAlone};
 ghost use Rattle.server_node.specs.Hearing.{logged_in, opening_in, ended as ended_lem};
+ghost use Rattle.server_node.specs.declared.identity.Identity.{Identity as Incarnation};
 ghost use Rattle.server_node.specs.Identity.{node_of};
 ghost use Rattle.server_node.specs.Slots.{numbers_of, SlotStands, SlotGoes, IsSoundSlot, AllStand, AllSlotsGo, AllSound};
+ghost use Rattle.server_node.specs.Whose.{IsOnlyFor};
 
 use crate::identity::Identity;
 use crate::live::{begin_live, tell_live};
@@ -37,14 +40,15 @@ fn tell_slot<S: Service>(
     out: &mut TurnOut,
     sent: &mut Outgoing,
 ) -> Result<(), NoMemory>
-    requires sound { IsSoundSlot slot.old }
+    requires sound { IsSoundSlot who key slot.old }
     requires sendable { IsSendable m.now }
+    ensures alone { OnOk result (IsOnlyFor key sent.old.items sent.new.items) }
     ensures turn { OnOk result ((stage : Stage) (place : Place) (kept : Kept) → m.now.boot ≡ who.boot → logged_in (message_of m.now).body ≡ Some kept
         → kept.key ≡ key
         → SlotStands (machine (S.started who.kind) S.after) (node_of who stage) key slot.old place
         → SlotGoes (machine (S.started who.kind) S.after) (node_of who stage)
         (Message_comes (message_of m.now)) key place slot.new sent.old.items sent.new.items) }
-    ensures sound { OnOk result (IsSoundSlot slot.new) }
+    ensures sound { OnOk result (IsSoundSlot who key slot.new) }
 {
     match slot {
         Slot::Live(conn) => tell_live(alloc, who, key, conn, m, out, sent),
@@ -62,14 +66,17 @@ pub(crate) fn tell_known<S: Service>(
     out: &mut TurnOut,
     sent: &mut Outgoing,
 ) -> Result<(), NoMemory>
-    requires sound { AllSound slots.old.entries }
+    requires sound { AllSound who slots.old.entries }
     requires sendable { IsSendable m.now }
     ensures turn { OnOk result ((stage : Stage) (places : List Place) (kept : Kept) → m.now.boot ≡ who.boot → logged_in (message_of m.now).body ≡ Some kept
         → kept.key ≡ key
         → AllStand (machine (S.started who.kind) S.after) (node_of who stage) slots.old.entries places
         → AllSlotsGo (machine (S.started who.kind) S.after) (node_of who stage)
         (Message_comes (message_of m.now)) places slots.new.entries sent.old.items sent.new.items) }
-    ensures sound { OnOk result (AllSound slots.new.entries) }
+    ensures alone { OnOk result ((stage : Stage) (kept : Kept) → m.now.boot ≡ who.boot → logged_in (message_of m.now).body ≡ Some kept → kept.key ≡ key
+        → SlotsAlone (machine (S.started who.kind) S.after) (node_of who stage) (Message_comes (message_of m.now)) slots.old.entries slots.new.entries
+        sent.old.items sent.new.items) }
+    ensures sound { OnOk result (AllSound who slots.new.entries) }
 {
     if let Some(slot) = slots.get_mut(&key) {
         tell_slot(alloc, who, key, slot, m, out, sent)?;
@@ -88,11 +95,12 @@ fn end_slot<S: Service>(slot: &mut Slot<S>)
 
 /// The end of a connection is logged.
 pub(crate) fn end_known<S: Service>(key: Key, slots: &mut IndexMap<Key, Slot<S>>)
-    requires { AllSound slots.old.entries }
     ensures turn { (service : Machine S) (node : Node) (places : List Place) (message : Message) (told : List Wire)
         → message ≡ record { boot = node.boot; body = EndedMsg key }
         → AllStand service node slots.old.entries places → AllSlotsGo service node (Message_comes message) places slots.new.entries told told }
-    ensures sound { AllSound slots.new.entries }
+    ensures alone { (service : Machine S) (node : Node) (message : Message) (told : List Wire) → message ≡ record { boot = node.boot; body = EndedMsg key }
+        → SlotsAlone service node (Message_comes message) slots.old.entries slots.new.entries told told }
+    ensures sound { (who : Incarnation) → AllSound who slots.old.entries → AllSound who slots.new.entries }
 {
     if let Some(slot) = slots.get_mut(&key) {
         end_slot(slot);
@@ -148,13 +156,16 @@ pub(crate) fn open_known<S: Service>(
     requires boot { 1 ≤ who.boot }
     requires least { 64 ≤ numbers.mss }
     requires most { numbers.mss ≤ 1460 }
-    requires sound { AllSound slots.old.entries }
+    requires sound { AllSound who slots.old.entries }
     ensures turn { OnOk result ((stage : Stage) (places : List Place) (message : Message)
         → message ≡ record { boot = who.boot; body = OpenedMsg (numbers_of key numbers) }
         → AllStand (machine (S.started who.kind) S.after) (node_of who stage) slots.old.entries places
         → AllSlotsGo (machine (S.started who.kind) S.after) (node_of who stage)
         (Message_comes message) places slots.new.entries sent.old.items sent.new.items) }
-    ensures sound { OnOk result (AllSound slots.new.entries) }
+    ensures alone { OnOk result ((stage : Stage) (message : Message) → message ≡ record { boot = who.boot; body = OpenedMsg (numbers_of key numbers) }
+        → SlotsAlone (machine (S.started who.kind) S.after) (node_of who stage) (Message_comes message) slots.old.entries slots.new.entries
+        sent.old.items sent.new.items) }
+    ensures sound { OnOk result (AllSound who slots.new.entries) }
 {
     let Some(opening) = opening_at(key, slots) else {
         return Ok(());
@@ -176,12 +187,15 @@ pub(crate) fn refuse_known<S: Service>(
     slots: &mut IndexMap<Key, Slot<S>>,
     sent: &mut Outgoing,
 ) -> Result<(), NoMemory>
-    requires sound { AllSound slots.old.entries }
+    requires sound { AllSound who slots.old.entries }
     ensures turn { OnOk result ((stage : Stage) (places : List Place) (message : Message) → message ≡ record { boot = who.boot; body = FullMsg key }
         → AllStand (machine (S.started who.kind) S.after) (node_of who stage) slots.old.entries places
         → AllSlotsGo (machine (S.started who.kind) S.after) (node_of who stage)
         (Message_comes message) places slots.new.entries sent.old.items sent.new.items) }
-    ensures sound { OnOk result (AllSound slots.new.entries) }
+    ensures alone { OnOk result ((stage : Stage) (message : Message) → message ≡ record { boot = who.boot; body = FullMsg key }
+        → SlotsAlone (machine (S.started who.kind) S.after) (node_of who stage) (Message_comes message) slots.old.entries slots.new.entries
+        sent.old.items sent.new.items) }
+    ensures sound { OnOk result (AllSound who slots.new.entries) }
 {
     let Some(opening) = opening_at(key, slots) else {
         return Ok(());
@@ -202,12 +216,15 @@ pub(crate) fn hear<S: Service>(
 ) -> Result<(), NoMemory>
     requires boot { 1 ≤ who.boot }
     requires sendable { IsSendable m.now }
-    requires sound { AllSound slots.old.entries }
+    requires sound { AllSound who slots.old.entries }
     ensures turn { OnOk result ((stage : Stage) (places : List Place) → m.now.boot ≡ who.boot
         → AllStand (machine (S.started who.kind) S.after) (node_of who stage) slots.old.entries places
         → AllSlotsGo (machine (S.started who.kind) S.after) (node_of who stage)
         (Message_comes (message_of m.now)) places slots.new.entries sent.old.items sent.new.items) }
-    ensures sound { OnOk result (AllSound slots.new.entries) }
+    ensures alone { OnOk result ((stage : Stage) → m.now.boot ≡ who.boot
+        → SlotsAlone (machine (S.started who.kind) S.after) (node_of who stage) (Message_comes (message_of m.now)) slots.old.entries slots.new.entries
+        sent.old.items sent.new.items) }
+    ensures sound { OnOk result (AllSound who slots.new.entries) }
 {
     match m.body {
         Body::StableMsg { key, .. } => tell_known(alloc, who, key, slots, m, out, sent),

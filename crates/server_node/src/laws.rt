@@ -1,13 +1,21 @@
 //! What follows from where a node stands, each the clause of a function that does nothing.
 
-ghost use Rattle.std.specs.Prelude.{ℕ};
+ghost use Rattle.std.specs.Prelude.{ℕ, List, Option};
 ghost use Rattle.ft_io.specs.declared.Addr.{Addr};
-ghost use Rattle.server_trait.specs.Service.{machine};
+ghost use Rattle.ft_io.specs.declared.Key.{Key};
+ghost use Rattle.server_trait.specs.Service.{Machine, machine};
+ghost use Rattle.ft_model.specs.Node.{Node, Place};
 ghost use Rattle.ft_model.specs.Point.{Point};
 ghost use Rattle.wrapped_conn.specs.ConnState.{ConnState};
 ghost use Rattle.wrapped_conn.specs.Sound.{IsSound};
+ghost use Rattle.server_node.specs.declared.serving.Serving.{Serving};
+ghost use Rattle.server_node.specs.declared.stage.Stage.{Stage};
+ghost use Rattle.server_node.specs.Alone.{slot_of, slot_in, StandsFor};
 ghost use Rattle.server_node.specs.Conn.{Stands};
+ghost use Rattle.server_node.specs.Lending.{place_in};
 ghost use Rattle.server_node.specs.LentConn.{TellsItsPoint};
+ghost use Rattle.server_node.specs.Runs.{Turned, AreTurns, AreNearFor, RunsAlone};
+ghost use Rattle.server_node.specs.Stages.{StageStands};
 
 use server_trait::Service;
 
@@ -17,4 +25,19 @@ use server_trait::Service;
 pub fn lent_connections_tell_their_point<S: Service>()
     ensures { (fresh : S) (server : Addr) (boot : ℕ) (p : Point) (c : ConnState S) → IsSound c → Stands (machine fresh S.after) server boot c p
         → TellsItsPoint (machine fresh S.after) p c }
+{}
+
+/// Where a node stands, each key stands alone: its slot at its own place, or it has neither.
+pub fn standing_nodes_stand_for_each_key<S: Service>()
+    ensures { (service : Machine S) (node : Node) (at : Stage S) (key : Key) → StageStands service node at
+        → StandsFor service node key (slot_in key at) (place_in key node.stage) }
+{}
+
+/// No client can touch another's connection, over any run of turns of a node that serves: a key that stands at its place, or that isn't known yet,
+/// and of whose own client each packet was near, has had a lawful turn in each of them, as a server has that serves this key alone, and its slot
+/// stands where that leads. Nothing is asked of what other clients sent, nor that any other connection stands.
+pub fn keys_run_alone<S: Service>()
+    ensures { (service : Machine S) (node : Node) (key : Key) (first : Serving S) (turns : List (Turned S)) (start : Option Place)
+        → AreTurns service node first turns → StandsFor service node key (slot_of key first) start → AreNearFor service node key first turns
+        → RunsAlone service node key first turns start }
 {}

@@ -11,9 +11,10 @@ ghost use Rattle.ft_model.specs.News.News.{Begins as Becomes_live, Comes, Logged
 ghost use Rattle.ft_model.specs.Offset.{IsNear};
 ghost use Rattle.ft_model.specs.Opening.{point_opened};
 ghost use Rattle.ft_model.specs.Node.{Stage};
-ghost use Rattle.server_node.specs.Conn.{Begins, Stands, IsSound, ConnGoes};
+ghost use Rattle.server_node.specs.Conn.{Begins, Stands, Belongs, ConnGoes};
 ghost use Rattle.server_node.specs.Hearing.{logged_in};
 ghost use Rattle.server_node.specs.Slots.{numbers_of};
+ghost use Rattle.server_node.specs.Whose.{IsOnlyFor};
 
 use crate::identity::Identity;
 use crate::outgoing::Outgoing;
@@ -40,7 +41,8 @@ pub(crate) fn begin_live<S: Service>(
     requires most { numbers.mss ≤ 1460 }
     ensures turn { IfOk result (λ conn. ConnGoes (machine (S.started who.kind) S.after) who.local who.boot Becomes_live
         (point_opened (numbers_of key numbers)) conn sent.old.items sent.new.items) }
-    ensures sound { IfOk result (λ conn. IsSound conn) }
+    ensures alone { IfOk result (λ conn. IsOnlyFor key sent.old.items sent.new.items) }
+    ensures sound { IfOk result (λ conn. Belongs who key conn) }
 {
     let mut conn = Conn::first(
         alloc,
@@ -68,12 +70,13 @@ pub(crate) fn start_live<S: Service>(
     out: &mut TurnOut,
     sent: &mut Outgoing,
 ) -> Result<(), NoMemory>
-    requires { IsSound conn.old }
+    requires { Belongs who key conn.old }
     ensures turn { OnOk result ((p : Point) → p.key ≡ key → Begins (machine (S.started who.kind) S.after) who.local who.boot conn.old p
         → ConnGoes (machine (S.started who.kind) S.after) who.local who.boot Becomes_live p conn.new sent.old.items sent.new.items) }
     ensures number { OnOk result (conn.new.endpoint.sending.iss ≡ conn.old.endpoint.sending.iss) }
     ensures delta { OnOk result (conn.new.south.delta ≡ conn.old.south.delta) }
-    ensures sound { OnOk result (IsSound conn.new) }
+    ensures alone { OnOk result (IsOnlyFor key sent.old.items sent.new.items) }
+    ensures sound { OnOk result (Belongs who key conn.new) }
 {
     out.clear();
     conn.start(alloc, out)?;
@@ -90,10 +93,11 @@ pub(crate) fn tick_live<S: Service>(
     out: &mut TurnOut,
     sent: &mut Outgoing,
 ) -> Result<(), NoMemory>
-    requires { IsSound conn.old }
+    requires { Belongs who key conn.old }
     ensures turn { OnOk result ((stage : Stage) (p : Point) → p.key ≡ key → Stands (machine (S.started who.kind) S.after) who.local who.boot conn.old p
         → ConnGoes (machine (S.started who.kind) S.after) who.local who.boot Ticks p conn.new sent.old.items sent.new.items) }
-    ensures sound { OnOk result (IsSound conn.new) }
+    ensures alone { OnOk result (IsOnlyFor key sent.old.items sent.new.items) }
+    ensures sound { OnOk result (Belongs who key conn.new) }
 {
     out.clear();
     conn.on_tick(out);
@@ -111,12 +115,13 @@ pub(crate) fn give_live<S: Service>(
     out: &mut TurnOut,
     sent: &mut Outgoing,
 ) -> Result<(), NoMemory>
-    requires sound { IsSound conn.old }
+    requires sound { Belongs who key conn.old }
     requires accepted { IsOk (reading packet.old) }
     ensures turn { OnOk result ((stage : Stage) (p : Point) (segment : Segment) → reading packet.old ≡ Ok segment → IsNear p.cisn p.sisn segment → p.key ≡ key
         → Stands (machine (S.started who.kind) S.after) who.local who.boot conn.old p
         → ConnGoes (machine (S.started who.kind) S.after) who.local who.boot (Comes segment) p conn.new sent.old.items sent.new.items) }
-    ensures sound { OnOk result (IsSound conn.new) }
+    ensures alone { OnOk result (IsOnlyFor key sent.old.items sent.new.items) }
+    ensures sound { OnOk result (Belongs who key conn.new) }
 {
     fit(packet);
     out.clear();
@@ -135,12 +140,13 @@ pub(crate) fn tell_live<S: Service>(
     out: &mut TurnOut,
     sent: &mut Outgoing,
 ) -> Result<(), NoMemory>
-    requires sound { IsSound conn.old }
+    requires sound { Belongs who key conn.old }
     requires sendable { IsSendable m.now }
     ensures turn { OnOk result ((p : Point) (kept : Kept) → m.now.boot ≡ who.boot → logged_in (message_of m.now).body ≡ Some kept → kept.key ≡ key → p.key ≡ key
         → Stands (machine (S.started who.kind) S.after) who.local who.boot conn.old p
         → ConnGoes (machine (S.started who.kind) S.after) who.local who.boot (Logged kept) p conn.new sent.old.items sent.new.items) }
-    ensures sound { OnOk result (IsSound conn.new) }
+    ensures alone { OnOk result (IsOnlyFor key sent.old.items sent.new.items) }
+    ensures sound { OnOk result (Belongs who key conn.new) }
 {
     out.clear();
     conn.on_msg(alloc, m, out)?;

@@ -36,6 +36,7 @@ impl<S: Service> Node<S> {
     ghost use Rattle.ft_model.specs.Wire.{wire_of};
     ghost use Rattle.wrapped_conn.specs.Sound.{IsSound};
     ghost use Rattle.server_node.specs.contracts.node.Node.{the_row};
+    ghost use Rattle.server_node.specs.Alone.{Others, IsUntouched, Alone, TurnsApart};
     ghost use Rattle.server_node.specs.Identity.{node_of};
     ghost use Rattle.server_node.specs.Inputs.{input_of};
     ghost use Rattle.server_node.specs.Lending.{IsConnAt, place_in};
@@ -94,6 +95,12 @@ impl<S: Service> Node<S> {
             → StageStands (machine (S.started self.old.who.kind) S.after) (node_of self.old.who standing) self.old.stage
             → NodeGoes (machine (S.started self.old.who.kind) S.after) (node_of self.old.who standing)
             (input_of input.entry) self.old.who self.new.stage self.new.sent.items) }
+        ensures others { OnOk result ((standing : Standing) → Others (node_of self.old.who standing) (input_of input.entry) self.old.stage self.new.stage
+            self.new.sent.items) }
+        ensures untouched { OnOk result ((standing : Standing) → IsUntouched (node_of self.old.who standing) (input_of input.entry) self.old.stage
+            self.new.stage self.new.sent.items) }
+        ensures alone { OnOk result ((standing : Standing) → Alone (machine (S.started self.old.who.kind) S.after) (node_of self.old.who standing)
+            (input_of input.entry) self.old.stage self.new.stage self.new.sent.items) }
         ensures unfenced { OnOk result ((standing : Standing) → fence (node_of self.old.who standing) (input_of input.entry) ≡ None) }
         ensures fenced { IfErr result (λ end. IsFence end (λ newer. (standing : Standing)
             → fence (node_of self.old.who standing) (input_of input.entry) ≡ Some newer)) }
@@ -106,7 +113,8 @@ impl<S: Service> Node<S> {
         Ok(())
     }
 
-    /// One turn, which lends what it sends. After an error the node may only be dropped. A Stale of its boot that names a larger one ends it by
+    /// One turn, which lends what it sends. Whatever comes, it leaves alone whom the input isn't about, and each key goes on by the law whose own
+    /// packets are near. After an error the node may only be dropped. A Stale of its boot that names a larger one ends it by
     /// `Fenced`, also where there is no memory left, and nothing else does.
     pub fn turn(&mut self, alloc: Global, input: Input<'_>) -> Result<&[OutPacket], TurnEnd>
         ensures* after { sem 𝓛 (follows_so (the_row S.row S.Service) (the_row S.row S.Service) self.entry.ghost_name none (λ _ _. ⊤)
@@ -115,7 +123,8 @@ impl<S: Service> Node<S> {
             → IsSoundInput (machine (S.started self.old.who.kind) S.after) (node_of self.old.who standing) (input_of input.entry) standing
             → StageStands (machine (S.started self.old.who.kind) S.after) (node_of self.old.who standing) self.old.stage
             → NodeGoes (machine (S.started self.old.who.kind) S.after) (node_of self.old.who standing)
-            (input_of input.entry) self.old.who node.stage sent.now)))) }
+            (input_of input.entry) self.old.who node.stage sent.now)
+            × TurnsApart (machine (S.started self.old.who.kind) S.after) self.old.who (input_of input.entry) self.old.stage node.stage sent.now))) }
         ensures unfenced { OnOk result ((standing : Standing) → fence (node_of self.old.who standing) (input_of input.entry) ≡ None) }
         ensures fenced { IfErr result (λ end. IsFence end (λ newer. (standing : Standing)
             → fence (node_of self.old.who standing) (input_of input.entry) ≡ Some newer)) }

@@ -1,7 +1,8 @@
 //! Openings: a SYN of a client that isn't known asks the log to keep an entry, and goes on asking until the log answers.
 
 ghost use Rattle.std.specs.Prelude.{◌==◌, ◌&&◌, ◌≡◌, ◌≤◌, ◌∷◌, [], ℕ, List, None, Some, OnOk, true, nat_lt, length, take, slice_get};
-ghost use Rattle.std.specs.Map.{lookup};
+ghost use Rattle.std.specs.Map.{lookup, keys_of};
+ghost use Rattle.std.specs.List.{IsDistinct};
 ghost use Rattle.ft_io.specs.Key.{key_eq};
 ghost use Rattle.seq_arith.specs.Packet.{Segment};
 ghost use Rattle.seq_arith.specs.Message.Body.{OpenMsg};
@@ -13,7 +14,7 @@ ghost use Rattle.ft_model.specs.Node.{Place, Stage, is_for};
 ghost use Rattle.ft_model.specs.Node.Input.{Packet_comes, Tick_comes};
 ghost use Rattle.ft_model.specs.Opening.{is_syn as is_syn_lem, initial_number};
 ghost use Rattle.server_node.specs.Identity.{node_of};
-ghost use Rattle.server_node.specs.Opening.{ArePut, slot_opens, all_opens, is_pending_slot, pending_slots, Admits};
+ghost use Rattle.server_node.specs.Opening.{ArePut, slot_opens, all_opens, is_pending_slot, pending_slots, Admits, Knocks, IsCounted};
 ghost use Rattle.server_node.specs.Slots.{numbers_of, AllStand, AllSound, IsSoundSlot};
 
 use crate::hearing::opening_at;
@@ -69,7 +70,7 @@ fn ask_slot<S: Service>(
     sent: &mut Outgoing,
 ) -> Result<(), NoMemory>
     requires boot { 1 ≤ who.boot }
-    requires sound { IsSoundSlot slot.now }
+    requires sound { IsSoundSlot who key slot.now }
     ensures { OnOk result ((stage : Stage) → ArePut (slot_opens (node_of who stage) Tick_comes key slot.now) sent.old.items sent.new.items) }
 {
     match slot {
@@ -86,8 +87,9 @@ pub(crate) fn ask_all<S: Service>(
     sent: &mut Outgoing,
 ) -> Result<(), NoMemory>
     requires boot { 1 ≤ who.boot }
-    requires sound { AllSound slots.now.entries }
-    ensures { OnOk result ((stage : Stage) → ArePut (all_opens (node_of who stage) Tick_comes slots.now.entries) sent.old.items sent.new.items) }
+    requires sound { AllSound who slots.now.entries }
+    ensures unique { IsDistinct key_eq (keys_of slots.now.entries) }
+    ensures asked { OnOk result ((stage : Stage) → ArePut (all_opens (node_of who stage) Tick_comes slots.now.entries) sent.old.items sent.new.items) }
 {
     for i in 0..slots.len() {
         ask_slot(alloc, who, key_at(slots, i), &slots[i], sent)?;
@@ -119,8 +121,9 @@ pub(crate) fn ask_again<S: Service>(
     sent: &mut Outgoing,
 ) -> Result<(), NoMemory>
     requires boot { 1 ≤ who.boot }
-    requires sound { AllSound slots.now.entries }
-    ensures { OnOk result ((stage : Stage) (segment : Segment) → segment.head ≡ said head.now → source_of segment ≡ key → is_for who.local segment ≡ true
+    requires sound { AllSound who slots.now.entries }
+    ensures unique { IsDistinct key_eq (keys_of slots.now.entries) }
+    ensures asked { OnOk result ((stage : Stage) (segment : Segment) → segment.head ≡ said head.now → source_of segment ≡ key → is_for who.local segment ≡ true
         → ArePut (all_opens (node_of who stage) (Packet_comes segment) slots.now.entries) sent.old.items sent.new.items) }
 {
     let Some(opening) = opening_at(key, slots) else {
@@ -167,13 +170,16 @@ pub(crate) fn admit<S: Service>(
     sent: &mut Outgoing,
 ) -> Result<(), NoMemory>
     requires boot { 1 ≤ who.boot }
-    requires sound { AllSound slots.old.entries }
+    requires sound { AllSound who slots.old.entries }
     requires strange { lookup (key_eq key) slots.old.entries ≡ None }
     ensures turn { OnOk result ((stage : Stage) (opened : ℕ) (places : List Place) (segment : Segment) → segment.head ≡ said head.now → source_of segment ≡ key
         → is_for who.local segment ≡ true → next.old.0 ≡ initial_number who.isn opened
         → AllStand (machine (S.started who.kind) S.after) (node_of who stage) slots.old.entries places
         → Admits (machine (S.started who.kind) S.after) (node_of who stage) segment opened places next.new.0 slots.new.entries sent.old.items sent.new.items) }
-    ensures sound { OnOk result (AllSound slots.new.entries) }
+    ensures alone { OnOk result ((stage : Stage) (segment : Segment) → segment.head ≡ said head.now → source_of segment ≡ key
+        → Knocks (node_of who stage) segment key next.old.0 next.new.0 slots.old.entries slots.new.entries sent.old.items sent.new.items) }
+    ensures counted { OnOk result (IsCounted who.isn next.old.0 → IsCounted who.isn next.new.0) }
+    ensures sound { OnOk result (AllSound who slots.new.entries) }
 {
     if !may_open(head, slots) {
         return Ok(());

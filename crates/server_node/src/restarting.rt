@@ -1,6 +1,6 @@
 //! The stage of a node that fetches the log: one question after another, until nothing is missing.
 
-ghost use Rattle.std.specs.Prelude.{◌≡◌, ◌≤◌, ◌&&◌, not, ℕ, List, [], Ok, is_some, option_map, IsOk, IfOk, IfSome, OnOk};
+ghost use Rattle.std.specs.Prelude.{◌≡◌, ◌≤◌, ◌&&◌, not, ℕ, List, [], Ok, is_some, option_map, false, IsOk, IfOk, IfSome, OnOk};
 ghost use Rattle.server_trait.specs.Service.{machine};
 ghost use Rattle.seq_arith.specs.Packet.{Segment, has_rst};
 ghost use Rattle.seq_arith.specs.PacketGrammar.{reading};
@@ -9,6 +9,7 @@ ghost use Rattle.logger_wire.specs.Value.{message_of, IsSendable};
 ghost use Rattle.logger_store.specs.Stored.{head_value};
 ghost use Rattle.reincarnate.specs.Asking.{asked as asked_of};
 ghost use Rattle.ft_model.specs.Restart.{Fetched, wanted, live_entry, holding_segment};
+ghost use Rattle.ft_model.specs.Network.{source_of};
 ghost use Rattle.ft_model.specs.Node.{Stage as Standing, is_for};
 ghost use Rattle.ft_model.specs.Node.Stage.{Fetching as Fetches_on};
 ghost use Rattle.ft_model.specs.Node.Input.{Message_comes};
@@ -19,6 +20,7 @@ ghost use Rattle.server_node.specs.Opening.{ArePut};
 ghost use Rattle.server_node.specs.Restarting.{FetchingStands, IsOwn};
 ghost use Rattle.server_node.specs.Reviving.{StageGoes};
 ghost use Rattle.server_node.specs.Stages.{IsSoundStage};
+ghost use Rattle.server_node.specs.Whose.{IsOnlyFor};
 
 use crate::identity::Identity;
 use crate::outgoing::Outgoing;
@@ -157,8 +159,9 @@ fn may_be_held(who: Identity, head: &Head) -> bool
 
 /// The head of a key's entry, unless that is done.
 fn live_head<S: Service>(fetching: &Fetching<S>, key: Key) -> Option<EntryHead>
-    ensures { (count : ℕ) (fetched : List Fetched) → FetchingStands (machine (S.started fetching.now.kind) S.after) count fetched fetching.now
+    ensures law { (count : ℕ) (fetched : List Fetched) → FetchingStands (machine (S.started fetching.now.kind) S.after) count fetched fetching.now
         → option_map head_value result ≡ option_map (λ f. f.head) (live_entry key fetched) }
+    ensures keyed { IfSome result (λ entry. entry.key ≡ key) }
 {
     let Some(entry) = fetching.known(key) else {
         return None;
@@ -179,9 +182,12 @@ pub(crate) fn hold<S: Service>(
 ) -> Result<(), NoMemory>
     requires own { IsOwn who fetching.now }
     requires accepted { IsOk (reading packet.now) }
-    ensures { OnOk result ((standing : Standing) (count : ℕ) (fetched : List Fetched) (segment : Segment) → reading packet.now ≡ Ok segment
+    ensures held { OnOk result ((standing : Standing) (count : ℕ) (fetched : List Fetched) (segment : Segment) → reading packet.now ≡ Ok segment
         → FetchingStands (machine (S.started who.kind) S.after) count fetched fetching.now
         → ArePut (held (node_of who standing) fetched segment) sent.old.items sent.new.items) }
+    ensures alone { OnOk result ((segment : Segment) → reading packet.now ≡ Ok segment → IsOnlyFor (source_of segment) sent.old.items sent.new.items) }
+    ensures silent { OnOk result ((segment : Segment) → reading packet.now ≡ Ok segment → is_for who.local segment ≡ false
+        → sent.new.items ≡ sent.old.items) }
 {
     let head = read_accepted(packet).head;
     if !may_be_held(who, &head) {

@@ -14,6 +14,7 @@ ghost use Rattle.ft_model.specs.Wire.{Wire};
 ghost use Rattle.server_node.specs.Identity.{node_of};
 ghost use Rattle.server_node.specs.Lending.{conn_in};
 ghost use Rattle.server_node.specs.Numbered.{IsNumbered};
+ghost use Rattle.server_node.specs.Opening.{IsCounted};
 ghost use Rattle.server_node.specs.Restarting.{AreDistinct};
 ghost use Rattle.server_node.specs.Reviving.{SlotRevives, AreRestored};
 ghost use Rattle.server_node.specs.Slots.{AllSound, IsSoundSlot};
@@ -46,7 +47,8 @@ pub(crate) fn restore_all<S: Service>(
         → StandsWhole (machine (S.started who.kind) S.after) (reverse fetched) entries
         → AreDistinct fetched → AreSound (machine (S.started who.kind) S.after) fetched
         → AreRestored (machine (S.started who.kind) S.after) (node_of who standing) fetched serving sent.old.items sent.new.items) }
-    ensures sound { IfOk result (λ serving. AllSound serving.slots.entries) }
+    ensures sound { IfOk result (λ serving. AllSound who serving.slots.entries) }
+    ensures counted { IfOk result (λ serving. IsCounted who.isn serving.next.0) }
 {
     let mut serving = Serving {
         next: Seq(who.isn),
@@ -68,13 +70,14 @@ fn restore<S: Service>(
     sent: &mut Outgoing,
 ) -> Result<(), NoMemory>
     requires boot { 1 ≤ who.boot }
-    requires sound { AllSound serving.old.slots.entries }
+    requires sound { AllSound who serving.old.slots.entries }
     ensures turn { OnOk result ((standing : Standing) (f : Fetched) (fetched : List Fetched) (first : List Wire)
         → RestoredIs (machine (S.started who.kind) S.after) f entry
         → (f.head.done ≡ false → IsSoundEntry (machine (S.started who.kind) S.after) (entry_in f)) → is_fetched f.head.key fetched ≡ false
         → AreRestored (machine (S.started who.kind) S.after) (node_of who standing) fetched serving.old first sent.old.items
         → AreRestored (machine (S.started who.kind) S.after) (node_of who standing) (f ∷ fetched) serving.new first sent.new.items) }
-    ensures sound { OnOk result (AllSound serving.new.slots.entries) }
+    ensures sound { OnOk result (AllSound who serving.new.slots.entries) }
+    ensures counted { OnOk result (IsCounted who.isn serving.old.next.0 → IsCounted who.isn serving.new.next.0) }
 {
     match entry {
         Restored::Ended(key) => add_slot(&mut serving.slots, key, Slot::Done),
@@ -103,7 +106,7 @@ fn revive<S: Service>(
         (Lives (point_of (machine (S.started who.kind) S.after) e)) slot sent.old.items sent.new.items) }
     ensures number { IfOk result (λ slot. (fresh : S) (e : Entry) → IsReplayed (machine fresh S.after) e replayed → IsSoundEntry (machine fresh S.after) e
         → IsNumbered (machine fresh S.after) e isn.0 (conn_in (Some slot))) }
-    ensures sound { IfOk result (λ slot. IsSoundSlot slot) }
+    ensures sound { IfOk result (λ slot. IsSoundSlot who replayed.head.key slot) }
 {
     let key = replayed.head().key;
     let Ok(spliced) = replayed.splice(alloc, who.boot, who.local, isn) else {

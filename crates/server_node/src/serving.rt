@@ -1,6 +1,6 @@
 //! The stage of a node that serves.
 
-ghost use Rattle.std.specs.Prelude.{◌≡◌, ◌≤◌, ℕ, List, Ok, None, IsOk, IsSome, OnOk, true};
+ghost use Rattle.std.specs.Prelude.{◌≡◌, ◌≤◌, ℕ, List, Ok, None, IsOk, IsSome, OnOk, true, false};
 ghost use Rattle.std.specs.Map.{lookup};
 ghost use Rattle.ft_io.specs.Key.{key_eq};
 ghost use Rattle.std.specs.List.{AllByRecursion};
@@ -13,7 +13,9 @@ ghost use Rattle.seq_arith.specs.Value.{said};
 ghost use Rattle.ft_model.specs.Network.{source_of};
 ghost use Rattle.ft_model.specs.Node.{Place, Stage, is_for};
 ghost use Rattle.ft_model.specs.Node.Input.{Packet_comes, Message_comes, Tick_comes};
+ghost use Rattle.server_node.specs.Alone.{ServesAlone};
 ghost use Rattle.server_node.specs.Identity.{node_of};
+ghost use Rattle.server_node.specs.Opening.{IsCounted};
 ghost use Rattle.server_node.specs.Slots.{AllSound};
 ghost use Rattle.server_node.specs.Serving.{ServingStands, ServingGoes};
 
@@ -50,11 +52,15 @@ pub(crate) fn serve_tick<S: Service>(
     sent: &mut Outgoing,
 ) -> Result<(), NoMemory>
     requires boot { 1 ≤ who.boot }
-    requires sound { AllSound serving.old.slots.entries }
+    requires sound { AllSound who serving.old.slots.entries }
+    requires counted { IsCounted who.isn serving.old.next.0 }
     ensures turn { OnOk result ((stage : Stage) (opened : ℕ) (places : List Place)
         → ServingStands (machine (S.started who.kind) S.after) (node_of who stage) opened places serving.old
         → ServingGoes (machine (S.started who.kind) S.after) (node_of who stage) Tick_comes opened places serving.new sent.old.items sent.new.items) }
-    ensures sound { OnOk result (AllSound serving.new.slots.entries) }
+    ensures alone { OnOk result ((stage : Stage) → ServesAlone (machine (S.started who.kind) S.after) (node_of who stage) Tick_comes
+        serving.old serving.new sent.old.items sent.new.items) }
+    ensures sound { OnOk result (AllSound who serving.new.slots.entries) }
+    ensures counted { OnOk result (IsCounted who.isn serving.new.next.0) }
 {
     tick_all(alloc, who, &mut serving.slots, out, sent)?;
     ask_all(alloc, who, &serving.slots, sent)
@@ -71,12 +77,17 @@ pub(crate) fn serve_message<S: Service>(
 ) -> Result<(), NoMemory>
     requires boot { 1 ≤ who.boot }
     requires sendable { IsSendable m.now }
-    requires sound { AllSound serving.old.slots.entries }
+    requires sound { AllSound who serving.old.slots.entries }
+    requires counted { IsCounted who.isn serving.old.next.0 }
     ensures turn { OnOk result ((stage : Stage) (opened : ℕ) (places : List Place) → m.now.boot ≡ who.boot
         → ServingStands (machine (S.started who.kind) S.after) (node_of who stage) opened places serving.old
         → ServingGoes (machine (S.started who.kind) S.after) (node_of who stage)
         (Message_comes (message_of m.now)) opened places serving.new sent.old.items sent.new.items) }
-    ensures sound { OnOk result (AllSound serving.new.slots.entries) }
+    ensures alone { OnOk result ((stage : Stage) → m.now.boot ≡ who.boot
+        → ServesAlone (machine (S.started who.kind) S.after) (node_of who stage) (Message_comes (message_of m.now)) serving.old serving.new
+        sent.old.items sent.new.items) }
+    ensures sound { OnOk result (AllSound who serving.new.slots.entries) }
+    ensures counted { OnOk result (IsCounted who.isn serving.new.next.0) }
 {
     hear(alloc, who, m, &mut serving.slots, out, sent)
 }
@@ -99,13 +110,20 @@ pub(crate) fn serve_packet<S: Service>(
 ) -> Result<(), NoMemory>
     requires boot { 1 ≤ who.boot }
     requires accepted { IsOk (reading packet.old) }
-    requires sound { AllSound serving.old.slots.entries }
+    requires sound { AllSound who serving.old.slots.entries }
+    requires counted { IsCounted who.isn serving.old.next.0 }
     ensures turn { OnOk result ((stage : Stage) (opened : ℕ) (places : List Place) (segment : Segment) → reading packet.old ≡ Ok segment
         → AllByRecursion (IsNearTo who.local segment) places
         → ServingStands (machine (S.started who.kind) S.after) (node_of who stage) opened places serving.old
         → ServingGoes (machine (S.started who.kind) S.after) (node_of who stage)
         (Packet_comes segment) opened places serving.new sent.old.items sent.new.items) }
-    ensures sound { OnOk result (AllSound serving.new.slots.entries) }
+    ensures alone { OnOk result ((stage : Stage) (segment : Segment) → reading packet.old ≡ Ok segment
+        → ServesAlone (machine (S.started who.kind) S.after) (node_of who stage) (Packet_comes segment) serving.old serving.new
+        sent.old.items sent.new.items) }
+    ensures untouched { OnOk result ((segment : Segment) → reading packet.old ≡ Ok segment → is_for who.local segment ≡ false
+        → (serving.new ≡ serving.old) × (sent.new.items ≡ sent.old.items)) }
+    ensures sound { OnOk result (AllSound who serving.new.slots.entries) }
+    ensures counted { OnOk result (IsCounted who.isn serving.new.next.0) }
 {
     let head = read_accepted(packet).head;
     if !is_for(who.local, &head) {
@@ -132,7 +150,8 @@ fn serve_known<S: Service>(
 ) -> Result<(), NoMemory>
     requires boot { 1 ≤ who.boot }
     requires accepted { IsOk (reading packet.old) }
-    requires sound { AllSound serving.old.slots.entries }
+    requires sound { AllSound who serving.old.slots.entries }
+    requires counted { IsCounted who.isn serving.old.next.0 }
     requires known { IsSome (lookup (key_eq key) serving.old.slots.entries) }
     ensures turn { OnOk result ((stage : Stage) (opened : ℕ) (places : List Place) (segment : Segment) → reading packet.old ≡ Ok segment
         → segment.head ≡ said head.now
@@ -140,7 +159,12 @@ fn serve_known<S: Service>(
         → ServingStands (machine (S.started who.kind) S.after) (node_of who stage) opened places serving.old
         → ServingGoes (machine (S.started who.kind) S.after) (node_of who stage)
         (Packet_comes segment) opened places serving.new sent.old.items sent.new.items) }
-    ensures sound { OnOk result (AllSound serving.new.slots.entries) }
+    ensures alone { OnOk result ((stage : Stage) (segment : Segment) → reading packet.old ≡ Ok segment → segment.head ≡ said head.now
+        → source_of segment ≡ key → is_for who.local segment ≡ true
+        → ServesAlone (machine (S.started who.kind) S.after) (node_of who stage) (Packet_comes segment) serving.old serving.new
+        sent.old.items sent.new.items) }
+    ensures sound { OnOk result (AllSound who serving.new.slots.entries) }
+    ensures counted { OnOk result (IsCounted who.isn serving.new.next.0) }
 {
     give_known(alloc, who, key, &mut serving.slots, packet, out, sent)?;
     ask_again(alloc, who, key, head, &serving.slots, sent)
@@ -158,7 +182,8 @@ fn serve_strange<S: Service>(
 ) -> Result<(), NoMemory>
     requires boot { 1 ≤ who.boot }
     requires accepted { IsOk (reading packet.now) }
-    requires sound { AllSound serving.old.slots.entries }
+    requires sound { AllSound who serving.old.slots.entries }
+    requires counted { IsCounted who.isn serving.old.next.0 }
     requires strange { lookup (key_eq key) serving.old.slots.entries ≡ None }
     ensures turn { OnOk result ((stage : Stage) (opened : ℕ) (places : List Place) (segment : Segment) → reading packet.now ≡ Ok segment
         → segment.head ≡ said head.now
@@ -166,7 +191,12 @@ fn serve_strange<S: Service>(
         → ServingStands (machine (S.started who.kind) S.after) (node_of who stage) opened places serving.old
         → ServingGoes (machine (S.started who.kind) S.after) (node_of who stage)
         (Packet_comes segment) opened places serving.new sent.old.items sent.new.items) }
-    ensures sound { OnOk result (AllSound serving.new.slots.entries) }
+    ensures alone { OnOk result ((stage : Stage) (segment : Segment) → reading packet.now ≡ Ok segment → segment.head ≡ said head.now
+        → source_of segment ≡ key → is_for who.local segment ≡ true
+        → ServesAlone (machine (S.started who.kind) S.after) (node_of who stage) (Packet_comes segment) serving.old serving.new
+        sent.old.items sent.new.items) }
+    ensures sound { OnOk result (AllSound who serving.new.slots.entries) }
+    ensures counted { OnOk result (IsCounted who.isn serving.new.next.0) }
 {
     refuse_unknown(alloc, who, packet, sent)?;
     admit(

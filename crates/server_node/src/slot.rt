@@ -11,6 +11,7 @@ ghost use Rattle.ft_model.specs.Node.Input.{Packet_comes, Tick_comes};
 ghost use Rattle.server_node.specs.Identity.{node_of};
 ghost use Rattle.server_node.specs.Lending.{conn_in};
 ghost use Rattle.server_node.specs.Slots.{SlotStands, SlotGoes, IsSoundSlot};
+ghost use Rattle.server_node.specs.Whose.{IsOnlyFor};
 
 use crate::identity::Identity;
 use crate::live::{give_live, tick_live};
@@ -51,10 +52,11 @@ pub(crate) fn tick_slot<S: Service>(
     out: &mut TurnOut,
     sent: &mut Outgoing,
 ) -> Result<(), NoMemory>
-    requires { IsSoundSlot slot.old }
+    requires { IsSoundSlot who key slot.old }
     ensures turn { OnOk result ((stage : Stage) (place : Place) → SlotStands (machine (S.started who.kind) S.after) (node_of who stage) key slot.old place
         → SlotGoes (machine (S.started who.kind) S.after) (node_of who stage) Tick_comes key place slot.new sent.old.items sent.new.items) }
-    ensures sound { OnOk result (IsSoundSlot slot.new) }
+    ensures alone { OnOk result (IsOnlyFor key sent.old.items sent.new.items) }
+    ensures sound { OnOk result (IsSoundSlot who key slot.new) }
 {
     match slot {
         Slot::Live(conn) => tick_live(alloc, who, key, conn, out, sent),
@@ -72,12 +74,13 @@ pub(crate) fn give_slot<S: Service>(
     out: &mut TurnOut,
     sent: &mut Outgoing,
 ) -> Result<(), NoMemory>
-    requires sound { IsSoundSlot slot.old }
+    requires sound { IsSoundSlot who key slot.old }
     requires accepted { IsOk (reading packet.old) }
     ensures turn { OnOk result ((stage : Stage) (place : Place) (segment : Segment) → reading packet.old ≡ Ok segment → source_of segment ≡ key
         → is_for who.local segment ≡ true → IsNearTo who.local segment place → SlotStands (machine (S.started who.kind) S.after) (node_of who stage) key slot.old place
         → SlotGoes (machine (S.started who.kind) S.after) (node_of who stage) (Packet_comes segment) key place slot.new sent.old.items sent.new.items) }
-    ensures sound { OnOk result (IsSoundSlot slot.new) }
+    ensures alone { OnOk result ((segment : Segment) → reading packet.old ≡ Ok segment → source_of segment ≡ key → IsOnlyFor key sent.old.items sent.new.items) }
+    ensures sound { OnOk result (IsSoundSlot who key slot.new) }
 {
     match slot {
         Slot::Live(conn) => give_live(alloc, who, key, conn, packet, out, sent),

@@ -11,7 +11,9 @@ ghost use Rattle.ft_model.specs.Network.{source_of};
 ghost use Rattle.ft_model.specs.Lawful.{IsNearTo};
 ghost use Rattle.ft_model.specs.Node.{Node, Place, Stage, is_for, place_at};
 ghost use Rattle.ft_model.specs.Node.Input.{Packet_comes, Tick_comes};
+ghost use Rattle.server_node.specs.Alone.{SlotsAlone};
 ghost use Rattle.server_node.specs.Conn.{IsSound};
+ghost use Rattle.server_node.specs.declared.identity.Identity.{Identity as Incarnation};
 ghost use Rattle.server_node.specs.Identity.{node_of};
 ghost use Rattle.server_node.specs.Lending.{IsConnAt};
 ghost use Rattle.server_node.specs.Slots.{AllStand, AllSlotsGo, AllSound, IsSoundSlot};
@@ -42,11 +44,13 @@ pub(crate) fn tick_all<S: Service>(
     out: &mut TurnOut,
     sent: &mut Outgoing,
 ) -> Result<(), NoMemory>
-    requires { AllSound slots.old.entries }
+    requires { AllSound who slots.old.entries }
     ensures turn { OnOk result ((stage : Stage) (places : List Place)
         → AllStand (machine (S.started who.kind) S.after) (node_of who stage) slots.old.entries places
         → AllSlotsGo (machine (S.started who.kind) S.after) (node_of who stage) Tick_comes places slots.new.entries sent.old.items sent.new.items) }
-    ensures sound { OnOk result (AllSound slots.new.entries) }
+    ensures alone { OnOk result ((stage : Stage) → SlotsAlone (machine (S.started who.kind) S.after) (node_of who stage) Tick_comes slots.old.entries slots.new.entries
+        sent.old.items sent.new.items) }
+    ensures sound { OnOk result (AllSound who slots.new.entries) }
 {
     for i in 0..slots.len() {
         let key = key_at(slots, i);
@@ -65,13 +69,16 @@ pub(crate) fn give_known<S: Service>(
     out: &mut TurnOut,
     sent: &mut Outgoing,
 ) -> Result<(), NoMemory>
-    requires sound { AllSound slots.old.entries }
+    requires sound { AllSound who slots.old.entries }
     requires accepted { IsOk (reading packet.old) }
     ensures turn { OnOk result ((stage : Stage) (places : List Place) (segment : Segment) → reading packet.old ≡ Ok segment → source_of segment ≡ key
         → is_for who.local segment ≡ true → AllByRecursion (IsNearTo who.local segment) places
         → AllStand (machine (S.started who.kind) S.after) (node_of who stage) slots.old.entries places
         → AllSlotsGo (machine (S.started who.kind) S.after) (node_of who stage) (Packet_comes segment) places slots.new.entries sent.old.items sent.new.items) }
-    ensures sound { OnOk result (AllSound slots.new.entries) }
+    ensures alone { OnOk result ((stage : Stage) (segment : Segment) → reading packet.old ≡ Ok segment → source_of segment ≡ key → is_for who.local segment ≡ true
+        → SlotsAlone (machine (S.started who.kind) S.after) (node_of who stage) (Packet_comes segment) slots.old.entries slots.new.entries
+        sent.old.items sent.new.items) }
+    ensures sound { OnOk result (AllSound who slots.new.entries) }
 {
     if let Some(slot) = slots.get_mut(&key) {
         give_slot(alloc, who, key, slot, packet, out, sent)?;
@@ -83,7 +90,7 @@ pub(crate) fn give_known<S: Service>(
 pub(crate) fn conn_at<S: Service>(slots: &IndexMap<Key, Slot<S>>, key: Key) -> Option<&Conn<S>>
     ensures stands { (service : Machine S) (node : Node) (places : List Place) → AllStand service node slots.now.entries places
         → IsConnAt service node (option_copied result) (place_at key places) }
-    ensures sound { AllSound slots.now.entries → IfSome result (λ c. IsSound c.now) }
+    ensures sound { (who : Incarnation) → AllSound who slots.now.entries → IfSome result (λ c. IsSound c.now) }
 {
     live_conn(slots.get(&key)?)
 }
@@ -94,10 +101,8 @@ pub(crate) fn add_slot<S: Service>(
     key: Key,
     slot: Slot<S>,
 ) -> Result<(), NoMemory>
-    requires all { AllSound slots.old.entries }
-    requires one { IsSoundSlot slot }
     ensures added { OnOk result (lookup (key_eq key) slots.old.entries ≡ None → slots.new.entries ≡ slots.old.entries ++ (key, slot) ∷ []) }
-    ensures sound { OnOk result (AllSound slots.new.entries) }
+    ensures sound { OnOk result ((who : Incarnation) → AllSound who slots.old.entries → IsSoundSlot who key slot → AllSound who slots.new.entries) }
 {
     slots.insert(key, slot)?;
     Ok(())

@@ -1,6 +1,6 @@
 //! How far a node is, and what an input does to it.
 
-ghost use Rattle.std.specs.Prelude.{◌≡◌, ◌≤◌, ◌∷◌, [], ℕ, List, Ok, None, Some, IsOk, IfSome, OnOk, IfOk, IfErr, IsErrOf, option_copied};
+ghost use Rattle.std.specs.Prelude.{◌≡◌, ◌≤◌, ◌∷◌, [], ℕ, List, Ok, None, Some, IsOk, IfSome, OnOk, IfOk, IfErr, IsErrOf, option_copied, false};
 ghost use Rattle.std.specs.List.{AllByRecursion};
 ghost use Rattle.seq_arith.specs.Packet.{Segment};
 ghost use Rattle.seq_arith.specs.PacketGrammar.{reading};
@@ -8,16 +8,17 @@ ghost use Rattle.seq_arith.specs.Message.Body.{HelloMsg};
 ghost use Rattle.server_trait.specs.Service.{Machine, machine};
 ghost use Rattle.logger_wire.specs.Value.{body_of, message_of, IsSendable};
 ghost use Rattle.ft_model.specs.Connection.{told_by};
-ghost use Rattle.ft_model.specs.Node.{Node, Place, Stage as Standing};
+ghost use Rattle.ft_model.specs.Node.{Node, Place, Stage as Standing, is_for};
 ghost use Rattle.ft_model.specs.Node.Stage.{Asking};
 ghost use Rattle.ft_model.specs.Node.Input.{Packet_comes, Message_comes, Tick_comes};
 ghost use Rattle.ft_model.specs.Lawful.{IsNearInput, IsNearTo, IsSoundInput, fence, newer_than, summary_count};
+ghost use Rattle.server_node.specs.Alone.{ServesAlone, Others, Alone, IsUntouched};
 ghost use Rattle.server_node.specs.Conn.{IsSound};
 ghost use Rattle.server_node.specs.declared.identity.Identity.{Identity as Incarnation};
 ghost use Rattle.server_node.specs.Identity.{node_of};
 ghost use Rattle.server_node.specs.Inputs.{input_of};
 ghost use Rattle.server_node.specs.Lending.{IsConnAt, place_in};
-ghost use Rattle.server_node.specs.Opening.{ArePut};
+ghost use Rattle.server_node.specs.Opening.{ArePut, IsCounted};
 ghost use Rattle.server_node.specs.Serving.{ServingStands, ServingGoes};
 ghost use Rattle.server_node.specs.Slots.{AllSound};
 ghost use Rattle.server_node.specs.Stages.{StageStands, IsSoundStage, NodeGoes, IsFence};
@@ -73,6 +74,9 @@ fn on_tick<S: Service>(
     requires empty { sent.old.items ≡ [] }
     ensures turn { IfOk result (λ after. (standing : Standing) → StageStands (machine (S.started who.kind) S.after) (node_of who standing) stage
         → NodeGoes (machine (S.started who.kind) S.after) (node_of who standing) Tick_comes who after sent.new.items) }
+    ensures others { IfOk result (λ after. (standing : Standing) → Others (node_of who standing) Tick_comes stage after sent.new.items) }
+    ensures alone { IfOk result (λ after. (standing : Standing)
+        → Alone (machine (S.started who.kind) S.after) (node_of who standing) Tick_comes stage after sent.new.items) }
     ensures sound { IfOk result (λ after. IsSoundStage who after) }
 {
     match stage {
@@ -109,6 +113,10 @@ fn on_message<S: Service>(
         → IsSoundInput (machine (S.started who.kind) S.after) (node_of who standing) (Message_comes (message_of m.now)) standing
         → StageStands (machine (S.started who.kind) S.after) (node_of who standing) stage
         → NodeGoes (machine (S.started who.kind) S.after) (node_of who standing) (Message_comes (message_of m.now)) who after sent.new.items) }
+    ensures others { IfOk result (λ after. (standing : Standing) → m.now.boot ≡ who.boot
+        → Others (node_of who standing) (Message_comes (message_of m.now)) stage after sent.new.items) }
+    ensures alone { IfOk result (λ after. (standing : Standing) → m.now.boot ≡ who.boot
+        → Alone (machine (S.started who.kind) S.after) (node_of who standing) (Message_comes (message_of m.now)) stage after sent.new.items) }
     ensures sound { IfOk result (λ after. IsSoundStage who after) }
 {
     match stage {
@@ -191,6 +199,12 @@ fn hear<S: Service>(
         → IsSoundInput (machine (S.started who.kind) S.after) (node_of who standing) (Message_comes (message_of m.now)) standing
         → StageStands (machine (S.started who.kind) S.after) (node_of who standing) stage
         → NodeGoes (machine (S.started who.kind) S.after) (node_of who standing) (Message_comes (message_of m.now)) who after sent.new.items) }
+    ensures others { IfOk result (λ after. (standing : Standing)
+        → Others (node_of who standing) (Message_comes (message_of m.now)) stage after sent.new.items) }
+    ensures alone { IfOk result (λ after. (standing : Standing)
+        → Alone (machine (S.started who.kind) S.after) (node_of who standing) (Message_comes (message_of m.now)) stage after sent.new.items) }
+    ensures untouched { IfOk result (λ after. (standing : Standing)
+        → IsUntouched (node_of who standing) (Message_comes (message_of m.now)) stage after sent.new.items) }
     ensures unfenced { IfOk result (λ after. (standing : Standing) → fence (node_of who standing) (Message_comes (message_of m.now)) ≡ None) }
     ensures fenced { IfErr result (λ end. IsFence end (λ newer. (standing : Standing)
         → fence (node_of who standing) (Message_comes (message_of m.now)) ≡ Some newer)) }
@@ -223,6 +237,12 @@ fn on_packet<S: Service>(
         → IsNearInput who.local (Packet_comes segment) standing
         → StageStands (machine (S.started who.kind) S.after) (node_of who standing) stage
         → NodeGoes (machine (S.started who.kind) S.after) (node_of who standing) (Packet_comes segment) who after sent.new.items) }
+    ensures others { IfOk result (λ after. (standing : Standing) (segment : Segment) → reading packet.now ≡ Ok segment
+        → Others (node_of who standing) (Packet_comes segment) stage after sent.new.items) }
+    ensures alone { IfOk result (λ after. (standing : Standing) (segment : Segment) → reading packet.now ≡ Ok segment
+        → Alone (machine (S.started who.kind) S.after) (node_of who standing) (Packet_comes segment) stage after sent.new.items) }
+    ensures untouched { IfOk result (λ after. (standing : Standing) (segment : Segment) → reading packet.now ≡ Ok segment
+        → IsUntouched (node_of who standing) (Packet_comes segment) stage after sent.new.items) }
     ensures sound { IfOk result (λ after. IsSoundStage who after) }
 {
     match stage {
@@ -250,13 +270,20 @@ fn serve_bytes<S: Service>(
 ) -> Result<(), NoMemory>
     requires boot { 1 ≤ who.boot }
     requires accepted { IsOk (reading packet.now) }
-    requires sound { AllSound serving.old.slots.entries }
+    requires sound { AllSound who serving.old.slots.entries }
+    requires counted { IsCounted who.isn serving.old.next.0 }
     ensures turn { OnOk result ((stage : Standing) (opened : ℕ) (places : List Place) (segment : Segment) → reading packet.now ≡ Ok segment
         → AllByRecursion (IsNearTo who.local segment) places
         → ServingStands (machine (S.started who.kind) S.after) (node_of who stage) opened places serving.old
         → ServingGoes (machine (S.started who.kind) S.after) (node_of who stage)
         (Packet_comes segment) opened places serving.new sent.old.items sent.new.items) }
-    ensures sound { OnOk result (AllSound serving.new.slots.entries) }
+    ensures alone { OnOk result ((stage : Standing) (segment : Segment) → reading packet.now ≡ Ok segment
+        → ServesAlone (machine (S.started who.kind) S.after) (node_of who stage) (Packet_comes segment) serving.old serving.new
+        sent.old.items sent.new.items) }
+    ensures untouched { OnOk result ((segment : Segment) → reading packet.now ≡ Ok segment → is_for who.local segment ≡ false
+        → (serving.new ≡ serving.old) × (sent.new.items ≡ sent.old.items)) }
+    ensures sound { OnOk result (AllSound who serving.new.slots.entries) }
+    ensures counted { OnOk result (IsCounted who.isn serving.new.next.0) }
 {
     let mut text = [0; 1_500];
     let copy = copied(packet, &mut text);
@@ -302,6 +329,11 @@ pub(crate) fn go<S: Service>(
         → IsSoundInput (machine (S.started who.kind) S.after) (node_of who standing) (input_of input.entry) standing
         → StageStands (machine (S.started who.kind) S.after) (node_of who standing) stage
         → NodeGoes (machine (S.started who.kind) S.after) (node_of who standing) (input_of input.entry) who after sent.new.items) }
+    ensures others { IfOk result (λ after. (standing : Standing) → Others (node_of who standing) (input_of input.entry) stage after sent.new.items) }
+    ensures alone { IfOk result (λ after. (standing : Standing)
+        → Alone (machine (S.started who.kind) S.after) (node_of who standing) (input_of input.entry) stage after sent.new.items) }
+    ensures untouched { IfOk result (λ after. (standing : Standing)
+        → IsUntouched (node_of who standing) (input_of input.entry) stage after sent.new.items) }
     ensures unfenced { IfOk result (λ after. (standing : Standing) → fence (node_of who standing) (input_of input.entry) ≡ None) }
     ensures fenced { IfErr result (λ end. IsFence end (λ newer. (standing : Standing) → fence (node_of who standing) (input_of input.entry) ≡ Some newer)) }
     ensures memory { IsErrOf result TurnEnd.NoMemory → (standing : Standing) → fence (node_of who standing) (input_of input.entry) ≡ None }

@@ -9,6 +9,7 @@ use Rattle.server_node.specs.Hearing.{logged_in}
 use Rattle.server_node.specs.Identity.{node_of}
 use Rattle.server_node.proofs.Heeded.{message_is, opened_range, others_unheard}
 use Rattle.server_node.proofs.OneKey.{none_concerned}
+use Rattle.server_node.proofs.Keyed.{none_alone}
 use Rattle.server_node.proofs.hearing.hear.Goals as goal
 
 pub returns-in-StableMsg-clause-turn : goal.returns-in-StableMsg-clause-turn
@@ -46,3 +47,36 @@ returns-in_default-clause-turn g c = λ stage places boot st.
     none_concerned (machine (g.S.Service.started c.args.who.kind) g.S.Service.after) node (Message_comes message) c.args.slots.now.entries places c.args.sent.now.items
     (λ k. and_right (message.boot == node.boot) (names message.body k)
     (others_unheard c.args.m.now.body other.not-OpenedMsg other.not-StableMsg other.not-ReadsMsg other.not-EndedMsg other.not-FullMsg k)) st
+
+pub returns-in-StableMsg-clause-alone : goal.returns-in-StableMsg-clause-alone
+returns-in-StableMsg-clause-alone g c = on_ok_weaker c.tell_known.result
+    (λ told stage boot. told stage _ boot (ap (λ b. logged_in (body_of b)) c.in-StableMsg.is) refl) c.tell_known.ensures.alone
+
+pub returns-in-ReadsMsg-clause-alone : goal.returns-in-ReadsMsg-clause-alone
+returns-in-ReadsMsg-clause-alone g c = on_ok_weaker c.tell_known-in-ReadsMsg.result
+    (λ told stage boot. told stage _ boot (ap (λ b. logged_in (body_of b)) c.in-ReadsMsg.is) refl) c.tell_known-in-ReadsMsg.ensures.alone
+
+pub returns-in-EndedMsg-clause-alone : goal.returns-in-EndedMsg-clause-alone
+returns-in-EndedMsg-clause-alone g c = λ stage boot.
+    c.end_known.ensures.alone (machine (g.S.Service.started c.args.who.kind) g.S.Service.after) (node_of c.args.who stage) (message_of c.args.m.now) c.args.sent.now.items
+    (message_is (message_of c.args.m.now) c.args.who.boot _ boot (ap body_of c.in-EndedMsg.is))
+
+pub returns-in-EndedMsg-clause-sound : goal.returns-in-EndedMsg-clause-sound
+returns-in-EndedMsg-clause-sound g c = c.end_known.ensures.sound c.args.who c.requires.sound
+
+pub returns-in-OpenedMsg-clause-alone : goal.returns-in-OpenedMsg-clause-alone
+returns-in-OpenedMsg-clause-alone g c = on_ok_weaker c.open_known.result
+    (λ told stage boot. told stage (message_of c.args.m.now) (message_is (message_of c.args.m.now) c.args.who.boot _ boot (ap body_of c.in-OpenedMsg.is))) c.open_known.ensures.alone
+
+pub returns-in-FullMsg-clause-alone : goal.returns-in-FullMsg-clause-alone
+returns-in-FullMsg-clause-alone g c = on_ok_weaker c.refuse_known.result
+    (λ told stage boot. told stage (message_of c.args.m.now) (message_is (message_of c.args.m.now) c.args.who.boot _ boot (ap body_of c.in-FullMsg.is))) c.refuse_known.ensures.alone
+
+pub returns-in_default-clause-alone : goal.returns-in_default-clause-alone
+returns-in_default-clause-alone g c = λ stage boot.
+    let node = node_of c.args.who stage in
+    let message = message_of c.args.m.now in
+    let other = c.in_default in
+    none_alone (machine (g.S.Service.started c.args.who.kind) g.S.Service.after) node (Message_comes message) c.args.slots.now.entries c.args.sent.now.items
+    (λ k. and_right (message.boot == node.boot) (names message.body k)
+    (others_unheard c.args.m.now.body other.not-OpenedMsg other.not-StableMsg other.not-ReadsMsg other.not-EndedMsg other.not-FullMsg k))

@@ -1,17 +1,20 @@
-use Rattle.std.proofs.Common.{rules, ◌≡◌, ◌∙◌, refl, sym, subst, None}
+use Rattle.std.proofs.Common.{rules, ◌≡◌, ◌∙◌, ◌∷◌, [], refl, sym, subst, None}
 use Rattle.std.specs.Map.{lookup}
 use Rattle.ft_io.specs.Key.{key_eq}
 use Rattle.server_trait.specs.Service.{machine}
 use Rattle.seq_arith.specs.Message.{Message}
 use Rattle.seq_arith.specs.Message.Body.{FullMsg}
 use Rattle.ft_model.specs.Node.Input.{Message_comes}
+use Rattle.ft_model.specs.Refusal.{full_rst}
 use Rattle.server_node.specs.declared.slot.Slot.TheVariants as slot
 use Rattle.server_node.specs.Hearing.{opening_in}
 use Rattle.server_node.specs.Identity.{node_of}
-use Rattle.server_node.specs.Slots.{AllSlotsGo, AllSound}
-use Rattle.server_node.proofs.Heard.{only_its_key}
+use Rattle.server_node.specs.Slots.{numbers_of, AllSlotsGo, AllSound}
+use Rattle.server_node.specs.Alone.{SlotsAlone}
+use Rattle.server_node.proofs.Heard.{only_its_key, its_key}
+use Rattle.server_node.proofs.Keyed.{drop_alone, refused_for, full_back}
 use Rattle.server_node.proofs.OneKey.{one_leaves}
-use Rattle.server_node.proofs.Opened.{none_pending, pending_found, opening_refused}
+use Rattle.server_node.proofs.Opened.{none_pending, none_pending_alone, pending_found, opening_refused}
 use Rattle.server_node.proofs.Sound.{sound_drop}
 use Rattle.server_node.proofs.hearing.refuse_known.Goals as goal
 
@@ -41,4 +44,30 @@ returns-clause-turn g c = λ stage places message is st.
     (λ place at. opening_refused service node full refl c.args.key (λ k. refl) refl place c.in-Some.opening c.args.sent.now.items c.refuse_full.new.sent.items at told)))
 
 pub returns-clause-sound : goal.returns-clause-sound
-returns-clause-sound g c = subst AllSound (sym c.drop_slot.ensures) (sound_drop (key_eq c.args.key) c.args.slots.now.entries c.requires.sound)
+returns-clause-sound g c = subst (AllSound c.args.who) (sym c.drop_slot.ensures) (sound_drop c.args.who (key_eq c.args.key) c.args.slots.now.entries c.requires.sound)
+
+pub returns-in_default-clause-alone : goal.returns-in_default-clause-alone
+returns-in_default-clause-alone g c = λ stage message is.
+    let service = machine (g.S.Service.started c.args.who.kind) g.S.Service.after in
+    let node = node_of c.args.who stage in
+    let full : Message = record { boot = c.args.who.boot; body = FullMsg c.args.key } in
+    let es = c.args.slots.now.entries in
+    let none : opening_in (lookup (key_eq c.args.key) es) ≡ None = search rules in
+    subst (λ m. SlotsAlone service node (Message_comes m) es es c.args.sent.now.items c.args.sent.now.items) (sym is)
+    (none_pending_alone service node full refl c.args.key (λ k. refl) (λ p. (refl, refl)) (λ k. (refl, refl)) es c.args.sent.now.items none)
+
+pub returns-clause-alone : goal.returns-clause-alone
+returns-clause-alone g c = λ stage message is.
+    let service = machine (g.S.Service.started c.args.who.kind) g.S.Service.after in
+    let node = node_of c.args.who stage in
+    let full : Message = record { boot = c.args.who.boot; body = FullMsg c.args.key } in
+    let es = c.args.slots.now.entries in
+    let told = rw c.in_ok-refuse_full.was at c.refuse_full.ensures in
+    let found = pending_found (lookup (key_eq c.args.key) es) c.in-Some.opening (sym c.opening_at.ensures.found ∙ c.in-Some.is) in
+    subst (λ m. SlotsAlone service node (Message_comes m) es c.drop_slot.new.slots.entries c.args.sent.now.items c.refuse_full.new.sent.items) (sym is)
+    (subst (λ xs. SlotsAlone service node (Message_comes full) es xs c.args.sent.now.items c.refuse_full.new.sent.items) (sym c.drop_slot.ensures)
+    (drop_alone service node (Message_comes full) c.args.key (only_its_key node full c.args.key (λ k. refl)) (its_key node full c.args.key refl (λ k. refl) c.args.key refl)
+    es (slot.Pending c.in-Some.opening) c.args.sent.now.items c.refuse_full.new.sent.items c.opening_at.ensures.unique found
+    (refused_for c.args.key (full_rst c.args.who.local (numbers_of c.args.key c.in-Some.opening) ∷ []) c.args.sent.now.items c.refuse_full.new.sent.items
+    (full_back c.args.who.local c.args.key c.in-Some.opening) told)
+    (λ place at. opening_refused service node full refl c.args.key (λ k. refl) refl place c.in-Some.opening c.args.sent.now.items c.refuse_full.new.sent.items at told)))

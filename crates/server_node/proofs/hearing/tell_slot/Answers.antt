@@ -5,6 +5,7 @@ use Rattle.logger_wire.specs.Value.{message_of}
 use Rattle.server_node.specs.Identity.{node_of}
 use Rattle.server_node.specs.Slots.{SlotStands}
 use Rattle.server_node.proofs.Heard.{live_hears}
+use Rattle.server_node.proofs.Keyed.{quiet_for}
 use Rattle.server_node.proofs.hearing.tell_slot.Goals as goal
 
 pub returns-in-Live-clause-turn : goal.returns-in-Live-clause-turn
@@ -14,3 +15,6 @@ returns-in-Live-clause-turn g c = on_ok_weaker c.tell_live.result
     live_hears service (node_of c.args.who stage) (message_of c.args.m.now) boot c.args.key kept says from place c.in-Live.conn c.tell_live.new.conn c.args.sent.now.items c.tell_live.new.sent.items
     (subst (λ s. SlotStands service (node_of c.args.who stage) c.args.key s place) c.in-Live.is st)
     (λ p key stands. h p kept boot says from key stands)) c.tell_live.ensures.turn
+
+pub returns-in-Pending-clause-alone : goal.returns-in-Pending-clause-alone
+returns-in-Pending-clause-alone g c = quiet_for c.args.key c.args.sent.now.items

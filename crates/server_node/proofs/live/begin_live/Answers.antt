@@ -7,7 +7,9 @@ use Rattle.wrapped_conn.specs.Turning.{Starts}
 use Rattle.server_node.specs.Conn.{IsSound}
 use Rattle.server_node.specs.Slots.{numbers_of}
 use Rattle.server_node.proofs.Turned.{goes}
+use Rattle.wrapped_conn.proofs.Sendable.{FitsKey}
 use Rattle.server_node.proofs.Acting.{first_acts}
+use Rattle.server_node.proofs.Whose.{first_belongs, first_own}
 use Rattle.server_node.proofs.live.begin_live.Goals as goal
 
 pub returns-clause-turn : goal.returns-clause-turn
@@ -27,3 +29,19 @@ returns-clause-turn g c =
       sent = c.in_ok-send_all.ensures.segments;
       told = c.in_ok-send_all.ensures.messages;
     }) may c.in_ok-start.ensures.sound started)
+
+pub returns-clause-alone : goal.returns-clause-alone
+returns-clause-alone g c =
+    let fits : FitsKey c.args.key = record { ip = search rules; port = search rules } in
+    let numbers = numbers_of c.args.key c.args.numbers in
+    let started = subst (λ old. Starts g.S.Service.after old c.start.new.self c.start.new.out.segments c.start.new.out.messages) c.in_ok-conn.ensures.state c.in_ok-start.ensures.turn in
+    first_own g.S.Service.after c.args.who.boot c.args.who.local numbers (g.S.Service.started c.args.who.kind) c.start.new.self c.start.new.out.segments c.start.new.out.messages c.args.sent.now.items c.send_all.new.sent.items fits started
+    c.in_ok-send_all.ensures.sent
+
+pub returns-clause-sound : goal.returns-clause-sound
+unfolding IsSound
+returns-clause-sound g c =
+    let numbers = numbers_of c.args.key c.args.numbers in
+    let service = machine (g.S.Service.started c.args.who.kind) g.S.Service.after in
+    let started = subst (λ old. Starts g.S.Service.after old c.start.new.self c.start.new.out.segments c.start.new.out.messages) c.in_ok-conn.ensures.state c.in_ok-start.ensures.turn in
+    first_belongs service c.args.who c.args.who.local numbers c.start.new.self c.start.new.out.segments c.start.new.out.messages started c.in_ok-start.ensures.sound

@@ -5,7 +5,8 @@ use Rattle.wrapped_conn.proofs.Sendable.{FitsKey}
 use Rattle.server_node.specs.Conn.{IsSound}
 use Rattle.server_node.proofs.Turned.{goes, all_ok, at_ok}
 use Rattle.server_node.proofs.Revived.{number_kept, delta_kept}
-use Rattle.server_node.proofs.Acting.{start_acts}
+use Rattle.server_node.proofs.Acting.{start_acts, starts_same}
+use Rattle.server_node.proofs.Whose.{belongs_on, leaves_for, starts_own}
 use Rattle.server_node.proofs.live.start_live.Goals as goal
 
 pub returns-clause-turn : goal.returns-clause-turn
@@ -21,7 +22,7 @@ returns-clause-turn g c =
     all_ok c.send_all.result c.send_all.ensures.sent c.send_all.ensures.segments c.send_all.ensures.messages
     (λ sent segments messages p key st.
     goes service c.args.who.local c.args.who.boot Becomes_live p c.start.new.self c.args.key c.start.new.out.segments c.start.new.out.messages c.args.sent.now.items c.send_all.new.sent.items key sent
-    (start_acts service c.args.who.local c.args.who.boot p c.args.conn.now c.start.new.self c.start.new.out.segments c.start.new.out.messages (record { at = (ip, port); up = boot; client = subst FitsKey (sym key) fits; sent = segments; told = messages }) c.requires sound told st))
+    (start_acts service c.args.who.local c.args.who.boot p c.args.conn.now c.start.new.self c.start.new.out.segments c.start.new.out.messages (record { at = (ip, port); up = boot; client = subst FitsKey (sym key) fits; sent = segments; told = messages }) c.requires.sound sound told st))
 
 pub returns-clause-number : goal.returns-clause-number
 returns-clause-number g c =
@@ -34,3 +35,23 @@ returns-clause-delta g c =
     let service = machine (g.S.Service.started c.args.who.kind) g.S.Service.after in
     let told = rw c.in_ok-start.was at c.start.ensures.turn in
     at_ok c.send_all.result (delta_kept service c.args.conn.now c.start.new.self c.start.new.out.segments c.start.new.out.messages told)
+
+pub start-requires-clause-sound : goal.start-requires-clause-sound
+unfolding IsSound
+start-requires-clause-sound g c = c.requires.sound
+
+pub returns-clause-alone : goal.returns-clause-alone
+returns-clause-alone g c =
+    let fits : FitsKey c.args.key = record { ip = search rules; port = search rules } in
+    let told = rw c.in_ok-start.was at c.start.ensures.turn in
+    all_ok c.send_all.result c.send_all.ensures.sent c.send_all.ensures.segments c.send_all.ensures.messages
+    (λ sent segments messages. leaves_for c.args.key c.args.conn.now c.start.new.out.segments c.start.new.out.messages c.args.sent.now.items c.send_all.new.sent.items fits c.requires.client
+    (starts_own g.S.Service.after c.args.conn.now c.start.new.self c.start.new.out.segments c.start.new.out.messages told) sent)
+
+pub returns-clause-sound : goal.returns-clause-sound
+unfolding IsSound
+returns-clause-sound g c =
+    let sound = rw c.in_ok-start.was at c.start.ensures.sound in
+    let told = rw c.in_ok-start.was at c.start.ensures.turn in
+    at_ok c.send_all.result (belongs_on c.args.who c.args.key c.args.conn.now c.start.new.self c.requires
+    (starts_same (machine (g.S.Service.started c.args.who.kind) g.S.Service.after) c.args.conn.now c.start.new.self c.start.new.out.segments c.start.new.out.messages told) sound)

@@ -3,8 +3,9 @@ use Rattle.server_trait.specs.Service.{machine}
 use Rattle.ft_model.specs.News.News.{Ticks}
 use Rattle.wrapped_conn.proofs.Sendable.{FitsKey}
 use Rattle.server_node.specs.Conn.{IsSound}
-use Rattle.server_node.proofs.Turned.{goes, all_ok}
-use Rattle.server_node.proofs.Acting.{tick_acts}
+use Rattle.server_node.proofs.Turned.{goes, all_ok, at_ok}
+use Rattle.server_node.proofs.Acting.{tick_acts, ticks_same}
+use Rattle.server_node.proofs.Whose.{belongs_on, leaves_for, ticks_own}
 use Rattle.server_node.proofs.live.tick_live.Goals as goal
 
 pub returns-clause-turn : goal.returns-clause-turn
@@ -18,4 +19,21 @@ returns-clause-turn g c =
     all_ok c.send_all.result c.send_all.ensures.sent c.send_all.ensures.segments c.send_all.ensures.messages
     (λ sent segments messages stage p key st.
     goes service c.args.who.local c.args.who.boot Ticks p c.on_tick.new.self c.args.key c.on_tick.new.out.segments c.on_tick.new.out.messages c.args.sent.now.items c.send_all.new.sent.items key sent
-    (tick_acts service c.args.who.local c.args.who.boot p c.args.conn.now c.on_tick.new.self c.on_tick.new.out.segments c.on_tick.new.out.messages (record { at = (ip, port); up = boot; client = subst FitsKey (sym key) fits; sent = segments; told = messages }) c.requires c.on_tick.ensures.sound c.on_tick.ensures.turn st))
+    (tick_acts service c.args.who.local c.args.who.boot p c.args.conn.now c.on_tick.new.self c.on_tick.new.out.segments c.on_tick.new.out.messages (record { at = (ip, port); up = boot; client = subst FitsKey (sym key) fits; sent = segments; told = messages }) c.requires.sound c.on_tick.ensures.sound c.on_tick.ensures.turn st))
+
+pub on_tick-requires-clause-sound : goal.on_tick-requires-clause-sound
+unfolding IsSound
+on_tick-requires-clause-sound g c = c.requires.sound
+
+pub returns-clause-alone : goal.returns-clause-alone
+returns-clause-alone g c =
+    let fits : FitsKey c.args.key = record { ip = search rules; port = search rules } in
+    all_ok c.send_all.result c.send_all.ensures.sent c.send_all.ensures.segments c.send_all.ensures.messages
+    (λ sent segments messages. leaves_for c.args.key c.args.conn.now c.on_tick.new.out.segments c.on_tick.new.out.messages c.args.sent.now.items c.send_all.new.sent.items fits c.requires.client
+    (ticks_own c.args.conn.now c.on_tick.new.self c.on_tick.new.out.segments c.on_tick.new.out.messages c.on_tick.ensures.turn) sent)
+
+pub returns-clause-sound : goal.returns-clause-sound
+unfolding IsSound
+returns-clause-sound g c =
+    at_ok c.send_all.result (belongs_on c.args.who c.args.key c.args.conn.now c.on_tick.new.self c.requires
+    (ticks_same c.args.conn.now c.on_tick.new.self c.on_tick.new.out.segments c.on_tick.new.out.messages c.on_tick.ensures.turn) c.on_tick.ensures.sound)

@@ -18,16 +18,16 @@ pub ask-requires-clause-least : goal.ask-requires-clause-least
 ask-requires-clause-least g c =
     let es = c.args.slots.now.entries in
     let found = pending_found (lookup (key_eq c.args.key) es) c.in-Some.opening (sym c.opening_at.ensures.found ∙ c.in-Some.is) in
-    (sound_found (key_eq c.args.key) es (slot.Pending c.in-Some.opening) c.requires.sound found).0
+    (sound_found c.args.who c.args.key es (slot.Pending c.in-Some.opening) c.requires.sound found).0
 
 pub ask-requires-clause-most : goal.ask-requires-clause-most
 ask-requires-clause-most g c =
     let es = c.args.slots.now.entries in
     let found = pending_found (lookup (key_eq c.args.key) es) c.in-Some.opening (sym c.opening_at.ensures.found ∙ c.in-Some.is) in
-    (sound_found (key_eq c.args.key) es (slot.Pending c.in-Some.opening) c.requires.sound found).1
+    (sound_found c.args.who c.args.key es (slot.Pending c.in-Some.opening) c.requires.sound found).1
 
-pub returns-in_default : goal.returns-in_default
-returns-in_default g c = λ stage segment headed from mine.
+pub returns-in_default-clause-asked : goal.returns-in_default-clause-asked
+returns-in_default-clause-asked g c = λ stage segment headed from mine.
     let node = node_of c.args.who stage in
     let es = c.args.slots.now.entries in
     let none : opening_in (lookup (key_eq c.args.key) es) ≡ None = search rules in
@@ -35,8 +35,8 @@ returns-in_default g c = λ stage segment headed from mine.
     opens_one node segment es c.opening_at.ensures.unique ∙ (ap (λ k. opens_of node segment k (opening_in (lookup (key_eq k) es))) from ∙ ap (opens_of node segment c.args.key) none) in
     subst (λ ps. ArePut ps c.args.sent.now.items c.args.sent.now.items) (sym quiet) (put_none c.args.sent.now.items)
 
-pub returns-then-not-repeats : goal.returns-then-not-repeats
-returns-then-not-repeats g c = λ stage segment headed from mine.
+pub returns-then-not-repeats-clause-asked : goal.returns-then-not-repeats-clause-asked
+returns-then-not-repeats-clause-asked g c = λ stage segment headed from mine.
     let node = node_of c.args.who stage in
     let es = c.args.slots.now.entries in
     let found : opening_in (lookup (key_eq c.args.key) es) ≡ Some c.in-Some.opening = sym c.opening_at.ensures.found ∙ c.in-Some.is in
@@ -46,8 +46,8 @@ returns-then-not-repeats g c = λ stage segment headed from mine.
     ∙ (ap (opens_of node segment c.args.key) found ∙ unasked node segment c.args.key c.in-Some.opening (sym (c.repeats.ensures segment headed) ∙ other))) in
     subst (λ ps. ArePut ps c.args.sent.now.items c.args.sent.now.items) (sym quiet) (put_none c.args.sent.now.items)
 
-pub returns : goal.returns
-returns g c = on_ok_weaker c.ask.result
+pub returns-clause-asked : goal.returns-clause-asked
+returns-clause-asked g c = on_ok_weaker c.ask.result
     (λ asked stage segment headed from mine.
     let node = node_of c.args.who stage in
     let es = c.args.slots.now.entries in

@@ -9,7 +9,7 @@ use Rattle.server_node.proofs.Sound.{sound_at}
 use Rattle.server_node.proofs.opening.ask_all.Goals as goal
 
 pub ask_slot-requires-clause-sound : goal.ask_slot-requires-clause-sound
-ask_slot-requires-clause-sound g c = sound_at c.args.slots.now.entries c.loop-i.i c.index.result.now c.requires.sound c.index.ensures
+ask_slot-requires-clause-sound g c = sound_at c.args.who c.args.slots.now.entries c.loop-i.i c.key_at.result c.index.result.now c.requires.sound c.key_at.ensures c.index.ensures
 
 pub loop-i-init : goal.loop-i-init
 loop-i-init g c = λ stage. put_none c.args.sent.now.items
@@ -23,8 +23,8 @@ loop-i-preserved g c =
     (put_on (all_opens (node_of c.args.who stage) Tick_comes (take c.loop-i.i es)) (slot_opens (node_of c.args.who stage) Tick_comes c.key_at.result c.index.result.now)
     c.args.sent.now.items c.loop-i.sent.items c.ask_slot.new.sent.items (c.loop-i.invariant stage) (told stage))
 
-pub returns : goal.returns
-returns g c =
+pub returns-clause-asked : goal.returns-clause-asked
+returns-clause-asked g c =
     let es = c.args.slots.now.entries in
     let past : length es ≤ c.loop-i.i = search rules in
     λ stage. subst (λ xs. ArePut (all_opens (node_of c.args.who stage) Tick_comes xs) c.args.sent.now.items c.loop-i.sent.items) (take_all c.loop-i.i es past) (c.loop-i.invariant stage)

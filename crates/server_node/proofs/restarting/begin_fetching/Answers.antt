@@ -1,4 +1,4 @@
-use Rattle.std.proofs.Common.{Ok, refl, sym, subst, [], ap}
+use Rattle.std.proofs.Common.{refl, sym, subst, [], ap}
 use Rattle.server_node.specs.Restarting.{IsOwn}
 use Rattle.server_node.proofs.Answering.{same_ok}
 use Rattle.server_node.proofs.restarting.begin_fetching.Goals as goal

@@ -1,10 +1,13 @@
-use Rattle.std.proofs.Common.{◌≡◌, ◌∙◌, ap, refl, subst}
+use Rattle.std.proofs.Common.{◌≡◌, ◌∙◌, ap, refl, sym, subst}
 use Rattle.std.proofs.lemmas.Result.{on_ok_weaker}
 use Rattle.server_trait.specs.Service.{machine}
 use Rattle.reincarnate.specs.Standing.{RestoredIs}
 use Rattle.ft_model.specs.Restart.{entry_in}
 use Rattle.server_node.specs.Identity.{node_of}
+use Rattle.server_node.specs.Slots.{IsSoundSlot}
+use Rattle.server_node.proofs.Knocking.{counted_on}
 use Rattle.server_node.proofs.Restored.{ended_more, live_more}
+use Rattle.server_node.proofs.Turned.{at_ok}
 use Rattle.server_node.proofs.reviving.restore.Goals as goal
 
 pub returns-in-Ended-clause-turn : goal.returns-in-Ended-clause-turn
@@ -27,3 +30,15 @@ returns-in_ok-slot-in-Live-clause-turn g c =
     first c.args.sent.now.items c.revive.new.sent.items here.0 key fresh r (c.in_ok-slot-in-Live.ensures.turn standing (entry_in f) here.1 (sound here.0)) c.add-serving.ensures added
     (c.in_ok-slot-in-Live.ensures.number (g.S.Service.started c.args.who.kind) (entry_in f) here.1 (sound here.0)))
     c.add_slot-in-Live.ensures.added
+
+pub returns-in-Ended-clause-sound : goal.returns-in-Ended-clause-sound
+returns-in-Ended-clause-sound g c = on_ok_weaker c.add_slot.result (λ all. all c.args.who c.requires.sound tt) c.add_slot.ensures.sound
+
+pub returns-in_ok-slot-in-Live-clause-sound : goal.returns-in_ok-slot-in-Live-clause-sound
+returns-in_ok-slot-in-Live-clause-sound g c =
+    on_ok_weaker c.add_slot-in-Live.result
+    (λ all. all c.args.who c.requires.sound (subst (λ h. IsSoundSlot c.args.who h.key c.in_ok-slot-in-Live.slot) (sym c.head.ensures) c.in_ok-slot-in-Live.ensures.sound)) c.add_slot-in-Live.ensures.sound
+
+pub returns-in_ok-slot-in-Live-clause-counted : goal.returns-in_ok-slot-in-Live-clause-counted
+returns-in_ok-slot-in-Live-clause-counted g c =
+    at_ok c.add_slot-in-Live.result (λ counted. counted_on c.args.who.isn c.args.serving.now.next.0 c.add-serving.result.0 counted c.add-serving.ensures)

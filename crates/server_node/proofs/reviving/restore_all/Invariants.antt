@@ -5,13 +5,15 @@ use Rattle.ft_model.specs.Node.{Stage}
 use Rattle.ft_model.specs.Lawful.{AreSound}
 use Rattle.reincarnate.specs.Standing.{StandsWhole}
 use Rattle.server_node.specs.Identity.{node_of}
+use Rattle.server_node.specs.Opening.{IsCounted}
 use Rattle.server_node.specs.Restarting.{AreDistinct}
 use Rattle.server_node.specs.Slots.{AllSound}
 use Rattle.server_node.proofs.Restored.{RestoresOn}
 use Rattle.server_node.proofs.reviving.restore_all.Given as goal
 
 abbrev pub invariant-loop-entry : goal.invariant-loop-entry
-invariant-loop-entry g l = AllSound l.serving.slots.entries
+invariant-loop-entry g l = AllSound l.who l.serving.slots.entries
+    × IsCounted l.who.isn l.serving.next.0
     × ((standing : Stage) (fetched : List Fetched) → StandsWhole (machine (g.S.Service.started l.who.kind) g.S.Service.after) (reverse fetched) l.initial.entries → AreDistinct fetched
     → AreSound (machine (g.S.Service.started l.who.kind) g.S.Service.after) fetched
     → RestoresOn (machine (g.S.Service.started l.who.kind) g.S.Service.after) (node_of l.who standing) fetched l.entries l.serving l.initial.sent.items l.sent.items)

@@ -1,13 +1,19 @@
-use Rattle.std.proofs.Common.{◌≡◌, ◌∙◌, ap, sym}
+use Rattle.std.proofs.Common.{◌≡◌, ◌∙◌, ap, sym, subst}
 use Rattle.server_trait.specs.Service.{machine}
 use Rattle.server_node.specs.Identity.{node_of}
+use Rattle.server_node.specs.declared.slot.Slot.TheVariants as slot
 use Rattle.server_node.specs.Conn.{IsSound}
+use Rattle.server_node.specs.Slots.{IsSoundSlot}
 use Rattle.server_node.proofs.Revived.{live_again, goes_on_under}
 use Rattle.server_node.proofs.reviving.revive.Goals as goal
 
 pub start_live-requires : goal.start_live-requires
 unfolding IsSound
-start_live-requires g c = c.hand_on-conn.ensures.sound
+start_live-requires g c = record {
+  sound = c.hand_on-conn.ensures.sound;
+  client = ap (λ x. x.key) c.hand_on-conn.ensures.value ∙ (ap (λ x. x.key) c.in-Ok.ensures.value ∙ sym (ap (λ h. h.key) c.head.ensures));
+  incarnation = ap (λ x. x.boot) c.hand_on-conn.ensures.value ∙ ap (λ x. x.boot) c.in-Ok.ensures.value;
+}
 
 pub returns-clause-turn : goal.returns-clause-turn
 returns-clause-turn g c = λ standing e re sound.
@@ -26,3 +32,8 @@ returns-clause-number g c = λ fresh e re sound.
     let delta = rw c.in_ok-start_live.was at c.start_live.ensures.delta in
     goes_on_under (machine fresh g.S.Service.after) e c.args.isn.0 c.in-Ok.spliced c.hand_on-conn.result c.start_live.new.conn (c.in-Ok.ensures.law fresh e re sound)
     c.hand_on-conn.ensures.value number delta
+
+pub returns-clause-sound : goal.returns-clause-sound
+returns-clause-sound g c =
+    let sound = rw c.in_ok-start_live.was at c.start_live.ensures.sound in
+    subst (λ h. IsSoundSlot c.args.who h.key (slot.Live c.start_live.new.conn)) c.head.ensures sound

@@ -1,7 +1,10 @@
+use Rattle.std.proofs.Common.{rules}
 use Rattle.std.proofs.lemmas.Result.{on_ok_weaker}
 use Rattle.server_trait.specs.Service.{machine}
 use Rattle.logger_wire.specs.Value.{message_of}
 use Rattle.server_node.specs.Identity.{node_of}
+use Rattle.server_node.proofs.Apart.{message_alone}
+use Rattle.server_node.proofs.Knocking.{counted_by}
 use Rattle.server_node.proofs.Served.{message_goes}
 use Rattle.server_node.proofs.serving.serve_message.Goals as goal
 
@@ -10,3 +13,10 @@ returns-clause-turn g c =
     on_ok_weaker c.hear.result
     (λ heard stage opened places boot st. message_goes (machine (g.S.Service.started c.args.who.kind) g.S.Service.after) (node_of c.args.who stage) (message_of c.args.m.now) opened places _
     c.args.sent.now.items c.hear.new.sent.items st.number (heard stage places boot st.slots)) c.hear.ensures.turn
+
+pub returns-clause-alone : goal.returns-clause-alone
+returns-clause-alone g c =
+    let count = counted_by c.args.who.isn c.args.serving.now.next.0 (search rules) c.requires.counted in
+    on_ok_weaker c.hear.result
+    (λ heard stage boot. message_alone (machine (g.S.Service.started c.args.who.kind) g.S.Service.after) (node_of c.args.who stage) (message_of c.args.m.now) c.args.serving.now _
+    c.args.sent.now.items c.hear.new.sent.items count.0 count.1 (heard stage boot)) c.hear.ensures.alone

@@ -8,6 +8,7 @@ use Rattle.server_node.specs.Identity.{node_of}
 use Rattle.server_node.specs.Refusing.{AreSent}
 use Rattle.server_node.specs.Slots.{SlotStands, SlotGoes}
 use Rattle.server_node.proofs.Coming.{live_comes, done_answers}
+use Rattle.server_node.proofs.Keyed.{quiet_for, refused_for, closed_back}
 use Rattle.server_node.proofs.slot.give_slot.Goals as goal
 
 pub returns-in-Live-clause-turn : goal.returns-in-Live-clause-turn
@@ -31,3 +32,16 @@ returns-in-Done-clause-turn g c = on_ok_weaker c.refuse_closed.result
     (done_answers service (node_of c.args.who stage) segment mine place c.args.sent.now.items c.refuse_closed.new.sent.items
     (subst (λ k. SlotStands service (node_of c.args.who stage) k slot.Done place) (sym from)
     (subst (λ s. SlotStands service (node_of c.args.who stage) c.args.key s place) c.in-Done.is st)) told))) c.refuse_closed.ensures
+
+pub returns-in-Live-clause-alone : goal.returns-in-Live-clause-alone
+returns-in-Live-clause-alone g c = on_ok_weaker c.give_live.result (λ h segment reads from. h) c.give_live.ensures.alone
+
+pub returns-in-Pending-clause-alone : goal.returns-in-Pending-clause-alone
+returns-in-Pending-clause-alone g c = λ segment reads from. quiet_for c.args.key c.args.sent.now.items
+
+pub returns-in-Done-clause-alone : goal.returns-in-Done-clause-alone
+returns-in-Done-clause-alone g c = on_ok_weaker c.refuse_closed.result
+    (λ h segment reads from.
+    let told : AreSent (as_closed c.args.who.local segment) c.args.sent.now.items c.refuse_closed.new.sent.items =
+    subst (λ r. IfOk r (λ s. AreSent (as_closed c.args.who.local s) c.args.sent.now.items c.refuse_closed.new.sent.items)) reads h in
+    refused_for c.args.key (as_closed c.args.who.local segment) c.args.sent.now.items c.refuse_closed.new.sent.items (closed_back c.args.who.local segment c.args.key from) told) c.refuse_closed.ensures

@@ -4,6 +4,7 @@ use Rattle.server_trait.specs.Service.{machine}
 use Rattle.server_node.specs.Identity.{node_of}
 use Rattle.server_node.specs.Slots.{SlotStands}
 use Rattle.server_node.proofs.AllSlots.{live_ticks}
+use Rattle.server_node.proofs.Keyed.{quiet_for}
 use Rattle.server_node.proofs.slot.tick_slot.Goals as goal
 
 pub returns-in-Live-clause-turn : goal.returns-in-Live-clause-turn
@@ -12,3 +13,6 @@ returns-in-Live-clause-turn g c = on_ok_weaker c.tick_live.result
     let service = machine (g.S.Service.started c.args.who.kind) g.S.Service.after in
     live_ticks service (node_of c.args.who stage) c.args.key place _ _ _ _
     (subst (λ s. SlotStands service (node_of c.args.who stage) c.args.key s place) c.in-Live.is st) (λ p key s. h stage p key s)) c.tick_live.ensures.turn
+
+pub returns-in-Pending-clause-alone : goal.returns-in-Pending-clause-alone
+returns-in-Pending-clause-alone g c = quiet_for c.args.key c.args.sent.now.items

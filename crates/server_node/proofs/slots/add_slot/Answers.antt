@@ -9,4 +9,4 @@ pub returns-clause-added : goal.returns-clause-added
 returns-clause-added g c none = c.in_ok-insert.ensures.entries ∙ insert_entry-new key_eq c.args.slots.now c.args.key c.args.slot none
 
 pub returns-clause-sound : goal.returns-clause-sound
-returns-clause-sound g c = subst AllSound (sym c.in_ok-insert.ensures.entries) (sound_insert c.args.key c.args.slots.now.entries c.args.slot c.requires.all c.requires.one)
+returns-clause-sound g c = λ who all one. subst (AllSound who) (sym c.in_ok-insert.ensures.entries) (sound_insert who c.args.key c.args.slots.now.entries c.args.slot all one)

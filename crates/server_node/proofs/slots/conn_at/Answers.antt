@@ -25,7 +25,7 @@ returns-in_err-get-clause-stands g c = λ service node places st.
     (subst (λ f. IsConnAt service node (conn_in f) (place_at c.args.key places)) none (conn_looked service node c.args.key es places st))
 
 pub returns-clause-sound : goal.returns-clause-sound
-returns-clause-sound g c = λ sound.
+returns-clause-sound g c = λ who sound.
     let es = c.args.slots.now.entries in
     let found : lookup (key_eq c.args.key) es ≡ Some c.in_ok-get.field-0.now = search rules in
-    sound_lent c.in_ok-get.field-0.now c.live_conn.result (sound_found (key_eq c.args.key) es c.in_ok-get.field-0.now sound found) c.live_conn.ensures
+    sound_lent who c.args.key c.in_ok-get.field-0.now c.live_conn.result (sound_found who c.args.key es c.in_ok-get.field-0.now sound found) c.live_conn.ensures

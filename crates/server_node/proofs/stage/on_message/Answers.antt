@@ -1,15 +1,18 @@
-use Rattle.std.proofs.Common.{subst}
+use Rattle.std.proofs.Common.{subst, sym}
 use Rattle.server_trait.specs.Service.{machine}
 use Rattle.logger_wire.specs.Value.{message_of}
 use Rattle.ft_model.specs.Lawful.{StageTurn}
 use Rattle.ft_model.specs.Node.Stage.{Fetching}
 use Rattle.ft_model.specs.Node.Input.{Message_comes}
+use Rattle.server_node.specs.declared.stage.Stage.TheVariants as stage
+use Rattle.server_node.specs.Alone.{Others, Alone}
 use Rattle.server_node.specs.Identity.{node_of}
 use Rattle.server_node.specs.Numbered.{fetched_by}
 use Rattle.server_node.specs.Reviving.{StageGoes}
 use Rattle.server_node.specs.Serving.{ServingGoes}
 use Rattle.server_node.specs.Stages.{StageStands}
 use Rattle.server_node.proofs.Resuming.{answered_on}
+use Rattle.server_node.proofs.StagedApart.{serving_others, serving_alone}
 use Rattle.server_node.proofs.Staged.{serves_on}
 use Rattle.server_node.proofs.stage.on_message.Goals as goal
 use Rattle.ft_io.proofs.Outcomes.{if_ok}
@@ -38,3 +41,17 @@ returns-in-Fetching-clause-turn g c =
     (subst (λ s. StageStands service (node_of c.args.who standing) s) c.in-Fetching.is st) sound
     (λ count fetched stands sounds. subst (λ xs. StageGoes service c.args.who (fetched_by (node_of c.args.who standing) (Fetching count fetched) (Message_comes (message_of c.args.m.now))) (StageTurn service (node_of c.args.who standing) (Fetching count fetched) (Message_comes (message_of c.args.m.now)))
     after xs c.take_answer.new.sent.items) c.requires.empty (h standing count fetched stands sounds))) c.take_answer.ensures.turn
+
+pub returns-in_ok-serve_message-in-Serving-clause-others : goal.returns-in_ok-serve_message-in-Serving-clause-others
+returns-in_ok-serve_message-in-Serving-clause-others g c = λ standing boot.
+    let service = machine (g.S.Service.started c.args.who.kind) g.S.Service.after in
+    let told = rw c.in_ok-serve_message-in-Serving.was at c.serve_message.ensures.alone in
+    subst (λ s. Others (node_of c.args.who standing) (Message_comes (message_of c.args.m.now)) s (stage.Serving c.serve_message.new.serving) c.serve_message.new.sent.items) (sym c.in-Serving.is)
+    (serving_others service (node_of c.args.who standing) (Message_comes (message_of c.args.m.now)) c.in-Serving.serving c.serve_message.new.serving c.args.sent.now.items c.serve_message.new.sent.items c.requires.empty (told standing boot))
+
+pub returns-in_ok-serve_message-in-Serving-clause-alone : goal.returns-in_ok-serve_message-in-Serving-clause-alone
+returns-in_ok-serve_message-in-Serving-clause-alone g c = λ standing boot.
+    let service = machine (g.S.Service.started c.args.who.kind) g.S.Service.after in
+    let told = rw c.in_ok-serve_message-in-Serving.was at c.serve_message.ensures.alone in
+    subst (λ s. Alone service (node_of c.args.who standing) (Message_comes (message_of c.args.m.now)) s (stage.Serving c.serve_message.new.serving) c.serve_message.new.sent.items) (sym c.in-Serving.is)
+    (serving_alone service (node_of c.args.who standing) (Message_comes (message_of c.args.m.now)) c.in-Serving.serving c.serve_message.new.serving c.args.sent.now.items c.serve_message.new.sent.items c.requires.empty (told standing boot))

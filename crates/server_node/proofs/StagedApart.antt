@@ -1,0 +1,61 @@
+-- A turn of a node in each stage, as those have it whom its input isn't about.
+use Rattle.std.proofs.Common.{◌≡◌, ◌∙◌, ◌<◌, ◌^◌, false, ◌&&◌, ◌==◌, refl, sym, ap, subst, List, [], ◌++◌}
+use Rattle.std.specs.List.{AllByRecursion}
+use Rattle.ft_io.specs.declared.Key.{Key}
+use Rattle.seq_arith.specs.Message.{Message}
+use Rattle.server_trait.specs.Service.{Machine}
+use Rattle.ft_model.specs.Node as law
+use Rattle.ft_model.specs.Node.{Node, is_for}
+use Rattle.ft_model.specs.Node.Input.{Packet_comes, Message_comes, Noise_comes, Tick_comes}
+use Rattle.ft_model.specs.Serving.{concerns, names}
+use Rattle.ft_model.specs.Wire.{Wire}
+use Rattle.reincarnate.specs.Asking.{FetchingState}
+use Rattle.server_node.specs.declared.identity.Identity.{Identity}
+use Rattle.server_node.specs.declared.serving.Serving.{Serving}
+use Rattle.server_node.specs.declared.stage.Stage.{Stage}
+use Rattle.server_node.specs.declared.stage.Stage.TheVariants as stage
+use Rattle.server_node.specs.Alone.{LeavesOthers, HoldsOthers, Others, Alone, ServesAlone, GoAlone}
+use Rattle.server_node.specs.Identity.{node_of}
+use Rattle.server_node.specs.Stages.{IsSoundStage}
+use Rattle.server_node.specs.Whose.{IsFor, IsOnlyFor}
+use Rattle.server_node.proofs.Apart.{rests_key}
+use Rattle.server_node.proofs.Knocking.{counted_by}
+
+module _ {S : Type 0} (service : Machine S) (node : Node) (input : law.Input) (was now : Serving S) (old new : List Wire) (first : old ≡ []) (s : ServesAlone service node input was now old new) where
+  all_told : new ≡ s.told
+  all_told = s.put ∙ ap (λ o. o ++ s.told) first
+
+  pub serving_others : LeavesOthers node input was now new
+  serving_others = subst (LeavesOthers node input was now) (sym all_told) s.others
+
+  pub serving_alone : GoAlone service node input was now new
+  serving_alone = subst (GoAlone service node input was now) (sym all_told) s.alone
+
+pub only_for : (key : Key) (old new : List Wire) → old ≡ [] → IsOnlyFor key old new → AllByRecursion (IsFor key) new
+only_for key old new first put = subst (AllByRecursion (IsFor key)) (sym (put.put ∙ ap (λ o. o ++ put.told) first)) put.alone
+
+-- an input that is about no key changes nothing
+noise_holds : {S : Type 0} (input : law.Input) (f : FetchingState S) → HoldsOthers input f (stage.Fetching f) []
+noise_holds (Packet_comes segment) f = (refl, tt)
+noise_holds (Message_comes message) f = tt
+noise_holds Noise_comes f = tt
+noise_holds Tick_comes f = tt
+
+pub rest_others : {S : Type 0} (node : Node) (input : law.Input) (at : Stage S) → Others node input at at []
+rest_others node input (stage.Serving s) = record { slots = λ key e. refl; whose = tt }
+rest_others node input (stage.Fetching f) = noise_holds input f
+rest_others node input stage.Asking = tt
+rest_others node input stage.Lost = tt
+
+pub rest_alone : {S : Type 0} (service : Machine S) (who : Identity) (standing : law.Stage) (input : law.Input) (at : Stage S) → who.isn < 2 ^ 32 → IsSoundStage who at
+    → ((key : Key) → concerns (node_of who standing) input key ≡ false) → Alone service (node_of who standing) input at at []
+rest_alone service who standing input (stage.Serving s) low sound none = λ key place st near.
+    let count = counted_by who.isn s.next.0 low sound.1 in
+    rests_key service (node_of who standing) input key place s s [] count.0 count.1 (none key) st refl refl
+rest_alone service who standing input (stage.Fetching f) low sound none = tt
+rest_alone service who standing input stage.Asking low sound none = tt
+rest_alone service who standing input stage.Lost low sound none = tt
+
+-- so does a message of another boot
+pub other_boot : (node : Node) (message : Message) → (message.boot == node.boot) ≡ false → (key : Key) → concerns node (Message_comes message) key ≡ false
+other_boot node message other key = ap (λ b. b && names message.body key) other

@@ -1,0 +1,156 @@
+-- What each key has of a turn, whatever the clients of the other keys send and whether their connections stand: its turn is that of a server
+-- that serves this key alone.
+use Rattle.std.specs.Prelude.{◌≡◌, ◌≤◌, ◌⊎◌, ◌==◌, not, ℕ, Bool, true, false, Option, Some, None, List, [], ◌++◌, map, if◌then◌else◌}
+use Rattle.std.specs.List.{AllByRecursion}
+use Rattle.std.specs.Option.{option_to_list}
+use Rattle.std.specs.Map.{lookup}
+use Rattle.ft_io.specs.declared.Addr.{Addr}
+use Rattle.ft_io.specs.declared.Key.{Key}
+use Rattle.ft_io.specs.Key.{key_eq}
+use Rattle.server_trait.specs.Service.{Machine}
+use Rattle.ft_model.specs.Lawful.{IsNearTo}
+use Rattle.ft_model.specs.Network.{Packet, source_of}
+use Rattle.ft_model.specs.Node.{Node, Place, Input, is_for}
+use Rattle.ft_model.specs.Node.{Stage as law_stage}
+use Rattle.ft_model.specs.Node.Input.{Packet_comes, Message_comes, Noise_comes, Tick_comes}
+use Rattle.ft_model.specs.Opening.{initial_number}
+use Rattle.ft_model.specs.Serving.{PlaceTurn, ServingTurn, concerns}
+use Rattle.ft_model.specs.Wire.{Wire, wire_of, HasWire}
+use Rattle.reincarnate.specs.Asking.{FetchingState}
+use Rattle.server_node.specs.declared.identity.Identity.{Identity}
+use Rattle.server_node.specs.declared.serving.Serving.{Serving}
+use Rattle.server_node.specs.declared.slot.Slot.{Slot}
+use Rattle.server_node.specs.declared.stage.Stage.{Stage}
+use Rattle.server_node.specs.declared.stage.Stage.TheVariants as stage
+use Rattle.server_node.specs.Identity.{node_of}
+use Rattle.server_node.specs.Opening.{pending_slots}
+use Rattle.server_node.specs.Slots.{SlotStands}
+use Rattle.server_node.specs.Whose.{IsFor, of_key}
+
+-- what a node that serves has for a key
+abbrev pub slot_of : {S : Type 0} → Key → Serving S → Option (Slot S)
+slot_of key s = lookup (key_eq key) s.slots.entries
+
+-- one that doesn't serve has nothing
+abbrev pub slot_in : {S : Type 0} → Key → Stage S → Option (Slot S)
+slot_in key (stage.Serving s) = slot_of key s
+slot_in key _ = None
+
+-- a packet is that of a key which the input is about: a packet for this server is about the key of its client, a message of this boot about
+-- the key that it names, a tick about each
+abbrev pub IsForSubject : Node → Input → Wire → Type 0
+IsForSubject node input wire = (key : Key) × (concerns node input key ≡ true) × IsFor key wire
+
+-- A turn leaves the slots of all keys as they are that the input isn't about, and sends nothing but packets of those that it is about
+pub record LeavesOthers {S : Type 0} (node : Node) (input : Input) (was now : Serving S) (sent : List Wire) : Type 0 where
+  pub slots : (key : Key) → concerns node input key ≡ false → slot_of key now ≡ slot_of key was
+  pub whose : AllByRecursion (IsForSubject node input) sent
+
+-- the slot of one key stands at that key's place, or the key has neither
+abbrev pub StandsFor : {S : Type 0} → Machine S → Node → Key → Option (Slot S) → Option Place → Type 0
+StandsFor service node key (Some slot) (Some place) = SlotStands service node key slot place
+StandsFor service node key None None = Unit {0}
+StandsFor service node key _ _ = ⊥
+
+-- a packet of the place's own client is near to it
+abbrev pub IsNearFor : Addr → Input → Option Place → Type 0
+IsNearFor server (Packet_comes segment) (Some place) = IsNearTo server segment place
+IsNearFor server _ _ = Unit {0}
+
+-- what comes to a key: an input that isn't about it is no more than noise
+abbrev pub coming_to : Node → Key → Input → Input
+coming_to node key input = if concerns node input key then input else Noise_comes
+
+-- a SYN is passed over while 64 openings are pending
+pub record IsPassedOver (pending : ℕ) (place after : Option Place) (sent : List Packet) : Type 0 where
+  pub full : 64 ≤ pending
+  pub unknown : place ≡ None
+  pub still : after ≡ None
+  pub silent : sent ≡ []
+
+-- a key's turn, by the law: that of a server that has this key alone, where so many initial numbers are used up. Only a SYN may be passed over
+-- for the sake of others
+abbrev pub KeyTurn : {S : Type 0} → Machine S → Node → Input → Key → (opened pending : ℕ) → Option Place → Option Place → List Packet → Type 0
+KeyTurn service node input key opened pending place after sent =
+    ServingTurn service node (coming_to node key input) opened (option_to_list place) (option_to_list after) sent ⊎ IsPassedOver pending place after sent
+
+-- its place in that turn, before the Opens: its slot stands where the place goes by the law, and of what is sent the key's packets are the place's
+abbrev pub MeetsFor : {S : Type 0} → Machine S → Node → Input → Option Place → Option Place → List Packet → Type 0
+MeetsFor service node input (Some place) after sent = PlaceTurn service node input place (option_to_list after) sent
+MeetsFor service node input None after sent = (after ≡ None) × (sent ≡ [])
+
+pub record KeyMeets {S : Type 0} (service : Machine S) (node : Node) (input : Input) (key : Key) (place : Option Place) (now : Option (Slot S)) (sent : List Wire) : Type 0 where
+  pub after : Option Place
+  pub packets : List Packet
+  pub stands : StandsFor service node key now after
+  pub turn : MeetsFor service node input place after packets
+  pub wires : of_key key sent ≡ map wire_of packets
+  pub spelled : AllByRecursion HasWire packets
+
+-- the slots of all keys, each alone: what is told stands behind what was sent before
+pub record SlotsAlone {S : Type 0} (service : Machine S) (node : Node) (input : Input) (was now : List (Key × Slot S)) (old new : List Wire) : Type 0 where
+  pub told : List Wire
+  pub put : new ≡ old ++ told
+  pub slots : (key : Key) → concerns node input key ≡ false → lookup (key_eq key) now ≡ lookup (key_eq key) was
+  pub whose : AllByRecursion (IsForSubject node input) told
+  pub turn : (key : Key) (place : Option Place) → StandsFor service node key (lookup (key_eq key) was) place → IsNearFor node.server input place
+      → KeyMeets service node input key place (lookup (key_eq key) now) told
+
+-- a key's turn: its slot stands at the place after it, and of what is sent the key's packets are those of the law
+pub record KeyGoes {S : Type 0} (service : Machine S) (node : Node) (input : Input) (key : Key) (place : Option Place) (was now : Serving S) (sent : List Wire) : Type 0 where
+  pub opened : ℕ
+  pub after : Option Place
+  pub packets : List Packet
+  pub number : was.next.0 ≡ initial_number node.isn opened
+  pub stands : StandsFor service node key (slot_of key now) after
+  pub turn : KeyTurn service node input key opened (pending_slots was.slots.entries) place after packets
+  pub wires : of_key key sent ≡ map wire_of packets
+  pub spelled : AllByRecursion HasWire packets
+
+-- each key that stands and whose own packet, if this is one, is near, has its turn
+abbrev pub GoAlone : {S : Type 0} → Machine S → Node → Input → (was now : Serving S) → List Wire → Type 0
+GoAlone service node input was now sent =
+    (key : Key) (place : Option Place) → StandsFor service node key (slot_of key was) place → IsNearFor node.server input place
+    → KeyGoes service node input key place was now sent
+
+-- a turn of a node that serves leaves others alone, and each key has its turn
+pub record ServesAlone {S : Type 0} (service : Machine S) (node : Node) (input : Input) (was now : Serving S) (old new : List Wire) : Type 0 where
+  pub told : List Wire
+  pub put : new ≡ old ++ told
+  pub others : LeavesOthers node input was now told
+  pub alone : GoAlone service node input was now told
+
+-- while the log is fetched, a packet changes nothing, and only its sender gets an answer
+abbrev pub HoldsOthers : {S : Type 0} → Input → FetchingState S → Stage S → List Wire → Type 0
+HoldsOthers (Packet_comes segment) was now sent = (now ≡ stage.Fetching was) × AllByRecursion (IsFor (source_of segment)) sent
+HoldsOthers _ was now sent = Unit {0}
+
+-- a node's turn leaves others alone. Where it serves before the turn, it serves after it
+abbrev pub Others : {S : Type 0} → Node → Input → (was now : Stage S) → List Wire → Type 0
+Others node input (stage.Serving was) (stage.Serving now) sent = LeavesOthers node input was now sent
+Others node input (stage.Serving was) _ sent = ⊥
+Others node input (stage.Fetching was) now sent = HoldsOthers input was now sent
+Others node input _ _ sent = Unit {0}
+
+abbrev pub Alone : {S : Type 0} → Machine S → Node → Input → (was now : Stage S) → List Wire → Type 0
+Alone service node input (stage.Serving was) (stage.Serving now) sent = GoAlone service node input was now sent
+Alone service node input (stage.Serving was) _ sent = ⊥
+Alone service node input _ _ sent = Unit {0}
+
+-- what comes is for nobody here: bytes that spell nothing, a packet for another server, a message of another boot
+abbrev pub is_for_nobody : Node → Input → Bool
+is_for_nobody node (Packet_comes segment) = not (is_for node.server segment)
+is_for_nobody node (Message_comes message) = not (message.boot == node.boot)
+is_for_nobody node Noise_comes = true
+is_for_nobody node Tick_comes = false
+
+-- that changes nothing, and nothing is sent
+abbrev pub IsUntouched : {S : Type 0} → Node → Input → (was now : Stage S) → List Wire → Type 0
+IsUntouched node input was now sent = is_for_nobody node input ≡ true → (now ≡ was) × (sent ≡ [])
+
+-- what holds of a node's turn whatever came, and wherever any of its connections stood: it leaves others alone, what is for nobody here does
+-- nothing, and each key has its turn
+pub record TurnsApart {S : Type 0} (service : Machine S) (who : Identity) (input : Input) (was now : Stage S) (sent : List Wire) : Type 0 where
+  pub others : (standing : law_stage) → Others (node_of who standing) input was now sent
+  pub untouched : (standing : law_stage) → IsUntouched (node_of who standing) input was now sent
+  pub alone : (standing : law_stage) → Alone service (node_of who standing) input was now sent

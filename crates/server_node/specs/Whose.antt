@@ -1,0 +1,52 @@
+-- Whose a packet of the node is: it goes to a client, or tells the logger something of one connection.
+use Rattle.std.specs.Prelude.{◌≡◌, ◌++◌, ℕ, Bool, true, false, IfOk, List, filter, Result, Ok, Err}
+use Rattle.std.specs.List.{AllByRecursion}
+use Rattle.ft_io.specs.declared.Key.{Key}
+use Rattle.ft_io.specs.Key.{key_eq}
+use Rattle.seq_arith.specs.declared.kinds.BadMsg.{BadMsg}
+use Rattle.seq_arith.specs.Message.{Body, Message}
+use Rattle.seq_arith.specs.Message.Body.{OpenMsg, DataMsg, ReadMsg, DoneMsg}
+use Rattle.seq_arith.specs.MessageGrammar as messages
+use Rattle.ft_model.specs.Wire.{Wire, Party}
+use Rattle.ft_model.specs.Wire.Party.{A_client, The_server, The_logger}
+
+-- a message of the server tells something of this key's connection
+abbrev pub tells_of : Body → Key → Bool
+tells_of (OpenMsg numbers) key = key_eq numbers.key key
+tells_of (DataMsg part) key = key_eq part.key key
+tells_of (ReadMsg named index length) key = key_eq named key
+tells_of (DoneMsg named) key = key_eq named key
+tells_of _ key = false
+
+-- so does what the logger reads of a datagram
+abbrev pub is_told_of : Key → Result Message BadMsg → Bool
+is_told_of key (Ok message) = tells_of message.body key
+is_told_of key (Err bad) = false
+
+abbrev pub goes_to : Key → Party → List ℕ → Bool
+goes_to key (A_client client) bytes = key_eq client key
+goes_to key The_logger bytes = is_told_of key (messages.reading bytes)
+goes_to key The_server bytes = false
+
+-- a packet is this key's: it goes to its client, or the logger reads of it there
+abbrev pub is_of : Key → Wire → Bool
+is_of key wire = goes_to key wire.to wire.bytes
+
+-- the packets of this key, in order
+abbrev pub of_key : Key → List Wire → List Wire
+of_key key sent = filter (is_of key) sent
+
+-- a packet is this key's alone: only its client gets it, or the logger, and what that reads there, if it reads anything, is of this key
+abbrev pub IsBetween : Key → Party → List ℕ → Type 0
+IsBetween key (A_client client) bytes = key_eq client key ≡ true
+IsBetween key The_logger bytes = IfOk (messages.reading bytes) (λ message. tells_of message.body key ≡ true)
+IsBetween key The_server bytes = ⊥
+
+abbrev pub IsFor : Key → Wire → Type 0
+IsFor key wire = IsBetween key wire.to wire.bytes
+
+-- behind what was sent stands nothing but packets of this key alone
+pub record IsOnlyFor (key : Key) (old new : List Wire) : Type 0 where
+  pub told : List Wire
+  pub put : new ≡ old ++ told
+  pub alone : AllByRecursion (IsFor key) told
