@@ -1,4 +1,4 @@
--- What the methods of the code's world do, in whichever world of the definitions it stands that a legal trace can reach.
+-- What the methods of the code's world do, at whichever world of the definitions it is that a legal trace can reach.
 use Rattle.std.specs.Prelude.{◌≡◌, ℕ, List}
 use Rattle.server_trait.specs.Service.{Machine}
 use Rattle.ft_model.specs.Network.{Packet}
@@ -17,30 +17,30 @@ abbrev pub Does : {State : Type 0} → (ℕ → Machine State) → Event → (be
 Does services event before after =
     (v : Seen) → WorldStands (services before.kind) before v → Premises (services before.kind) v → Advances (services before.kind) v event after
 
--- the event isn't done: it is refused, or memory ran out
+-- the event isn't done: it is refused, or an allocation failed
 abbrev pub Declines : {State : Type 0} → (ℕ → Machine State) → Event → Kept State → StepEnd → Type 0
 Declines services event before end =
     (v : Seen) → WorldStands (services before.kind) before v → Premises (services before.kind) v → Refuses v event end
 
--- the server has its turn of what may come
+-- the server takes its turn on what may come
 abbrev pub Serves : {State : Type 0} → (ℕ → Machine State) → Input → (before after : Kept State) → Type 0
 Serves services input before after =
     (v : Seen) → WorldStands (services before.kind) before v → Premises (services before.kind) v → MayCome v input
     → GoesOn (services before.kind) (ServerMoves (services before.kind) input v) v after
 
--- it has none only for want of memory
+-- only a failed allocation prevents that
 abbrev pub ServesNot : {State : Type 0} → (ℕ → Machine State) → Input → Kept State → StepEnd → Type 0
 ServesNot services input before end =
     (v : Seen) → WorldStands (services before.kind) before v → Premises (services before.kind) v → MayCome v input → IsForMemory end
 
--- bytes reach the addressee of a packet that goes this way
+-- bytes reach the addressee of a packet that has this direction
 abbrev pub Brings : {State : Type 0} → (ℕ → Machine State) → Way → List ℕ → (before after : Kept State) → Type 0
 Brings services way bytes before after =
     (v : Seen) (packet : Packet) → WorldStands (services before.kind) before v → Premises (services before.kind) v
     → way ≡ way_along before.keys (wire_of packet) → ComesAs v packet bytes
     → GoesOn (services before.kind) (DeliveredAs (services before.kind) v packet bytes) v after
 
--- they don't only for want of memory
+-- only a failed allocation prevents that
 abbrev pub BringsNot : {State : Type 0} → (ℕ → Machine State) → Way → List ℕ → Kept State → StepEnd → Type 0
 BringsNot services way bytes before end =
     (v : Seen) (packet : Packet) → WorldStands (services before.kind) before v → Premises (services before.kind) v

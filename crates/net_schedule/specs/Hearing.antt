@@ -1,4 +1,4 @@
--- Bytes that come to a client or to the logger.
+-- Bytes that arrive at a client or at the logger.
 use Rattle.std.specs.Prelude.{ℕ, zero, suc, List, [], ◌∷◌, Result, Ok, Err}
 use Rattle.seq_arith.specs.Message.{Message}
 use Rattle.seq_arith.specs.declared.kinds.BadMsg.{BadMsg}
@@ -15,12 +15,12 @@ changed_at n change [] = []
 changed_at zero change (x ∷ xs) = change x ∷ xs
 changed_at (suc n) change (x ∷ xs) = x ∷ changed_at n change xs
 
--- bytes come to the client of a number, if there is one
+-- bytes arrive at the client with a number, if there is one
 abbrev pub delivered_to : ℕ → List ℕ → List Client → List Client
 delivered_to zero bytes clients = clients
 delivered_to (suc n) bytes clients = changed_at n (λ c. delivered c bytes) clients
 
--- the logger takes a message, and its answer is sent; what is no message changes nothing
+-- the logger takes a message, and its answer is sent. What is no message changes nothing
 abbrev pub logged : {State : Type 0} → Kept State → Result Message BadMsg → Kept State
 logged w (Err bad) = w
 logged w (Ok message) = record w { log = log_after w.log message; packets = with_answer w.packets (answer_bytes (answer_to w.log message)) }

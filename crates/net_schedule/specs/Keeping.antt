@@ -1,4 +1,4 @@
--- What the code's world keeps, as its contracts see it.
+-- What the code's world stores, as its contracts see it.
 use Rattle.std.specs.Prelude.{option_map}
 use Rattle.server_trait.specs.declared.Service.{Ghosts}
 use Rattle.server_node.specs.declared.node.Node.{Node}

@@ -1,4 +1,4 @@
--- What every legal trace gives of the world at its end, on which the step after it rests.
+-- What every legal trace guarantees of the world at its end, on which the next step depends.
 use Rattle.std.specs.Prelude.{◌≡◌, ℕ, None, Some, List, map}
 use Rattle.std.specs.List.{AllByRecursion}
 use Rattle.seq_arith.specs.PacketGrammar as segments

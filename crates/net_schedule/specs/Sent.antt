@@ -1,4 +1,4 @@
--- The packets of a trace, as the code's world keeps them.
+-- The packets of a trace, as the code's world stores them.
 use Rattle.std.specs.Prelude.{◌≡◌, ℕ, Some, List, map}
 use Rattle.std.specs.List.{AllByRecursion}
 use Rattle.ft_model.specs.Legal.{start_of}
@@ -15,17 +15,17 @@ use Rattle.net_schedule.specs.Carried.{Carried}
 abbrev pub packets_of : Schedule → List Moment → List Packet
 packets_of schedule trace = (world_after (start_of schedule) trace).packets
 
--- a packet's way, as a report of the schedule names it
+-- a packet's direction, as a report of the schedule names it
 abbrev pub reported_way : Schedule → Packet → Way
 reported_way schedule packet = way_of (clients_of schedule.server schedule.clients) packet
 
--- what is kept are the packets of a trace, each in its one spelling and with the way that its report names
+-- what is stored is the packets of a trace, each in its one spelling and with the direction that its report names
 pub record KeepsAllSent (schedule : Schedule) (trace : List Moment) (kept : Carried) : Type 0 where
   pub ways : kept.ways ≡ map (reported_way schedule) (packets_of schedule trace)
   pub bytes : kept.bytes ≡ map (λ packet. (wire_of packet).bytes) (packets_of schedule trace)
   pub wires : AllByRecursion HasWire (packets_of schedule trace)
 
--- this way and these bytes are those of the trace's packet of a number
+-- this direction and these bytes are those of the trace's packet with a number
 pub record WasSentAs (schedule : Schedule) (trace : List Moment) (number : ℕ) (way : Way) (bytes : List ℕ) : Type 0 where
   pub packet : Packet
   pub is : packet_at (packets_of schedule trace) number ≡ Some packet

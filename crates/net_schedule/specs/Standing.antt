@@ -1,4 +1,4 @@
--- The world of the code, the world of the definitions at which it stands, and what an event does to both.
+-- The world of the code, the world of the definitions at which it is, and what an event does to both.
 use Rattle.std.specs.Prelude.{◌≡◌, ℕ, Option, None, Some, List, ◌++◌, map}
 use Rattle.ft_io.specs.declared.Addr.{Addr}
 use Rattle.ft_io.specs.declared.Key.{Key}
@@ -24,7 +24,7 @@ pub record Server (State : Type 0) : Type 0 where
   pub who : Identity
   pub stage : Holds State
 
--- what the code's world keeps
+-- what the code's world stores
 pub record Kept (State : Type 0) : Type 0 where
   pub kind : ℕ  -- of the service
   pub server : Addr
@@ -35,20 +35,20 @@ pub record Kept (State : Type 0) : Type 0 where
   pub boot : ℕ
   pub node : Option (Server State)
 
--- the server runs the service of this kind, and stands at an incarnation
+-- the server runs the service of this kind, and is at an incarnation
 pub record IsAt {State : Type 0} (service : Machine State) (kind : ℕ) (now : Server State) (node : Node) : Type 0 where
   pub kind_is : now.who.kind ≡ kind
   pub standing : Stage
   pub is : node ≡ node_of now.who standing
   pub stands : StageStands service (node_of now.who standing) now.stage
 
--- the server is down in both, or it stands at the incarnation that is up
+-- the server is down in both, or it is at the incarnation that is up
 abbrev pub NodeStands : {State : Type 0} → Machine State → ℕ → Option (Server State) → Option Node → Type 0
 NodeStands service kind None None = Unit {0}
 NodeStands service kind (Some now) (Some node) = IsAt service kind now node
 NodeStands service kind _ _ = ⊥
 
--- The code's world stands at a world of the definitions: each packet is kept in its one spelling, with its way.
+-- The code's world is at a world of the definitions: each packet is stored in its one spelling, with its direction.
 pub record WorldStands {State : Type 0} (service : Machine State) (w : Kept State) (v : Seen) : Type 0 where
   pub server : w.server ≡ v.server
   pub keys : w.keys ≡ map (λ c. c.key) v.clients
@@ -58,7 +58,7 @@ pub record WorldStands {State : Type 0} (service : Machine State) (w : Kept Stat
   pub boot : w.boot ≡ v.boot
   pub node : NodeStands service w.kind w.node v.node
 
--- The world goes on to one after it, with these packets sent, and the code's world stands there.
+-- The world becomes a next one, with these packets sent, and the code's world is at that.
 pub record GoesOn {State : Type 0} (service : Machine State) (Goes : List Packet → Seen → Type 0) (v : Seen) (w : Kept State) : Type 0 where
   pub sent : List Packet
   pub world : Seen
@@ -72,12 +72,12 @@ pub record Advances {State : Type 0} (service : Machine State) (v : Seen) (event
   pub allowed : refusal v event ≡ None
   pub scripted : IsScripted v event happens.sent happens.world
 
--- memory ran out
+-- an allocation failed
 abbrev pub IsForMemory : StepEnd → Type 0
 IsForMemory NoMemory = Unit {0}
 IsForMemory _ = ⊥
 
--- an event that isn't done is refused by the events' tests, or memory ran out
+-- an event that isn't done is refused by the events' tests, or an allocation failed
 abbrev pub Refuses : Seen → Event → StepEnd → Type 0
 Refuses v event NoMemory = Unit {0}
 Refuses v event (BadEvent why) = refusal v event ≡ Some why

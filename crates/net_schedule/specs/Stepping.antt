@@ -12,14 +12,14 @@ use Rattle.net_schedule.specs.declared.end.StepEnd.{StepEnd}
 use Rattle.net_schedule.specs.declared.end.StepEnd.TheVariants.{NoMemory, BadEvent, PacketLimit}
 use Rattle.net_schedule.specs.declared.step_out.StepOut.{StepOut}
 
--- The code's world stands at the end of a legal trace of these events of a schedule.
+-- The code's world is at the end of a legal trace of these events of a schedule.
 pub record StandsAfter {State : Type 0} (services : ℕ → Machine State) (schedule : Schedule) (events : List Event) (trace : List Moment)
     (w : Kept State) : Type 0 where
   pub kind : w.kind ≡ kind_of schedule.service
   pub legal : IsLegalFor services schedule events trace
   pub stands : WorldStands (services w.kind) w (world_after (start_of schedule) trace)
 
--- So it does with one event more, behind a trace.
+-- So it is with one more event, after a trace.
 pub record Extends {State : Type 0} (services : ℕ → Machine State) (schedule : Schedule) (events : List Event) (trace : List Moment)
     (event : Event) (w : Kept State) : Type 0 where
   pub moment : Moment
@@ -34,7 +34,7 @@ pub record Steps {State : Type 0} (services : ℕ → Machine State) (schedule :
   pub count : answer.count ≡ length extends.moment.sent
   pub within : packets_sent schedule (extends.moment ∷ trace) ≤ 200000
 
--- Where a step isn't done: what is refused is refused by the events' tests, and the packets would pass their limit.
+-- The end of a step that isn't done: what is refused is refused by the events' tests, or the packets would exceed their limit.
 abbrev pub EndsStep : {State : Type 0} → (ℕ → Machine State) → Schedule → List Event → List Moment → Event → Kept State → StepEnd → Type 0
 EndsStep services schedule events trace event w NoMemory = Unit {0}
 EndsStep services schedule events trace event w (BadEvent why) = refusal (world_after (start_of schedule) trace) event ≡ Some why

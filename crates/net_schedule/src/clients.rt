@@ -54,7 +54,7 @@ fn place_of(keys: &[Key], key: Key) -> Option<usize>
     keys.iter().position(|other| *other == key)
 }
 
-/// The number of the client with this key, from 1; 0 where there is none.
+/// The number of the client with this key, counted from 1; 0 where there is none.
 pub fn number_of(keys: &[Key], key: Key) -> u8
     requires { length keys.now ≤ 16 }
     ensures { result ≡ number_lem keys.now key }

@@ -12,13 +12,13 @@ use thiserror::Error;
 /// Why an event was not done.
 #[derive(Clone, Copy, Debug, PartialEq, Eq, Error)]
 pub enum StepEnd {
-    /// Memory ran out. The world may only be dropped.
+    /// An allocation failed. The world may only be dropped.
     #[error("no memory")]
     NoMemory,
     /// Its actor may not do it. The world is as before.
     #[error("the event is not allowed")]
     BadEvent(EventWhy),
-    /// The packets would pass their limit. The world may only be dropped.
+    /// The packets would exceed their limit. The world may only be dropped.
     #[error("too many packets")]
     PacketLimit,
 }

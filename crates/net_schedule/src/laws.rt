@@ -17,7 +17,7 @@ ghost use Rattle.net_schedule.specs.Stepping.{StandsAfter};
 use ft_model::wire::packets_have_wires;
 use server_trait::Service;
 
-/// The lines of packets depend on the clients' keys alone.
+/// The lines of packets depend only on the clients' keys.
 #[tactic(auto, using(crate::proofs::Keys::same_lines))]
 pub fn lines_depend_on_keys()
     ensures { (cs ds : List Client) (n : ℕ) (ps : List Packet) → map (λ c. c.key) cs ≡ map (λ c. c.key) ds
@@ -30,7 +30,7 @@ pub fn keys_are_the_schedules<S: Service>()
         → StandsAfter (machines S.started S.after) schedule events trace w → w.keys ≡ map (λ line. line.key) schedule.clients }
 {}
 
-/// The world keeps the packets of its trace, each in its one spelling and with the way that the report names.
+/// The world stores the packets of its trace, each in its one spelling and with the direction that the report names.
 pub fn worlds_keep_what_was_sent<S: Service>()
     ensures all { (schedule : Schedule) (events : List Event) (trace : List Moment) (w : Kept S)
         → StandsAfter (machines S.started S.after) schedule events trace w → KeepsAllSent schedule trace w.packets }

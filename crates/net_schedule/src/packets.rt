@@ -1,4 +1,4 @@
-//! All packets that were ever sent, one behind another in one region.
+//! All packets that were ever sent, one after another in one region.
 
 ghost use Rattle.std.specs.Prelude.{◌≡◌, ◌<◌, [], ◌∷◌, length, slice_index, option_copied, OnOk};
 ghost use Rattle.net_schedule.specs.AtNumber.{at_number};
@@ -9,7 +9,7 @@ use ft_model::Way;
 use std::alloc::Global;
 use std::marker::Model;
 
-/// The packets in the order in which they were sent, numbered from 1: their bytes, where each of them ends, and their ways.
+/// The packets in the order in which they were sent, numbered from 1: their bytes, where each of them ends, and their directions.
 #[derive(Drop)]
 pub struct Packets {
     bytes: Vec<u8>,
@@ -30,7 +30,7 @@ impl Model for Packets {
 }
 
 impl Packets {
-    /// No packets. It takes no memory.
+    /// No packets. Nothing is allocated.
     pub fn new(alloc: Global) -> Packets
         ensures { result ≡ no_packets }
     {
@@ -49,7 +49,7 @@ impl Packets {
         self.ends.len()
     }
 
-    /// The bytes of packet n, from 1 on; none where no such packet was sent.
+    /// The bytes of packet `n`, counted from 1; none where no such packet was sent.
     #[tactic(auto, using(tcp_endpoint::proofs::Pieces::length_pieces, tcp_endpoint::proofs::Pieces::bounds_at, tcp_endpoint::proofs::Pieces::piece_at))]
     pub fn bytes(&self, n: u32) -> Option<&[u8]>
         ensures { option_copied result ≡ at_number self.now.bytes n }
@@ -65,7 +65,7 @@ impl Packets {
         Some(&self.bytes[start..end])
     }
 
-    /// The way of packet n; none where no such packet was sent.
+    /// The direction of packet `n`, counted from 1; none where no such packet was sent.
     pub fn way(&self, n: u32) -> Option<Way>
         ensures { result ≡ at_number self.now.ways n }
     {
@@ -75,7 +75,7 @@ impl Packets {
         self.ways.get(n as usize - 1).copied()
     }
 
-    /// Keeps a packet behind the others.
+    /// Appends a packet.
     #[tactic(auto, using(tcp_endpoint::proofs::Pieces::climbs_push, tcp_endpoint::proofs::Pieces::pieces_push))]
     pub fn push(&mut self, way: Way, bytes: &[u8]) -> Result<(), NoMemory>
         ensures { OnOk result (self.new ≡ with_packet self.old way bytes.now) }
@@ -89,7 +89,7 @@ impl Packets {
     }
 }
 
-/// Where packet `i`, from 0, begins and ends.
+/// Where packet `i`, counted from 0, begins and ends.
 fn bounds(ends: &[usize], i: usize) -> (usize, usize)
     requires { i < length ends.now }
     ensures start { result.0 ≡ slice_index (0 ∷ ends.now) i }

@@ -1,4 +1,4 @@
-//! What the server and the logger send, as the network keeps it.
+//! What the server and the logger send, as the network stores it.
 
 ghost use Rattle.std.specs.Prelude.{◌≡◌, ◌≤◌, length, OnOk};
 ghost use Rattle.server_node.specs.Sending.{party_of};
@@ -11,7 +11,7 @@ use ft_model::Way;
 use logger_store::MsgOut;
 use server_node::{OutPacket, To};
 
-/// The way of a packet from the server.
+/// The direction of a packet from the server.
 fn way_to(keys: &[Key], to: To) -> Way
     requires { length keys.now ≤ 16 }
     ensures { result ≡ way_lem keys.now (party_of to) }
@@ -22,7 +22,7 @@ fn way_to(keys: &[Key], to: To) -> Way
     }
 }
 
-/// Keeps what the server sent in a turn.
+/// Stores what the server sent in a turn.
 pub fn keep_sent(keys: &[Key], sent: &[OutPacket], packets: &mut Packets) -> Result<(), NoMemory>
     requires { length keys.now ≤ 16 }
     ensures { OnOk result (packets.new ≡ with_wires keys.now packets.old sent.now) }
@@ -33,7 +33,7 @@ pub fn keep_sent(keys: &[Key], sent: &[OutPacket], packets: &mut Packets) -> Res
     Ok(())
 }
 
-/// Keeps the answer of the logger, if it gave one.
+/// Stores the answer of the logger, if it gave one.
 pub fn keep_answer(answer: &MsgOut, packets: &mut Packets) -> Result<(), NoMemory>
     ensures { OnOk result (packets.new ≡ with_answer packets.old answer.now) }
 {

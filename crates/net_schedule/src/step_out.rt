@@ -1,4 +1,4 @@
-//! What a step of the world tells.
+//! What a step of the world returns.
 
 /// The packets that an event sent: `count` packets from number `first` on.
 #[derive(Clone, Copy, Debug, PartialEq, Eq)]

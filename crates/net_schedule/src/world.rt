@@ -1,5 +1,5 @@
-//! The world of a schedule: its clients, the network, the logger and the server. A step is one event of the schedule, and the world keeps
-//! each packet that was ever sent, as bytes.
+//! The world of a schedule: its clients, the network, the logger and the server. A step is one event of the schedule, and the world stores each packet that was
+//! ever sent, as bytes.
 
 ghost use Rattle.std.specs.Prelude.{◌≡◌, ◌≤◌, ◌<◌, ◌*◌, length, OnOk};
 ghost use Rattle.seq_arith.specs.Damage.{flipped};
@@ -59,7 +59,7 @@ pub struct World<S: Service> {
     packets: Packets,
     boot: u64,
     node: Option<Node<S>>,
-    /// A copy of the packet that is on its way.
+    /// A copy of the packet that is being delivered.
     copy: Vec<u8>,
     ghost few: { length keys.items ≤ 16 },
 }
@@ -104,21 +104,21 @@ impl<S: Service> World<S> {
         })
     }
 
-    /// The bytes of packet n, from 1 on; none where no such packet was sent.
+    /// The bytes of packet `n`, counted from 1; none where no such packet was sent.
     pub fn packet(&self, n: u32) -> Option<&[u8]>
         ensures { option_copied result ≡ at_number self.now.packets.bytes n }
     {
         self.packets.bytes(n)
     }
 
-    /// The way of packet n; none where no such packet was sent.
+    /// The direction of packet `n`, counted from 1; none where no such packet was sent.
     pub fn way(&self, n: u32) -> Option<Way>
         ensures { result ≡ at_number self.now.packets.ways n }
     {
         self.packets.way(n)
     }
 
-    /// Client n, from 1 on; none where the schedule has no such client.
+    /// Client `n`, counted from 1; none where the schedule has no such client.
     pub fn client(&self, n: u8) -> Option<&Client>
         ensures { option_copied result ≡ client_at self.now.clients.items n }
     {
@@ -178,7 +178,7 @@ impl<S: Service> World<S> {
         Ok(())
     }
 
-    /// The server has its turn of what comes, if it is up.
+    /// The server takes its turn on what arrives, if it is up.
     fn serve(&mut self, alloc: Global, input: Input<'_>) -> Result<(), StepEnd>
         ensures done { OnOk result (Serves (machines S.started S.after) (input_of input.entry) (kept self.old) (kept self.new)) }
         ensures ends { IfErr result (ServesNot (machines S.started S.after) (input_of input.entry) (kept self.old)) }
@@ -195,7 +195,7 @@ impl<S: Service> World<S> {
                 Ok(())
             }
             Err(TurnEnd::NoMemory) => Err(StepEnd::NoMemory),
-            // No server of a legal trace is fenced. That this isn't told as a want of memory makes the contract say so.
+            // No server of a legal trace is fenced. This isn't reported as `NoMemory`, so that the contract says so.
             Err(TurnEnd::Fenced { .. }) => Err(StepEnd::PacketLimit),
         }
     }
@@ -214,7 +214,7 @@ impl<S: Service> World<S> {
         self.serve(alloc, Input::Tick)
     }
 
-    /// Bytes come to a client, if there is one of this number.
+    /// Bytes arrive at a client, if there is one with this number.
     fn tell_client(&mut self, alloc: Global, number: u8, bytes: &[u8]) -> Result<(), StepEnd>
         ensures done { OnOk result (kept self.new ≡ record (kept self.old) { clients = delivered_to number bytes.now self.old.clients.items }) }
         ensures ends { IfErr result IsForMemory }
@@ -232,7 +232,7 @@ impl<S: Service> World<S> {
         Ok(())
     }
 
-    /// A message comes to the logger, and its answer is sent.
+    /// A message arrives at the logger, and its answer is sent.
     fn tell_message(&mut self, alloc: Global, message: &Msg<'_>) -> Result<(), StepEnd>
         requires { IsSendable message.now }
         ensures done { OnOk result (kept self.new ≡ logged (kept self.old) (Ok (message_of message.now))) }
@@ -246,7 +246,7 @@ impl<S: Service> World<S> {
         Ok(())
     }
 
-    /// Bytes come to the logger. Bytes that are no message change nothing.
+    /// Bytes arrive at the logger. Bytes that are no message change nothing.
     fn tell_logger(&mut self, alloc: Global, bytes: &[u8]) -> Result<(), StepEnd>
         ensures done { OnOk result (kept self.new ≡ logged (kept self.old) (message_reading bytes.now)) }
         ensures ends { IfErr result IsForMemory }
@@ -259,7 +259,7 @@ impl<S: Service> World<S> {
         }
     }
 
-    /// Bytes reach the addressee of a packet that goes this way.
+    /// Bytes reach the addressee of a packet that has this direction.
     fn bring(&mut self, alloc: Global, way: Way, bytes: &[u8]) -> Result<(), StepEnd>
         ensures done { OnOk result (Brings (machines S.started S.after) way bytes.now (kept self.old) (kept self.new)) }
         ensures ends { IfErr result (BringsNot (machines S.started S.after) way bytes.now (kept self.old)) }
@@ -344,7 +344,7 @@ impl<S: Service> World<S> {
         Ok(())
     }
 
-    /// Does one event, however many packets were sent. After `BadEvent` the world is as before, after another end it may only be dropped.
+    /// Does one event, however many packets were sent. After `BadEvent` the world is as before. After another end it may only be dropped.
     fn act(&mut self, alloc: Global, event: &Event) -> Result<(), StepEnd>
         ensures done { OnOk result (Does (machines S.started S.after) event.now (kept self.old) (kept self.new)) }
         ensures ends { IfErr result (Declines (machines S.started S.after) event.now (kept self.old)) }
@@ -366,7 +366,7 @@ impl<S: Service> World<S> {
         }
     }
 
-    /// What a step tells that began with so many packets.
+    /// The answer of a step that began with `before` packets.
     fn counted(&self, before: usize) -> Result<StepOut, StepEnd>
         requires { before ≤ length self.now.packets.bytes }
         ensures first { IfOk result (λ out. out.first ≡ before + 1) }
@@ -384,7 +384,7 @@ impl<S: Service> World<S> {
         })
     }
 
-    /// Does one event: it extends a legal trace by it. After `BadEvent` the world is as before, after another end it may only be dropped.
+    /// Does one event, which extends a legal trace by it. After `BadEvent` the world is as before. After another end it may only be dropped.
     pub fn step(&mut self, alloc: Global, event: &Event) -> Result<StepOut, StepEnd>
         ensures numbered { IfOk result (λ answer. answer.first + answer.count ≤ 200001) }
         ensures done { IfOk result (λ answer. (schedule : Schedule) (events : List Event) (trace : List Moment)

@@ -1,4 +1,4 @@
--- What a text must be for a run of it to end in a certain way, and the status that it then has.
+-- What a text must be for its run to end in a certain way, and the status that the run then has.
 use Rattle.std.specs.Prelude.{◌≡◌, ◌⊎◌, ℕ, Ok, Err, List, Option}
 use Rattle.std.specs.Io.KnownBytes.{Appends}
 use Rattle.ft_io.specs.Faults.{Rose}
@@ -36,26 +36,27 @@ pub record HasBadEvent (text : List ℕ) : Type 0 where
   pub spelled : read_text text ≡ Ok schedule
   pub refused : IsRefused any_machine schedule
 
--- it is too long, has too many events, or these send too many packets
+-- it is too long, has too many events, or these exceed the limit of packets
 pub data IsPastLimit (text : List ℕ) : Type 0 where
   by_text : (what : Limit) → read_text text ≡ Err (TooLong what) → IsPastLimit text
   by_packets : (schedule : Schedule) → read_text text ≡ Ok schedule → IsPastPackets any_machine schedule → IsPastLimit text
 
--- its first line that is refused is told, with the cause
+-- its first refused line is named in the error text, with the cause
 abbrev pub IsBadLineTold : (old new : Option (List ℕ)) → List ℕ → Type 0
 IsBadLineTold old new text = (bad : HasBadLine text) × Appends old new (text_of (ends.BadLine bad.line bad.why))
 
--- its events before the first that is refused are reported, and that event is told, with the cause
+-- its events before the first refused one are reported, and that event is named in the error text, with the cause
 abbrev pub IsReportedTill : (out out' err err' : Option (List ℕ)) → List ℕ → Type 0
 IsReportedTill out out' err err' text =
     (number : ℕ) × (why : EventWhy) × Spells text (λ schedule. Wrote out out' (ReportsTill schedule number why))
     × Appends err err' (text_of (ends.BadEvent number why))
 
--- The limit that it passes is told. Where the packets pass theirs, the events before are reported, without the lines on clients and log
+-- The limit that it exceeds is named in the error text. Where that is the limit of packets, the events before are reported, without the lines on clients and
+-- log
 abbrev pub IsLimitTold : (out out' err err' : Option (List ℕ)) → List ℕ → Type 0
 IsLimitTold out out' err err' text = (what : TooMuch) × PassesLimit text out out' what × Appends err err' (text_of (ends.TooLong what))
 
--- a sink failed: that of the report, and nothing is told; or, while that failed nowhere, the one to which an end was told
+-- a sink failed: that of the report, and no error text is written; or, while that had no fault, the error sink, to which the text of an end was written
 abbrev pub IsWriteFault : (out out' err err' : ℕ) → (untold : Type 0) → (old new : Option (List ℕ)) → Type 0
 IsWriteFault out out' err err' untold old new =
     (Rose out out' × untold) ⊎ ((out' ≡ out) × Rose err err' × ((end : RunEnd) × WroteFront old new (text_of end)))
@@ -64,7 +65,7 @@ IsWriteFault out out' err err' untold old new =
 abbrev pub IsStill : ℕ → ℕ → Type 0
 IsStill before after = Rose before after → ⊥
 
--- The status by the text, where no count of faults rises: it is settled but for want of memory.
+-- The status by the text, where no count of faults rises: it is determined, unless an allocation failed.
 pub record IsSettled (text : List ℕ) (code : ℕ) : Type 0 where
   pub in_order : IsInOrder text → (code ≡ 0) ⊎ (code ≡ 3)
   pub bad_line : HasBadLine text → (code ≡ 6) ⊎ (code ≡ 3)

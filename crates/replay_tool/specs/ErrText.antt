@@ -43,7 +43,7 @@ told text = codes "ftreplay: " ++ (text ++ 10 ∷ [])
 unfoldable pub numbered : List ℕ → ℕ → List ℕ → List ℕ
 numbered name n word = (name ++ decimal n) ++ (codes ": " ++ word)
 
--- why a run ended. Nothing is said of a sink that failed
+-- why a run ended. There is no text for a sink that failed
 abbrev pub cause_text : RunEnd → List ℕ
 cause_text Usage = codes "usage"
 cause_text NoMemory = codes "no memory"

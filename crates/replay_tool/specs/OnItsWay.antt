@@ -1,4 +1,4 @@
--- A text on its way to a sink: a front of it was taken, and the rest is held.
+-- A text that is being written to a sink: a prefix of it was taken, and the rest is held.
 use Rattle.std.specs.Prelude.{◌≡◌, ℕ, List, ◌++◌, Option, Result, Ok, Err}
 use Rattle.std.specs.Io.KnownBytes.{Appends}
 use Rattle.ft_io.specs.Faults.{Rose}
@@ -10,19 +10,19 @@ pub record IsOnItsWay (old now : Option (List ℕ)) (held text : List ℕ) : Typ
   pub taken : Appends old now front
   pub whole : front ++ held ≡ text
 
--- a front of a text
+-- a prefix of a text
 abbrev pub IsFrontOf : List ℕ → List ℕ → Type 0
 IsFrontOf front text = (behind : List ℕ) × (front ++ behind ≡ text)
 
--- a text of this kind was taken whole
+-- a complete text of this kind was taken
 abbrev pub Wrote : (old new : Option (List ℕ)) → (List ℕ → Type 0) → Type 0
 Wrote old new Is = (text : List ℕ) × Appends old new text × Is text
 
--- a front of this text was taken
+-- a prefix of this text was taken
 abbrev pub WroteFront : (old new : Option (List ℕ)) → List ℕ → Type 0
 WroteFront old new text = Wrote old new (λ front. IsFrontOf front text)
 
--- a text of this kind is on its way
+-- a text of this kind is being written
 abbrev pub Holds : (old now : Option (List ℕ)) → List ℕ → (List ℕ → Type 0) → Type 0
 Holds old now held Is = (text : List ℕ) × IsOnItsWay old now held text × Is text
 

@@ -20,15 +20,15 @@ use Rattle.replay_tool.specs.OnItsWay.{IsFrontOf}
 abbrev pub reached : Schedule → List Moment → Seen
 reached schedule trace = world_after (start_of schedule) trace
 
--- What holds of each trace that is played: crashes can't be seen from outside, with restarts that are exact; no RST goes to a connection that the log
--- keeps; no server is fenced; and no more packets are sent than may be.
+-- What holds of each trace that is played: crashes can't be seen from outside, with restarts that are exact; no RST was sent to a connection that the log
+-- keeps; no server is fenced; and the packets stay within their limit.
 pub record IsSafe (schedule : Schedule) (trace : List Moment) : Type 0 where
   pub masked : Masked (any_machine (kind_of schedule.service)) (start_of schedule) trace
   pub resets : AllByRecursion (ResetsNoLogged (reached schedule trace).log) (reached schedule trace).packets
   pub fenced : IfSome (reached schedule trace).node (λ node. is_fenced node.stage ≡ false)
   pub within : packets_sent schedule trace ≤ 200000
 
--- Played up to here: all events of a schedule but these last ones, by a legal trace, with the service that the schedule names.
+-- Played up to here: all events of a schedule except these last ones, by a legal trace, with the service that the schedule names.
 pub record IsPlayedTo (schedule : Schedule) (others : List Event) : Type 0 where
   pub events : List Event
   pub trace : List Moment
@@ -54,7 +54,7 @@ pub record ReportsTill (schedule : Schedule) (number : ℕ) (why : EventWhy) (te
   pub refused : refusal (reached schedule played.trace) event ≡ Some why
   pub is : text ≡ report schedule played.trace
 
--- the report of the events before one with which the packets pass their limit. It ends before the lines on clients and log
+-- the report of the events before one with which the packets exceed their limit. It ends before the lines on clients and log
 pub record ReportsToLimit (schedule : Schedule) (text : List ℕ) : Type 0 where
   pub event : Event
   pub others : List Event
@@ -69,8 +69,8 @@ abbrev pub NoneIsAllowed : Seen → List Event → Type 0
 NoneIsAllowed w [] = Unit {0}
 NoneIsAllowed w (event ∷ others) = (why : EventWhy) × (refusal w event ≡ Some why)
 
--- A front of the report of some first events, all of them allowed. Unless these are all before the first that isn't, it ends before the lines on clients
--- and log
+-- A prefix of the report of some first events, all of them allowed. It ends before the lines on clients and log, unless these are all events before the first
+-- that isn't allowed
 pub record ReportsFront (schedule : Schedule) (text : List ℕ) : Type 0 where
   pub others : List Event
   pub played : IsPlayedTo schedule others

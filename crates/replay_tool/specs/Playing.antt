@@ -1,4 +1,4 @@
--- The playing of a schedule, event after event: where it stands, and where it ends early.
+-- Playing a schedule, event after event: the state in between, and where it ends early.
 use Rattle.std.specs.Prelude.{◌≡◌, ℕ, ◌+◌, Some, List, ◌∷◌, Option, length}
 use Rattle.ft_model.specs.Legal.{refusal}
 use Rattle.ft_model.specs.Outcome.{packets_sent}
@@ -16,7 +16,7 @@ use Rattle.replay_tool.specs.declared.status.TooMuch.TheVariants.{Packets}
 use Rattle.replay_tool.specs.declared.status.RunEnd.{RunEnd}
 use Rattle.replay_tool.specs.declared.status.RunEnd.TheVariants.{NoMemory, WriteFault, BadEvent, TooLong}
 
--- All events but these are played: the world stands there, and the lines so far are on their way to the sink, which had taken `old`.
+-- All events but these are played: the world is at that point, and the lines so far are being written to the sink, which had taken `old`.
 pub record Reaches (schedule : Schedule) (others : List Event) (w : Kept AnyService) (old now : Option (List ℕ)) (held : List ℕ) : Type 0 where
   pub played : IsPlayedTo schedule others
   pub stands : StandsAfter any_machine schedule played.events played.trace w
@@ -31,12 +31,12 @@ EndsPlaying schedule (BadEvent number why) text = ReportsTill schedule number wh
 EndsPlaying schedule (TooLong Packets) text = ReportsToLimit schedule text
 EndsPlaying schedule _ text = ⊥
 
--- it is on its way, and where the sink failed a front of it was taken
+-- it is being written, and where the sink failed a prefix of it was taken
 abbrev pub HoldsAtEnd : Schedule → (old now : Option (List ℕ)) → List ℕ → RunEnd → Type 0
 HoldsAtEnd schedule old now held WriteFault = Wrote old now (ReportsFront schedule)
 HoldsAtEnd schedule old now held end = Holds old now held (EndsPlaying schedule end)
 
--- the next event is refused, and all is where the events before it lead
+-- the next event is refused, and everything is where the events before it lead
 pub record StandsAt (schedule : Schedule) (number : ℕ) (why : EventWhy) (w : Kept AnyService) (old now : Option (List ℕ)) (held : List ℕ) : Type 0 where
   pub event : Event
   pub others : List Event

@@ -11,13 +11,13 @@ use Rattle.replay_tool.specs.declared.status.TooMuch.TheVariants.{Text, Events, 
 use Rattle.replay_tool.specs.declared.status.RunEnd.{RunEnd}
 use Rattle.replay_tool.specs.declared.status.RunEnd.TheVariants.{Usage, NoMemory, ReadFault, BadLine, BadEvent, TooLong}
 
--- the text passes a limit: its own, that of its events, or that of the packets that these send
+-- the text exceeds a limit: its own, that of its events, or that of the packets that these send
 abbrev pub PassesLimit : List ℕ → (old new : Option (List ℕ)) → TooMuch → Type 0
 PassesLimit text old new Text = read_text text ≡ Err (reading.TooLong limits.Text)
 PassesLimit text old new Events = read_text text ≡ Err (reading.TooLong limits.Events)
 PassesLimit text old new Packets = Spells text (λ schedule. Wrote old new (ReportsToLimit schedule))
 
--- a text spells no schedule, unless memory ran out
+-- a text spells no schedule, unless an allocation failed
 abbrev pub StopsReading : List ℕ → RunEnd → Type 0
 StopsReading text NoMemory = Unit {0}
 StopsReading text (BadLine line why) = read_text text ≡ Err (reading.BadLine line why)
@@ -47,13 +47,13 @@ IsReadOut left (BadEvent number why) = IsAtEnd left
 IsReadOut left (TooLong Packets) = IsAtEnd left
 IsReadOut left _ = Unit {0}
 
--- Nothing was written, or the text was read to its end and a front of its report was written.
+-- Nothing was written, or the text was read to its end and a prefix of its report was written.
 abbrev pub KeepsFront : {Out : Type 0} → (taken : Out → Option (List ℕ)) → (old new : Out) → (text left : Option (List ℕ)) → Type 0
 KeepsFront taken old new text left =
     (new ≡ old) ⊎ (IsAtEnd left × IfSome text (λ t. Spells t (λ schedule. Wrote (taken old) (taken new) (ReportsFront schedule))))
 
--- At a limit nothing was written; or it is that of the packets: the text was read to its end, it spells a schedule, and the events before the one that
--- would pass the limit are reported
+-- At a limit nothing was written; or it is that of the packets: the text was read to its end, it spells a schedule, and the events before the one that would
+-- exceed the limit are reported
 abbrev pub LimitKeepsOut : {Out : Type 0} → (taken : Out → Option (List ℕ)) → (old new : Out) → (text left : Option (List ℕ)) → Type 0
 LimitKeepsOut taken old new text left =
     (new ≡ old) ⊎ (IsAtEnd left × IfSome text (λ t. Spells t (λ schedule. Wrote (taken old) (taken new) (ReportsToLimit schedule))))

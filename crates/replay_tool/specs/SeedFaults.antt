@@ -7,7 +7,7 @@ use Rattle.replay_tool.specs.ErrText.{text_of}
 use Rattle.replay_tool.specs.OnItsWay.{WroteFront}
 use Rattle.replay_tool.specs.declared.status.RunEnd.{RunEnd}
 
--- That of the summary failed: it took a front of it, and nothing is told. Or no summary was written, and the one to which an end was told failed
+-- The summary's sink failed: it took a prefix of that, and no error text is written. Or no summary was written, and the error sink failed at the text of an end
 abbrev pub IsSeedFault :
     Asked → (out out' : Option (List ℕ)) → (faults faults' err_faults err_faults' : ℕ) → (untold : Type 0) → (err err' : Option (List ℕ)) → Type 0
 IsSeedFault asked out out' faults faults' err_faults err_faults' untold err err' =

@@ -1,4 +1,4 @@
--- Where the world stands before and after an event.
+-- The state of the world before and after an event.
 use Rattle.std.specs.Prelude.{List}
 use Rattle.ft_model.specs.World.{Moment}
 use Rattle.ft_model.specs.declared.event.Event.{Event}

@@ -175,7 +175,7 @@ fn write_entries(alloc: Global, log: &LogStore, lines: &mut Vec<u8>) -> Result<(
     Ok(())
 }
 
-/// How the world stands after `n` events, as the end of a report.
+/// The state of the world after `n` events, as the end of a report.
 pub(crate) fn write_closing(
     alloc: Global,
     world: &World<AnyService>,

@@ -1,4 +1,4 @@
-//! The playing of a schedule: each event is done in the world, and its lines are put behind the report before the next one.
+//! Playing a schedule: each event is done in the world, and its lines are appended to the report before the next one.
 
 ghost use Rattle.std.specs.Prelude.{◌≡◌, ℕ, ◌+◌, ◌≤◌, List, [], ◌∷◌, ◌++◌, Option, Err, length, OnOk, OnErr, IfErr};
 ghost use Rattle.std.specs.List.{flat_map};
@@ -27,7 +27,7 @@ use sample_servers::AnyService;
 use schedule_text::{Schedule, write_header};
 use std::alloc::Global;
 
-/// Plays event number `n`, and puts its lines behind the report.
+/// Plays event number `n`, and appends its lines to the report.
 fn play_event<O: Sink>(
     alloc: Global,
     n: u32,
@@ -80,7 +80,7 @@ fn play_events<O: Sink>(
     Ok(())
 }
 
-/// Puts behind the report how the world stands after `n` events.
+/// Appends the state of the world after `n` events to the report.
 fn close(
     alloc: Global,
     world: &World<AnyService>,

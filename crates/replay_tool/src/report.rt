@@ -1,4 +1,4 @@
-//! A report on its way to a sink: it is held in one buffer, and goes out in pieces.
+//! A report that is being written to a sink: it is held in one buffer, and written in pieces.
 
 ghost use Rattle.std.specs.Prelude.{◌≡◌, ℕ, List, [], Option, OnOk, OnErr};
 ghost use Rattle.replay_tool.specs.OnItsWay.{IsOnItsWay, WroteFront, CountsFailed};
@@ -9,7 +9,7 @@ use std::alloc::Global;
 /// How many bytes are held, at least, before they are written.
 const PIECE: usize = 65_536;
 
-/// What is still to be written of a report, and the lines of one event, or of the end, until they are whole.
+/// What is still to be written of a report, and the lines of one event, or of the end, until they are complete.
 #[derive(Drop)]
 pub(crate) struct Report {
     pub(crate) held: Vec<u8>,

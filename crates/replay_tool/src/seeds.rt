@@ -15,7 +15,7 @@ use ft_io::Sink;
 use seed_run::seed;
 use std::alloc::Global;
 
-/// Plays the schedule that the words of a seed make, writes its summary to `out`, and to `err` why the run ended early.
+/// Plays the schedule that the words of a seed make, writes its summary to `out`, and writes to `err` why the run ended early.
 pub(crate) fn replay_seed<O: Sink, E: Sink>(
     alloc: Global,
     words: &[String],

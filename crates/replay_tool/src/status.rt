@@ -17,7 +17,7 @@ pub struct Status {
     pub code: u8,
 }
 
-/// What passed its limit.
+/// What exceeded its limit.
 #[derive(Clone, Copy, Debug, PartialEq, Eq)]
 pub(crate) enum TooMuch {
     Text,
@@ -25,7 +25,7 @@ pub(crate) enum TooMuch {
     Packets,
 }
 
-/// How a run ends that wasn't done to its end.
+/// How a run ends that wasn't completed.
 #[derive(Clone, Copy, Debug, PartialEq, Eq)]
 pub(crate) enum RunEnd {
     Usage,

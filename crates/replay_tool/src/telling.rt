@@ -1,4 +1,4 @@
-//! What a run that wasn't done to its end writes to the error sink.
+//! What a run that wasn't completed writes to the error sink.
 
 ghost use Rattle.std.specs.Prelude.{◌≡◌, ◌⊎◌, ◌++◌, ◌∷◌, [], OnOk, OnErr};
 ghost use Rattle.std.specs.Io.KnownBytes.{Appends};
@@ -62,7 +62,7 @@ fn write_text<E: Sink>(err: &mut E, text: &[u8]) -> Result<(), Failed>
     Ok(())
 }
 
-/// Two texts, one behind the other.
+/// Two texts, one after the other.
 #[tactic(auto, using(crate::proofs::Fronts::then_whole, crate::proofs::Fronts::then_front, crate::proofs::Fronts::front_then))]
 fn write_both<E: Sink>(err: &mut E, first: &[u8], second: &[u8]) -> Result<(), Failed>
     ensures whole { OnOk result (Appends (E.taken err.old) (E.taken err.new) (first.now ++ second.now)) }
@@ -142,7 +142,7 @@ fn code(end: RunEnd) -> u8
     }
 }
 
-/// Writes the text of an end, and gives its status: 5 where that write failed. Where the sink of the report failed, none is written.
+/// Writes the text of an end, and returns its status: 5 where that write failed. Where the sink of the report failed, no text is written.
 pub(crate) fn tell<E: Sink>(err: &mut E, end: RunEnd) -> Status
     ensures told { ((result.code ≡ code_of end) × Appends (E.taken err.old) (E.taken err.new) (text_of end))
         ⊎ ((result.code ≡ 5) × Rose (E.fault_count err.old) (E.fault_count err.new)

@@ -25,11 +25,10 @@ use sample_servers::AnyService;
 use seed_run::Asked;
 use std::alloc::Global;
 
-/// `ftreplay` with these words. For `run` it reads a schedule from `input` to its end and writes the report of its run to `out` while it runs.
-/// For `seed SEED CLIENTS EVENTS` it plays so many events of the schedule that the seed makes for so many clients, and writes their summary to
-/// `out` once they are done; nothing is read. To `err` it writes why a run ended early. The status is 0 where all was done; 2 for other words,
-/// 3 for want of memory, 4 for a fault of the source, 5 for one of a sink, 6 for a line that is refused, 7 for an event that is, and 8 at a
-/// limit; with a seed it is 0, 3, 5 or 8.
+/// `ftreplay` with these words. For `run` it reads a schedule from `input` to its end and writes the report of its run to `out` while it runs. For `seed SEED
+/// CLIENTS EVENTS` it plays this many events of the schedule that the seed makes for this many clients, and writes their summary to `out` once they are done;
+/// nothing is read. To `err` it writes why a run ended early. The status is 0 where all was done, 2 for other words, 3 where an allocation failed, 4 for a
+/// fault of the source, 5 for a fault of a sink, 6 for a refused line, 7 for a refused event, and 8 at a limit. With a seed it is 0, 3, 5 or 8.
 #[tactic(auto, using(crate::proofs::Seeding::run_asks_none))]
 pub fn replay<I: Source, O: Sink, E: Sink>(
     alloc: Global,
@@ -60,7 +59,7 @@ pub fn replay<I: Source, O: Sink, E: Sink>(
     ensures other_words_front { AreOther (map string_bytes words.now) → result.code ≡ 5
         → WroteFront (E.taken err.old) (E.taken err.new) (told (codes "usage")) }
 
-    // Memory ran out: of a schedule a front of the report was written, and of a seed nothing.
+    // An allocation failed: of a schedule a prefix of the report was written, and of a seed nothing.
     ensures no_memory { is_run (map string_bytes words.now) ≡ true → result.code ≡ 3
         → KeepsFront O.taken out.old out.new (I.left input.old) (I.left input.new) }
     ensures seed_no_memory { result.code ≡ 3 → IfSome (asked (map string_bytes words.now)) (λ _. O.taken out.new ≡ O.taken out.old) }
@@ -71,12 +70,12 @@ pub fn replay<I: Source, O: Sink, E: Sink>(
     ensures read_fault_keeps_out { result.code ≡ 4 → out.new ≡ out.old }
     ensures read_fault_told { result.code ≡ 4 → Appends (E.taken err.old) (E.taken err.new) (told (codes "read fault")) }
 
-    // A sink failed: that of the report, and then nothing is written to err; or err itself, of which a front of a text was written.
+    // A sink failed: that of the report, and then nothing is written to err; or err itself, to which a prefix of a text was written.
     ensures write_fault { is_run (map string_bytes words.now) ≡ true → result.code ≡ 5 → IsWriteFault (O.fault_count out.old) (O.fault_count out.new)
         (E.fault_count err.old) (E.fault_count err.new) (err.new ≡ err.old) (E.taken err.old) (E.taken err.new) }
     ensures write_fault_front { is_run (map string_bytes words.now) ≡ true → result.code ≡ 5
         → KeepsFront O.taken out.old out.new (I.left input.old) (I.left input.new) }
-    // .. that of the summary, of which a front was written, and then nothing is written to err; or err itself, and out is unchanged.
+    // .. that of the summary, which took a prefix of it, and then nothing is written to err; or err itself, and out is unchanged.
     ensures seed_write_fault { result.code ≡ 5 → IfSome (asked (map string_bytes words.now)) (λ a. IsSeedFault a (O.taken out.old) (O.taken out.new)
         (O.fault_count out.old) (O.fault_count out.new) (E.fault_count err.old) (E.fault_count err.new)
         (err.new ≡ err.old) (E.taken err.old) (E.taken err.new)) }
@@ -88,7 +87,7 @@ pub fn replay<I: Source, O: Sink, E: Sink>(
     ensures bad_event { result.code ≡ 7
         → IfSome (I.left input.old) (IsReportedTill (O.taken out.old) (O.taken out.new) (E.taken err.old) (E.taken err.new)) }
     ensures bad_event_end { result.code ≡ 7 → IsAtEnd (I.left input.new) }
-    // The text, its events or their packets pass a limit.
+    // The text, its events or their packets exceed a limit.
     ensures past_limit { is_run (map string_bytes words.now) ≡ true → result.code ≡ 8
         → IfSome (I.left input.old) (IsLimitTold (O.taken out.old) (O.taken out.new) (E.taken err.old) (E.taken err.new)) }
     ensures limit_keeps_out { is_run (map string_bytes words.now) ≡ true → result.code ≡ 8
@@ -99,12 +98,12 @@ pub fn replay<I: Source, O: Sink, E: Sink>(
     ensures seed_limit_told { result.code ≡ 8
         → IfSome (asked (map string_bytes words.now)) (λ _. Appends (E.taken err.old) (E.taken err.new) (told (codes "too long: packets"))) }
 
-    // Where no count of faults rises, the text settles the status, but for want of memory.
+    // Where no count of faults rises, the text determines the status, unless an allocation failed.
     ensures settled { is_run (map string_bytes words.now) ≡ true
         → IsStill (I.fault_count input.old) (I.fault_count input.new) → IsStill (O.fault_count out.old) (O.fault_count out.new)
         → IsStill (E.fault_count err.old) (E.fault_count err.new)
         → IfSome (I.left input.old) (λ text. IsSettled text result.code) }
-    // .. and with a seed it is 0, or that of the limit.
+    // .. and with a seed it is 0 or 8, unless an allocation failed.
     ensures seed_settled { IsStill (O.fault_count out.old) (O.fault_count out.new) → IsStill (E.fault_count err.old) (E.fault_count err.new)
         → IfSome (asked (map string_bytes words.now)) (λ _. (result.code ≡ 0) ⊎ (result.code ≡ 3) ⊎ (result.code ≡ 8)) }
     ensures codes { is_code result.code ≡ true }

@@ -1,4 +1,4 @@
--- The schedule that a seed makes: its clients, and events drawn one after another, each in the world that those before it leave.
+-- The schedule that a seed makes: its clients, and events drawn one after another, each in the world after those before it.
 use Rattle.std.specs.Prelude.{◌≡◌, ℕ, zero, suc, ◌+◌, ◌*◌, List, [], ◌∷◌, ◌++◌}
 use Rattle.ft_io.specs.declared.Addr.{Addr}
 use Rattle.ft_model.specs.Legal.{start_of}
@@ -20,24 +20,24 @@ server_address = record { ip = 3221226084; port = 7 }
 abbrev pub client_line : ℕ → ℕ → ClientLine
 client_line state i = record { key = record { ip = 3221225984 + i; port = 40000 }; isn = draw state; script = Fill (1000 * i) }
 
--- the generator's state behind so many draws
+-- the generator's state after `count` draws
 abbrev pub after_draws : ℕ → ℕ → ℕ
 after_draws state zero = state
 after_draws state (suc count) = stepped (after_draws state count)
 
--- so many clients, numbered from 1, each with a draw of its own
+-- `count` clients, numbered from 1, each with a draw of its own
 abbrev pub client_lines : ℕ → ℕ → List ClientLine
 client_lines state zero = []
 client_lines state (suc count) = client_lines state count ++ client_line (after_draws state count) (count + 1) ∷ []
 
--- a schedule of these events, for so many clients
+-- a schedule of these events, for this many clients
 abbrev pub schedule_of : (seed clients : ℕ) → List Event → Schedule
 schedule_of seed clients events = record { service = Echo; server = server_address; clients = client_lines seed clients; events = events }
 
 abbrev pub start_for : (seed clients : ℕ) → World
 start_for seed clients = start_of (schedule_of seed clients [])
 
--- the generator's state behind a trace
+-- the generator's state after a trace
 abbrev pub state_behind : ℕ → World → List Moment → ℕ
 state_behind state start [] = state
 state_behind state start (moment ∷ earlier) = (next_event_in (state_behind state start earlier) (world_after start earlier)).state

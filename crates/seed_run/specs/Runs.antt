@@ -46,13 +46,13 @@ pub record IsSummarized (asked : Asked) (old new : Option (List ℕ)) : Type 0 w
   pub is_summary : IsSummary asked text
   pub written : Appends old new text
 
--- .. or a front of it
+-- .. or a prefix of it
 pub record IsSummarizedInPart (asked : Asked) (old new : Option (List ℕ)) : Type 0 where
   pub text : List ℕ
   pub is_summary : IsSummary asked text
   pub written : AppendsFront old new text
 
--- one of the events that were asked for sends more packets than may be, and those before it don't
+-- one of the events that were asked for exceeds the limit of packets, and those before it don't
 pub record IsPastLimit (asked : Asked) : Type 0 where
   pub moment : Moment
   pub earlier : List Moment
@@ -61,14 +61,14 @@ pub record IsPastLimit (asked : Asked) : Type 0 where
   pub within : packets_of_run asked earlier ≤ 200000
   pub over : 200000 < packets_of_run asked (moment ∷ earlier)
 
--- what was done where a run ends early: but for a fault in the writing of the summary, nothing is written
+-- what was done where a run ends early: unless writing the summary failed, nothing is written
 abbrev pub EndsRun : Asked → (old new : Option (List ℕ)) → SeedEnd → Type 0
 EndsRun asked old new Usage = ⊥
 EndsRun asked old new NoMemory = new ≡ old
 EndsRun asked old new WriteFault = IsSummarizedInPart asked old new
 EndsRun asked old new PacketLimit = IsPastLimit asked × (new ≡ old)
 
--- the code's world and its counts stand behind the first n events
+-- the code's world and its counts are those after the first n events
 pub record StandsBehind (asked : Asked) (n : ℕ) (w : Kept AnyService) (progress : Progress) : Type 0 where
   pub trace : List Moment
   pub stands : StandsAfter any_machine (schedule_of asked.seed asked.clients []) (events_of trace) trace w

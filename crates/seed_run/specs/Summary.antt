@@ -1,4 +1,4 @@
--- The summary of a generated run: what was asked and what came of it, then how each client stands.
+-- The summary of a generated run: what was asked for and what came of it, then the state of each client.
 use Rattle.std.specs.Prelude.{ℕ, ◌+◌, codes, List, [], ◌∷◌, ◌++◌, length, Bool, true, false}
 use Rattle.std.specs.Fmt.{decimal}
 use Rattle.seq_arith.specs.Offset.{one_if}
@@ -48,7 +48,7 @@ client_result n client =
     codes "client " ++ decimal n ++ codes " " ++ phase_text client.phase ++ codes " accepted " ++ decimal (length client.accepted)
     ++ codes " of " ++ decimal (length client.script) ++ 10 ∷ []
 
--- clients numbered on from n
+-- clients, numbered from n on
 abbrev pub client_results : ℕ → List Client → List ℕ
 client_results n [] = []
 client_results n (client ∷ others) = client_result n client ++ client_results (n + 1) others

@@ -17,7 +17,7 @@ pub struct Asked {
 }
 
 impl Asked {
-    /// What the words ask for: `seed SEED CLIENTS EVENTS`. None where they are others, or a number is outside its spelling or its range.
+    /// What the words ask for: `seed SEED CLIENTS EVENTS`. None where they have another form, or a number is outside its spelling or its range.
     pub fn from_words(words: &[String]) -> Option<Asked>
         ensures value { result ≡ asked_lem (map string_bytes words.now) }
         ensures clients { IfSome result (λ asked. (1 ≤ asked.clients) × (asked.clients ≤ 16)) }

@@ -12,7 +12,7 @@ use peer_client::Client;
 use sample_servers::AnyService;
 use seq_arith::Generator;
 
-/// The window that a client announces.
+/// The window that a client advertises.
 const WINDOW: u16 = 65_535;
 
 /// The most bytes of a drawn text.
@@ -21,7 +21,7 @@ const TEXT: u32 = 536;
 /// How many bytes each client sends more than the one before it.
 pub(crate) const STEP: u32 = 1_000;
 
-/// What a drawn event depends on of the server.
+/// What a drawn event depends on in the server.
 #[derive(Clone, Copy, Debug, PartialEq, Eq)]
 pub struct ServerNow {
     pub is_up: bool,
@@ -64,7 +64,7 @@ impl Dice {
         }
     }
 
-    /// Likewise, but of the servers that are up one in 64 crashes.
+    /// The same, but a server that is up crashes once in 64 times.
     fn risky_event(&mut self, server: ServerNow) -> Event
         requires { server.boots < 2 ^ 32 }
         ensures { record { event = result; state = self.new.draws.state } ≡ risky_lem self.old.draws.state server }
@@ -90,7 +90,7 @@ impl Dice {
         }
     }
 
-    /// Text of a client whose script has so many bytes, some of which aren't acknowledged.
+    /// Text of a client whose script has `total` bytes, some of which aren't acknowledged.
     fn text_event(&mut self, number: u8, client: &Client, total: u32) -> Event
         requires total { total ≡ length client.now.script }
         requires left { client.now.acknowledged < total }
@@ -106,7 +106,7 @@ impl Dice {
         }
     }
 
-    /// What brings a client on: its SYN, its text, its FIN. Where nothing does, the server has its event.
+    /// What advances a client: its SYN, its text, its FIN. Where none of these does, the server has its event.
     fn progress(&mut self, number: u8, client: &Client, total: u32, server: ServerNow) -> Event
         requires total { total ≡ length client.now.script }
         requires boots { server.boots < 2 ^ 32 }
@@ -144,7 +144,7 @@ impl Dice {
         }
     }
 
-    /// The event of a client: half of the dice bring it on, and all where it isn't open yet.
+    /// The event of a client: half of its sides of the die advance it, and all of them where it isn't open yet.
     fn client_event(
         &mut self,
         die: u32,
@@ -167,7 +167,7 @@ impl Dice {
         }
     }
 
-    /// Draws the next event, in a world with so many packets and clients. Before anything was sent it is the server's.
+    /// Draws the next event, in a world with this many packets and clients. Before anything was sent it is the server's.
     pub fn next_event(
         &mut self,
         world: &World<AnyService>,

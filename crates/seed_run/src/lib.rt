@@ -1,5 +1,4 @@
-//! Runs of generated schedules: a number makes the clients and draws the events, each in the world that those before it leave, and a summary
-//! says what came of it.
+//! Runs of generated schedules: a seed makes the clients and draws the events, each in the world after those before it, and a summary says what came of it.
 #![tactic(auto)]
 
 pub use asked::Asked;

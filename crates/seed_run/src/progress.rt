@@ -1,4 +1,4 @@
-//! The playing of drawn events: how far a run is, and one event after another.
+//! Playing drawn events: how far a run is, and one event after another.
 
 ghost use Rattle.std.specs.Prelude.{◌≡◌, ℕ, ◌+◌, ◌*◌, ◌<◌, ◌≤◌, ◌^◌, Some, is_some, length, OnOk, IsErrOf};
 ghost use Rattle.ft_model.specs.Client.{Client as Seen};
@@ -75,7 +75,7 @@ impl Progress {
         }
     }
 
-    /// Plays event number `n`, from 0. That it isn't allowed never happens.
+    /// Plays event number `n`, counted from 0. It is never refused.
     fn play_event(
         &mut self,
         alloc: Global,

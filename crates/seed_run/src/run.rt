@@ -18,15 +18,15 @@ use sample_servers::AnyService;
 use seq_arith::Generator;
 use std::alloc::Global;
 
-/// Why a generated run ends without its whole summary.
+/// Why a generated run ends without its complete summary.
 #[derive(Clone, Copy, Debug, PartialEq, Eq)]
 pub enum SeedEnd {
     /// The words are no `seed SEED CLIENTS EVENTS`.
     Usage,
     NoMemory,
-    /// The sink failed. It took a front of the summary.
+    /// The sink failed. It took a prefix of the summary.
     WriteFault,
-    /// An event would send more packets than a run may have.
+    /// An event would exceed the limit of packets.
     PacketLimit,
 }
 

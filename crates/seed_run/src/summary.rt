@@ -16,7 +16,7 @@ use sample_servers::AnyService;
 use schedule_text::phase_word;
 use std::alloc::Global;
 
-/// Appends a text, and a number behind it.
+/// Appends a text, and a number after it.
 fn put_field(name: &[u8], n: u64, lines: &mut Vec<u8>) -> Result<(), NoMemory>
     ensures { OnOk result (lines.new.items ≡ lines.old.items ++ name.now ++ decimal n) }
 {
@@ -26,7 +26,7 @@ fn put_field(name: &[u8], n: u64, lines: &mut Vec<u8>) -> Result<(), NoMemory>
     Ok(())
 }
 
-/// Appends what was asked, and what came of it.
+/// Appends what was asked for, and what came of it.
 #[tactic(auto, using(std::proofs::Common::append_assoc), unfolding(crate::specs::Summary::first_line))]
 fn put_first(asked: Asked, progress: &Progress, lines: &mut Vec<u8>) -> Result<(), NoMemory>
     ensures { OnOk result (lines.new.items
@@ -42,7 +42,7 @@ fn put_first(asked: Asked, progress: &Progress, lines: &mut Vec<u8>) -> Result<(
     Ok(())
 }
 
-/// Appends how a client stands whose script has so many bytes.
+/// Appends the state of a client whose script has `total` bytes.
 #[tactic(auto, using(std::proofs::Common::append_assoc), unfolding(crate::specs::Summary::client_result))]
 fn put_client(n: u8, client: &Client, total: u32, lines: &mut Vec<u8>) -> Result<(), NoMemory>
     requires { total ≡ length client.now.script }
