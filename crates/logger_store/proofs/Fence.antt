@@ -1,5 +1,5 @@
 -- A message of an older boot gets Stale.
-use Rattle.std.proofs.Common.{◌≡◌, true, false, ◌<◌, ◌≤◌, nat_lt, refl, arith, Some, true≢false, ⊎_elim}
+use Rattle.std.proofs.Common.{◌≡◌, true, false, ◌<◌, ◌≤◌, nat_lt, refl, arith, Some}
 use Rattle.seq_arith.specs.Message.{Message, is_answer}
 use Rattle.seq_arith.specs.Message.Body.{StaleMsg}
 use Rattle.ft_model.specs.Log.{Log, log_after, answer_to, is_hello}

@@ -2,6 +2,7 @@ pub mod Filling
 pub mod Paging
 pub mod Lengths
 pub mod Answers
+pub mod Changed
 pub mod Entries
 pub mod Fronts
 pub mod Sending

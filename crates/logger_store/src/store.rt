@@ -8,8 +8,9 @@ ghost use Rattle.ft_model.specs.Log.{with_part, with_read, head_of};
 ghost use Rattle.std.specs.Prelude.{◌||◌, nat_le};
 ghost use Rattle.std.specs.List.{list_any};
 ghost use Rattle.ft_io.specs.Key.{key_eq};
-ghost use Rattle.seq_arith.specs.Message.Body.{OpenMsg, DataMsg, ReadMsg};
+ghost use Rattle.seq_arith.specs.Message.Body.{OpenMsg, DataMsg, ReadMsg, DoneMsg};
 ghost use Rattle.logger_wire.specs.Value.{body_of, message_of, IsSendable};
+ghost use Rattle.logger_store.specs.Changes.{body_changes, changes};
 ghost use Rattle.logger_store.specs.Stored.{numbers_value, part_value, head_value, adds, answer_bytes, with_boot, wants_memory, bytes_of, lengths_of};
 
 use crate::entry_head::EntryHead;
@@ -147,6 +148,15 @@ impl LogStore {
         self.entries.get(&key)
     }
 
+    /// The entry of a key. What leaves it as it is leaves the log as it is, since no other entry has the key.
+    fn only(&self, key: Key) -> Option<&StoredEntry>
+        ensures entry { option_copied result ≡ entry_of key self.now }
+        ensures alone { (change : Entry → Entry) → option_map change (entry_of key self.now) ≡ entry_of key self.now → with_entry key change self.now ≡ self.now }
+    {
+        let place = self.entries.get_index_of(&key)?;
+        self.at(place as u16)
+    }
+
     fn knows(&self, key: Key) -> bool
         ensures { result ≡ list_any (λ e. key_eq e.key key) self.now.entries }
     {
@@ -211,6 +221,85 @@ impl LogStore {
             return;
         };
         entry.end();
+    }
+
+    /// Whether keeping a part changes anything.
+    fn part_changes(&self, part: &Part<'_>) -> bool
+        requires { part.now.offset + length part.now.bytes.now ≤ 2 ^ 24 }
+        ensures value { result ≡ body_changes (DataMsg (part_value part.now)) self.now }
+        ensures stays { result ≡ false → with_entry part.now.key (with_part (part_value part.now)) self.now ≡ self.now }
+    {
+        match self.only(part.key) {
+            Some(entry) => entry.part_changes(part),
+            None => false,
+        }
+    }
+
+    /// Whether keeping the length of a read changes anything.
+    fn read_changes(&self, key: Key, index: u32, len: u16) -> bool
+        ensures value { result ≡ body_changes (ReadMsg key index len) self.now }
+        ensures stays { result ≡ false → with_entry key (with_read index len) self.now ≡ self.now }
+    {
+        match self.only(key) {
+            Some(entry) => entry.is_next_read(index, len),
+            None => false,
+        }
+    }
+
+    /// Whether it is news that a connection has ended.
+    fn end_changes(&self, key: Key) -> bool
+        ensures value { result ≡ body_changes (DoneMsg key) self.now }
+        ensures stays { result ≡ false → with_entry key (λ e. record e { done = true }) self.now ≡ self.now }
+    {
+        match self.only(key) {
+            Some(entry) => !entry.is_done(),
+            None => false,
+        }
+    }
+
+    /// Whether a body in the log's own boot changes anything.
+    #[tactic(auto, using(crate::proofs::Sending::data_ranges))]
+    fn body_changes(&self, m: &Msg<'_>) -> bool
+        requires { IsSendable m.now }
+        ensures value { result ≡ body_changes (body_of m.now.body) self.now }
+        ensures stays { result ≡ false → with_body (body_of m.now.body) self.now ≡ self.now }
+    {
+        match m.body {
+            Body::OpenMsg { key, .. } => !self.turns_away(key),
+            Body::DataMsg {
+                key,
+                offset,
+                acked,
+                fin,
+                bytes,
+            } => self.part_changes(&Part {
+                key,
+                offset,
+                acked,
+                fin: fin == 1,
+                bytes,
+            }),
+            Body::ReadMsg { key, index, length } => self.read_changes(key, index, length),
+            Body::DoneMsg { key } => self.end_changes(key),
+            _ => false,
+        }
+    }
+
+    /// Whether the log after a message is another one: a file that keeps exactly these messages has the log.
+    #[tactic(auto, unfolding(ft_model::specs::Log::log_after, crate::specs::Changes::changes))]
+    pub fn changes(&self, m: &Msg<'_>) -> bool
+        requires { IsSendable m.now }
+        ensures value { result ≡ changes self.now (message_of m.now) }
+        ensures stays { result ≡ false → log_after self.now (message_of m.now) ≡ self.now }
+        ensures differs { result ≡ true → ¬ (log_after self.now (message_of m.now) ≡ self.now) }
+    {
+        if is_answer(&m.body) {
+            return false;
+        }
+        if is_hello(&m.body) {
+            return self.boot < m.boot;
+        }
+        m.boot == self.boot && self.body_changes(m)
     }
 
     /// Keeps what a message of the log's own boot says.

@@ -3,6 +3,7 @@
 ghost use Rattle.std.specs.Prelude.{[], take, drop, ◌≡◌, ◌≤◌, ◌<◌, ◌+◌, ◌-◌, ◌^◌, ◌&&◌, min, nat_le, true, false, OnOk, OnErr, IsOk, length, slice_index};
 ghost use Rattle.std.specs.List.{list_all};
 ghost use Rattle.ft_model.specs.Log.{new_entry, with_bytes, with_its_fin, with_part, with_read, is_next_read, head_of, Entry};
+ghost use Rattle.logger_store.specs.Changes.{part_changes};
 ghost use Rattle.logger_store.specs.Stored.{numbers_value, part_value, head_value, adds_page, begins_run};
 
 use crate::entry_head::EntryHead;
@@ -221,8 +222,18 @@ impl StoredEntry {
         Ok(())
     }
 
+    /// Whether keeping a part changes anything.
+    pub fn part_changes(&self, part: &Part<'_>) -> bool
+        requires { part.now.offset + length part.now.bytes.now ≤ 2 ^ 24 }
+        ensures { result ≡ part_changes (part_value part.now) self.now }
+    {
+        let (end, logged) = (part.offset + part.bytes.len() as u32, self.length());
+        self.acknowledged < part.acked
+            || (!self.fin && part.offset <= logged && (logged < end || (part.fin && end == logged)))
+    }
+
     /// Whether a read of this index and length is the one to be logged next.
-    fn is_next_read(&self, index: u32, len: u16) -> bool
+    pub fn is_next_read(&self, index: u32, len: u16) -> bool
         ensures { result ≡ is_next_read self.now index len }
     {
         let (end, length) = (self.read + u32::from(len), self.length());
@@ -247,6 +258,13 @@ impl StoredEntry {
             self.closed = len == 0;
         }
         Ok(())
+    }
+
+    /// Whether the connection has ended.
+    pub fn is_done(&self) -> bool
+        ensures { result ≡ self.now.done }
+    {
+        self.done
     }
 
     /// Notes that the connection has ended.

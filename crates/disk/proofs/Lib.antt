@@ -1,0 +1,2 @@
+mod Deaths
+pub mod Telling

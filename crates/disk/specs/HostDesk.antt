@@ -1,0 +1,17 @@
+-- A desk over std's socket and file: it tells its counts alone.
+use Rattle.std.specs.Prelude.{ℕ}
+
+-- what such a desk is to its callers
+pub record DeskCounts : Type 0 where
+  -- how many opens and calls on the file failed
+  pub faults : ℕ
+  -- how many opens were refused, since another process has the file
+  pub refusals : ℕ
+  -- how many calls on the network failed
+  pub link_faults : ℕ
+  -- how many of them were binds
+  pub bind_faults : ℕ
+
+-- a desk before its first call
+abbrev pub fresh_desk : DeskCounts
+fresh_desk = record { faults = 0; refusals = 0; link_faults = 0; bind_faults = 0 }

@@ -1,0 +1,41 @@
+-- What a death may leave of a file: of a process that dies, or of a machine that loses its power, at any moment.
+use Rattle.std.specs.Prelude.{◌≡◌, ◌⊎◌, ℕ, ◌+◌, true, false, List, [], ◌∷◌, ◌++◌, length, take, drop}
+use Rattle.disk.specs.declared.calls.DiskCall.{DiskCall}
+use Rattle.disk.specs.declared.calls.DiskCall.TheVariants.{Appended, Put, Cut, Synced}
+
+-- a file with another byte at a place
+abbrev pub with_byte : ℕ → ℕ → List ℕ → List ℕ
+with_byte at byte file = take at file ++ byte ∷ drop (at + 1) file
+
+-- what a read would give after a call
+abbrev pub seen_after : List ℕ → DiskCall → List ℕ
+seen_after file (Appended bytes failed) = file ++ bytes
+seen_after file (Put at byte failed) = with_byte at byte file
+seen_after file (Cut at failed) = take at file
+seen_after file (Synced failed) = file
+
+-- What a death during a call or behind it may leave, of a file that may hold these contents before. Behind a file's end, from an append to the next sync, anything
+-- may stand. A byte that is put is the old one or the new one. From a cut to the next sync anything may stand behind it.
+abbrev pub MayLeave : List ℕ → (List ℕ → Type 0) → DiskCall → List ℕ → Type 0
+MayLeave file Held (Appended bytes failed) c = (d : List ℕ) × Held d × (take (length file) c ≡ d)
+MayLeave file Held (Put at byte failed) c = (d : List ℕ) × Held d × ((c ≡ d) ⊎ (c ≡ with_byte at byte d))
+MayLeave file Held (Cut at failed) c = (d : List ℕ) × Held d × (take at c ≡ take at d)
+MayLeave file Held (Synced true) c = Held c
+MayLeave file Held (Synced false) c = c ≡ file
+
+-- .. and after calls, the oldest first
+abbrev pub LeftBy : List ℕ → (List ℕ → Type 0) → List DiskCall → List ℕ → Type 0
+LeftBy file Held [] = Held
+LeftBy file Held (call ∷ calls) = LeftBy (seen_after file call) (MayLeave file Held call) calls
+
+abbrev pub failed : DiskCall → DiskCall
+failed (Appended bytes f) = Appended bytes true
+failed (Put at byte f) = Put at byte true
+failed (Cut at f) = Cut at true
+failed (Synced f) = Synced true
+
+-- what was done of calls: the first of them, of which the last one may have failed
+abbrev pub IsFrontOf : List DiskCall → List DiskCall → Type 0
+IsFrontOf calls [] = Unit {0}
+IsFrontOf [] (call ∷ done) = ⊥
+IsFrontOf (next ∷ calls) (call ∷ done) = ((call ≡ next) × IsFrontOf calls done) ⊎ ((call ≡ failed next) × (done ≡ []))

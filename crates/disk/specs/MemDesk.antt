@@ -1,0 +1,55 @@
+-- A network and a file in memory, on one desk.
+use Rattle.std.specs.Prelude.{◌≡◌, ◌⊎◌, ◌<◌, ℕ, Bool, true, List, [], Some, if◌then◌else◌}
+use Rattle.std.specs.declared.option.Option.{Option}
+use Rattle.std.specs.Str.{bytes_eq}
+use Rattle.ft_io.specs.declared.link_call.LinkCall.{LinkCall}
+use Rattle.ft_io.specs.MemLink.{LinkState}
+use Rattle.ft_io.specs.NumberedCalls.{Calls, no_call}
+use Rattle.disk.specs.declared.calls.DeskCall.{DeskCall}
+use Rattle.disk.specs.declared.calls.DeskCall.TheVariants.{OnLink}
+use Rattle.disk.specs.MemDisk as disks
+use Rattle.disk.specs.MemDisk.{DiskState}
+
+-- what a desk in memory is to its callers
+pub record DeskState : Type 0 where
+  -- its network
+  pub link : LinkState
+  -- its file, which notes the calls on both
+  pub disk : DiskState
+  -- the name of the file
+  pub name : List ℕ
+  -- its opens
+  pub opens : Calls
+  -- another process has the file
+  pub is_in_use : Bool
+  -- how many opens were refused for that
+  pub refusals : ℕ
+  -- how many calls on the network failed
+  pub link_faults : ℕ
+  -- how many of them were binds
+  pub bind_faults : ℕ
+
+-- a desk before its first call
+abbrev pub fresh_desk : LinkState → DiskState → (name open_fails : List ℕ) → Bool → DeskState
+fresh_desk link disk name open_fails is_in_use =
+    record { link = link; disk = disk; name = name; opens = no_call open_fails; is_in_use = is_in_use; refusals = 0; link_faults = 0; bind_faults = 0 }
+
+-- it tells the calls on both, and nothing once memory was wanting to note one
+abbrev pub told_of : DeskState → Option (List DeskCall)
+told_of desk = disks.told_of desk.disk
+
+-- the file of its name has what wasn't read, and one of another name is new
+abbrev pub file_of : DeskState → List ℕ → Option (List ℕ)
+file_of desk name = Some (if bytes_eq desk.name name then desk.disk.left else [])
+
+-- a call on the network was noted
+abbrev pub noted : DeskState → LinkCall → DeskState
+noted desk call = record desk { disk = disks.noted desk.disk (OnLink call) }
+
+-- memory was wanting to note one
+abbrev pub starved : DeskState → DeskState
+starved desk = record desk { disk = disks.starved desk.disk }
+
+-- memory was wanting in a call
+abbrev pub IsStarved : DeskState → Type 0
+IsStarved desk = (desk.disk.is_starved ≡ true) ⊎ (0 < desk.link.starved)

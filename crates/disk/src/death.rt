@@ -1,0 +1,104 @@
+//! What a death leaves of a file in memory, by a choice of how far that had got which no sync had followed.
+
+ghost use Rattle.std.specs.Prelude.{◌≡◌, OnOk, IfOk, take};
+ghost use Rattle.disk.specs.Left.{with_byte, seen_after};
+ghost use Rattle.disk.specs.Death.{held_after, remains};
+
+use crate::{DeskCall, DiskCall};
+use ft_io::NoMemory;
+use std::alloc::Global;
+
+/// When a death comes, and how far it finds what wasn't synced.
+#[derive(Clone, Copy, Debug, PartialEq, Eq)]
+pub struct Death {
+    /// How many calls came before it.
+    pub calls: usize,
+    /// How many bytes of an append are on the disk that no sync followed.
+    pub kept: usize,
+    /// Whether a byte is on the disk that was put and that no sync followed.
+    pub is_put: bool,
+}
+
+/// Puts a byte in the place of another, or behind the end.
+fn put_byte(bytes: &mut Vec<u8>, at: u64, byte: u8) -> Result<(), NoMemory>
+    ensures { OnOk result (bytes.new.items ≡ with_byte at byte bytes.old.items) }
+{
+    let at = at as usize;
+    if at < bytes.len() {
+        bytes[at] = byte;
+    } else {
+        bytes.push(byte)?;
+    }
+    Ok(())
+}
+
+/// Cuts off what stands from this place on.
+fn cut_off(bytes: &mut Vec<u8>, at: u64)
+    ensures { bytes.new.items ≡ take at bytes.old.items }
+{
+    bytes.truncate(at as usize);
+}
+
+/// What stands on the disk after a call, where a read gave `file` before it.
+fn hold(
+    alloc: Global,
+    death: Death,
+    file: &[u8],
+    held: &mut Vec<u8>,
+    call: &DiskCall,
+) -> Result<(), NoMemory>
+    ensures { OnOk result (held.new.items ≡ held_after death file.now held.old.items call.now) }
+{
+    match call {
+        DiskCall::Appended(bytes, _) => {
+            if held.len() == file.len() {
+                let bytes = bytes.as_slice();
+                held.extend_from_slice(&bytes[..death.kept.min(bytes.len())])?;
+            }
+        }
+        DiskCall::Put(at, byte, _) => {
+            if death.is_put {
+                put_byte(held, *at, *byte)?;
+            }
+        }
+        DiskCall::Cut(at, _) => cut_off(held, *at),
+        DiskCall::Synced(true) => (),
+        DiskCall::Synced(false) => *held = file.to_vec(alloc)?,
+    }
+    Ok(())
+}
+
+/// What a read gives after a call.
+fn see(file: &mut Vec<u8>, call: &DiskCall) -> Result<(), NoMemory>
+    ensures { OnOk result (file.new.items ≡ seen_after file.old.items call.now) }
+{
+    match call {
+        DiskCall::Appended(bytes, _) => file.extend_from_slice(bytes.as_slice())?,
+        DiskCall::Put(at, byte, _) => put_byte(file, *at, *byte)?,
+        DiskCall::Cut(at, _) => cut_off(file, *at),
+        DiskCall::Synced(_) => (),
+    }
+    Ok(())
+}
+
+/// What stands on the disk after these calls, of a file that had `first` when it was opened.
+pub(crate) fn left_behind(
+    alloc: Global,
+    death: Death,
+    first: &[u8],
+    calls: &[DeskCall],
+) -> Result<Vec<u8>, NoMemory>
+    ensures { IfOk result (λ held. held.items ≡ remains death first.now first.now calls.now) }
+{
+    let mut file = first.to_vec(alloc)?;
+    let mut held = first.to_vec(alloc)?;
+    let mut rest = calls;
+    while let Some((call, behind)) = rest.split_first() {
+        if let DeskCall::OnDisk(call) = call {
+            hold(alloc, death, &file, &mut held, call)?;
+            see(&mut file, call)?;
+        }
+        rest = behind;
+    }
+    Ok(held)
+}

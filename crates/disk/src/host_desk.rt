@@ -1,0 +1,271 @@
+//! Std's UDP socket and std's file as a desk: the real outside. It tells no content; contracts know how many calls failed.
+
+ghost use Rattle.std.specs.Prelude.{◌≡◌, ◌≤◌, IfSome, IfOk, OnOk, OnErr, None, length};
+ghost use Rattle.ft_io.specs.Faults.{Rose};
+ghost use Rattle.ft_io.specs.Link.{HasAtMost};
+ghost use Rattle.disk.specs.HostDesk.{fresh_desk};
+
+use crate::{Desk, Disk, FileDisk, ShelfEnd};
+use ft_io::{Addr, Failed, Heard};
+use std::fs::{File, Files};
+use std::io;
+use std::marker::Model;
+use std::net::{IpAddr, Ipv4Addr, Net, SocketAddr, UdpSocket};
+use std::time::Duration;
+
+/// How many milliseconds a receive that waits does so at most.
+const PATIENCE: u64 = 20;
+
+/// A UDP socket and a file. A call on the file before the first open that succeeded is a fault, and so is one on the network before the first bind that did; a
+/// datagram from an address that isn't IPv4 is a fault too.
+#[derive(Drop)]
+pub struct HostDesk<'a, R: Net + Files<File = File>> {
+    system: &'a R,
+    file: Option<FileDisk>,
+    socket: Option<Bound>,
+    faults: u64,
+    refusals: u64,
+    link_faults: u64,
+    bind_faults: u64,
+}
+
+impl<'a, R: Net + Files<File = File>> Model for HostDesk<'a, R> {
+    ghost use Rattle.disk.specs.HostDesk.{DeskCounts};
+
+    ghost Value = { DeskCounts };
+
+    ghost view = { λ d. record { faults = d.faults; refusals = d.refusals; link_faults = d.link_faults; bind_faults = d.bind_faults } };
+}
+
+impl<'a, R: Net + Files<File = File>> HostDesk<'a, R> {
+    /// A desk with no file open and no address bound, and with no fault yet.
+    pub fn new(system: &'a R) -> HostDesk<'a, R>
+        ensures { result ≡ fresh_desk }
+    {
+        HostDesk {
+            system,
+            file: None,
+            socket: None,
+            faults: 0,
+            refusals: 0,
+            link_faults: 0,
+            bind_faults: 0,
+        }
+    }
+}
+
+impl<'a, R: Net + Files<File = File>> Disk for HostDesk<'a, R> {
+    ghost told = { λ _. None };
+
+    ghost left = { λ _. None };
+
+    ghost fault_count = { λ counts. counts.faults };
+
+    ghost beside = { λ counts. record { refusals = counts.refusals; link_faults = counts.link_faults; bind_faults = counts.bind_faults } };
+
+    fn faults(&self) -> u64 {
+        self.faults
+    }
+
+    fn read(&mut self, buf: &mut [u8]) -> Result<usize, Failed> {
+        let done = match &mut self.file {
+            Some(file) => file.read(buf),
+            None => Err(Failed),
+        };
+        counted(&mut self.faults, done)
+    }
+
+    fn append(&mut self, bytes: &[u8]) -> Result<(), Failed> {
+        let done = match &mut self.file {
+            Some(file) => file.append(bytes),
+            None => Err(Failed),
+        };
+        counted(&mut self.faults, done)
+    }
+
+    fn put(&mut self, at: u64, byte: u8) -> Result<(), Failed> {
+        let done = match &mut self.file {
+            Some(file) => file.put(at, byte),
+            None => Err(Failed),
+        };
+        counted(&mut self.faults, done)
+    }
+
+    fn cut(&mut self, at: u64) -> Result<(), Failed> {
+        let done = match &mut self.file {
+            Some(file) => file.cut(at),
+            None => Err(Failed),
+        };
+        counted(&mut self.faults, done)
+    }
+
+    fn sync(&mut self) -> Result<(), Failed> {
+        let done = match &mut self.file {
+            Some(file) => file.sync(),
+            None => Err(Failed),
+        };
+        counted(&mut self.faults, done)
+    }
+}
+
+impl<'a, R: Net + Files<File = File>> Desk for HostDesk<'a, R> {
+    ghost file_of = { λ _ _. None };
+
+    fn refusals(&self) -> u64 {
+        self.refusals
+    }
+
+    fn link_faults(&self) -> u64 {
+        self.link_faults
+    }
+
+    fn bind_faults(&self) -> u64 {
+        self.bind_faults
+    }
+
+    fn open(&mut self, name: &str) -> Result<(), ShelfEnd> {
+        match FileDisk::open(self.system, name) {
+            Ok(file) => {
+                self.file = Some(file);
+                Ok(())
+            }
+            Err(ShelfEnd::InUse) => {
+                self.refusals = self.refusals.saturating_add(1);
+                Err(ShelfEnd::InUse)
+            }
+            Err(ShelfEnd::Failed) => {
+                self.faults = self.faults.saturating_add(1);
+                Err(ShelfEnd::Failed)
+            }
+        }
+    }
+
+    fn bind(&mut self, at: Addr) -> Result<(), Failed> {
+        match Bound::open(self.system, at) {
+            Ok(bound) => {
+                self.socket = Some(bound);
+                Ok(())
+            }
+            Err(_) => {
+                self.link_faults = self.link_faults.saturating_add(1);
+                self.bind_faults = self.bind_faults.saturating_add(1);
+                Err(Failed)
+            }
+        }
+    }
+
+    fn send(&mut self, to: Addr, bytes: &[u8]) -> Result<(), Failed> {
+        let sent = send_by(&mut self.socket, to, bytes);
+        counted(&mut self.link_faults, sent)
+    }
+
+    fn recv(&mut self, buf: &mut [u8]) -> Result<Heard, Failed> {
+        let heard = hear_by(&mut self.socket, true, buf);
+        counted(&mut self.link_faults, heard)
+    }
+
+    fn recv_waiting(&mut self, buf: &mut [u8]) -> Result<Heard, Failed> {
+        let heard = hear_by(&mut self.socket, false, buf);
+        counted(&mut self.link_faults, heard)
+    }
+}
+
+/// Counts a call, if it failed.
+fn counted<T: Drop>(faults: &mut u64, done: Result<T, Failed>) -> Result<T, Failed>
+    ensures same { result ≡ done }
+    ensures cause { OnErr result (Rose faults.old faults.new) }
+    ensures no_fault { OnOk result (faults.new ≡ faults.old) }
+    ensures never_falls { faults.old ≤ faults.new }
+{
+    if done.is_err() {
+        *faults = faults.saturating_add(1);
+    }
+    done
+}
+
+/// A socket that is bound.
+#[derive(Drop)]
+struct Bound {
+    socket: UdpSocket,
+    /// Whether its calls wait.
+    waits: bool,
+}
+
+impl Bound {
+    fn open<R: Net>(system: &R, at: Addr) -> io::Result<Bound> {
+        let socket = UdpSocket::bind(system, socket_addr(at))?;
+        socket.set_read_timeout(Some(Duration::from_millis(PATIENCE)))?;
+        Ok(Bound {
+            socket,
+            waits: true,
+        })
+    }
+
+    /// Makes the calls wait from now on, or not.
+    fn set_waits(&mut self, waits: bool) -> io::Result<()> {
+        if self.waits != waits {
+            self.socket.set_nonblocking(!waits)?;
+            self.waits = waits;
+        }
+        Ok(())
+    }
+
+    /// Receives a datagram, or nothing; `None` where the socket fails.
+    fn hear(&mut self, waits: bool, buf: &mut [u8]) -> Option<Heard>
+        ensures { IfSome result (λ heard. HasAtMost heard (length buf.new)) }
+    {
+        self.set_waits(waits).ok()?;
+        match self.socket.recv_from(buf) {
+            Ok((len, from)) => Some(Heard::Got {
+                len,
+                from: addr_of(from)?,
+            }),
+            Err(error) if is_silence(error.kind()) => Some(Heard::Nothing),
+            Err(_) => None,
+        }
+    }
+
+    /// Whether the socket took the datagram whole. It waits for room, so that no answer is lost for want of it.
+    fn send(&mut self, to: Addr, bytes: &[u8]) -> bool {
+        self.set_waits(true).is_ok()
+            && matches!(self.socket.send_to(bytes, socket_addr(to)), Ok(sent) if sent == bytes.len())
+    }
+}
+
+fn send_by(socket: &mut Option<Bound>, to: Addr, bytes: &[u8]) -> Result<(), Failed> {
+    let Some(bound) = socket else {
+        return Err(Failed);
+    };
+    if bound.send(to, bytes) {
+        Ok(())
+    } else {
+        Err(Failed)
+    }
+}
+
+fn hear_by(socket: &mut Option<Bound>, waits: bool, buf: &mut [u8]) -> Result<Heard, Failed>
+    ensures { IfOk result (λ heard. HasAtMost heard (length buf.new)) }
+{
+    let Some(bound) = socket else {
+        return Err(Failed);
+    };
+    bound.hear(waits, buf).ok_or(Failed)
+}
+
+fn is_silence(kind: io::ErrorKind) -> bool {
+    matches!(kind, io::ErrorKind::WouldBlock | io::ErrorKind::TimedOut)
+}
+
+fn socket_addr(at: Addr) -> SocketAddr {
+    SocketAddr::new(IpAddr::V4(Ipv4Addr::from_bits(at.ip)), at.port)
+}
+
+fn addr_of(from: SocketAddr) -> Option<Addr> {
+    match from {
+        SocketAddr::V4(from) => Some(Addr {
+            ip: from.ip().to_bits(),
+            port: from.port(),
+        }),
+        SocketAddr::V6(_) => None,
+    }
+}

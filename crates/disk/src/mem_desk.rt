@@ -1,0 +1,319 @@
+//! A network and a file in memory, for tests: the datagrams that come, the file's bytes and the calls that fail are given, and the calls on both are told in one
+//! list.
+
+ghost use Rattle.std.specs.Prelude.{◌≡◌, ◌≤◌, ◌<◌, ◌⊎◌, length, take, false, true, None, Some, [], string_bytes, IfSome, IfOk, OnOk, OnErr, IsErrOf};
+ghost use Rattle.std.specs.Bool.{OnTrue, OnFalse};
+ghost use Rattle.ft_io.specs.declared.link_call.LinkCall.TheVariants.{Handed};
+ghost use Rattle.ft_io.specs.Arrival.{arriving};
+ghost use Rattle.ft_io.specs.Faults.{Rose};
+ghost use Rattle.ft_io.specs.Link.{bind_told, send_told, recv_told, heard_as, HasAtMost};
+ghost use Rattle.ft_io.specs.MemLink.{BindFails};
+ghost use Rattle.ft_io.specs.NumberedCalls.{IsNextListed};
+ghost use Rattle.ft_io.specs.Told.{Tells};
+ghost use Rattle.disk.specs.Death.{left_of};
+ghost use Rattle.disk.specs.Left.{LeftBy};
+ghost use Rattle.disk.specs.Told.{on_link, disk_calls};
+ghost use Rattle.disk.specs.MemDesk.{fresh_desk, told_of, file_of, noted, starved, IsStarved};
+
+use crate::numbered::NumberedCalls;
+use crate::{Death, Desk, DeskCall, Disk, MemDisk, ShelfEnd};
+use ft_io::{Addr, Failed, Heard, Link, LinkCall, MemLink, NoMemory, Octets};
+use std::alloc::Global;
+use std::marker::Model;
+
+/// A link in memory and a file in memory.
+#[derive(Debug, Drop)]
+pub struct MemDesk {
+    alloc: Global,
+    link: MemLink,
+    disk: MemDisk,
+    name: String,
+    opens: NumberedCalls,
+    is_in_use: bool,
+    refusals: u64,
+    link_faults: u64,
+    bind_faults: u64,
+}
+
+impl Model for MemDesk {
+    ghost use Rattle.std.specs.Prelude.{string_bytes};
+    ghost use Rattle.disk.specs.MemDesk.{DeskState};
+
+    ghost Value = { DeskState };
+
+    ghost view = { λ d. record {
+      link = d.link;
+      disk = d.disk;
+      name = string_bytes d.name;
+      opens = d.opens;
+      is_in_use = d.is_in_use;
+      refusals = d.refusals;
+      link_faults = d.link_faults;
+      bind_faults = d.bind_faults;
+    } };
+}
+
+impl MemDesk {
+    /// A desk with this network, and with this file under this name. The opens fail whose numbers, each from 1, stand in `open_fails`, and where `is_in_use`
+    /// every open is refused. It takes no memory yet.
+    pub fn new(
+        alloc: Global,
+        link: MemLink,
+        disk: MemDisk,
+        name: String,
+        open_fails: Vec<u32>,
+        is_in_use: bool,
+    ) -> MemDesk
+        ensures { result ≡ fresh_desk link disk (string_bytes name) open_fails.items is_in_use }
+    {
+        MemDesk {
+            alloc,
+            link,
+            disk,
+            name,
+            opens: NumberedCalls::new(open_fails),
+            is_in_use,
+            refusals: 0,
+            link_faults: 0,
+            bind_faults: 0,
+        }
+    }
+
+    /// The calls so far, the oldest first, or `None` once memory was wanting to note one.
+    pub fn told(&self) -> Option<&[DeskCall]>
+        ensures some { IfSome result (λ calls. told_of self.now ≡ Some calls.now) }
+        ensures none { result ≡ None → told_of self.now ≡ None }
+    {
+        self.disk.told()
+    }
+
+    /// What a death leaves of the file, in the course of the calls so far.
+    pub fn after_death(&self, death: Death) -> Result<Vec<u8>, NoMemory>
+        ensures is { IfOk result (λ left. left.items ≡ left_of death self.now.disk.first self.now.disk.calls) }
+        ensures may_be { IfOk result (λ left.
+            LeftBy self.now.disk.first (λ c. c ≡ self.now.disk.first) (disk_calls (take death.calls self.now.disk.calls)) left.items) }
+    {
+        self.disk.after_death(death)
+    }
+
+    fn note(&mut self, call: LinkCall) -> bool
+        ensures noted { OnTrue result (self.new ≡ noted self.old call) }
+        ensures starved { OnFalse result (self.new ≡ starved self.old) }
+    {
+        self.disk.note(DeskCall::OnLink(call))
+    }
+
+    /// Notes a datagram that was handed to send.
+    fn note_handed(&mut self, to: Addr, bytes: &[u8], fails: bool) -> bool
+        ensures noted { OnTrue result (self.new ≡ noted self.old (Handed to bytes.now fails)) }
+        ensures starved { OnFalse result (self.new ≡ starved self.old) }
+    {
+        let Ok(copy) = bytes.to_vec(self.alloc) else {
+            self.disk.starve();
+            return false;
+        };
+        self.note(LinkCall::Handed(to, Octets::new(copy), fails))
+    }
+
+    /// Notes what was heard.
+    fn note_heard(&mut self, heard: Heard, buf: &[u8]) -> bool
+        requires { HasAtMost heard (length buf.now) }
+        ensures noted { OnTrue result (self.new ≡ noted self.old (heard_as heard buf.now)) }
+        ensures starved { OnFalse result (self.new ≡ starved self.old) }
+    {
+        let Heard::Got { len, from } = heard else {
+            return self.note(LinkCall::Silent);
+        };
+        let Ok(copy) = buf[..len].to_vec(self.alloc) else {
+            self.disk.starve();
+            return false;
+        };
+        self.note(LinkCall::Came(from, Octets::new(copy)))
+    }
+
+    fn fail_on_link(&mut self) -> Failed
+        ensures disk { self.new.disk ≡ self.old.disk }
+        ensures link { self.new.link ≡ self.old.link }
+        ensures cause { Rose self.old.link_faults self.new.link_faults }
+        ensures binds { self.new.bind_faults ≡ self.old.bind_faults }
+        ensures refusals { self.new.refusals ≡ self.old.refusals }
+    {
+        self.link_faults = self.link_faults.saturating_add(1);
+        Failed
+    }
+}
+
+impl Disk for MemDesk {
+    ghost told = { told_of };
+
+    ghost left = { λ d. Some d.disk.left };
+
+    ghost fault_count = { λ d. d.disk.faults };
+
+    ghost beside = { λ d. record { refusals = d.refusals; link_faults = d.link_faults; bind_faults = d.bind_faults } };
+
+    fn faults(&self) -> u64 {
+        self.disk.faults()
+    }
+
+    fn read(&mut self, buf: &mut [u8]) -> Result<usize, Failed> {
+        self.disk.read(buf)
+    }
+
+    fn append(&mut self, bytes: &[u8]) -> Result<(), Failed> {
+        self.disk.append(bytes)
+    }
+
+    fn put(&mut self, at: u64, byte: u8) -> Result<(), Failed> {
+        self.disk.put(at, byte)
+    }
+
+    fn cut(&mut self, at: u64) -> Result<(), Failed> {
+        self.disk.cut(at)
+    }
+
+    fn sync(&mut self) -> Result<(), Failed> {
+        self.disk.sync()
+    }
+}
+
+impl Desk for MemDesk {
+    ghost file_of = { file_of };
+
+    fn refusals(&self) -> u64 {
+        self.refusals
+    }
+
+    fn link_faults(&self) -> u64 {
+        self.link_faults
+    }
+
+    fn bind_faults(&self) -> u64 {
+        self.bind_faults
+    }
+
+    fn open(&mut self, name: &str) -> Result<(), ShelfEnd>
+        // It fails exactly where its call is listed so, and is refused exactly where another process has the file.
+        ensures opened { OnOk result ((self.old.is_in_use ≡ false) × (IsNextListed self.old.opens → ⊥)) }
+        ensures failed { IsErrOf result ShelfEnd.Failed → IsNextListed self.old.opens }
+        ensures refused { IsErrOf result ShelfEnd.InUse → self.old.is_in_use ≡ true }
+
+        // What every desk promises.
+        ensures file { OnOk result (Some self.new.disk.left ≡ file_of self.old name.now) }
+        ensures told { Tells (told_of self.old) (told_of self.new) [] }
+        ensures cause { IsErrOf result ShelfEnd.Failed → Rose self.old.disk.faults self.new.disk.faults }
+        ensures in_use { IsErrOf result ShelfEnd.InUse → Rose self.old.refusals self.new.refusals }
+        ensures never_falls { self.old.disk.faults ≤ self.new.disk.faults }
+        ensures refusals_never_fall { self.old.refusals ≤ self.new.refusals }
+        ensures no_link_fault { self.new.link_faults ≡ self.old.link_faults }
+        ensures no_bind_fault { self.new.bind_faults ≡ self.old.bind_faults }
+    {
+        if self.is_in_use {
+            self.refusals = self.refusals.saturating_add(1);
+            return Err(ShelfEnd::InUse);
+        }
+        if self.opens.next_fails() {
+            self.disk.fail();
+            return Err(ShelfEnd::Failed);
+        }
+        if self.name.as_str() != name {
+            self.disk.make_anew();
+        }
+        Ok(())
+    }
+
+    fn bind(&mut self, at: Addr) -> Result<(), Failed>
+        // It fails only where it is to, or where memory is wanting.
+        ensures fails { OnErr result (BindFails self.old.link ⊎ IsStarved self.new) }
+
+        // What every desk promises.
+        ensures told { Tells (told_of self.old) (told_of self.new) (on_link (bind_told at result)) }
+        ensures cause { OnErr result (Rose self.old.link_faults self.new.link_faults) }
+        ensures bind_cause { OnErr result (Rose self.old.bind_faults self.new.bind_faults) }
+        ensures no_fault { OnOk result (self.new.link_faults ≡ self.old.link_faults) }
+        ensures no_bind_fault { OnOk result (self.new.bind_faults ≡ self.old.bind_faults) }
+        ensures never_falls { self.old.link_faults ≤ self.new.link_faults }
+        ensures bind_never_falls { self.old.bind_faults ≤ self.new.bind_faults }
+        ensures no_disk_fault { self.new.disk.faults ≡ self.old.disk.faults }
+        ensures no_refusal { self.new.refusals ≡ self.old.refusals }
+        ensures left { Some self.new.disk.left ≡ Some self.old.disk.left }
+    {
+        let is_bound = self.link.bind(at).is_ok() && self.note(LinkCall::Bound(at));
+        if is_bound {
+            return Ok(());
+        }
+        self.bind_faults = self.bind_faults.saturating_add(1);
+        Err(self.fail_on_link())
+    }
+
+    fn send(&mut self, to: Addr, bytes: &[u8]) -> Result<(), Failed>
+        // It fails only where its call is listed so, or where memory is wanting.
+        ensures fails { OnErr result (IsNextListed self.old.link.sends ⊎ IsStarved self.new) }
+
+        // What every desk promises.
+        ensures told { Tells (told_of self.old) (told_of self.new) (on_link (send_told to bytes.now result)) }
+        ensures cause { OnErr result (Rose self.old.link_faults self.new.link_faults) }
+        ensures no_fault { OnOk result (self.new.link_faults ≡ self.old.link_faults) }
+        ensures never_falls { self.old.link_faults ≤ self.new.link_faults }
+        ensures no_bind_fault { self.new.bind_faults ≡ self.old.bind_faults }
+        ensures no_disk_fault { self.new.disk.faults ≡ self.old.disk.faults }
+        ensures no_refusal { self.new.refusals ≡ self.old.refusals }
+        ensures left { Some self.new.disk.left ≡ Some self.old.disk.left }
+    {
+        let is_sent = self.link.send(to, bytes).is_ok();
+        if self.note_handed(to, bytes, !is_sent) && is_sent {
+            return Ok(());
+        }
+        Err(self.fail_on_link())
+    }
+
+    fn recv(&mut self, buf: &mut [u8]) -> Result<Heard, Failed>
+        requires { 2048 ≤ length buf.old }
+
+        // It fails only where its call is listed so, or where memory is wanting, and hears the next arrival.
+        ensures heard { IfOk result (λ heard. heard_as heard buf.new ≡ arriving (length buf.new) self.old.link.arrivals) }
+        ensures fails { OnErr result (IsNextListed self.old.link.recvs ⊎ IsStarved self.new) }
+
+        // What every desk promises.
+        ensures within { IfOk result (λ heard. HasAtMost heard (length buf.new)) }
+        ensures told { Tells (told_of self.old) (told_of self.new) (on_link (recv_told result buf.new)) }
+        ensures cause { OnErr result (Rose self.old.link_faults self.new.link_faults) }
+        ensures no_fault { OnOk result (self.new.link_faults ≡ self.old.link_faults) }
+        ensures never_falls { self.old.link_faults ≤ self.new.link_faults }
+        ensures no_bind_fault { self.new.bind_faults ≡ self.old.bind_faults }
+        ensures no_disk_fault { self.new.disk.faults ≡ self.old.disk.faults }
+        ensures no_refusal { self.new.refusals ≡ self.old.refusals }
+        ensures left { Some self.new.disk.left ≡ Some self.old.disk.left }
+    {
+        let Ok(heard) = self.link.recv(buf) else {
+            self.note(LinkCall::Missed);
+            return Err(self.fail_on_link());
+        };
+        if self.note_heard(heard, buf) {
+            return Ok(heard);
+        }
+        Err(self.fail_on_link())
+    }
+
+    /// It is numbered among the receives that wait.
+    fn recv_waiting(&mut self, buf: &mut [u8]) -> Result<Heard, Failed>
+        requires { 2048 ≤ length buf.old }
+
+        // It fails only where its call is listed so, or where memory is wanting, and hears the next arrival.
+        ensures heard { IfOk result (λ heard. heard_as heard buf.new ≡ arriving (length buf.new) self.old.link.arrivals) }
+        ensures fails { OnErr result (IsNextListed self.old.link.recvs ⊎ IsStarved self.new) }
+
+        // What every desk promises.
+        ensures within { IfOk result (λ heard. HasAtMost heard (length buf.new)) }
+        ensures told { Tells (told_of self.old) (told_of self.new) (on_link (recv_told result buf.new)) }
+        ensures cause { OnErr result (Rose self.old.link_faults self.new.link_faults) }
+        ensures no_fault { OnOk result (self.new.link_faults ≡ self.old.link_faults) }
+        ensures never_falls { self.old.link_faults ≤ self.new.link_faults }
+        ensures no_bind_fault { self.new.bind_faults ≡ self.old.bind_faults }
+        ensures no_disk_fault { self.new.disk.faults ≡ self.old.disk.faults }
+        ensures no_refusal { self.new.refusals ≡ self.old.refusals }
+        ensures left { Some self.new.disk.left ≡ Some self.old.disk.left }
+    {
+        self.recv(buf)
+    }
+}

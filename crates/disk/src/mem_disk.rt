@@ -1,0 +1,274 @@
+//! A file in memory, for tests. It tells its calls, fails where it is told to, and fails where memory runs out; from then on it tells nothing. It can be asked
+//! what a death at any moment leaves.
+
+ghost use Rattle.std.specs.Prelude.{◌≡◌, ◌≤◌, ◌<◌, ◌↔◌, ◌⊎◌, length, min, take, false, true, None, Some, [], ◌∷◌, is_err, IfSome, IfOk, OnOk, OnErr, IsErr};
+ghost use Rattle.std.specs.Bool.{OnTrue, OnFalse};
+ghost use Rattle.std.specs.Io.KnownBytes.{ReadConsumes, IsAtEnd};
+ghost use Rattle.ft_io.specs.Faults.{Rose};
+ghost use Rattle.ft_io.specs.NumberedCalls.{IsNextListed};
+ghost use Rattle.ft_io.specs.Told.{Tells};
+ghost use Rattle.disk.specs.Beside.{nothing};
+ghost use Rattle.disk.specs.declared.calls.DeskCall.TheVariants.{OnDisk};
+ghost use Rattle.disk.specs.declared.calls.DiskCall.TheVariants.{Appended, Put, Cut, Synced};
+ghost use Rattle.disk.specs.Death.{left_of};
+ghost use Rattle.disk.specs.Left.{LeftBy};
+ghost use Rattle.disk.specs.Told.{disk_calls};
+ghost use Rattle.disk.specs.MemDisk.{fresh_disk, told_of, noted, starved, failed, changing, made_anew};
+
+use crate::death::left_behind;
+use crate::numbered::NumberedCalls;
+use crate::{Death, DeskCall, Disk, DiskCall};
+use ft_io::{Failed, NoMemory, Octets};
+use std::alloc::Global;
+use std::marker::Model;
+
+/// A file of given bytes, some of whose calls fail.
+#[derive(Debug, Drop)]
+pub struct MemDisk {
+    alloc: Global,
+    first: Vec<u8>,
+    at: usize,
+    reads: NumberedCalls,
+    changes: NumberedCalls,
+    calls: Vec<DeskCall>,
+    faults: u64,
+    is_starved: bool,
+}
+
+impl Model for MemDisk {
+    ghost use Rattle.std.specs.Prelude.{◌≤◌, drop, vec_len};
+    ghost use Rattle.disk.specs.MemDisk.{DiskState};
+
+    ghost Value = { DiskState };
+
+    ghost view = { λ d. record {
+      first = d.first.items;
+      left = drop d.at d.first.items;
+      reads = d.reads;
+      changes = d.changes;
+      calls = d.calls.items;
+      faults = d.faults;
+      is_starved = d.is_starved;
+    } };
+
+    ghost invariant = { λ d. d.at ≤ vec_len d.first };
+}
+
+impl MemDisk {
+    /// A file that had these bytes when it was opened. The reads fail whose numbers, each from 1, stand in `read_fails`, and in `fails` those of the calls that
+    /// change it. It takes no memory yet.
+    pub fn new(alloc: Global, first: Vec<u8>, read_fails: Vec<u32>, fails: Vec<u32>) -> MemDisk
+        ensures { result ≡ fresh_disk first.items read_fails.items fails.items }
+    {
+        MemDisk {
+            alloc,
+            first,
+            at: 0,
+            reads: NumberedCalls::new(read_fails),
+            changes: NumberedCalls::new(fails),
+            calls: Vec::new(alloc),
+            faults: 0,
+            is_starved: false,
+        }
+    }
+
+    /// The calls so far, the oldest first, or `None` once memory was wanting in one.
+    pub fn told(&self) -> Option<&[DeskCall]>
+        ensures some { IfSome result (λ calls. told_of self.now ≡ Some calls.now) }
+        ensures none { result ≡ None → told_of self.now ≡ None }
+    {
+        if self.is_starved {
+            None
+        } else {
+            Some(self.calls.as_slice())
+        }
+    }
+
+    /// What a death leaves of the file, in the course of the calls that it has noted.
+    pub fn after_death(&self, death: Death) -> Result<Vec<u8>, NoMemory>
+        ensures is { IfOk result (λ left. left.items ≡ left_of death self.now.first self.now.calls) }
+        ensures may_be { IfOk result (λ left. LeftBy self.now.first (λ c. c ≡ self.now.first) (disk_calls (take death.calls self.now.calls)) left.items) }
+    {
+        let left = self.leave(death)?;
+        Ok(left)
+    }
+
+    fn leave(&self, death: Death) -> Result<Vec<u8>, NoMemory>
+        ensures { IfOk result (λ left. left.items ≡ left_of death self.now.first self.now.calls) }
+    {
+        let count = death.calls.min(self.calls.len());
+        left_behind(self.alloc, death, &self.first, &self.calls[..count])
+    }
+
+    /// Notes a call, or answers that memory is wanting for it.
+    pub(crate) fn note(&mut self, call: DeskCall) -> bool
+        ensures noted { OnTrue result (self.new ≡ noted self.old call) }
+        ensures starved { OnFalse result (self.new ≡ starved self.old) }
+    {
+        let is_noted = self.calls.push(call).is_ok();
+        if !is_noted {
+            self.starve();
+        }
+        is_noted
+    }
+
+    /// What wasn't read.
+    fn rest(&self) -> &[u8]
+        ensures { result.now ≡ self.now.left }
+    {
+        &self.first[self.at..]
+    }
+
+    /// Tells nothing from now on.
+    pub(crate) fn starve(&mut self)
+        ensures { self.new ≡ starved self.old }
+    {
+        self.is_starved = true;
+    }
+
+    /// The file of another name, which is made.
+    pub(crate) fn make_anew(&mut self)
+        ensures { self.new ≡ made_anew self.old }
+    {
+        self.first = Vec::new(self.alloc);
+        self.at = 0;
+    }
+
+    /// Counts a call as failed.
+    pub(crate) fn fail(&mut self) -> Failed
+        ensures counted { self.new ≡ failed self.old }
+        ensures cause { Rose self.old.faults self.new.faults }
+    {
+        self.faults = self.faults.saturating_add(1);
+        Failed
+    }
+
+    /// Notes a call that changes the file, and answers as it did.
+    fn finish(&mut self, call: DiskCall, fails: bool) -> Result<(), Failed>
+        ensures ok { OnOk result ((fails ≡ false) × (self.new ≡ noted self.old (OnDisk call))) }
+        ensures err { OnErr result (((fails ≡ true) × (self.new ≡ failed (noted self.old (OnDisk call)))) ⊎ (self.new ≡ failed (starved self.old))) }
+    {
+        if !self.note(DeskCall::OnDisk(call)) || fails {
+            return Err(self.fail());
+        }
+        Ok(())
+    }
+}
+
+impl Disk for MemDisk {
+    ghost told = { told_of };
+
+    ghost left = { λ d. Some d.left };
+
+    ghost fault_count = { λ d. d.faults };
+
+    ghost beside = { λ _. nothing };
+
+    fn faults(&self) -> u64 {
+        self.faults
+    }
+
+    /// Moves as many bytes as are left and fit.
+    fn read(&mut self, buf: &mut [u8]) -> Result<usize, Failed>
+        requires { 0 < length buf.old }
+
+        // It fails exactly where its call is listed so, and moves all that is left and fits.
+        ensures fails { IsErr result ↔ IsNextListed self.old.reads }
+        ensures moved { IfOk result (λ n. n ≡ min (length self.old.left) (length buf.new)) }
+        ensures same { self.new.calls ≡ self.old.calls }
+
+        // What every disk promises.
+        ensures within { IfOk result (λ n. n ≤ length buf.new) }
+        ensures bytes { ReadConsumes (Some self.old.left) (Some self.new.left) result buf.new }
+        ensures end { IfOk result (λ n. n ≡ 0 → IsAtEnd (Some self.old.left)) }
+        ensures told { Tells (told_of self.old) (told_of self.new) [] }
+        ensures cause { OnErr result (Rose self.old.faults self.new.faults) }
+        ensures never_falls { self.old.faults ≤ self.new.faults }
+    {
+        if self.reads.next_fails() {
+            return Err(self.fail());
+        }
+        let n = copy_front(self.rest(), buf);
+        self.at += n;
+        Ok(n)
+    }
+
+    fn append(&mut self, bytes: &[u8]) -> Result<(), Failed>
+        // It fails exactly where its call is listed so, or where memory is wanting; so do the others that change the file.
+        ensures done { OnOk result ((IsNextListed self.old.changes → ⊥)
+            × (self.new ≡ noted (changing self.old) (OnDisk (Appended bytes.now false)))) }
+        ensures failed { OnErr result ((IsNextListed self.old.changes
+            × (self.new ≡ failed (noted (changing self.old) (OnDisk (Appended bytes.now true)))))
+            ⊎ (self.new ≡ failed (starved (changing self.old)))) }
+
+        // What every disk promises.
+        ensures told { Tells (told_of self.old) (told_of self.new) (OnDisk (Appended bytes.now (is_err result)) ∷ []) }
+        ensures cause { OnErr result (Rose self.old.faults self.new.faults) }
+        ensures never_falls { self.old.faults ≤ self.new.faults }
+    {
+        let fails = self.changes.next_fails();
+        let Ok(copy) = bytes.to_vec(self.alloc) else {
+            self.starve();
+            return Err(self.fail());
+        };
+        self.finish(DiskCall::Appended(Octets::new(copy), fails), fails)
+    }
+
+    fn put(&mut self, at: u64, byte: u8) -> Result<(), Failed>
+        ensures done { OnOk result ((IsNextListed self.old.changes → ⊥)
+            × (self.new ≡ noted (changing self.old) (OnDisk (Put at byte false)))) }
+        ensures failed { OnErr result ((IsNextListed self.old.changes
+            × (self.new ≡ failed (noted (changing self.old) (OnDisk (Put at byte true)))))
+            ⊎ (self.new ≡ failed (starved (changing self.old)))) }
+
+        // What every disk promises.
+        ensures told { Tells (told_of self.old) (told_of self.new) (OnDisk (Put at byte (is_err result)) ∷ []) }
+        ensures cause { OnErr result (Rose self.old.faults self.new.faults) }
+        ensures never_falls { self.old.faults ≤ self.new.faults }
+    {
+        let fails = self.changes.next_fails();
+        self.finish(DiskCall::Put(at, byte, fails), fails)
+    }
+
+    fn cut(&mut self, at: u64) -> Result<(), Failed>
+        ensures done { OnOk result ((IsNextListed self.old.changes → ⊥)
+            × (self.new ≡ noted (changing self.old) (OnDisk (Cut at false)))) }
+        ensures failed { OnErr result ((IsNextListed self.old.changes
+            × (self.new ≡ failed (noted (changing self.old) (OnDisk (Cut at true)))))
+            ⊎ (self.new ≡ failed (starved (changing self.old)))) }
+
+        // What every disk promises.
+        ensures told { Tells (told_of self.old) (told_of self.new) (OnDisk (Cut at (is_err result)) ∷ []) }
+        ensures cause { OnErr result (Rose self.old.faults self.new.faults) }
+        ensures never_falls { self.old.faults ≤ self.new.faults }
+    {
+        let fails = self.changes.next_fails();
+        self.finish(DiskCall::Cut(at, fails), fails)
+    }
+
+    fn sync(&mut self) -> Result<(), Failed>
+        ensures done { OnOk result ((IsNextListed self.old.changes → ⊥)
+            × (self.new ≡ noted (changing self.old) (OnDisk (Synced false)))) }
+        ensures failed { OnErr result ((IsNextListed self.old.changes
+            × (self.new ≡ failed (noted (changing self.old) (OnDisk (Synced true)))))
+            ⊎ (self.new ≡ failed (starved (changing self.old)))) }
+
+        // What every disk promises.
+        ensures told { Tells (told_of self.old) (told_of self.new) (OnDisk (Synced (is_err result)) ∷ []) }
+        ensures cause { OnErr result (Rose self.old.faults self.new.faults) }
+        ensures never_falls { self.old.faults ≤ self.new.faults }
+    {
+        let fails = self.changes.next_fails();
+        self.finish(DiskCall::Synced(fails), fails)
+    }
+}
+
+/// Copies as much of the front of `bytes` as fits into `buf`, and answers how much.
+fn copy_front(bytes: &[u8], buf: &mut [u8]) -> usize
+    ensures count { result ≡ min (length bytes.now) (length buf.new) }
+    ensures copied { take result buf.new ≡ take result bytes.now }
+{
+    let n = bytes.len().min(buf.len());
+    buf[..n].copy_from_slice(&bytes[..n]);
+    n
+}

@@ -1,0 +1,44 @@
+//! What a death leaves of a journal at any moment. Nothing here runs; each function is a theorem.
+
+ghost use Rattle.std.specs.Prelude.{◌≡◌, ◌⊎◌, ℕ, List, [], ◌∷◌, ◌++◌, length};
+ghost use Rattle.std.specs.List.{AllByRecursion};
+ghost use Rattle.disk.specs.declared.calls.DiskCall.{DiskCall};
+ghost use Rattle.disk.specs.Left.{IsFrontOf, LeftBy};
+ghost use Rattle.journal.specs.Format.{Stands, front, at_rest, keeping, mending, all_kept, IsSmall};
+
+/// However far the keeping of a block has come, what a death leaves stands for the blocks before it, with the new one or without it.
+pub fn a_death_leaves_before_or_after()
+    ensures { (bodies : List (List ℕ)) (body : List ℕ) (done : List DiskCall) (left : List ℕ)
+        → IsFrontOf (keeping (length (front bodies)) body) done → LeftBy (at_rest bodies) (λ c. c ≡ at_rest bodies) done left
+        → Stands bodies left ⊎ Stands (bodies ++ body ∷ []) left }
+{}
+
+/// Once a block is kept, a death leaves nothing else than the file that has it, with nothing behind its closed gate.
+pub fn what_is_kept_stays()
+    ensures { (bodies : List (List ℕ)) (body left : List ℕ)
+        → LeftBy (at_rest bodies) (λ c. c ≡ at_rest bodies) (keeping (length (front bodies)) body) left
+        → left ≡ at_rest (bodies ++ body ∷ []) }
+{}
+
+/// What a death has left behind the closed gate is cut off. At any moment of this another death leaves the same blocks, and afterwards nothing stands there.
+pub fn mending_keeps_the_blocks()
+    ensures any_moment { (file left : List ℕ) (bodies : List (List ℕ)) (done : List DiskCall) → Stands bodies file
+        → IsFrontOf (mending (length (front bodies))) done → LeftBy file (λ c. c ≡ file) done left → Stands bodies left }
+    ensures rests { (file left : List ℕ) (bodies : List (List ℕ)) → Stands bodies file
+        → LeftBy file (λ c. c ≡ file) (mending (length (front bodies))) left → left ≡ at_rest bodies }
+{}
+
+/// A whole life: a process mends the file that it finds, keeps blocks, and dies at any moment of one more. What it leaves stands for the blocks that it found,
+/// those that it kept, and the last one or not. The next process finds it so, and the same holds of that one.
+pub fn an_incarnation_keeps_all()
+    ensures { (file left : List ℕ) (bodies kept : List (List ℕ)) (last : List ℕ) (done : List DiskCall) → Stands bodies file
+        → IsFrontOf (keeping (length (front (bodies ++ kept))) last) done
+        → LeftBy file (λ c. c ≡ file) (mending (length (front bodies)) ++ (all_kept bodies kept ++ done)) left
+        → Stands (bodies ++ kept) left ⊎ Stands ((bodies ++ kept) ++ last ∷ []) left }
+{}
+
+/// A file stands for one list of blocks.
+pub fn a_file_has_one_reading()
+    ensures { (file : List ℕ) (bodies others : List (List ℕ)) → AllByRecursion IsSmall bodies → AllByRecursion IsSmall others
+        → Stands bodies file → Stands others file → bodies ≡ others }
+{}

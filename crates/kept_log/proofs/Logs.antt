@@ -1,0 +1,85 @@
+-- The log of blocks, and of one block more.
+use Rattle.std.proofs.Common.{◌≡◌, ◌∙◌, ℕ, ◌+◌, ◌≤◌, List, [], ◌∷◌, ◌++◌, length, refl, sym, ap, subst, Ok, arith, append_assoc, append-nil, length-append}
+use Rattle.std.specs.Int.{bytes_high_first}
+use Rattle.std.specs.List.{AllByRecursion}
+use Rattle.seq_arith.specs.Message.{Message}
+use Rattle.seq_arith.specs.MessageGrammar.{reading}
+use Rattle.ft_model.specs.Log.{Log, log_after, empty_log}
+use Rattle.logger_deaths.specs.Kept.{log_after_all}
+use Rattle.journal.specs.Format.{magic, counted, blocks, front}
+use Rattle.kept_log.specs.Says.{Says, AllSay, IsRound}
+use Rattle.kept_log.specs.Kept.{HasLog, Waits, with_round}
+use Rattle.kept_log.proofs.Messages.{whole}
+
+pub blocks_push : (bodies : List (List ℕ)) (body : List ℕ) → blocks (bodies ++ body ∷ []) ≡ blocks bodies ++ 209 ∷ counted body
+blocks_push [] body = ap (λ (l : List ℕ). 209 ∷ l) (append-nil (counted body))
+blocks_push (b ∷ bodies) body = ap (λ (l : List ℕ). 209 ∷ counted b ++ l) (blocks_push bodies body) ∙ sym (append_assoc (209 ∷ counted b) (blocks bodies) (209 ∷ counted body))
+
+pub front_push : (bodies : List (List ℕ)) (body : List ℕ) → front (bodies ++ body ∷ []) ≡ front bodies ++ 209 ∷ counted body
+front_push bodies body = ap (λ (l : List ℕ). magic ++ l) (blocks_push bodies body) ∙ sym (append_assoc magic (blocks bodies) (209 ∷ counted body))
+
+end_push : (bodies : List (List ℕ)) (body : List ℕ) → length (front (bodies ++ body ∷ [])) ≡ length (front bodies) + 5 + length body
+end_push bodies body =
+    let whole : length (front (bodies ++ body ∷ [])) ≡ length (front bodies) + length (209 ∷ counted body) =
+    ap length (front_push bodies body) ∙ length-append (front bodies) (209 ∷ counted body) in
+    let one : length (counted body) ≡ 4 + length body = length-append (bytes_high_first 4 (length body)) body in
+    omega (arith, whole, one)
+
+small_push : (bodies : List (List ℕ)) (body : List ℕ) → AllByRecursion IsRound bodies → length body ≤ 381696 → AllByRecursion IsRound (bodies ++ body ∷ [])
+small_push [] body small is = (is, tt)
+small_push (b ∷ bodies) body small is = (small.0, small_push bodies body small.1 is)
+
+say_push : (bodies : List (List ℕ)) (messages : List Message) (body : List ℕ) (news : List Message) → AllSay bodies messages → Says body news → AllSay (bodies ++ body ∷ []) (messages ++ news)
+say_push [] messages body news say says = (news, [], ap (λ (l : List Message). l ++ news) say ∙ sym (append-nil news), says, refl)
+say_push (b ∷ bodies) messages body news (first, rest, is, own, say) says =
+    (first, rest ++ news, ap (λ (l : List Message). l ++ news) is ∙ append_assoc first rest news, own, say_push bodies rest body news say says)
+
+after_both : (log : Log) (messages news : List Message) → log_after_all (log_after_all log messages) news ≡ log_after_all log (messages ++ news)
+after_both log [] news = refl
+after_both log (message ∷ messages) news = after_both (log_after log message) messages news
+
+pub no_blocks : HasLog [] 8 empty_log
+no_blocks = record { messages = []; kept = record { small = tt; say = refl }; end_is = refl; log_is = refl }
+
+pub block_more : (bodies : List (List ℕ)) (end : ℕ) (before log : Log) (body : List ℕ) → HasLog bodies end before → length body ≤ 381696 → Waits before body log
+    → HasLog (bodies ++ body ∷ []) (end + 5 + length body) log
+block_more bodies end before log body has few waits = record {
+  messages = has.messages ++ waits.messages;
+  kept = record { small = small_push bodies body has.kept.small few; say = say_push bodies has.messages body waits.messages has.kept.say waits.says };
+  end_is = ap (λ n. n + 5 + length body) has.end_is ∙ sym (end_push bodies body);
+  log_is = waits.log_is ∙ (ap (λ l. log_after_all l waits.messages) has.log_is ∙ after_both empty_log has.messages waits.messages);
+}
+
+-- a message that waits last
+pub says_push : (bytes last : List ℕ) (messages : List Message) (message : Message) → Says bytes messages → reading last ≡ Ok message → Says (bytes ++ last) (messages ++ message ∷ [])
+says_push bytes last [] message none reads = (last, [], ap (λ (l : List ℕ). l ++ last) none ∙ sym (append-nil last), reads, refl)
+says_push bytes last (m ∷ messages) message (first, rest, is, own, says) reads =
+    (first, rest ++ last, ap (λ (l : List ℕ). l ++ last) is ∙ append_assoc first rest last, own, says_push rest last messages message says reads)
+
+pub waits_more : (before log after : Log) (round bytes : List ℕ) (message : Message) → Waits before round log → reading bytes ≡ Ok message → after ≡ log_after log message
+    → Waits before (round ++ bytes) after
+waits_more before log after round bytes message waits reads next = record {
+  messages = waits.messages ++ message ∷ [];
+  says = says_push round bytes waits.messages message waits.says reads;
+  log_is = next ∙ (ap (λ l. log_after l message) waits.log_is ∙ after_both before waits.messages (message ∷ []));
+}
+
+-- a round in which nothing waits
+pub none_waits : (before log : Log) (round : List ℕ) → round ≡ [] → Waits before round log → log ≡ before
+none_waits before log round none waits = go waits.messages waits.says waits.log_is
+  where
+    go : (messages : List Message) → Says round messages → log ≡ log_after_all before messages → log ≡ before
+    go [] says is = is
+    go (message ∷ messages) (first, rest, is, reads, says) after =
+        let w = whole first message reads in
+        absurd (omega (arith, w.long, ap length (sym is ∙ none), length-append first rest))
+
+pub kept_none : (bodies : List (List ℕ)) (round : List ℕ) (end : ℕ) (before log : Log) → round ≡ [] → HasLog bodies end before → Waits before round log
+    → HasLog (with_round bodies round) end log
+kept_none bodies round end before log none has waits =
+    subst (λ r. HasLog (with_round bodies r) end log) (sym none) (subst (HasLog bodies end) (sym (none_waits before log round none waits)) has)
+
+pub kept_round : (bodies : List (List ℕ)) (round : List ℕ) (end : ℕ) (before log : Log) → (round ≡ [] → ⊥) → length round ≤ 381696 → HasLog bodies end before → Waits before round log
+    → HasLog (with_round bodies round) (end + 5 + length round) log
+kept_round bodies [] end before log some few has waits = absurd (some refl)
+kept_round bodies (byte ∷ round) end before log some few has waits = block_more bodies end before log (byte ∷ round) has few waits

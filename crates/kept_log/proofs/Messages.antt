@@ -1,0 +1,160 @@
+-- Messages one behind the other: each tells its own length, so bytes say one list of them.
+use Rattle.std.proofs.Common.{◌≡◌, ◌∙◌, ◌⊎◌, inl, inr, ℕ, ◌<◌, ◌≤◌, ◌+◌, Bool, true, false, not, List, [], ◌∷◌, ◌++◌, length, take, drop, get_or, refl, sym, ap, subst, arith, length-append}
+use Rattle.std.specs.Prelude.{Option, None, Some, Result, Ok, Err, IsOk, nat_eq, nat_lt, ◌==◌, ◌||◌, slice_index, if◌then◌else◌}
+use Rattle.std.proofs.lemmas.Bool.{ltb-false, not-false, eqb-false, eqb-true}
+use Rattle.std.proofs.lemmas.List.{get_or_append_left, take_at, drop_at, take-append-drop}
+use Rattle.ft_io.proofs.Booleans.{left_false, right_false}
+use Rattle.seq_arith.specs.declared.kinds.BadMsg.{BadMsg}
+use Rattle.seq_arith.specs.declared.kinds.BadMsg.TheVariants as bad
+use Rattle.seq_arith.specs.declared.kinds.Kind.{Kind}
+use Rattle.seq_arith.specs.Bytes.{word_at}
+use Rattle.seq_arith.specs.Checksum.{checksum}
+use Rattle.seq_arith.specs.Message.{Message}
+use Rattle.seq_arith.specs.MessageGrammar.{kind_numbered, has_length, is_sound_in, message_in, reading_of, reading_if, reading}
+use Rattle.seq_arith.proofs.Passing.{same_from}
+use Rattle.seq_arith.proofs.Refused.{goes_on, accepted}
+use Rattle.seq_arith.proofs.MessageSpelling.{bounded, room}
+use Rattle.ft_model.specs.Log.{Log, log_after}
+use Rattle.logger_deaths.specs.Kept.{log_after_all}
+use Rattle.kept_log.specs.Says.{Says}
+use Rattle.kept_log.specs.Kept.{Waits}
+
+-- what acceptance says of a message's length
+pub record IsWhole (bytes : List ℕ) : Type 0 where
+  pub long : 16 ≤ length bytes
+  pub few : length bytes ≤ 1491
+  pub counted : word_at bytes 4 ≡ length bytes
+
+whole_of : (kind : Kind) (bytes : List ℕ) → IsOk (reading_of kind bytes) → (word_at bytes 4 ≡ length bytes) × (length bytes ≤ 1491)
+unfolding reading_of
+whole_of kind bytes ok =
+    let counted : Bool = not (nat_eq (word_at bytes 4) (length bytes)) in
+    let sized : Bool = not (has_length kind (length bytes)) in
+    let sum : Bool = not (nat_eq (checksum bytes) 0) in
+    let last : Result Message BadMsg = if not (is_sound_in kind bytes) then Err bad.Field else Ok (message_in kind bytes) in
+    let passes : ((counted || sized) ≡ false) × IsOk (if sum then Err bad.Sum else last) = goes_on (counted || sized) bad.Length (if sum then Err bad.Sum else last) ok in
+    let has : has_length kind (length bytes) ≡ true = not-false _ (right_false counted sized passes.0) in
+    (same_from _ _ (left_false counted sized passes.0), omega (arith, (bounded kind (length bytes) has).1, room kind))
+
+whole_if : (kind : Option Kind) (bytes : List ℕ) → IsOk (reading_if kind bytes) → (word_at bytes 4 ≡ length bytes) × (length bytes ≤ 1491)
+whole_if None bytes ok = absurd (cc)
+whole_if (Some kind) bytes ok = whole_of kind bytes ok
+
+pub whole : (bytes : List ℕ) (message : Message) → reading bytes ≡ Ok message → IsWhole bytes
+unfolding reading
+whole bytes message is =
+    let ok : IsOk (reading bytes) = accepted is in
+    let short : Bool = nat_lt (length bytes) 16 in
+    let magic : Bool = not (nat_eq (word_at bytes 0) 18004) in
+    let version : Bool = not (nat_eq (slice_index bytes 2) 1) in
+    let last : Result Message BadMsg = reading_if (kind_numbered (slice_index bytes 3)) bytes in
+    let third : Result Message BadMsg = if version then Err bad.Version else last in
+    let second : Result Message BadMsg = if magic then Err bad.Magic else third in
+    let long : (short ≡ false) × IsOk second = goes_on short bad.Short second ok in
+    let rest = whole_if (kind_numbered (slice_index bytes 3)) bytes (goes_on version bad.Version last (goes_on magic bad.Magic third long.1).1).1 in
+    record { long = ltb-false (length bytes) 16 long.0; few = rest.1; counted = rest.0 }
+
+word_in_front : (bytes behind : List ℕ) → 5 < length bytes → word_at (bytes ++ behind) 4 ≡ word_at bytes 4
+unfolding word_at
+word_in_front bytes behind h =
+    let high : get_or (bytes ++ behind) 4 0 ≡ get_or bytes 4 0 = get_or_append_left bytes behind 0 4 (omega (arith, h)) in
+    let low : get_or (bytes ++ behind) 5 0 ≡ get_or bytes 5 0 = get_or_append_left bytes behind 0 5 h in
+    omega (arith, high, low)
+
+-- the first message has the length that stands in it, and is not empty
+pub record IsFirst (bytes first : List ℕ) : Type 0 where
+  pub long : 16 ≤ length first
+  pub within : length first ≤ length bytes
+  pub length_is : length first ≡ word_at bytes 4
+
+pub first_is : (bytes first rest : List ℕ) (message : Message) → bytes ≡ first ++ rest → reading first ≡ Ok message → IsFirst bytes first
+first_is bytes first rest message is reads =
+    let w = whole first message reads in
+    let count : length bytes ≡ length first + length rest = ap length is ∙ length-append first rest in
+    record {
+      long = w.long;
+      within = omega (arith, count);
+      length_is = sym (ap (λ (b : List ℕ). word_at b 4) is ∙ (word_in_front first rest (omega (arith, w.long)) ∙ w.counted));
+    }
+
+-- no message is too short to say its length
+pub none_short : (bytes : List ℕ) (messages : List Message) → (length bytes < 6) ⊎ (length bytes < word_at bytes 4) → Says bytes messages → bytes ≡ []
+none_short bytes [] short says = says
+none_short bytes (message ∷ messages) short (first, rest, is, reads, says) =
+    let f = first_is bytes first rest message is reads in
+    elim short as (λ _. bytes ≡ []) [
+      | inl few ↦ absurd (omega (arith, few, f.long, f.within))
+      | inr more ↦ absurd (omega (arith, more, f.within, f.length_is))
+    ]
+
+-- what says messages and is not empty begins with one, of the length that stands in it
+pub record GoesOn (bytes : List ℕ) (n : ℕ) : Type 0 where
+  pub first : Message
+  pub others : List Message
+  pub reads : reading (take n bytes) ≡ Ok first
+  pub says : Says (drop n bytes) others
+
+pub first_read : (bytes : List ℕ) (n : ℕ) (messages : List Message) → (bytes ≡ [] → ⊥) → n ≡ word_at bytes 4 → Says bytes messages → GoesOn bytes n
+first_read bytes n [] some at says = absurd (some says)
+first_read bytes n (message ∷ messages) some at (first, rest, is, reads, says) =
+    let f = first_is bytes first rest message is reads in
+    let same : length first ≡ n = f.length_is ∙ sym at in
+    let front : take n bytes ≡ first = ap (take n) is ∙ take_at first rest n same in
+    let behind : drop n bytes ≡ rest = ap (drop n) is ∙ drop_at first rest n same in
+    record {
+      first = message;
+      others = messages;
+      reads = ap reading front ∙ reads;
+      says = subst (λ b. Says b messages) (sym behind) says;
+    }
+
+-- a body of which this is left, with the log before it and the log so far
+pub record Left (body rest : List ℕ) (before after : Log) : Type 0 where
+  pub forwards : (more : List Message) → Says rest more → (all : List Message) × Says body all × (log_after_all after more ≡ log_after_all before all)
+  pub backwards : (all : List Message) → Says body all → (more : List Message) × Says rest more
+
+pub left_all : (body : List ℕ) (log : Log) → Left body body log log
+left_all body log = record { forwards = λ more says. (more, says, refl); backwards = λ all says. (all, says) }
+
+pub left_less : (body rest : List ℕ) (before after : Log) (n : ℕ) (message : Message) → (rest ≡ [] → ⊥) → n ≡ word_at rest 4 → reading (take n rest) ≡ Ok message
+    → Left body rest before after → Left body (drop n rest) before (log_after after message)
+left_less body rest before after n message some at reads left = record {
+  forwards = λ more says. left.forwards (message ∷ more) (take n rest, drop n rest, sym (take-append-drop n rest), reads, says);
+  backwards = λ all says.
+      let now = left.backwards all says in
+      let next = first_read rest n now.0 some at now.1 in
+      (next.others, next.says);
+}
+
+pub left_none : (body rest : List ℕ) (before after : Log) → rest ≡ [] → Left body rest before after → Waits before body after
+left_none body rest before after none left =
+    let all = left.forwards [] none in
+    record { messages = all.0; says = all.1; log_is = all.2 }
+
+-- the next is no message
+pub left_wrong : (body rest : List ℕ) (before after : Log) (n : ℕ) → (rest ≡ [] → ⊥) → n ≡ word_at rest 4 → ((message : Message) → reading (take n rest) ≡ Ok message → ⊥)
+    → Left body rest before after → (all : List Message) → Says body all → ⊥
+left_wrong body rest before after n some at bad left all says =
+    let now = left.backwards all says in
+    let next = first_read rest n now.0 some at now.1 in
+    bad next.first next.reads
+
+pub left_short : (body rest : List ℕ) (before after : Log) → (rest ≡ [] → ⊥) → ((messages : List Message) → Says rest messages → rest ≡ [])
+    → Left body rest before after → (all : List Message) → Says body all → ⊥
+left_short body rest before after some short left all says =
+    let now = left.backwards all says in
+    some (short now.0 now.1)
+
+pub not_empty : (bytes : List ℕ) (b : Bool) → b ≡ (length bytes == 0) → b ≡ false → bytes ≡ [] → ⊥
+not_empty bytes b is some none = eqb-false (length bytes) 0 (sym is ∙ some) (ap length none)
+
+pub is_empty : (bytes : List ℕ) (b : Bool) → b ≡ (length bytes == 0) → b ≡ true → bytes ≡ []
+is_empty [] b is none = refl
+is_empty (byte ∷ bytes) b is none = absurd (omega (arith, eqb-true (length (byte ∷ bytes)) 0 (sym is ∙ none)))
+
+-- two readings that differ
+pub not_both : (bytes : List ℕ) (bad : BadMsg) (message : Message) → Err bad ≡ reading bytes → reading bytes ≡ Ok message → ⊥
+not_both bytes bad message refused accepted = err_ok bad message (refused ∙ accepted)
+  where
+    err_ok : (b : BadMsg) (m : Message) → Err b ≡ Ok m → ⊥
+    err_ok b m e = cc

@@ -1,0 +1,38 @@
+use Rattle.std.proofs.Common.{ℕ, ◌≡◌, ◌∙◌, ◌<◌, ◌≤◌, ◌-◌, length, take, drop, sym, ap, subst, arith, length-drop}
+use Rattle.std.proofs.lemmas.List.{take_rest, length-take-le}
+use Rattle.logger_wire.specs.Value.{message_of}
+use Rattle.kept_log.proofs.Messages.{Left, left_all, left_less, left_none, left_wrong, whole, not_empty, is_empty, not_both}
+use Rattle.kept_log.proofs.body.take_body.Goals as goal
+
+less : (m n k : ℕ) → m ≡ n - k → 16 ≤ k → k ≤ n → m < n
+less m n k is some within = omega (arith, is, some, within)
+
+pub loop-rest-init : goal.loop-rest-init
+loop-rest-init c = left_all c.args.body.now c.args.store.now
+
+pub loop-rest-preserved : goal.loop-rest-preserved
+loop-rest-preserved c =
+    let rest = c.loop-rest.rest.now in
+    let some = not_empty rest c.is_empty.result c.is_empty.ensures c.loop-rest-test.true in
+    let left = left_less c.args.body.now rest c.args.store.now c.loop-rest.store c.in-Some.n (message_of c.in-Ok.m) some c.in-Some.ensures.some.2 (sym c.in-Ok.ensures.value) c.loop-rest.invariant in
+    let next : Left c.args.body.now (drop c.in-Some.n rest) c.args.store.now c.answer.new.self =
+    subst (λ log. Left c.args.body.now (drop c.in-Some.n rest) c.args.store.now log) (sym c.in_ok-answer.ensures.next) left in
+    subst (λ r. Left c.args.body.now r c.args.store.now c.answer.new.self) (sym (take_rest rest c.in-Some.n)) next
+
+pub returns-in_default-read_msg-clause-wrong : goal.returns-in_default-read_msg-clause-wrong
+returns-in_default-read_msg-clause-wrong c = λ _.
+    let rest = c.loop-rest.rest.now in
+    left_wrong c.args.body.now rest c.args.store.now c.loop-rest.store c.in-Some.n (not_empty rest c.is_empty.result c.is_empty.ensures c.loop-rest-test.true) c.in-Some.ensures.some.2
+    (λ message. not_both (take c.in-Some.n rest) c.in_default-read_msg.field-0 message c.in_default-read_msg.ensures.value) c.loop-rest.invariant
+
+pub loop-rest-smaller : goal.loop-rest-smaller
+loop-rest-smaller c =
+    let rest = c.loop-rest.rest.now in
+    let w = whole (take c.in-Some.n rest) (message_of c.in-Ok.m) (sym c.in-Ok.ensures.value) in
+    let first : length (take c.in-Some.n rest) ≡ c.in-Some.n = length-take-le c.in-Some.n rest c.in-Some.ensures.some.1 in
+    let behind : length (take (length rest - c.in-Some.n) (drop c.in-Some.n rest)) ≡ length rest - c.in-Some.n = ap length (take_rest rest c.in-Some.n) ∙ length-drop c.in-Some.n rest in
+    less _ (length rest) c.in-Some.n behind (omega (arith, w.long, first)) c.in-Some.ensures.some.1
+
+pub returns-clause-said : goal.returns-clause-said
+returns-clause-said c = λ _.
+    left_none c.args.body.now c.loop-rest.rest.now c.args.store.now c.loop-rest.store (is_empty c.loop-rest.rest.now c.is_empty.result c.is_empty.ensures c.loop-rest-test.false) c.loop-rest.invariant

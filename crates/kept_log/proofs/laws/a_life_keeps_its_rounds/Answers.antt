@@ -1,0 +1,5 @@
+use Rattle.kept_log.proofs.laws.a_life_keeps_its_rounds.Goals as goal
+use Rattle.kept_log.proofs.Lives.{life_keeps}
+
+pub returns : goal.returns
+returns c = λ file left bodies rounds last calls done finds f l. life_keeps file left bodies rounds last calls done finds f l

@@ -1,0 +1,24 @@
+use Rattle.std.proofs.Common.{◌∙◌, subst, arith}
+use Rattle.kept_log.specs.Reading.{IsAt, Steps}
+use Rattle.kept_log.proofs.Files.{quiet_on}
+use Rattle.kept_log.proofs.Onward.{step_more, step_block}
+use Rattle.kept_log.proofs.reading.read_blocks.Goals as goal
+use Rattle.kept_log.proofs.reading.read_blocks.Goals.{in-Block, in-Short}
+
+pub loop-step-preserved : goal.loop-step-preserved
+loop-step-preserved g c =
+    let left = g.D.Disk.left in
+    let told = g.D.Disk.told in
+    let inv = c.loop-step.invariant in
+    let on : IsAt c.args.window.now (left c.args.disk.now) (left c.step.new.disk) c.step.new.window c.match-branch-2.place c.step.new.store =
+    elim c.match-branch-2.branch [
+      | in-Block w ↦
+          step_block c.args.window.now (left c.args.disk.now) (left c.loop-step.disk) (left c.step.new.disk) c.loop-step.window c.step.new.window c.loop-step.place w.in-Block.len
+          c.match-branch-2.place c.loop-step.store c.step.new.store inv.0
+          (subst (Steps (left c.loop-step.disk) (left c.step.new.disk) c.loop-step.window c.step.new.window c.loop-step.store c.step.new.store) w.in-Block.is c.in_ok-len.ensures.stepped) w.place-is
+      | in-Short w ↦
+          step_more c.args.window.now (left c.args.disk.now) (left c.loop-step.disk) (left c.step.new.disk) c.loop-step.window c.step.new.window c.loop-step.place
+          c.match-branch-2.place c.loop-step.store c.step.new.store inv.0
+          (subst (Steps (left c.loop-step.disk) (left c.step.new.disk) c.loop-step.window c.step.new.window c.loop-step.store c.step.new.store) w.in-Short.is c.in_ok-len.ensures.stepped) w.place-is
+    ] in
+    (on, quiet_on (told c.args.disk.now) (told c.loop-step.disk) (told c.step.new.disk) inv.1 c.step.ensures.told, omega (arith, inv.2, c.step.ensures.never_falls), c.step.ensures.beside ∙ inv.3)

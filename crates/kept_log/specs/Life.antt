@@ -1,0 +1,15 @@
+-- What a logger does to its file from one opening to its death: it puts the file at rest, commits rounds, and dies at any moment.
+use Rattle.std.specs.Prelude.{List, [], ◌∷◌, ◌++◌, ℕ, length}
+use Rattle.disk.specs.declared.calls.DiskCall.{DiskCall}
+use Rattle.journal.specs.Format.{front}
+use Rattle.kept_log.specs.Kept.{committing, with_round}
+
+-- the blocks after rounds, the oldest first
+abbrev pub with_rounds : List (List ℕ) → List (List ℕ) → List (List ℕ)
+with_rounds bodies [] = bodies
+with_rounds bodies (round ∷ rounds) = with_rounds (with_round bodies round) rounds
+
+-- the calls that commit them
+abbrev pub committed : List (List ℕ) → List (List ℕ) → List DiskCall
+committed bodies [] = []
+committed bodies (round ∷ rounds) = committing (length (front bodies)) round ++ committed (with_round bodies round) rounds

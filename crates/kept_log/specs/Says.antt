@@ -1,0 +1,23 @@
+-- What bytes say that are messages, one behind the other: each tells its own length.
+use Rattle.std.specs.Prelude.{◌≡◌, ◌≤◌, ℕ, List, [], ◌∷◌, ◌++◌, length, Ok}
+use Rattle.std.specs.List.{AllByRecursion}
+use Rattle.seq_arith.specs.Message.{Message}
+use Rattle.seq_arith.specs.MessageGrammar.{reading}
+
+abbrev pub Says : List ℕ → List Message → Type 0
+Says bytes [] = bytes ≡ []
+Says bytes (message ∷ messages) = (first : List ℕ) × (rest : List ℕ) × (bytes ≡ first ++ rest) × (reading first ≡ Ok message) × Says rest messages
+
+-- .. and what the bodies of blocks say
+abbrev pub AllSay : List (List ℕ) → List Message → Type 0
+AllSay [] messages = messages ≡ []
+AllSay (body ∷ bodies) messages = (first : List Message) × (rest : List Message) × (messages ≡ first ++ rest) × Says body first × AllSay bodies rest
+
+-- a block has the messages of one round, 256 of the longest at most
+abbrev pub IsRound : List ℕ → Type 0
+IsRound body = length body ≤ 381696
+
+-- these bodies of blocks say these messages
+pub record AreKept (bodies : List (List ℕ)) (messages : List Message) : Type 0 where
+  pub small : AllByRecursion IsRound bodies
+  pub say : AllSay bodies messages

@@ -1,0 +1,47 @@
+//! Where a block ends.
+
+ghost use Rattle.kept_log.specs.Reading.{StartsWith};
+
+use journal::{CLOSED, OPEN};
+
+/// The most bytes that a block's body has: 256 of the longest messages.
+pub const MOST_BODY: usize = 381_696;
+
+/// What stands at the front of bytes.
+#[derive(Clone, Copy, Debug, PartialEq, Eq)]
+pub enum Start {
+    /// A closed gate.
+    Closed,
+    /// A block whose body has so many bytes.
+    Block(usize),
+    /// The front of a block, or nothing.
+    Short,
+    /// Neither gate, or a body that is too long.
+    Wrong,
+}
+
+/// What stands at the front.
+pub fn start_of(bytes: &[u8]) -> Start
+    ensures { StartsWith bytes.now result }
+{
+    let Some(gate) = bytes.first() else {
+        return Start::Short;
+    };
+    if *gate == CLOSED {
+        return Start::Closed;
+    }
+    if *gate != OPEN {
+        return Start::Wrong;
+    }
+    if bytes.len() < 5 {
+        return Start::Short;
+    }
+    let len = u32::from_be_bytes([bytes[1], bytes[2], bytes[3], bytes[4]]) as usize;
+    if len > MOST_BODY {
+        return Start::Wrong;
+    }
+    if bytes.len() - 5 < len {
+        return Start::Short;
+    }
+    Start::Block(len)
+}

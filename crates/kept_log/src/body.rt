@@ -1,0 +1,45 @@
+//! The messages of a block.
+
+ghost use Rattle.std.specs.Prelude.{◌≡◌, ◌≤◌, ◌++◌, List, ℕ, Ok, true, false, length, IfOk, IfSome, IfNone, []};
+ghost use Rattle.seq_arith.specs.Bytes.{word_at as word_at_lem};
+ghost use Rattle.seq_arith.specs.Message.{Message};
+ghost use Rattle.seq_arith.specs.MessageGrammar.{reading};
+ghost use Rattle.kept_log.specs.Says.{Says};
+ghost use Rattle.kept_log.specs.Kept.{Waits};
+
+use ft_io::NoMemory;
+use logger_store::{LogStore, MsgOut};
+use logger_wire::{read_msg, word_at};
+use std::alloc::Global;
+
+/// The length that a message at the front of these bytes says it has, unless they are fewer.
+fn first_length(bytes: &[u8]) -> Option<usize>
+    ensures some { IfSome result (λ n. (6 ≤ length bytes.now) × (n ≤ length bytes.now) × (n ≡ word_at_lem bytes.now 4)) }
+    ensures none { IfNone result ((messages : List Message) → Says bytes.now messages → bytes.now ≡ []) }
+{
+    if bytes.len() < 6 {
+        return None;
+    }
+    let n = usize::from(word_at(bytes, 4));
+    if n <= bytes.len() { Some(n) } else { None }
+}
+
+/// Takes what a block's body says into the log. False where it isn't messages, one behind the other: then some of them may be in the log.
+pub fn take_body(alloc: Global, body: &[u8], store: &mut LogStore) -> Result<bool, NoMemory>
+    ensures said { IfOk result (λ all. all ≡ true → Waits store.old body.now store.new) }
+    ensures wrong { IfOk result (λ all. all ≡ false → (messages : List Message) → Says body.now messages → ⊥) }
+{
+    let mut out = MsgOut::new();
+    let mut rest = body;
+    while !rest.is_empty() {
+        let Some(n) = first_length(rest) else {
+            return Ok(false);
+        };
+        let Ok(m) = read_msg(&rest[..n]) else {
+            return Ok(false);
+        };
+        store.answer(alloc, &m, &mut out)?;
+        rest = &rest[n..];
+    }
+    Ok(true)
+}

@@ -1,0 +1,149 @@
+//! The log with its journal.
+
+ghost use Rattle.std.specs.Prelude.{[], ◌≡◌, ◌≤◌, List, ℕ, Ok, false, length, IfOk, IfErr, OnOk, OnErr, IsOk, IsErrOf};
+ghost use Rattle.ft_io.specs.Faults.{Rose};
+ghost use Rattle.ft_io.specs.Told.{Tells};
+ghost use Rattle.seq_arith.specs.MessageGrammar.{reading};
+ghost use Rattle.ft_model.specs.Log.{Log, log_after, answer_to};
+ghost use Rattle.logger_wire.specs.Value.{message_of, IsSendable};
+ghost use Rattle.logger_store.specs.Stored.{answer_bytes, wants_memory};
+ghost use Rattle.disk.specs.declared.calls.DiskCall.{DiskCall};
+ghost use Rattle.disk.specs.Left.{IsFrontOf};
+ghost use Rattle.disk.specs.Told.{on_disk};
+ghost use Rattle.kept_log.specs.Kept.{is_full, kept_of, committing, end_after, with_round, HasLog, Waits};
+ghost use Rattle.kept_log.specs.Opening.{IsOpened, HasStopped};
+ghost use Rattle.std.specs.Prelude.{◌++◌};
+
+use crate::block::MOST_BODY;
+use crate::opening::{OpenEnd, open_file};
+use crate::reading::BEYOND;
+use disk::Disk;
+use ft_io::NoMemory;
+use journal::{Journal, KeepEnd};
+use logger_store::{LogStore, MsgOut};
+use logger_wire::Msg;
+use std::alloc::Global;
+use std::marker::Model;
+
+/// The longest message, in bytes.
+const LONGEST: usize = 1_491;
+
+/// A log, and the round of messages that have changed it and aren't in its journal yet. The journal's file is the caller's, who passes the same one to each call.
+#[derive(Drop)]
+pub struct KeptLog {
+    store: LogStore,
+    journal: Journal,
+    /// In room that is made once.
+    round: Vec<u8>,
+}
+
+impl Model for KeptLog {
+    ghost use Rattle.std.specs.Prelude.{◌≤◌, length, vec_capacity};
+    ghost use Rattle.kept_log.specs.Kept.{KeptState};
+
+    ghost Value = { KeptState };
+
+    ghost view = { λ k. record { log = k.store; end = k.journal.end; round = k.round.items } };
+
+    ghost invariant = { λ k. (length k.round.items ≤ 381696) × (381696 ≤ vec_capacity k.round) };
+}
+
+impl KeptLog {
+    /// Opens the journal in a file that was opened just now, and takes what it has into a log. A file of at most 8 bytes that is a front of the magic is made
+    /// a journal; what a death has left behind the closed gate is cut off. A file that is damaged stays as it is.
+    pub fn open<D: Disk>(alloc: Global, disk: &mut D) -> Result<KeptLog, OpenEnd>
+        ensures opened { IfOk result (λ k. IsOpened (D.left disk.old) (D.told disk.old) (D.told disk.new) k.end k.log) }
+        ensures none_waits { IfOk result (λ k. k.round ≡ []) }
+        ensures stopped { IfErr result (HasStopped (D.left disk.old) (D.told disk.old) (D.told disk.new)) }
+        ensures cause { IsErrOf result OpenEnd.Failed → Rose (D.fault_count disk.old) (D.fault_count disk.new) }
+        ensures never_falls { D.fault_count disk.old ≤ D.fault_count disk.new }
+        ensures beside { D.beside disk.new ≡ D.beside disk.old }
+    {
+        let mut store = LogStore::new(alloc);
+        let round = Vec::with_capacity(alloc, MOST_BODY).map_err(|_| OpenEnd::NoMemory)?;
+        let end = open_file(alloc, disk, &mut store)?;
+        Ok(KeptLog {
+            store,
+            journal: Journal { end },
+            round,
+        })
+    }
+
+    /// The log, with what waits.
+    pub fn log(&self) -> &LogStore
+        ensures { result.now ≡ self.now.log }
+    {
+        &self.store
+    }
+
+    /// The place of the closed gate: how long the file is once nothing waits.
+    pub fn end(&self) -> u64
+        ensures { result ≡ self.now.end }
+    {
+        self.journal.end
+    }
+
+    /// Whether the round has no room for another message: it has for 256 of the longest.
+    pub fn is_full(&self) -> bool
+        ensures { result ≡ is_full self.now }
+    {
+        self.round.len() > MOST_BODY - LONGEST
+    }
+
+    /// Takes a message with its bytes, and puts the answer to it, or nothing, in the place of what `out` held. Where it changes the log it joins the round that
+    /// waits. The answer may be sent once the round is committed, and not before. It wants memory where `LogStore::answer` does.
+    pub fn take(
+        &mut self,
+        alloc: Global,
+        bytes: &[u8],
+        m: &Msg<'_>,
+        out: &mut MsgOut,
+    ) -> Result<(), NoMemory>
+        requires sendable { IsSendable m.now }
+        requires read { reading bytes.now ≡ Ok (message_of m.now) }
+        requires room { is_full self.old ≡ false }
+        ensures next { OnOk result (self.new.log ≡ log_after self.old.log (message_of m.now)) }
+        ensures answer { OnOk result (out.new ≡ answer_bytes (answer_to self.old.log (message_of m.now))) }
+        ensures round { OnOk result (self.new.round ≡ self.old.round ++ kept_of self.old.log (message_of m.now) bytes.now) }
+        ensures end { self.new.end ≡ self.old.end }
+        // What waits has all changes of the log.
+        ensures waits { OnOk result ((before : Log) → Waits before self.old.round self.old.log → Waits before self.new.round self.new.log) }
+        ensures refused { OnErr result (self.new ≡ self.old) }
+        ensures empty { OnErr result (out.new ≡ []) }
+        ensures memory { wants_memory self.old.log (message_of m.now) ≡ false → IsOk result }
+    {
+        let changes = self.store.changes(m);
+        self.store.answer(alloc, m, out)?;
+        if changes {
+            self.round.extend_from_slice(bytes).unwrap();
+        }
+        Ok(())
+    }
+
+    /// Keeps the round that waits as a block of the journal. At `Ok` nothing waits any more, and every death from then on leaves a file that has the log. After an
+    /// error the log may only be dropped, and its file be opened again.
+    pub fn commit<D: Disk>(&mut self, alloc: Global, disk: &mut D) -> Result<(), KeepEnd>
+        ensures kept { OnOk result (Tells (D.told disk.old) (D.told disk.new) (on_disk (committing self.old.end self.old.round))) }
+        ensures round { OnOk result (self.new.round ≡ []) }
+        ensures log { self.new.log ≡ self.old.log }
+        ensures end { OnOk result (self.new.end ≡ end_after self.old.end self.old.round) }
+        // The blocks with the round have the log.
+        ensures has_log { OnOk result ((bodies : List (List ℕ)) (before : Log) → HasLog bodies self.old.end before → Waits before self.old.round self.old.log
+            → HasLog (with_round bodies self.old.round) self.new.end self.new.log) }
+        ensures stopped { OnErr result ((done : List DiskCall) × IsFrontOf (committing self.old.end self.old.round) done
+            × Tells (D.told disk.old) (D.told disk.new) (on_disk done)) }
+        ensures cause { IsErrOf result KeepEnd.Failed → Rose (D.fault_count disk.old) (D.fault_count disk.new) }
+        ensures never_falls { D.fault_count disk.old ≤ D.fault_count disk.new }
+        ensures beside { D.beside disk.new ≡ D.beside disk.old }
+    {
+        if self.round.is_empty() {
+            return Ok(());
+        }
+        if self.journal.end > BEYOND {
+            return Err(KeepEnd::NoMemory);
+        }
+        self.journal.keep(alloc, disk, &self.round)?;
+        self.round.clear();
+        Ok(())
+    }
+}

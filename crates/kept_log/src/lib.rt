@@ -1,0 +1,15 @@
+//! The log of FT-TCP in a journal's file: each change of it is on the disk before it is answered. What changes the log waits in a round, and a commit keeps the
+//! round as one block, so that a round of any number of messages costs two syncs. A logger that has died opens its file again, and has all that was ever told.
+#![tactic(auto)]
+
+pub use kept::KeptLog;
+pub use opening::OpenEnd;
+
+mod block;
+mod body;
+mod kept;
+pub mod laws;
+mod magic;
+mod opening;
+mod reading;
+mod window;

@@ -1,0 +1,32 @@
+//! What a journal's file begins with.
+
+ghost use Rattle.kept_log.specs.Reading.{HasMagic};
+
+pub const MAGIC: &[u8] = b"ftlog 1\n";
+
+/// What the bytes at a file's front are. They are all of it, or more than the magic has.
+#[derive(Clone, Copy, Debug, PartialEq, Eq)]
+pub enum Magic {
+    /// A front of the magic, or the magic alone.
+    Part,
+    /// The magic, and more.
+    Whole,
+    /// Neither.
+    Missing,
+}
+
+pub fn magic_of(bytes: &[u8]) -> Magic
+    ensures { HasMagic bytes.now result }
+{
+    if bytes.len() <= MAGIC.len() {
+        if MAGIC.starts_with(bytes) {
+            Magic::Part
+        } else {
+            Magic::Missing
+        }
+    } else if bytes.starts_with(MAGIC) {
+        Magic::Whole
+    } else {
+        Magic::Missing
+    }
+}
