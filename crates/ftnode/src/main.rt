@@ -1,9 +1,11 @@
-//! `ftnode`: a server, a logger or a client of FT-TCP as a process over UDP, or a pair of servers beside a logger and a client, each a process of its own. All
-//! is done by `node`; here are the words, the socket, the standard input, the standard output, the standard error, and the processes.
+//! `ftnode`: a server, a logger or a client of FT-TCP as a process over UDP, or a pair of servers with a logger and a client, each a process of its own. A logger
+//! may keep its log in a journal file. All is done by `node_with`; here are the words, the sockets, the file, the standard input, the standard output, the
+//! standard error, and the processes.
 #![tactic(auto)]
 
+use disk::HostDesk;
 use ft_io::{ProcessSpawner, ReadSource, UdpLink, WriteSink};
-use node_link::node;
+use journal_link::node_with;
 use std::process::ExitCode;
 use std::{env, io};
 
@@ -14,7 +16,8 @@ fn main(rt: HostRuntime) -> io::Result<ExitCode> {
     let mut out = WriteSink::new(rt.stdout());
     let mut err = WriteSink::new(rt.stderr());
     let mut kids = ProcessSpawner::new(&rt, rt.alloc());
-    let status = node(
+    let mut desk = HostDesk::new(&rt);
+    let status = node_with(
         rt.alloc(),
         &words,
         &mut link,
@@ -22,6 +25,7 @@ fn main(rt: HostRuntime) -> io::Result<ExitCode> {
         &mut out,
         &mut err,
         &mut kids,
+        &mut desk,
     );
     Ok(ExitCode::from(status.code))
 }

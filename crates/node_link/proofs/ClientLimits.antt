@@ -15,9 +15,9 @@ use Rattle.tcp_endpoint.specs.declared.states.StateName.{StateName}
 use Rattle.tcp_endpoint.specs.declared.states.StateName.TheVariants.{Closed, Listen, SynSent, SynReceived, Established, FinWait1, FinWait2, CloseWait, Closing, LastAck, TimeWait}
 use Rattle.tcp_endpoint.specs.States.{has_begun}
 use Rattle.tcp_endpoint.specs.Receiving.{Receiving, taken, next, receive_edge, came, with_came, with_segment}
-use Rattle.tcp_endpoint.specs.Sending.{Sending, IsShort, with_syn_acked, acknowledged, moves_edge, sendable, expires, timed, with_sent, with_fin_sent}
+use Rattle.tcp_endpoint.specs.Sending.{Sending, IsShort, with_syn_acked, acknowledged, is_duplicate, duplicated, answered_by, moves_edge, send_edge, sendable, expires, timed, with_sent, with_fin_sent}
 use Rattle.tcp_endpoint.specs.Tcb.{Tcb, listening, connecting}
-use Rattle.tcp_endpoint.specs.Arrival.{ack_at, first, owing_if, killed, received, received_in, in_closed, in_listen, begun, refusing, refusing_without_ack, answered, in_syn_sent, in_others, check_place, waiting_again, check_rst, check_syn, check_ack, with_ack, with_first_ack, with_fin_acked, with_text_and_fin}
+use Rattle.tcp_endpoint.specs.Arrival.{ack_at, first, owing_if, killed, received, received_in, in_closed, in_listen, begun, refusing, refusing_without_ack, answered, in_syn_sent, in_others, check_place, waiting_again, check_rst, check_syn, check_ack, is_bare, with_ack_used, with_ack, with_first_ack, with_fin_acked, with_text_and_fin}
 use Rattle.tcp_endpoint.specs.Leaving.{probes_text, probes_fin, with_probe, with_text_sent, new_fin, with_fin_out, after_full, announced, is_timed, with_turn_ended, flushed}
 use Rattle.tcp_endpoint.specs.Turning.{after_tick, timer_ticked, waited, after_read, after_write, closing, write_room}
 use Rattle.endpoint_laws.proofs.Bounding.{text_facts, new_within}
@@ -54,6 +54,15 @@ module _ (isn written read : ℕ) where
         queued = h.queued;
         behind = h.behind;
       }
+
+  -- a duplicate changes congestion control alone
+  answered_within : (s : Sending) (r : Receiving) (bare : Bool) (seq : ℕ) (z : ℤ) (edge : ℕ) → HasLimits isn written read s r
+      → HasLimits isn written read (answered_by s bare seq z edge) r
+  unfolding answered_by
+  answered_within s r bare seq z edge h =
+      let good : HasLimits isn written read (acknowledged s seq z edge) r = acknowledged_within s r seq z edge h in
+      let limits : Sending → Type 0 = λ x. HasLimits isn written read x r in
+      holds_either_way limits (is_duplicate s bare z edge) (duplicated (acknowledged s seq z edge)) (acknowledged s seq z edge) good good
 
   opened_within : (s : Sending) (r : Receiving) (seq edge : ℕ) → HasLimits isn written read s r → HasLimits isn written read (with_syn_acked s seq edge) r
   opened_within s r seq edge h = record {
@@ -125,10 +134,11 @@ module _ (isn written read : ℕ) (p : Segment) where
       holds_either_way Good _ _ _ (text_limited _ (opened_within isn written read e.sending e.receiving p.head.seq p.head.window h)) h
 
   ack_limited : (e : Tcb) → Good e → Good (with_ack e p)
-  unfolding with_ack
+  unfolding with_ack with_ack_used
   ack_limited e h =
       holds_either_way Good _ _ _ h
-      (text_limited _ (fin_acked_limited _ (acknowledged_within isn written read e.sending e.receiving p.head.seq (ack_at e p) p.head.window h)))
+      (text_limited _ (fin_acked_limited (with_ack_used e p)
+      (answered_within isn written read e.sending e.receiving (is_bare p) p.head.seq (ack_at e p) p.head.window h)))
 
   check_ack_limited : (e : Tcb) → Good e → Good (check_ack e p)
   unfolding check_ack
@@ -282,7 +292,7 @@ module _ (isn written read : ℕ) where
       let sent_by : ℕ → Type 0 = λ k. HasLimits isn written read (with_sent s k) e.receiving in
       holds_either_way sent_by (has_begun e.name) (sendable s) 0
       (sent_more isn written read s e.receiving (sendable s)
-      (sendable_within s.syn_acked s.fin_sent s.una (length s.held) s.edge s.sent _ h.held_within h.sent_within) h)
+      (sendable_within s.syn_acked s.fin_sent s.una (length s.held) (send_edge s) s.sent _ h.held_within h.sent_within) h)
       (sent_more isn written read s e.receiving 0 (omega (arith, h.sent_within)) h)
 
   fin_out_limited : (e : Tcb) → IsWithin isn written read e → IsWithin isn written read (with_fin_out e)
@@ -292,7 +302,7 @@ module _ (isn written read : ℕ) where
       let limits : Sending → Type 0 = λ x. HasLimits isn written read x e.receiving in
       holds_if limits (new_fin e) _ _
       (λ k. fin_more isn written read s e.receiving
-      (fin_is_new (has_begun e.name) s.syn_acked s.closed s.fin_sent (s.sent == s.una + length s.held) (nat_lt s.sent s.edge) k) h)
+      (fin_is_new (has_begun e.name) s.syn_acked s.closed s.fin_sent (s.sent == s.una + length s.held) (nat_lt s.sent (send_edge s)) k) h)
       (λ k. h)
 
   timed_limited : (s : Sending) (r : Receiving) (runs : Bool) → HasLimits isn written read s r → HasLimits isn written read (timed runs s) r

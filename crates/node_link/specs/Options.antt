@@ -6,7 +6,7 @@ use Rattle.clap.specs.Lexer.{long_of, short_of}
 use Rattle.clap.specs.Matches.{found_of, first_value}
 use Rattle.clap.specs.declared.parser.matches.ArgMatches.{ArgMatches}
 use Rattle.node_link.specs.declared.options.OptionName.{OptionName}
-use Rattle.node_link.specs.declared.options.OptionName.TheVariants.{Local, Logger, Server, Service, Boot, Isn, Turns, Script, Program, Base, First, Second}
+use Rattle.node_link.specs.declared.options.OptionName.TheVariants.{Local, Logger, Server, Service, Boot, Isn, Turns, Script, Program, Base, First, Second, Journal}
 
 abbrev pub Text : Type 0
 Text = List ℕ
@@ -29,6 +29,7 @@ name_of Program = codes "program"
 name_of Base = codes "base"
 name_of First = codes "first"
 name_of Second = codes "second"
+name_of Journal = codes "journal"
 
 -- an option that its role can't do without
 abbrev pub is_required : OptionName → Bool

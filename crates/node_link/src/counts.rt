@@ -30,7 +30,7 @@ pub struct Counts {
 
 impl Counts {
     /// No calls.
-    pub(crate) fn new() -> Counts
+    pub fn new() -> Counts
         ensures { result ≡ no_calls }
     {
         Counts {
@@ -43,7 +43,7 @@ impl Counts {
     }
 
     /// Counts a receive.
-    pub(crate) fn note_received(&mut self, heard: &Result<Heard, Failed>)
+    pub fn note_received(&mut self, heard: &Result<Heard, Failed>)
         requires { HasRoom 1 self.old }
         ensures { (buffer : List ℕ) → self.new ≡ with_calls self.old (recv_told heard.now buffer) }
     {
@@ -56,7 +56,7 @@ impl Counts {
     }
 
     /// Counts a send.
-    pub(crate) fn note_sent(&mut self, sent: &Result<(), Failed>)
+    pub fn note_sent(&mut self, sent: &Result<(), Failed>)
         requires { HasRoom 1 self.old }
         ensures { (to : Addr) (bytes : List ℕ) → self.new ≡ with_calls self.old (send_told to bytes sent.now) }
     {
@@ -93,11 +93,7 @@ fn line_of(alloc: Global, counts: &Counts) -> Result<Vec<u8>, NoMemory>
 }
 
 /// Writes the line that tells the counts.
-pub(crate) fn tell_counts<O: Sink>(
-    alloc: Global,
-    counts: &Counts,
-    out: &mut O,
-) -> Result<(), NodeEnd>
+pub fn tell_counts<O: Sink>(alloc: Global, counts: &Counts, out: &mut O) -> Result<(), NodeEnd>
     ensures written { OnOk result (Appends (O.taken out.old) (O.taken out.new) (count_line counts.now)) }
     ensures stops { IfErr result (TellStops (count_line counts.now) (O.taken out.old) (O.taken out.new)) }
     ensures cause { IsErrOf result NodeEnd.WriteFault → Rose (O.fault_count out.old) (O.fault_count out.new) }

@@ -3,10 +3,12 @@
 //! its logger.
 #![tactic(auto)]
 
-pub use counts::Counts;
+pub use counts::{Counts, tell_counts};
+pub use options::{OptionName, read_options};
 pub use program::Program;
-pub use role::{ClientRole, LoggerRole, PairRole, Role, ServerRole, read_role};
+pub use role::{ClientRole, LoggerRole, PairRole, Role, ServerRole, logger_role, read_role};
 pub use status::{NodeEnd, Status};
+pub use telling::tell;
 pub use top::{node, node_of};
 
 mod client;

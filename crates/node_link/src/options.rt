@@ -16,7 +16,7 @@ use std::alloc::{AllocError, Global};
 
 /// An option of a role.
 #[derive(Clone, Copy, Debug, PartialEq, Eq)]
-pub(crate) enum OptionName {
+pub enum OptionName {
     Local,
     Logger,
     Server,
@@ -29,11 +29,13 @@ pub(crate) enum OptionName {
     Base,
     First,
     Second,
+    /// Of no role of `node`: the file in which a logger keeps its log.
+    Journal,
 }
 
 impl OptionName {
     /// Its name, without the hyphens.
-    pub(crate) fn word<'a>(self) -> &'a str
+    pub fn word<'a>(self) -> &'a str
         ensures { result.now ≡ name_of self }
     {
         match self {
@@ -49,6 +51,7 @@ impl OptionName {
             OptionName::Base => "base",
             OptionName::First => "first",
             OptionName::Second => "second",
+            OptionName::Journal => "journal",
         }
     }
 
@@ -103,7 +106,7 @@ fn has_stray(words: &[String]) -> bool
 }
 
 /// The values of these options as the words give them, or none where the words aren't allowed.
-pub(crate) fn read_options<'a>(
+pub fn read_options<'a>(
     alloc: Global,
     options: &[OptionName],
     words: &'a [String],

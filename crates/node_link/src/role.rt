@@ -212,7 +212,8 @@ fn server_role(matches: &ArgMatches<'_>) -> Option<ServerRole>
     server_with(matches, Some(service))
 }
 
-fn logger_role(matches: &ArgMatches<'_>) -> Option<LoggerRole>
+/// The role of a logger, by the values of its options.
+pub fn logger_role(matches: &ArgMatches<'_>) -> Option<LoggerRole>
     ensures range { IfSome result (λ role. role.turns ≤ 1000000) }
     ensures value { (uses : List Use) → HasValues uses matches.now → result ≡ logger_in uses }
 {

@@ -58,7 +58,7 @@ fn code(end: NodeEnd) -> u8
 }
 
 /// Writes the line of an end, and gives its status: 5 where that write failed.
-pub(crate) fn tell<E: Sink>(err: &mut E, end: NodeEnd) -> Status
+pub fn tell<E: Sink>(err: &mut E, end: NodeEnd) -> Status
     ensures told { TellsEnd end (E.taken err.old) (E.taken err.new) (E.fault_count err.old) (E.fault_count err.new) result.code }
 {
     match write_end(err, end) {

@@ -1,0 +1,352 @@
+-- What a death at a moment leaves: in the course of a round, behind others, and of a whole life.
+use Rattle.std.proofs.Common.{◌≡◌, ◌∙◌, ◌⊎◌, inl, inr, ℕ, ◌≤◌, refl, sym, ap, ap₂, subst, Option, None, Some, List, [], ◌∷◌, ◌++◌, length, map, append_assoc, append-nil, arith, Bool}
+use Rattle.std.proofs.lemmas.List.{map-append}
+use Rattle.std.specs.List.{AllByRecursion}
+use Rattle.ft_io.specs.declared.Addr.{Addr}
+use Rattle.ft_io.specs.declared.link_call.LinkCall.{LinkCall}
+use Rattle.ft_io.specs.declared.link_call.LinkCall.TheVariants.{Bound}
+use Rattle.seq_arith.specs.Message.{Message}
+use Rattle.seq_arith.specs.MessageGrammar.{reading, spelling}
+use Rattle.ft_model.specs.Log.{Log}
+use Rattle.logger_deaths.specs.Kept.{log_after_all}
+use Rattle.disk.specs.Left.{IsFrontOf, LeftBy}
+use Rattle.disk.specs.Told.{on_link, on_disk, disk_calls}
+use Rattle.disk.specs.declared.calls.DiskCall.{DiskCall}
+use Rattle.disk.specs.declared.calls.DeskCall.{DeskCall}
+use Rattle.disk.specs.declared.calls.DeskCall.TheVariants.{OnLink}
+use Rattle.disk.proofs.Telling.{disk_calls_of_disk}
+use Rattle.journal.specs.Format.{front, Stands, seen_by}
+use Rattle.journal.proofs.Deaths.{before_or_after, mended}
+use Rattle.kept_log.specs.Kept.{committing, end_after, with_round, HasLog}
+use Rattle.kept_log.specs.Opening.{Finds, IsWhole, cutting}
+use Rattle.node_link.specs.LoggerTurns.{handing, answer_for, answering}
+use Rattle.node_link.specs.Received.{Received, datagram, silence, failure, received_as}
+use Rattle.journal_link.specs.Rounds.{Place, Round, IsRound, received_in, log_behind, receives, changes_in, answers_in, round_calls, place_after, calls_of}
+use Rattle.journal_laws.specs.Moments.{IsFront, messages_in, handed_in, answers_to, ComesBack, Outlives}
+use Rattle.journal_laws.proofs.Fronts.{Within, within, link_front, one_front, disk_front}
+use Rattle.journal_laws.proofs.Reading.{finds_one}
+use Rattle.journal_laws.proofs.Resting.{Rests, left_on, committed, has_round, rests_on, opened_rests}
+use Rattle.journal_laws.proofs.Saying.{messages-append, handed-append, disk_calls-append, messages_of_disk, handed_of_disk, disk_calls_of_link, log-append, answers-append, said_by, said_last, said_more, log_said, handed_all}
+
+outlives : (before log : Log) (calls : List DeskCall) (left : List ℕ) (bodies : List (List ℕ)) (end : ℕ) → Stands bodies left → HasLog bodies end log → ComesBack before log calls
+    → Outlives before calls left
+outlives before log calls left bodies end stands has back = record {
+  bodies = bodies;
+  end = end;
+  log = log;
+  stands = stands;
+  has_log = has;
+  comes_back = back;
+  only = λ others opening at next finds k. finds_one left bodies others opening end at log next stands has finds k;
+}
+
+-- nothing of these calls is answered, and the log is as before
+unchanged : (log : Log) (calls : List DeskCall) → handed_in calls ≡ [] → ComesBack log log calls
+unchanged log calls none = record { answered = []; kept = []; lost = messages_in calls; received = refl; handed = none; after_is = refl }
+
+-- what a round received hands on nothing
+append_none : {A : Type 0} (xs ys : List A) → xs ++ ys ≡ [] → xs ≡ []
+append_none [] ys none = refl
+append_none (x ∷ xs) ys none = cc
+
+none_handed : (received : List Received) → handed_in (on_link (receives received)) ≡ []
+none_handed [] = refl
+none_handed (last ∷ earlier) =
+    ap handed_in (map-append OnLink (receives earlier) (received_as last ∷ [])) ∙ (handed-append (on_link (receives earlier)) (OnLink (received_as last) ∷ [])
+    ∙ ap₂ (λ a b. a ++ b) (none_handed earlier) (none last))
+  where
+    none : (r : Received) → handed_in (OnLink (received_as r) ∷ []) ≡ []
+    none (datagram from bytes) = refl
+    none silence = refl
+    none failure = refl
+
+first_handed : (received : List Received) (first others : List LinkCall) → receives received ≡ first ++ others → handed_in (on_link first) ≡ []
+first_handed received first others is =
+    append_none (handed_in (on_link first)) (handed_in (on_link others))
+    (sym (handed-append (on_link first) (on_link others)) ∙ (ap handed_in (sym (map-append OnLink first others)) ∙ (ap (λ l. handed_in (on_link l)) (sym is) ∙ none_handed received)))
+
+-- how far the answers have come
+record Answered (log : Log) (messages : List Message) (calls : List DeskCall) : Type 0 where
+  answered : List Message
+  kept : List Message
+  all_are : messages ≡ answered ++ kept
+  handed : handed_in calls ≡ map spelling (answers_to log answered)
+
+one_handing : (to : Addr) (is_lost : Bool) (answer : Option Message) → length (handing to is_lost answer) ≤ 1
+one_handing to is_lost None = omega arith
+one_handing to is_lost (Some m) = omega arith
+
+one_answer : (log : Log) (is_lost : Bool) (r : Received) → length (answering log is_lost r) ≤ 1
+one_answer log is_lost (datagram from bytes) = one_handing from is_lost (answer_for log (reading bytes))
+one_answer log is_lost silence = omega arith
+one_answer log is_lost failure = omega arith
+
+answered : (log : Log) (round : Round) (done : List DeskCall) → IsFront (on_link (answers_in log round)) done → Answered log (said_by (received_in round)) done
+answered log [] [] f = record { answered = []; kept = []; all_are = refl; handed = refl }
+answered log [] (call ∷ done) f = absurd f
+answered log (last ∷ earlier) done f =
+    by (within (on_link (answers_in log earlier)) (on_link this) done (subst (λ l. IsFront l done) (map-append OnLink (answers_in log earlier) this) f)) (λ g. answered log earlier done g)
+  where
+    this : List LinkCall
+    this = answering (log_behind log (received_in earlier)) last.is_lost last.received
+
+    more : said_by (received_in (last ∷ earlier)) ≡ said_by (received_in earlier) ++ said_last last.received
+    more = said_more last.received (received_in earlier)
+
+    by : Within (on_link (answers_in log earlier)) (on_link (answering (log_behind log (received_in earlier)) last.is_lost last.received)) done
+        → (IsFront (on_link (answers_in log earlier)) done → Answered log (said_by (received_in earlier)) done) → Answered log (said_by (received_in (last ∷ earlier))) done
+    by (inl g) so_far =
+        let a = so_far g in
+        record {
+          answered = a.answered;
+          kept = a.kept ++ said_last last.received;
+          all_are = more ∙ (ap (λ l. l ++ said_last last.received) a.all_are ∙ append_assoc a.answered a.kept (said_last last.received));
+          handed = a.handed;
+        }
+    by (inr (rest, is, g)) so_far =
+        elim (one_front (answering (log_behind log (received_in earlier)) last.is_lost last.received) rest (one_answer (log_behind log (received_in earlier)) last.is_lost last.received) g)
+        as (λ _. Answered log (said_by (received_in (last ∷ earlier))) done) [
+          | inl none ↦ record {
+            answered = said_by (received_in earlier);
+            kept = said_last last.received;
+            all_are = more;
+            handed = ap handed_in (is ∙ (ap (λ l. on_link (answers_in log earlier) ++ l) none ∙ append-nil (on_link (answers_in log earlier)))) ∙ handed_all log earlier;
+          }
+          | inr all ↦ record {
+            answered = said_by (received_in (last ∷ earlier));
+            kept = [];
+            all_are = sym (append-nil (said_by (received_in (last ∷ earlier))));
+            handed = ap handed_in (is ∙ (ap (λ l. on_link (answers_in log earlier) ++ l) all
+                ∙ sym (map-append OnLink (answers_in log earlier) (answering (log_behind log (received_in earlier)) last.is_lost last.received)))) ∙ handed_all log (last ∷ earlier);
+          }
+        ]
+
+-- answers receive nothing
+no_messages : (log : Log) (round : Round) (done : List DeskCall) → IsFront (on_link (answers_in log round)) done → messages_in done ≡ []
+no_messages log round done f =
+    let first = link_front (answers_in log round) done f in
+    ap messages_in first.done_is
+    ∙ append_none (messages_in (on_link first.first)) (messages_in (on_link first.others))
+    (sym (messages-append (on_link first.first) (on_link first.others)) ∙ (ap messages_in (sym (map-append OnLink first.first first.others))
+    ∙ (ap (λ l. messages_in (on_link l)) (sym first.all_are) ∙ none_said log round)))
+  where
+    none_handing : (to : Addr) (is_lost : Bool) (answer : Option Message) → messages_in (on_link (handing to is_lost answer)) ≡ []
+    none_handing to is_lost None = refl
+    none_handing to is_lost (Some m) = refl
+
+    none_answer : (log : Log) (is_lost : Bool) (r : Received) → messages_in (on_link (answering log is_lost r)) ≡ []
+    none_answer log is_lost (datagram from bytes) = none_handing from is_lost (answer_for log (reading bytes))
+    none_answer log is_lost silence = refl
+    none_answer log is_lost failure = refl
+
+    none_said : (log : Log) (round : Round) → messages_in (on_link (answers_in log round)) ≡ []
+    none_said log [] = refl
+    none_said log (last ∷ earlier) =
+        let this = answering (log_behind log (received_in earlier)) last.is_lost last.received in
+        ap messages_in (map-append OnLink (answers_in log earlier) this) ∙ (messages-append (on_link (answers_in log earlier)) (on_link this)
+        ∙ ap₂ (λ a b. a ++ b) (none_said log earlier) (none_answer (log_behind log (received_in earlier)) last.is_lost last.received))
+
+-- in the course of a round
+module _ (file : List ℕ) (Held : List ℕ → Type 0) (at : Place) (round : Round) (left : List ℕ) (r : Rests file Held at) (is_round : IsRound (received_in round)) where
+  abbrev body : List ℕ
+  body = changes_in at.log (received_in round)
+
+  abbrev came : List DeskCall
+  came = on_link (receives (received_in round))
+
+  abbrev after : Log
+  after = log_behind at.log (received_in round)
+
+  -- the file is as it was before the round
+  as_before : (done : List DeskCall) → handed_in done ≡ [] → Stands r.bodies left → Outlives at.log done left
+  as_before done none stands = outlives at.log at.log done left r.bodies at.end stands r.has_log (unchanged at.log done none)
+
+  held : Held left → Stands r.bodies left
+  held h = ([], r.rest.1 left h ∙ r.rest.0)
+
+  -- the file has the round
+  with_it : (done : List DeskCall) (a k : List Message) → messages_in done ≡ said_by (received_in round) → said_by (received_in round) ≡ a ++ k → handed_in done ≡ map spelling (answers_to at.log a)
+      → Stands (with_round r.bodies body) left → Outlives at.log done left
+  with_it done a k said all handed stands =
+      outlives at.log after done left (with_round r.bodies body) (end_after at.end body) stands (has_round r.bodies at.end at.log (received_in round) is_round r.has_log) (record {
+        answered = a;
+        kept = k;
+        lost = [];
+        received = said ∙ (all ∙ ap (λ l. a ++ l) (sym (append-nil k)));
+        handed = handed;
+        after_is = log_said at.log (received_in round) ∙ ap (log_after_all at.log) all;
+      })
+
+  -- the commit has come so far
+  committing_so_far : (body : List ℕ) (some : List DiskCall) → IsFrontOf (committing at.end body) some → LeftBy file Held some left
+      → Stands r.bodies left ⊎ Stands (with_round r.bodies body) left
+  committing_so_far [] [] f l = inl (held l)
+  committing_so_far [] (call ∷ some) f l = absurd f
+  committing_so_far (byte ∷ more) some f l =
+      before_or_after file Held r.bodies (byte ∷ more) r.rest some left (subst (λ n. IsFrontOf (committing n (byte ∷ more)) some) r.has_log.end_is f) l
+
+  in_commit : (done : List DeskCall) (some : List DiskCall) → done ≡ came ++ on_disk some → IsFrontOf (committing at.end body) some → LeftBy file Held (disk_calls done) left
+      → Outlives at.log done left
+  in_commit done some is f l =
+      let calls : disk_calls done ≡ some = ap disk_calls is ∙ (disk_calls-append came (on_disk some) ∙ ap₂ (λ a b. a ++ b) (disk_calls_of_link (receives (received_in round))) (disk_calls_of_disk some)) in
+      let said : messages_in done ≡ said_by (received_in round) =
+      ap messages_in is ∙ (messages-append came (on_disk some) ∙ (ap (λ b. said_by (received_in round) ++ b) (messages_of_disk some) ∙ append-nil (said_by (received_in round)))) in
+      let none : handed_in done ≡ [] =
+      ap handed_in is ∙ (handed-append came (on_disk some) ∙ ap₂ (λ a b. a ++ b) (none_handed (received_in round)) (handed_of_disk some)) in
+      elim (committing_so_far body some f (subst (λ c. LeftBy file Held c left) calls l)) as (λ _. Outlives at.log done left) [
+        | inl stands ↦ as_before done none stands
+        | inr stands ↦ with_it done [] (said_by (received_in round)) said refl none stands
+      ]
+
+  in_answers : (done rest : List DeskCall) → done ≡ came ++ (on_disk (committing at.end body) ++ rest) → IsFront (on_link (answers_in at.log round)) rest → LeftBy file Held (disk_calls done) left
+      → Outlives at.log done left
+  in_answers done rest is f l =
+      let first = link_front (answers_in at.log round) rest f in
+      let no_calls : disk_calls rest ≡ [] = ap disk_calls first.done_is ∙ disk_calls_of_link first.first in
+      let calls : disk_calls done ≡ committing at.end body =
+      ap disk_calls is ∙ (disk_calls-append came (on_disk (committing at.end body) ++ rest) ∙ ap₂ (λ a b. a ++ b) (disk_calls_of_link (receives (received_in round)))
+      (disk_calls-append (on_disk (committing at.end body)) rest ∙ (ap₂ (λ a b. a ++ b) (disk_calls_of_disk (committing at.end body)) no_calls ∙ append-nil (committing at.end body)))) in
+      let a = answered at.log round rest f in
+      let none_said : messages_in rest ≡ [] = no_messages at.log round rest f in
+      let said : messages_in done ≡ said_by (received_in round) =
+      ap messages_in is ∙ (messages-append came (on_disk (committing at.end body) ++ rest) ∙ (ap (λ b. said_by (received_in round) ++ b)
+      (messages-append (on_disk (committing at.end body)) rest ∙ ap₂ (λ x y. x ++ y) (messages_of_disk (committing at.end body)) none_said) ∙ append-nil (said_by (received_in round)))) in
+      let handed : handed_in done ≡ map spelling (answers_to at.log a.answered) =
+      ap handed_in is ∙ (handed-append came (on_disk (committing at.end body) ++ rest) ∙ (ap₂ (λ x y. x ++ y) (none_handed (received_in round))
+      (handed-append (on_disk (committing at.end body)) rest ∙ ap (λ x. x ++ handed_in rest) (handed_of_disk (committing at.end body))) ∙ a.handed)) in
+      let rests = committed file Held r.bodies at.end body r.has_log.end_is r.rest in
+      let kept = subst (λ c. LeftBy file Held c left) calls l in
+      with_it done a.answered a.kept said a.all_are handed ([], rests.1 left kept ∙ rests.0)
+
+  pub in_round : (done : List DeskCall) → IsFront (round_calls at round) done → LeftBy file Held (disk_calls done) left → Outlives at.log done left
+  in_round done f l =
+      elim (within came (on_disk (committing at.end body) ++ on_link (answers_in at.log round)) done f) as (λ _. Outlives at.log done left) [
+        | inl g ↦
+            let first = link_front (receives (received_in round)) done g in
+            let none : handed_in done ≡ [] = ap handed_in first.done_is ∙ first_handed (received_in round) first.first first.others first.all_are in
+            let calls : disk_calls done ≡ [] = ap disk_calls first.done_is ∙ disk_calls_of_link first.first in
+            as_before done none (held (subst (λ c. LeftBy file Held c left) calls l))
+        | inr behind ↦
+            elim (within (on_disk (committing at.end body)) (on_link (answers_in at.log round)) behind.0 behind.2) as (λ _. Outlives at.log done left) [
+              | inl g ↦
+                  let some = disk_front (committing at.end body) behind.0 g in
+                  in_commit done some.0 (behind.1 ∙ ap (λ l. came ++ l) some.1) some.2 l
+              | inr last ↦ in_answers done last.0 (behind.1 ∙ ap (λ l. came ++ l) last.1) last.2 l
+            ]
+      ]
+
+-- what whole rounds received, and what they handed on
+record Tells (before after : Log) (calls : List DeskCall) : Type 0 where
+  log_is : after ≡ log_after_all before (messages_in calls)
+  handed : handed_in calls ≡ map spelling (answers_to before (messages_in calls))
+
+round_said : (at : Place) (round : Round) → messages_in (round_calls at round) ≡ said_by (received_in round)
+round_said at round =
+    let calls = committing at.end (changes_in at.log (received_in round)) in
+    messages-append (on_link (receives (received_in round))) (on_disk calls ++ on_link (answers_in at.log round))
+    ∙ (ap (λ b. said_by (received_in round) ++ b) (messages-append (on_disk calls) (on_link (answers_in at.log round))
+    ∙ ap₂ (λ x y. x ++ y) (messages_of_disk calls) (no_messages at.log round (on_link (answers_in at.log round)) (whole_front (answers_in at.log round)))) ∙ append-nil (said_by (received_in round)))
+  where
+    whole_front : (calls : List LinkCall) → IsFront (on_link calls) (on_link calls)
+    whole_front [] = tt
+    whole_front (call ∷ calls) = inl (refl, whole_front calls)
+
+round_handed : (at : Place) (round : Round) → handed_in (round_calls at round) ≡ map spelling (answers_to at.log (said_by (received_in round)))
+round_handed at round =
+    let calls = committing at.end (changes_in at.log (received_in round)) in
+    handed-append (on_link (receives (received_in round))) (on_disk calls ++ on_link (answers_in at.log round))
+    ∙ (ap₂ (λ x y. x ++ y) (none_handed (received_in round)) (handed-append (on_disk calls) (on_link (answers_in at.log round))
+    ∙ ap (λ x. x ++ handed_in (on_link (answers_in at.log round))) (handed_of_disk calls)) ∙ handed_all at.log round)
+
+rounds_tell : (start : Place) (rounds : List Round) → Tells start.log (place_after start rounds).log (calls_of start rounds)
+rounds_tell start [] = record { log_is = refl; handed = refl }
+rounds_tell start (last ∷ earlier) =
+    let at = place_after start earlier in
+    let before = rounds_tell start earlier in
+    let first = messages_in (calls_of start earlier) in
+    let all : messages_in (calls_of start earlier ++ round_calls at last) ≡ first ++ said_by (received_in last) =
+    messages-append (calls_of start earlier) (round_calls at last) ∙ ap (λ l. first ++ l) (round_said at last) in
+    record {
+      log_is = log_said at.log (received_in last) ∙ (ap (λ l. log_after_all l (said_by (received_in last))) before.log_is
+          ∙ (sym (log-append start.log first (said_by (received_in last))) ∙ ap (log_after_all start.log) (sym all)));
+      handed = handed-append (calls_of start earlier) (round_calls at last)
+          ∙ (ap₂ (λ x y. x ++ y) before.handed (round_handed at last ∙ ap (λ l. map spelling (answers_to l (said_by (received_in last)))) before.log_is)
+          ∙ (sym (map-append spelling (answers_to start.log first) (answers_to (log_after_all start.log first) (said_by (received_in last))))
+          ∙ ap (map spelling) (sym (answers-append start.log first (said_by (received_in last))) ∙ ap (answers_to start.log) (sym all))));
+    }
+
+-- behind calls that were told whole
+comes_behind : (start at next : Log) (calls rest : List DeskCall) → Tells start at calls → ComesBack at next rest → ComesBack start next (calls ++ rest)
+comes_behind start at next calls rest t back =
+    let first = messages_in calls in
+    record {
+      answered = first ++ back.answered;
+      kept = back.kept;
+      lost = back.lost;
+      received = messages-append calls rest ∙ (ap (λ l. first ++ l) back.received ∙ sym (append_assoc first back.answered (back.kept ++ back.lost)));
+      handed = handed-append calls rest ∙ (ap₂ (λ x y. x ++ y) t.handed (back.handed ∙ ap (λ l. map spelling (answers_to l back.answered)) t.log_is)
+          ∙ (sym (map-append spelling (answers_to start first) (answers_to (log_after_all start first) back.answered)) ∙ ap (map spelling) (sym (answers-append start first back.answered))));
+      after_is = back.after_is ∙ (ap (λ l. log_after_all l (back.answered ++ back.kept)) t.log_is
+          ∙ (sym (log-append start first (back.answered ++ back.kept)) ∙ ap (log_after_all start) (sym (append_assoc first back.answered back.kept))));
+    }
+
+behind : (start at : Log) (calls rest done : List DeskCall) (left : List ℕ) → done ≡ calls ++ rest → Tells start at calls → Outlives at rest left → Outlives start done left
+behind start at calls rest done left is t o =
+    subst (λ d. Outlives start d left) (sym is)
+    (outlives start o.log (calls ++ rest) left o.bodies o.end o.stands o.has_log (comes_behind start at o.log calls rest t o.comes_back))
+
+in_rounds : (file : List ℕ) (Held : List ℕ → Type 0) (start : Place) (rounds : List Round) (done : List DeskCall) (left : List ℕ) → Rests file Held start
+    → AllByRecursion (λ round. IsRound (received_in round)) rounds → IsFront (calls_of start rounds) done → LeftBy file Held (disk_calls done) left → Outlives start.log done left
+in_rounds file Held start [] [] left r all f l = outlives start.log start.log [] left r.bodies start.end ([], r.rest.1 left l ∙ r.rest.0) r.has_log (unchanged start.log [] refl)
+in_rounds file Held start [] (call ∷ done) left r all f l = absurd f
+in_rounds file Held start (last ∷ earlier) done left r all f l =
+    let at = place_after start earlier in
+    let calls = calls_of start earlier in
+    elim (within calls (round_calls at last) done f) as (λ _. Outlives start.log done left) [
+      | inl g ↦ in_rounds file Held start earlier done left r all.1 g l
+      | inr some ↦
+          let parts : disk_calls done ≡ disk_calls calls ++ disk_calls some.0 = ap disk_calls some.1 ∙ disk_calls-append calls some.0 in
+          let now = left_on file Held (disk_calls calls) (disk_calls some.0) left (subst (λ c. LeftBy file Held c left) parts l) in
+          behind start.log at.log calls some.0 done left some.1 (rounds_tell start earlier)
+          (in_round (seen_by file (disk_calls calls)) (LeftBy file Held (disk_calls calls)) at last left (rests_on file Held start earlier all.1 r) all.0 some.0 some.2 now)
+    ]
+
+-- behind the bind
+in_life : (file : List ℕ) (Held : List ℕ → Type 0) (start : Place) (local : Addr) (rounds : List Round) (done : List DeskCall) (left : List ℕ) → Rests file Held start
+    → AllByRecursion (λ round. IsRound (received_in round)) rounds → IsFront (OnLink (Bound local) ∷ calls_of start rounds) done → LeftBy file Held (disk_calls done) left
+    → Outlives start.log done left
+in_life file Held start local rounds done left r all f l =
+    elim (within (OnLink (Bound local) ∷ []) (calls_of start rounds) done f) as (λ _. Outlives start.log done left) [
+      | inl g ↦ of_bind (one_front (Bound local ∷ []) done (omega arith) g) l
+      | inr some ↦
+          behind start.log start.log (OnLink (Bound local) ∷ []) some.0 done left some.1 (record { log_is = refl; handed = refl })
+          (in_rounds file Held start rounds some.0 left r all some.2 (subst (λ c. LeftBy file Held (disk_calls c) left) some.1 l))
+    ]
+  where
+    nothing : (calls : List DeskCall) → handed_in calls ≡ [] → Held left → Outlives start.log calls left
+    nothing calls none h = outlives start.log start.log calls left r.bodies start.end ([], r.rest.1 left h ∙ r.rest.0) r.has_log (unchanged start.log calls none)
+
+    of_bind : (done ≡ []) ⊎ (done ≡ OnLink (Bound local) ∷ []) → LeftBy file Held (disk_calls done) left → Outlives start.log done left
+    of_bind (inl none) l = nothing done (ap handed_in none) (subst (λ c. LeftBy file Held (disk_calls c) left) none l)
+    of_bind (inr one) l = nothing done (ap handed_in one) (subst (λ c. LeftBy file Held (disk_calls c) left) one l)
+
+pub after_opening : (file : List ℕ) (bodies : List (List ℕ)) (opening : List DiskCall) (start : Place) (local : Addr) (rounds : List Round) (done : List DeskCall) (left : List ℕ)
+    → Finds file bodies opening → HasLog bodies start.end start.log → AllByRecursion (λ round. IsRound (received_in round)) rounds
+    → IsFront (OnLink (Bound local) ∷ calls_of start rounds) done → LeftBy file (λ c. c ≡ file) (disk_calls (on_disk opening ++ done)) left → Outlives start.log done left
+after_opening file bodies opening start local rounds done left finds has all f l =
+    let parts : disk_calls (on_disk opening ++ done) ≡ opening ++ disk_calls done = disk_calls-append (on_disk opening) done ∙ ap (λ x. x ++ disk_calls done) (disk_calls_of_disk opening) in
+    in_life (seen_by file opening) (LeftBy file (λ c. c ≡ file) opening) start local rounds done left (opened_rests file bodies opening start finds has) all f
+    (left_on file (λ c. c ≡ file) opening (disk_calls done) left (subst (λ c. LeftBy file (λ c. c ≡ file) c left) parts l))
+
+-- in the course of an opening
+in_cutting : (file tail : List ℕ) (bodies : List (List ℕ)) (done : List DiskCall) (left : List ℕ) → file ≡ front bodies ++ 46 ∷ tail → IsFrontOf (cutting (length (front bodies)) tail) done
+    → LeftBy file (λ c. c ≡ file) done left → Stands bodies left
+in_cutting file [] bodies [] left is f l = ([], l ∙ is)
+in_cutting file [] bodies (call ∷ done) left is f l = absurd f
+in_cutting file (byte ∷ tail) bodies done left is f l = mended file (λ c. c ≡ file) bodies (byte ∷ tail, is) (λ c same. same) done left f l
+
+pub in_opening : (file : List ℕ) (bodies : List (List ℕ)) (opening done : List DiskCall) (end : ℕ) (log : Log) (left : List ℕ) → IsWhole file bodies opening → HasLog bodies end log
+    → IsFrontOf opening done → LeftBy file (λ c. c ≡ file) done left → Outlives log (on_disk done) left
+in_opening file bodies opening done end log left whole has f l =
+    outlives log log (on_disk done) left bodies end (in_cutting file whole.tail bodies done left whole.is (subst (λ c. IsFrontOf c done) whole.calls_are f) l) has
+    (unchanged log (on_disk done) (handed_of_disk done))

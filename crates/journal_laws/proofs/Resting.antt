@@ -1,0 +1,170 @@
+-- Behind each round the file is at rest, and has the log.
+use Rattle.std.proofs.Common.{◌≡◌, ◌∙◌, inl, inr, ℕ, ◌*◌, ◌≤◌, Bool, true, false, refl, sym, ap, ap₂, subst, List, [], ◌∷◌, ◌++◌, length, drop, Result, Ok, Err, append_assoc, append-nil, length-append, arith, if◌then◌else◌}
+use Rattle.std.proofs.lemmas.List.{drop_at}
+use Rattle.std.specs.List.{AllByRecursion}
+use Rattle.ft_io.proofs.Choices.{by_cases, if_false}
+use Rattle.seq_arith.specs.Message.{Message}
+use Rattle.seq_arith.specs.MessageGrammar.{reading}
+use Rattle.seq_arith.specs.declared.kinds.BadMsg.{BadMsg}
+use Rattle.ft_model.specs.Log.{Log, empty_log, log_after}
+use Rattle.ft_model.proofs.Asked.{entry_keys}
+use Rattle.ft_model.proofs.Keys.{AreDistinct}
+use Rattle.logger_store.specs.Changes.{changes}
+use Rattle.disk.specs.Left.{LeftBy, MayLeave, seen_after}
+use Rattle.disk.specs.Told.{on_link, on_disk, disk_calls}
+use Rattle.disk.specs.declared.calls.DiskCall.{DiskCall}
+use Rattle.disk.proofs.Telling.{disk_calls_of_disk}
+use Rattle.journal.specs.Format.{magic, front, at_rest, IsAtRest, keeping, seen_by}
+use Rattle.journal.proofs.Deaths.{stays, mended_rests}
+use Rattle.kept_log.specs.Kept.{kept_of, committing, end_after, with_round, HasLog, Waits}
+use Rattle.kept_log.specs.Opening.{Finds, cutting}
+use Rattle.kept_log.proofs.Logs.{waits_more, kept_none, kept_round}
+use Rattle.kept_log.proofs.Messages.{whole}
+use Rattle.node_link.specs.LoggerTurns.{log_with, log_then}
+use Rattle.node_link.specs.Received.{Received, datagram, silence, failure}
+use Rattle.journal_link.specs.Rounds.{Place, Round, IsRound, received_in, log_behind, receives, change_in, change_by, changes_in, answers_in, round_calls, place_after, calls_of}
+use Rattle.journal_laws.proofs.Saying.{disk_calls-append, disk_calls_of_link, log_said, said_by}
+use Rattle.journal_laws.proofs.Staying as change
+
+pub left_on : (file : List ℕ) (Held : List ℕ → Type 0) (calls more : List DiskCall) (left : List ℕ) → LeftBy file Held (calls ++ more) left
+    → LeftBy (seen_by file calls) (LeftBy file Held calls) more left
+left_on file Held [] more left l = l
+left_on file Held (call ∷ calls) more left l = left_on (seen_after file call) (MayLeave file Held call) calls more left l
+
+seen_on : (file : List ℕ) (calls more : List DiskCall) → seen_by file (calls ++ more) ≡ seen_by (seen_by file calls) more
+seen_on file [] more = refl
+seen_on file (call ∷ calls) more = seen_on (seen_after file call) calls more
+
+-- a file at rest, with the log of a place
+pub record Rests (file : List ℕ) (Held : List ℕ → Type 0) (at : Place) : Type 0 where
+  pub bodies : List (List ℕ)
+  pub rest : IsAtRest file Held bodies
+  pub has_log : HasLog bodies at.end at.log
+
+-- a block more, or none
+pub committed : (file : List ℕ) (Held : List ℕ → Type 0) (bodies : List (List ℕ)) (end : ℕ) (body : List ℕ) → end ≡ length (front bodies) → IsAtRest file Held bodies
+    → IsAtRest (seen_by file (committing end body)) (LeftBy file Held (committing end body)) (with_round bodies body)
+committed file Held bodies end [] is rest = rest
+committed file Held bodies end (byte ∷ body) is rest =
+    subst (λ n. IsAtRest (seen_by file (keeping n (byte ∷ body))) (LeftBy file Held (keeping n (byte ∷ body))) (bodies ++ (byte ∷ body) ∷ [])) (sym is)
+    (stays file Held bodies (byte ∷ body) rest)
+
+-- what waits behind a round's receives
+if_true : {X : Type 0} (b : Bool) (x y : X) → b ≡ true → (if b then x else y) ≡ x
+if_true true x y h = refl
+if_true false x y h = cc
+
+none_more : (before log after : Log) (round more : List ℕ) → after ≡ log → more ≡ [] → Waits before round log → Waits before (round ++ more) after
+none_more before log after round more same none w =
+    subst (λ l. Waits before l after) (sym (ap (λ l. round ++ l) none ∙ append-nil round)) (subst (Waits before round) (sym same) w)
+
+waits_last : (before log : Log) (round bytes : List ℕ) (said : Result Message BadMsg) → reading bytes ≡ said → AreDistinct (entry_keys log) → Waits before round log
+    → Waits before (round ++ change_in log bytes said) (log_with log said)
+waits_last before log round bytes (Ok message) is d w =
+    by_cases (changes log message)
+    (λ t. subst (λ l. Waits before (round ++ l) (log_after log message)) (sym (if_true (changes log message) bytes [] t))
+    (waits_more before log (log_after log message) round bytes message w is refl))
+    (λ t. none_more before log (log_after log message) round (kept_of log message bytes) (change.stays log message d t) (if_false (changes log message) bytes [] t) w)
+waits_last before log round bytes (Err bad) is d w = none_more before log log round [] refl refl w
+
+waits : (log : Log) (received : List Received) → AreDistinct (entry_keys log) → Waits log (changes_in log received) (log_behind log received)
+waits log [] d = record { messages = []; says = refl; log_is = refl }
+waits log (last ∷ earlier) d = on last (waits log earlier d)
+  where
+    distinct : AreDistinct (entry_keys (log_behind log earlier))
+    distinct = subst (λ x. AreDistinct (entry_keys x)) (sym (log_said log earlier)) (change.distinct_all log (said_by earlier) d)
+
+    on : (r : Received) → Waits log (changes_in log earlier) (log_behind log earlier)
+        → Waits log (changes_in log earlier ++ change_by (log_behind log earlier) r) (log_then (log_behind log earlier) r)
+    on (datagram from bytes) w = waits_last log (log_behind log earlier) (changes_in log earlier) bytes (reading bytes) refl distinct w
+    on silence w = none_more log (log_behind log earlier) (log_behind log earlier) (changes_in log earlier) [] refl refl w
+    on failure w = none_more log (log_behind log earlier) (log_behind log earlier) (changes_in log earlier) [] refl refl w
+
+-- a round fits a block
+few_last : (log : Log) (bytes : List ℕ) (said : Result Message BadMsg) → reading bytes ≡ said → length (change_in log bytes said) ≤ 1491
+few_last log bytes (Ok message) is =
+    by_cases (changes log message)
+    (λ t. subst (λ l. length l ≤ 1491) (sym (if_true (changes log message) bytes [] t)) (whole bytes message is).few)
+    (λ t. subst (λ l. length l ≤ 1491) (sym (if_false (changes log message) bytes [] t)) (omega arith))
+few_last log bytes (Err bad) is = omega arith
+
+few_by : (log : Log) (r : Received) → length (change_by log r) ≤ 1491
+few_by log (datagram from bytes) = few_last log bytes (reading bytes) refl
+few_by log silence = omega arith
+few_by log failure = omega arith
+
+few_in : (log : Log) (received : List Received) → length (changes_in log received) ≤ 1491 * length received
+few_in log [] = omega arith
+few_in log (last ∷ earlier) =
+    let few = few_in log earlier in
+    let one = few_by (log_behind log earlier) last in
+    let sum = length-append (changes_in log earlier) (change_by (log_behind log earlier) last) in
+    omega (arith, few, one, sum)
+
+few_round : (log : Log) (received : List Received) → IsRound received → length (changes_in log received) ≤ 381696
+few_round log [] round = absurd round
+few_round log (last ∷ earlier) (few, all) = omega (arith, few, few_in log (last ∷ earlier))
+
+has_more : (bodies : List (List ℕ)) (end : ℕ) (before log : Log) (round : List ℕ) → length round ≤ 381696 → HasLog bodies end before → Waits before round log
+    → HasLog (with_round bodies round) (end_after end round) log
+has_more bodies end before log [] few has w = kept_none bodies [] end before log refl has w
+has_more bodies end before log (byte ∷ round) few has w = kept_round bodies (byte ∷ round) end before log (λ e. cc) few has w
+
+pub has_round : (bodies : List (List ℕ)) (end : ℕ) (log : Log) (received : List Received) → IsRound received → HasLog bodies end log
+    → HasLog (with_round bodies (changes_in log received)) (end_after end (changes_in log received)) (log_behind log received)
+has_round bodies end log received round has =
+    let distinct : AreDistinct (entry_keys log) = subst (λ l. AreDistinct (entry_keys l)) (sym has.log_is) (change.distinct_all empty_log has.messages tt) in
+    has_more bodies end log (log_behind log received) (changes_in log received) (few_round log received round) has (waits log received distinct)
+
+pub disk_calls_of_round : (at : Place) (round : Round) → disk_calls (round_calls at round) ≡ committing at.end (changes_in at.log (received_in round))
+disk_calls_of_round at round =
+    let calls = committing at.end (changes_in at.log (received_in round)) in
+    disk_calls-append (on_link (receives (received_in round))) (on_disk calls ++ on_link (answers_in at.log round))
+    ∙ (ap₂ (λ a b. a ++ b) (disk_calls_of_link (receives (received_in round)))
+    (disk_calls-append (on_disk calls) (on_link (answers_in at.log round)) ∙ ap₂ (λ a b. a ++ b) (disk_calls_of_disk calls) (disk_calls_of_link (answers_in at.log round)))
+    ∙ append-nil calls)
+
+-- calls behind which a file is at rest, from one that is at rest
+rests_more : (file : List ℕ) (Held : List ℕ → Type 0) (calls more : List DiskCall) (bodies : List (List ℕ)) → IsAtRest (seen_by (seen_by file calls) more) (LeftBy (seen_by file calls) (LeftBy file Held calls) more) bodies
+    → IsAtRest (seen_by file (calls ++ more)) (LeftBy file Held (calls ++ more)) bodies
+rests_more file Held calls more bodies rest =
+    (seen_on file calls more ∙ rest.0, λ c l. rest.1 c (left_on file Held calls more c l) ∙ sym (seen_on file calls more))
+
+pub rests_on : (file : List ℕ) (Held : List ℕ → Type 0) (start : Place) (rounds : List Round) → AllByRecursion (λ round. IsRound (received_in round)) rounds → Rests file Held start
+    → Rests (seen_by file (disk_calls (calls_of start rounds))) (LeftBy file Held (disk_calls (calls_of start rounds))) (place_after start rounds)
+rests_on file Held start [] all r = r
+rests_on file Held start (last ∷ earlier) all r =
+    let at = place_after start earlier in
+    let before = rests_on file Held start earlier all.1 r in
+    let body = changes_in at.log (received_in last) in
+    let calls : disk_calls (calls_of start earlier ++ round_calls at last) ≡ disk_calls (calls_of start earlier) ++ committing at.end body =
+    disk_calls-append (calls_of start earlier) (round_calls at last) ∙ ap (λ l. disk_calls (calls_of start earlier) ++ l) (disk_calls_of_round at last) in
+    let rest = rests_more file Held (disk_calls (calls_of start earlier)) (committing at.end body) (with_round before.bodies body)
+    (committed (seen_by file (disk_calls (calls_of start earlier))) (LeftBy file Held (disk_calls (calls_of start earlier))) before.bodies at.end body before.has_log.end_is before.rest) in
+    record {
+      bodies = with_round before.bodies body;
+      rest = subst (λ l. IsAtRest (seen_by file l) (LeftBy file Held l) (with_round before.bodies body)) (sym calls) rest;
+      has_log = has_round before.bodies at.end at.log (received_in last) all.0 before.has_log;
+    }
+
+-- a file that was opened
+made : (file rest : List ℕ) → file ++ rest ≡ magic → file ++ drop (length file) (at_rest []) ≡ at_rest []
+made file rest is =
+    let all : at_rest [] ≡ file ++ (rest ++ 46 ∷ []) = ap (λ (m : List ℕ). m ++ 46 ∷ []) (sym is) ∙ append_assoc file rest (46 ∷ []) in
+    ap (λ l. file ++ l) (ap (drop (length file)) all ∙ drop_at file (rest ++ 46 ∷ []) (length file) refl) ∙ sym all
+
+opened_whole : (file tail : List ℕ) (bodies : List (List ℕ)) → file ≡ front bodies ++ 46 ∷ tail
+    → IsAtRest (seen_by file (cutting (length (front bodies)) tail)) (LeftBy file (λ c. c ≡ file) (cutting (length (front bodies)) tail)) bodies
+opened_whole file [] bodies is = (is, λ c same. same)
+opened_whole file (byte ∷ tail) bodies is = mended_rests file (λ c. c ≡ file) bodies (byte ∷ tail, is) (λ c same. same)
+
+opened : (file : List ℕ) (bodies : List (List ℕ)) (opening : List DiskCall) → Finds file bodies opening → IsAtRest (seen_by file opening) (LeftBy file (λ c. c ≡ file) opening) bodies
+opened file bodies opening (inl begun) =
+    subst (λ l. IsAtRest (seen_by file l) (LeftBy file (λ c. c ≡ file) l) bodies) (sym begun.calls_are)
+    (made file begun.rest begun.is ∙ ap at_rest (sym begun.none), λ c same. same)
+opened file bodies opening (inr found) =
+    subst (λ l. IsAtRest (seen_by file l) (LeftBy file (λ c. c ≡ file) l) bodies) (sym found.calls_are) (opened_whole file found.tail bodies found.is)
+
+pub opened_rests : (file : List ℕ) (bodies : List (List ℕ)) (opening : List DiskCall) (start : Place) → Finds file bodies opening → HasLog bodies start.end start.log
+    → Rests (seen_by file opening) (LeftBy file (λ c. c ≡ file) opening) start
+opened_rests file bodies opening start finds has = record { bodies = bodies; rest = opened file bodies opening finds; has_log = has }

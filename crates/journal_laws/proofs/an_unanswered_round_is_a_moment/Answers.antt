@@ -1,0 +1,5 @@
+use Rattle.journal_laws.proofs.Ending.{moment}
+use Rattle.journal_laws.proofs.an_unanswered_round_is_a_moment.Goals as goal
+
+pub returns : goal.returns
+returns c = λ start local rounds received cut all unanswered. moment start local rounds received cut all unanswered

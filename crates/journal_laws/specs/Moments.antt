@@ -1,0 +1,92 @@
+-- A moment in the life of a logger that keeps its log in a journal: the calls that it has made so far, and what the next logger finds if it dies then.
+use Rattle.std.specs.Prelude.{◌≡◌, ◌⊎◌, ℕ, Some, Result, Ok, Err, List, [], ◌∷◌, ◌++◌, map}
+use Rattle.std.specs.Option.{option_to_list}
+use Rattle.ft_io.specs.declared.link_call.LinkCall.{LinkCall}
+use Rattle.ft_io.specs.declared.link_call.LinkCall.TheVariants.{Bound, Came, Silent, Missed, Handed}
+use Rattle.seq_arith.specs.Message.{Message}
+use Rattle.seq_arith.specs.MessageGrammar.{reading, spelling}
+use Rattle.seq_arith.specs.declared.kinds.BadMsg.{BadMsg}
+use Rattle.ft_model.specs.Log.{Log, log_after, answer_to}
+use Rattle.ft_model.specs.Network.{Packet, packet_at}
+use Rattle.ft_model.specs.Network.Packet.{To_logger}
+use Rattle.logger_deaths.specs.Kept.{log_after_all}
+use Rattle.disk.specs.Left.{failed}
+use Rattle.disk.specs.declared.calls.DiskCall.{DiskCall}
+use Rattle.disk.specs.declared.calls.DeskCall.{DeskCall}
+use Rattle.disk.specs.declared.calls.DeskCall.TheVariants.{OnLink, OnDisk}
+use Rattle.journal.specs.Format.{Stands}
+use Rattle.kept_log.specs.Kept.{HasLog}
+use Rattle.kept_log.specs.Opening.{Finds}
+
+-- what was done of calls: the first of them. The last one, if it is on the file, may have failed or be under way
+abbrev pub failed_call : DeskCall → DeskCall
+failed_call (OnLink call) = OnLink call
+failed_call (OnDisk call) = OnDisk (failed call)
+
+abbrev pub IsFront : List DeskCall → List DeskCall → Type 0
+IsFront calls [] = Unit {0}
+IsFront [] (call ∷ done) = ⊥
+IsFront (next ∷ calls) (call ∷ done) = ((call ≡ next) × IsFront calls done) ⊎ ((call ≡ failed_call next) × (done ≡ []))
+
+-- the messages that calls received
+abbrev pub said_in : Result Message BadMsg → List Message
+said_in (Ok message) = message ∷ []
+said_in (Err bad) = []
+
+abbrev pub message_on : LinkCall → List Message
+message_on (Came from bytes) = said_in (reading bytes)
+message_on (Bound at) = []
+message_on Silent = []
+message_on Missed = []
+message_on (Handed to bytes is_lost) = []
+
+abbrev pub messages_in : List DeskCall → List Message
+messages_in [] = []
+messages_in (OnLink call ∷ calls) = message_on call ++ messages_in calls
+messages_in (OnDisk call ∷ calls) = messages_in calls
+
+-- what they handed to send
+abbrev pub bytes_on : LinkCall → List (List ℕ)
+bytes_on (Handed to bytes is_lost) = bytes ∷ []
+bytes_on (Came from bytes) = []
+bytes_on (Bound at) = []
+bytes_on Silent = []
+bytes_on Missed = []
+
+abbrev pub handed_in : List DeskCall → List (List ℕ)
+handed_in [] = []
+handed_in (OnLink call ∷ calls) = bytes_on call ++ handed_in calls
+handed_in (OnDisk call ∷ calls) = handed_in calls
+
+-- the answers of a log to messages, each at its message's place
+abbrev pub answers_to : Log → List Message → List Message
+answers_to log [] = []
+answers_to log (message ∷ messages) = option_to_list (answer_to log message) ++ answers_to (log_after log message) messages
+
+-- What a log has become when a process that made these calls has died. Of the messages that it received, in their order, the first are those up to the last answer that
+-- it handed to send; to each of them it handed exactly the answer of the log at its place. The log has them all, and then those that the file had already. The
+-- last ones it hasn't: they count as never delivered
+pub record ComesBack (before after : Log) (calls : List DeskCall) : Type 0 where
+  pub answered : List Message
+  pub kept : List Message
+  pub lost : List Message
+  pub received : messages_in calls ≡ answered ++ (kept ++ lost)
+  pub handed : handed_in calls ≡ map spelling (answers_to before answered)
+  pub after_is : after ≡ log_after_all before (answered ++ kept)
+
+-- what is left of its file stands for such a log, and whoever opens it finds no other
+pub record Outlives (before : Log) (calls : List DeskCall) (left : List ℕ) : Type 0 where
+  pub bodies : List (List ℕ)
+  pub end : ℕ
+  pub log : Log
+  pub stands : Stands bodies left
+  pub has_log : HasLog bodies end log
+  pub comes_back : ComesBack before log calls
+  pub only : (others : List (List ℕ)) (opening : List DiskCall) (at : ℕ) (next : Log) → Finds left others opening → HasLog others at next → next ≡ log
+
+-- these messages are packets of a world, under these numbers
+abbrev pub AreUnderWay : List Packet → List ℕ → List Message → Type 0
+AreUnderWay packets [] [] = Unit {0}
+AreUnderWay packets (number ∷ numbers) (message ∷ messages) = (packet_at packets number ≡ Some (To_logger message)) × AreUnderWay packets numbers messages
+AreUnderWay packets [] (message ∷ messages) = ⊥
+AreUnderWay packets (number ∷ numbers) [] = ⊥

@@ -1,0 +1,69 @@
+//! What a death leaves of a logger that keeps its log in a journal, at every moment of its life: the law that joins the clause on the process (`journal_link`), the
+//! laws of its file (`journal`) and those of a world whose logger may die (`logger_deaths`). Nothing here runs; each function is a theorem.
+#![tactic(auto)]
+
+ghost use Rattle.std.specs.Prelude.{◌≡◌, ℕ, Some, List, [], ◌∷◌, ◌++◌, map};
+ghost use Rattle.std.specs.List.{AllByRecursion};
+ghost use Rattle.std.specs.Option.{option_to_list, option_map};
+ghost use Rattle.ft_io.specs.declared.Addr.{Addr};
+ghost use Rattle.ft_io.specs.declared.link_call.LinkCall.TheVariants.{Bound};
+ghost use Rattle.seq_arith.specs.Message.{Message};
+ghost use Rattle.server_trait.specs.Service.{machine};
+ghost use Rattle.ft_model.specs.Log.{Log, log_after, answer_to};
+ghost use Rattle.ft_model.specs.Network.{packet_at};
+ghost use Rattle.ft_model.specs.Network.Packet.{To_logger, From_logger};
+ghost use Rattle.ft_model.specs.World.{World};
+ghost use Rattle.ft_model.specs.declared.event.Event.TheVariants.{Deliver};
+ghost use Rattle.logger_deaths.specs.Deaths.{MayHappen};
+ghost use Rattle.logger_deaths.specs.Deaths.Step.{Calm, Dies};
+ghost use Rattle.logger_deaths.specs.Kept.{log_after_all};
+ghost use Rattle.disk.specs.Left.{IsFrontOf, LeftBy};
+ghost use Rattle.disk.specs.Told.{on_disk, disk_calls};
+ghost use Rattle.disk.specs.declared.calls.DiskCall.{DiskCall};
+ghost use Rattle.disk.specs.declared.calls.DeskCall.{DeskCall};
+ghost use Rattle.disk.specs.declared.calls.DeskCall.TheVariants.{OnLink};
+ghost use Rattle.kept_log.specs.Kept.{HasLog};
+ghost use Rattle.kept_log.specs.Opening.{Finds, IsWhole};
+ghost use Rattle.node_link.specs.Received.{Received};
+ghost use Rattle.journal_link.specs.Rounds.{Place, Round, IsRound, received_in, place_after, calls_of};
+ghost use Rattle.journal_link.specs.Keeping.{Starts, IsUnanswered};
+ghost use Rattle.journal_laws.specs.Moments.{IsFront, ComesBack, Outlives, AreUnderWay};
+
+use server_trait::Service;
+
+/// Once its file is open, a death at any moment leaves a file that has all that was ever answered: of the messages that were received those up to the last answer,
+/// and maybe more of them, in their order.
+pub fn what_was_answered_is_there()
+    ensures { (file : List ℕ) (opening : List DiskCall) (start : Place) (local : Addr) (rounds : List Round) (done : List DeskCall) (left : List ℕ)
+        → Starts (Some file) opening start → AllByRecursion (λ round. IsRound (received_in round)) rounds
+        → IsFront (OnLink (Bound local) ∷ calls_of start rounds) done → LeftBy file (λ c. c ≡ file) (disk_calls (on_disk opening ++ done)) left
+        → Outlives start.log done left }
+{}
+
+/// What a logger told that stopped in a round, or behind its last one, it told at a moment of a life. So the law before this one holds of every end.
+pub fn an_unanswered_round_is_a_moment()
+    ensures { (start : Place) (local : Addr) (rounds : List Round) (received : List Received) (cut : List DeskCall) → AllByRecursion (λ round. IsRound (received_in round)) rounds
+        → IsUnanswered (place_after start rounds) received cut
+        → (whole : List Round) × AllByRecursion (λ round. IsRound (received_in round)) whole
+        × IsFront (OnLink (Bound local) ∷ calls_of start whole) (OnLink (Bound local) ∷ (calls_of start rounds ++ cut)) }
+{}
+
+/// A death while a journal is opened that had a log leaves this log.
+pub fn an_opening_takes_nothing()
+    ensures { (file : List ℕ) (bodies : List (List ℕ)) (opening done : List DiskCall) (end : ℕ) (log : Log) (left : List ℕ) → IsWhole file bodies opening → HasLog bodies end log
+        → IsFrontOf opening done → LeftBy file (λ c. c ≡ file) done left → Outlives log (on_disk done) left }
+{}
+
+/// In every world whose log is the one at a message's place, to receive the message and to hand on its answer is the delivery of a packet.
+pub fn an_answer_is_a_delivery<S: Service>()
+    ensures { (kind number : ℕ) (world : World) (message : Message) → packet_at world.packets number ≡ Some (To_logger message)
+        → MayHappen (machine (S.started kind) S.after) world (Calm (Deliver number)) (option_to_list (option_map From_logger (answer_to world.log message)))
+        (record world { log = log_after world.log message; packets = world.packets ++ option_to_list (option_map From_logger (answer_to world.log message)) }) }
+{}
+
+/// Where a process has died, and its log has come back with messages that it hadn't answered, the world's logger has died: its log is the one that came back.
+pub fn a_death_is_a_step<S: Service>()
+    ensures { (kind : ℕ) (world : World) (numbers : List ℕ) (before after : Log) (calls : List DeskCall) (back : ComesBack before after calls)
+        → world.log ≡ log_after_all before back.answered → AreUnderWay world.packets numbers back.kept
+        → MayHappen (machine (S.started kind) S.after) world (Dies numbers) [] (record world { log = after }) }
+{}

@@ -1,0 +1,42 @@
+//! Answers that wait for a commit.
+
+ghost use Rattle.std.specs.Prelude.{◌≡◌, length};
+ghost use Rattle.node_link.specs.Counts.{HasRoom};
+ghost use Rattle.journal_link.specs.Turning.{HandsOver, HasAnswered};
+
+use disk::Desk;
+use ft_io::Addr;
+use logger_store::MsgOut;
+use node_link::Counts;
+
+/// What goes to whom once its round is on the disk: an answer, or no bytes.
+#[derive(Debug, Drop)]
+pub struct Answer {
+    pub to: Addr,
+    pub out: MsgOut,
+}
+
+/// Hands an answer to send, if it has bytes.
+fn reply<K: Desk>(desk: &mut K, answer: &Answer, counts: &mut Counts)
+    requires { HasRoom 1 counts.old }
+    ensures handed { HandsOver answer.now (K.told desk.old) (K.told desk.new) counts.old counts.new }
+    ensures no_disk_fault { K.fault_count desk.new ≡ K.fault_count desk.old }
+{
+    let bytes = answer.out.bytes();
+    if bytes.is_empty() {
+        return;
+    }
+    let sent = desk.send(answer.to, bytes);
+    counts.note_sent(&sent);
+}
+
+/// Hands answers to send, in their order.
+pub(crate) fn reply_to_all<K: Desk>(desk: &mut K, answers: &[Answer], counts: &mut Counts)
+    requires { HasRoom (length answers.now) counts.old }
+    ensures answered { HasAnswered answers.now (K.told desk.old) (K.told desk.new) counts.old counts.new }
+    ensures no_disk_fault { K.fault_count desk.new ≡ K.fault_count desk.old }
+{
+    for answer in answers {
+        reply(desk, answer, counts);
+    }
+}

@@ -1,0 +1,14 @@
+//! `node_with`: the top call of `ftnode`. By words with `--journal FILE` it is a logger that keeps its log in a file and survives its own death; all other words
+//! are those of `node`.
+#![tactic(auto)]
+
+pub use role::{FileName, JournalRole};
+pub use status::JournalEnd;
+pub use top::node_with;
+
+mod answers;
+mod keeper;
+mod role;
+mod rounds;
+mod status;
+mod top;

@@ -1,0 +1,90 @@
+//! The words of a logger with a journal.
+
+ghost use Rattle.std.specs.Prelude.{◌≡◌, ◌≤◌, List, map, string_bytes, IfOk, IfSome};
+ghost use Rattle.node_link.specs.Options.{Use, HasValues};
+ghost use Rattle.journal_link.specs.Words.{journal_in, journal_of};
+
+use clap::ArgMatches;
+use ft_io::NoMemory;
+use node_link::{LoggerRole, OptionName, logger_role, read_options};
+use std::alloc::Global;
+use std::marker::Model;
+
+const JOURNAL_OPTIONS: [OptionName; 3] = [
+    OptionName::Local,
+    OptionName::Turns,
+    OptionName::Journal,
+];
+
+/// The name of a file.
+#[derive(Debug, Drop)]
+pub struct FileName {
+    word: String,
+}
+
+impl Model for FileName {
+    ghost use Rattle.std.specs.Prelude.{List, ℕ, string_bytes};
+
+    ghost Value = { List ℕ };
+
+    ghost view = { λ f. string_bytes f.word };
+}
+
+impl FileName {
+    /// The name of this word.
+    fn new(alloc: Global, word: &str) -> Result<FileName, NoMemory>
+        ensures { IfOk result (λ name. name ≡ word.now) }
+    {
+        let word = String::from_str(alloc, word)?;
+        Ok(FileName { word })
+    }
+
+    /// The word.
+    pub(crate) fn as_str(&self) -> &str
+        ensures { result.now ≡ self.now }
+    {
+        self.word.as_str()
+    }
+}
+
+/// A logger that keeps its log in a journal.
+#[derive(Debug, Drop)]
+pub struct JournalRole {
+    pub logger: LoggerRole,
+    /// Its file.
+    pub journal: FileName,
+}
+
+fn journal_role(alloc: Global, matches: &ArgMatches<'_>) -> Result<Option<JournalRole>, NoMemory>
+    ensures range { IfOk result (λ role. IfSome role (λ r. r.logger.turns ≤ 1000000)) }
+    ensures value { IfOk result (λ role. (uses : List Use) → HasValues uses matches.now → role ≡ journal_in uses) }
+{
+    let Some(logger) = logger_role(matches) else {
+        return Ok(None);
+    };
+    let Some(word) = matches.get_str(OptionName::Journal.word()) else {
+        return Ok(None);
+    };
+    let journal = FileName::new(alloc, word)?;
+    Ok(Some(JournalRole { logger, journal }))
+}
+
+#[tactic(auto, unfolding(crate::specs::Words::journal_of))]
+pub(crate) fn read_journal_role(
+    alloc: Global,
+    words: &[String],
+) -> Result<Option<JournalRole>, NoMemory>
+    ensures role { IfOk result (λ role. role ≡ journal_of (map string_bytes words.now)) }
+    ensures range { IfOk result (λ role. IfSome role (λ r. r.logger.turns ≤ 1000000)) }
+{
+    let Some((name, words)) = words.split_first() else {
+        return Ok(None);
+    };
+    if name.as_str() != "logger" {
+        return Ok(None);
+    }
+    match read_options(alloc, &JOURNAL_OPTIONS, words)? {
+        Some(matches) => journal_role(alloc, &matches),
+        None => Ok(None),
+    }
+}

@@ -1,0 +1,114 @@
+//! How a logger with a journal ends.
+
+ghost use Rattle.std.specs.Prelude.{◌≡◌, ◌++◌, codes, decimal, OnOk, OnErr};
+ghost use Rattle.std.specs.Io.KnownBytes.{Appends};
+ghost use Rattle.ft_io.specs.Faults.{Rose};
+ghost use Rattle.ft_io.specs.Sink.{AppendsFront};
+ghost use Rattle.node_link.specs.declared.status.NodeEnd.TheVariants as node_ends;
+ghost use Rattle.journal_link.specs.declared.status.JournalEnd.TheVariants as ends;
+ghost use Rattle.journal_link.specs.Ends.{place_text, from_shelf, from_open, from_keep, TellsEnd};
+
+use disk::ShelfEnd;
+use ft_io::{Failed, NoMemory, Sink, write_all};
+use itoa::Buffer;
+use journal::KeepEnd;
+use kept_log::OpenEnd;
+use node_link::{NodeEnd, Status};
+
+/// How a logger with a journal ends that wasn't done to its end.
+#[derive(Clone, Copy, Debug, PartialEq, Eq)]
+pub enum JournalEnd {
+    /// As any role may end.
+    Node(NodeEnd),
+    /// A call on the journal's file failed.
+    JournalFault,
+    /// The file is no journal. Here begins what is no block.
+    BadJournal { at: u64 },
+    /// Another process has the file open.
+    InUse,
+}
+
+impl From<NoMemory> for JournalEnd {
+    ghost from_gives = { λ _ e. e ≡ ends.Node node_ends.NoMemory };
+
+    fn from(_error: NoMemory) -> JournalEnd {
+        JournalEnd::Node(NodeEnd::NoMemory)
+    }
+}
+
+impl From<NodeEnd> for JournalEnd {
+    ghost from_gives = { λ end e. e ≡ ends.Node end };
+
+    fn from(end: NodeEnd) -> JournalEnd {
+        JournalEnd::Node(end)
+    }
+}
+
+impl From<ShelfEnd> for JournalEnd {
+    ghost from_gives = { λ end e. e ≡ from_shelf end };
+
+    fn from(end: ShelfEnd) -> JournalEnd {
+        match end {
+            ShelfEnd::Failed => JournalEnd::JournalFault,
+            ShelfEnd::InUse => JournalEnd::InUse,
+        }
+    }
+}
+
+impl From<OpenEnd> for JournalEnd {
+    ghost from_gives = { λ end e. e ≡ from_open end };
+
+    fn from(end: OpenEnd) -> JournalEnd {
+        match end {
+            OpenEnd::NoMemory => JournalEnd::Node(NodeEnd::NoMemory),
+            OpenEnd::Failed => JournalEnd::JournalFault,
+            OpenEnd::Wrong(at) => JournalEnd::BadJournal { at },
+        }
+    }
+}
+
+impl From<KeepEnd> for JournalEnd {
+    ghost from_gives = { λ end e. e ≡ from_keep end };
+
+    fn from(end: KeepEnd) -> JournalEnd {
+        match end {
+            KeepEnd::NoMemory => JournalEnd::Node(NodeEnd::NoMemory),
+            KeepEnd::Failed => JournalEnd::JournalFault,
+        }
+    }
+}
+
+/// Writes where a file is no journal.
+fn write_place<E: Sink>(err: &mut E, at: u64) -> Result<(), Failed>
+    ensures whole { OnOk result (Appends (E.taken err.old) (E.taken err.new) (place_text at)) }
+    ensures front { OnErr result (AppendsFront (E.taken err.old) (E.taken err.new) (place_text at)) }
+    ensures cause { OnErr result (Rose (E.fault_count err.old) (E.fault_count err.new)) }
+{
+    let mut number = Buffer::new();
+    write_all(err, b"ftnode: journal: byte ")?;
+    write_all(err, number.format(at).as_bytes())?;
+    write_all(err, b"\n")
+}
+
+/// The status of an end whose line was written, or failed to be.
+fn status_of(code: u8, written: Result<(), Failed>) -> Status
+    ensures ok { OnOk written (result.code ≡ code) }
+    ensures err { OnErr written (result.code ≡ 5) }
+{
+    match written {
+        Ok(()) => Status { code },
+        Err(Failed) => Status { code: 5 },
+    }
+}
+
+/// Writes the line of an end, and gives its status: 5 where that write failed.
+pub(crate) fn tell<E: Sink>(err: &mut E, end: JournalEnd) -> Status
+    ensures told { TellsEnd end (E.taken err.old) (E.taken err.new) (E.fault_count err.old) (E.fault_count err.new) result.code }
+{
+    match end {
+        JournalEnd::Node(end) => node_link::tell(err, end),
+        JournalEnd::JournalFault => status_of(11, write_all(err, b"ftnode: journal fault\n")),
+        JournalEnd::BadJournal { at } => status_of(12, write_place(err, at)),
+        JournalEnd::InUse => status_of(13, write_all(err, b"ftnode: journal in use\n")),
+    }
+}

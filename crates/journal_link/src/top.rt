@@ -1,0 +1,107 @@
+//! The top call.
+
+ghost use Rattle.std.specs.Prelude.{◌≡◌, ◌≤◌, ◌^◌, ◌⊎◌, ℕ, List, length, map, string_bytes, None, Some, false};
+ghost use Rattle.ft_io.specs.Faults.{Rose};
+ghost use Rattle.node_link.specs.declared.role.ServerRole.{ServerRole};
+ghost use Rattle.node_link.specs.declared.role.ClientRole.{ClientRole};
+ghost use Rattle.node_link.specs.declared.role.LoggerRole.{LoggerRole};
+ghost use Rattle.node_link.specs.declared.role.PairRole.{PairRole};
+ghost use Rattle.node_link.specs.declared.role.Role.TheVariants as roles;
+ghost use Rattle.node_link.specs.Outcome.{HasEnded, IsStill};
+ghost use Rattle.node_link.specs.Roles.{role_of, is_pair};
+ghost use Rattle.journal_link.specs.declared.role.JournalRole.{JournalRole};
+ghost use Rattle.journal_link.specs.Outcome.{HasKept, MayEnd};
+ghost use Rattle.journal_link.specs.Words.{journal_of};
+
+use crate::keeper::run_keeper;
+use crate::role::{JournalRole, read_journal_role};
+use crate::status::{JournalEnd, tell};
+use disk::Desk;
+use ft_io::{Link, NoMemory, Sink, Source, Spawner};
+use node_link::{NodeEnd, Status, node};
+use std::alloc::Global;
+
+/// A logger with a journal, and how it ended.
+fn keep<K: Desk, O: Sink, E: Sink>(
+    alloc: Global,
+    role: &JournalRole,
+    desk: &mut K,
+    out: &mut O,
+    err: &mut E,
+) -> Status
+    requires { role.now.logger.turns ≤ 1000000 }
+    ensures kept { HasKept role.now (K.file_of desk.old role.now.journal) (K.told desk.old) (K.told desk.new) (O.taken out.old) (O.taken out.new)
+        (E.taken err.old) (E.taken err.new) result.code }
+    ensures journal_fault { result.code ≡ 11 → Rose (K.fault_count desk.old) (K.fault_count desk.new) }
+    ensures in_use { result.code ≡ 13 → Rose (K.beside desk.old).refusals (K.beside desk.new).refusals }
+    ensures link_fault { result.code ≡ 4 → Rose (K.beside desk.old).bind_faults (K.beside desk.new).bind_faults }
+    ensures write_fault { result.code ≡ 5 → Rose (O.fault_count out.old) (O.fault_count out.new) ⊎ Rose (E.fault_count err.old) (E.fault_count err.new) }
+    ensures ends { MayEnd result.code }
+{
+    match run_keeper(alloc, role, desk, out) {
+        Ok(()) => Status { code: 0 },
+        Err(end) => tell(err, end),
+    }
+}
+
+/// `ftnode` with these words: as [`node`], and a logger whose words have `--journal FILE` besides keeps its log in this file, so that it comes back with all that
+/// it has told. The desk is that logger's network and file, in one; `link` is for all others. Its status is 0 where all turns were done, 3 for want of memory, 4
+/// where the bind failed, 5 for a fault of a sink, 11 where a call on the file failed, 12 where the file is no journal, and 13 where another process has it open.
+pub fn node_with<L: Link, I: Source, O: Sink, E: Sink, P: Spawner, K: Desk>(
+    alloc: Global,
+    words: &[String],
+    link: &mut L,
+    input: &mut I,
+    out: &mut O,
+    err: &mut E,
+    kids: &mut P,
+    desk: &mut K,
+) -> Status
+    // All other words than those of a logger with a journal are `node`'s, and so is what is said of them.
+    ensures ended { journal_of (map string_bytes words.now) ≡ None → HasEnded (role_of (map string_bytes words.now))
+        (record { left = I.left input.old; calls = L.told link.old; started = P.started kids.old; spawned = P.told kids.old; out = O.taken out.old })
+        (record { left = I.left input.new; calls = L.told link.new; started = P.started kids.new; spawned = P.told kids.new; out = O.taken out.new })
+        (E.taken err.old) (E.taken err.new) result.code }
+    ensures same_kids { is_pair (role_of (map string_bytes words.now)) ≡ false → kids.new ≡ kids.old }
+    ensures read_fault { result.code ≡ 9 → Rose (I.fault_count input.old) (I.fault_count input.new) }
+    ensures link_fault { journal_of (map string_bytes words.now) ≡ None → result.code ≡ 4 → Rose (L.bind_fault_count link.old) (L.bind_fault_count link.new) }
+    ensures write_fault { result.code ≡ 5 → Rose (O.fault_count out.old) (O.fault_count out.new) ⊎ Rose (E.fault_count err.old) (E.fault_count err.new) }
+    ensures child_fault { result.code ≡ 10 → Rose (P.fault_count kids.old) (P.fault_count kids.new) }
+    ensures server { (role : ServerRole) → journal_of (map string_bytes words.now) ≡ None → role_of (map string_bytes words.now) ≡ Some (roles.Server role)
+        → IsStill (L.bind_fault_count link.old) (L.bind_fault_count link.new) → IsStill (O.fault_count out.old) (O.fault_count out.new)
+        → IsStill (E.fault_count err.old) (E.fault_count err.new) → (result.code ≡ 0) ⊎ ((result.code ≡ 6) ⊎ (result.code ≡ 3)) }
+    ensures logger { (role : LoggerRole) → journal_of (map string_bytes words.now) ≡ None → role_of (map string_bytes words.now) ≡ Some (roles.Logger role)
+        → IsStill (L.bind_fault_count link.old) (L.bind_fault_count link.new) → IsStill (O.fault_count out.old) (O.fault_count out.new)
+        → IsStill (E.fault_count err.old) (E.fault_count err.new) → (result.code ≡ 0) ⊎ (result.code ≡ 3) }
+    ensures client { (role : ClientRole) (left : List ℕ) → journal_of (map string_bytes words.now) ≡ None
+        → role_of (map string_bytes words.now) ≡ Some (roles.Client role) → I.left input.old ≡ Some left → length left ≤ 2 ^ 24
+        → IsStill (I.fault_count input.old) (I.fault_count input.new) → IsStill (L.bind_fault_count link.old) (L.bind_fault_count link.new)
+        → IsStill (O.fault_count out.old) (O.fault_count out.new)
+        → IsStill (E.fault_count err.old) (E.fault_count err.new) → (result.code ≡ 0) ⊎ ((result.code ≡ 7) ⊎ ((result.code ≡ 8) ⊎ (result.code ≡ 3))) }
+    ensures pair { (role : PairRole) → journal_of (map string_bytes words.now) ≡ None → role_of (map string_bytes words.now) ≡ Some (roles.Pair role)
+        → IsStill (P.fault_count kids.old) (P.fault_count kids.new) → IsStill (O.fault_count out.old) (O.fault_count out.new)
+        → IsStill (E.fault_count err.old) (E.fault_count err.new) → (result.code ≡ 0) ⊎ (result.code ≡ 3) }
+    ensures same_desk { journal_of (map string_bytes words.now) ≡ None → desk.new ≡ desk.old }
+
+    // A logger with a journal: what it called on the desk, in one order, what it wrote, and nothing else.
+    ensures kept { (role : JournalRole) → journal_of (map string_bytes words.now) ≡ Some role
+        → HasKept role (K.file_of desk.old role.journal) (K.told desk.old) (K.told desk.new) (O.taken out.old) (O.taken out.new)
+        (E.taken err.old) (E.taken err.new) result.code }
+    ensures alone { (role : JournalRole) → journal_of (map string_bytes words.now) ≡ Some role
+        → (link.new ≡ link.old) × (input.new ≡ input.old) × (kids.new ≡ kids.old) }
+    ensures bind_fault { (role : JournalRole) → journal_of (map string_bytes words.now) ≡ Some role
+        → result.code ≡ 4 → Rose (K.beside desk.old).bind_faults (K.beside desk.new).bind_faults }
+    ensures journal_fault { result.code ≡ 11 → Rose (K.fault_count desk.old) (K.fault_count desk.new) }
+    ensures in_use { result.code ≡ 13 → Rose (K.beside desk.old).refusals (K.beside desk.new).refusals }
+    // Where no call on the desk and no sink failed, only damage of the file or want of memory ends it early.
+    ensures keeper { (role : JournalRole) → journal_of (map string_bytes words.now) ≡ Some role
+        → IsStill (K.fault_count desk.old) (K.fault_count desk.new) → IsStill (K.beside desk.old).refusals (K.beside desk.new).refusals
+        → IsStill (K.beside desk.old).bind_faults (K.beside desk.new).bind_faults → IsStill (O.fault_count out.old) (O.fault_count out.new)
+        → IsStill (E.fault_count err.old) (E.fault_count err.new) → (result.code ≡ 0) ⊎ ((result.code ≡ 12) ⊎ (result.code ≡ 3)) }
+{
+    match read_journal_role(alloc, words) {
+        Ok(None) => node(alloc, words, link, input, out, err, kids),
+        Ok(Some(role)) => keep(alloc, &role, desk, out, err),
+        Err(NoMemory) => tell(err, JournalEnd::Node(NodeEnd::NoMemory)),
+    }
+}
