@@ -336,6 +336,17 @@ runs = [(ACK, 5002 + 2 * n, 1002, b"x") for n in range(16)]
 fill = b"abcdefghijklmnopqrstuvwxyz01234"
 life([both, *runs, (ACK, 5040, 1002, b"yy"), (ACK, 5033, 1002, b"\n"), (ACK, 5001, 1002, fill[:1]), (ACK, 5003, 1002, fill[2:]), (FIN | ACK, 5034, 1002)], 22, 0,
     ["axcdefghijklmnopqrstuvwxyz01234x"], 22, 23)
+line("# how much a client sends: four segments of 536 bytes at first, and then as congestion control lets it", "# how much a client sends: four segments of 536 bytes at first, and then as congestion control lets it")
+long_script, again = bytes(97 + place % 26 for place in range(5000)), (ACK, 5001, 1001)
+life([both], 1, 8, [spent], 1, 1 + 4, script=long_script)
+life([both, (ACK, 5001, 1001 + 536)], 2, 8, [spent], 2, 1 + 4 + 2, script=long_script)
+life([both, (ACK, 5001, 1001 + 2144)], 2, 8, [spent], 2, 1 + 4 + 5, script=long_script)
+life([both, again, again], 3, 8, [spent], 3, 1 + 4, script=long_script)
+life([both, again, again, again], 4, 8, [spent], 4, 1 + 4 + 2, script=long_script)
+life([both, again, again, again, again], 5, 8, [spent], 5, 1 + 4 + 2 + 1, script=long_script)
+life([both, again, again, again, (ACK, 5001, 1001 + 536)], 5, 8, [spent], 5, 1 + 4 + 2, script=long_script)
+life([both], 2, 8, [spent], 2, 1 + 4 + 1, script=long_script)
+life([both, (ACK, 5001, 1001 + 2144)], 3, 8, [spent], 3, 1 + 4 + 1 + 2, script=long_script, receive=2)
 life(closed, 5, 9, ["ftnode: read fault"], 0, 0, script=b"hi", read=2)
 life(closed, 5, 4, ["ftnode: link fault"], 0, 0, bind=1)
 line("# faults of the bind and of the sinks", "# faults of the bind and of the sinks")

@@ -1,13 +1,16 @@
 #!/usr/bin/env bash
-# How long it takes to echo SIZE bytes over a way (bench/relay.py) that loses 1 % of all packets and delays each by 8 ms, each way: by ftnode's own client through
-# server and logger, and, where root and TUN devices allow it, by two sockets of the kernel in network namespaces, without window scaling and selective
-# acknowledgements, over the same way. Each is run with three seeds, in turn. Printed are the seconds, the medians and their ratios.
-#     bench/loss.sh [PROGRAM [OLDER]]     a built ftnode, else this checkout's; and an older one beside it
-# SIZE (500000), LOSS (1), DELAY (8) and SWAPPED (0), of which the second and the last are percents, and PORT (7300) may stand in the environment.
+# How long it takes to echo SIZE bytes over a path (bench/relay.py) that loses packets and delays each by 8 ms, each way: by ftnode's own client through server
+# and logger; where root and TUN devices allow it, by a client of the kernel through tools/bridge.py to ftnode's server; and by two sockets of the kernel
+# in network namespaces. The kernel's sockets have no window scaling and no selective acknowledgements. Each runs with three seeds, in turn, at each loss. Printed
+# are the seconds, the medians and their ratios. A transfer of the kernel's that isn't done in five minutes is said to be so, and counts as longer than all others.
+#     bench/loss.sh [PROGRAM [OLDER]]     a built ftnode, else this checkout's; and an older one to compare with
+# SIZE (500000), LOSS (1; a list of percents such as "0 1 3 5"), DELAY (8, in ms), SWAPPED (0, a percent), PORT (7300) and CONTROL (the congestion control of the
+# kernel's sockets, such as reno; the system's own where nothing is said) may stand in the environment.
 set -eu
 older=${2:+$(realpath "$2")} program=${1:+$(realpath "$1")}
 . "$(dirname "$0")/common.sh"
-size=${SIZE:-500000} loss=${LOSS:-1} delay=${DELAY:-8} swapped=${SWAPPED:-0} base=${PORT:-7300} at=127.0.0.1
+size=${SIZE:-500000} losses=${LOSS:-1} delay=${DELAY:-8} swapped=${SWAPPED:-0} base=${PORT:-7300} at=127.0.0.1
+control=${CONTROL:-$(cat /proc/sys/net/ipv4/tcp_congestion_control 2>/dev/null || true)}
 if [ -z "$program" ]; then
     build ftnode logger --local 127.0.0.1:7040 --turns 1
     program=$PWD/crates/ftnode/out/ftnode
@@ -25,6 +28,7 @@ trap clean_up EXIT
 start() { # NAME WORD..
     local name=$1
     shift
+    rm -f "$work/$name"
     "$@" >"$work/$name" 2>"$work/$name.err" &
     last=$!
     pids+=("$last")
@@ -32,7 +36,6 @@ start() { # NAME WORD..
 
 # starts the relay and waits until it is up
 relay() { # LISTEN TARGET SEED
-    rm -f "$work/relay"
     start relay bench/relay.py "$1" "$2" "$loss" "$delay" "$3" "$swapped"
     relay_pid=$last
     for _ in {1..100}; do
@@ -54,16 +57,25 @@ finish() {
 
 told() { # NAME SECONDS
     echo "$2" >>"$work/$1.seconds"
+    if [ "$2" = inf ]; then
+        echo "$1: not done: $(cat "$work/why"); $(cat "$work/counts")"
+        return
+    fi
     awk -v name="$1" -v s="$2" -v n="$size" -v counts="$(cat "$work/counts")" 'BEGIN { printf "%s: %.2f s, %.3f MB a second; %s\n", name, s, n / s / 1e6, counts }'
+}
+
+# starts a logger, a server and the relay before it
+serve_behind_relay() { # PROGRAM SEED
+    start logger "$1" logger --local "$at:$((base + 1))" --turns 1000000
+    sleep 0.2
+    start server "$1" server --local "$at:$base" --logger "$at:$((base + 1))" --service echo --boot 1 --isn 1007 --turns 1000000
+    relay "$at:$((base + 3))" "$at:$base" "$2"
 }
 
 # Echo by a built ftnode
 through_ftnode() { # NAME PROGRAM SEED
     local begun ended status=0
-    start logger "$2" logger --local "$at:$((base + 1))" --turns 1000000
-    sleep 0.2
-    start server "$2" server --local "$at:$base" --logger "$at:$((base + 1))" --service echo --boot 1 --isn 1007 --turns 1000000
-    relay "$at:$((base + 3))" "$at:$base" "$3"
+    serve_behind_relay "$2" "$3"
     begun=$(date +%s%N)
     "$2" client --local "$at:$((base + 2))" --server "$at:$((base + 3))" --isn 1000 --turns 1000000 <"$work/script" >"$work/back" 2>"$work/client.err" || status=$?
     ended=$(date +%s%N)
@@ -73,6 +85,28 @@ through_ftnode() { # NAME PROGRAM SEED
         exit 1
     fi
     told "$1" "$(awk -v ns=$((ended - begun)) 'BEGIN { print ns / 1e9 }')"
+}
+
+# a network namespace whose sockets have neither window scaling nor selective acknowledgements, and this congestion control
+add_space() { # NAME
+    ip netns add "$1"
+    ip netns exec "$1" sh -c "cd /proc/sys/net/ipv4; echo 0 >tcp_window_scaling; echo 0 >tcp_sack; echo $control >tcp_congestion_control"
+}
+
+# Echo by a client of the kernel, through the bridge, to a built ftnode
+through_bridge() { # SEED
+    local seconds
+    serve_behind_relay "$program" "$1"
+    add_space "$here"
+    start bridge tools/bridge.py --client 10.78.0.1 --server 10.78.0.2:7 --node "$at:$((base + 3))" --local "$at" --netns "$here" --device "lossc$$"
+    for _ in {1..100}; do
+        grep -qs up "$work/bridge" && break
+        sleep 0.05
+    done
+    seconds=$(ip netns exec "$here" bench/socket_echo.py ask 10.78.0.2 7 "$work/script" 2>"$work/why") || seconds=inf
+    finish
+    ip netns del "$here"
+    told bridged "$seconds"
 }
 
 # whether network namespaces and TUN devices can be made here
@@ -85,34 +119,53 @@ through_kernel() { # SEED
     local ip=10.78.0.1 space seconds
     relay "tun:lossa$$" "tun:lossb$$" "$1"
     for space in "$here" "$there"; do
-        ip netns add "$space"
+        add_space "$space"
         ip link set "loss${space:5:1}$$" netns "$space"
-        ip netns exec "$space" sh -c 'echo 0 >/proc/sys/net/ipv4/tcp_window_scaling; echo 0 >/proc/sys/net/ipv4/tcp_sack'
         ip -n "$space" addr add "$ip/24" dev "loss${space:5:1}$$"
         ip -n "$space" link set "loss${space:5:1}$$" mtu 1500 up
         ip=10.78.0.2
     done
     start serve ip netns exec "$there" bench/socket_echo.py serve 10.78.0.2 7
     sleep 0.5
-    seconds=$(ip netns exec "$here" bench/socket_echo.py ask 10.78.0.2 7 "$work/script")
+    seconds=$(ip netns exec "$here" bench/socket_echo.py ask 10.78.0.2 7 "$work/script" 2>"$work/why") || seconds=inf
     finish
     ip netns del "$here"
     ip netns del "$there"
     told kernel "$seconds"
 }
 
-median() { sort -n "$work/$1.seconds" | sed -n 2p; }
+median() { sort -g "$work/$1.seconds" | sed -n 2p; }
+
+# three runs of each at this loss, in turn, and what their medians are
+compare_at() { # LOSS
+    loss=$1
+    echo "$size bytes each way, $loss % lost, $swapped % swapped, $delay ms each way"
+    rm -f "$work"/*.seconds
+    for seed in 1 2 3; do
+        through_ftnode ftnode "$program" "$seed"
+        [ -n "$older" ] && through_ftnode older "$older" "$seed"
+        if [ -n "$kernel" ]; then
+            through_bridge "$seed"
+            through_kernel "$seed"
+        fi
+    done
+    for other in ${older:+older} ${kernel:+kernel}; do
+        for one in ftnode ${kernel:+bridged}; do
+            awk -v a="$(median "$one")" -v b="$(median "$other")" -v one="$one" -v other="$other" 'BEGIN {
+                if (a == "inf" || b == "inf") { print "median of " one ", of " other ": not done in five minutes"; exit }
+                printf "median of %s %.2f s, of %s %.2f s: as fast as %s: %.3f\n", one, a, other, b, other, b / a
+            }'
+        done
+    done
+}
 
 machine
-echo "$size bytes each way, $loss % lost, $swapped % swapped, $delay ms each way"
 awk -v n="$size" 'BEGIN { for (i = 1; i <= n; i++) printf "%c", i % 64 ? 97 + i % 26 : 10 }' >"$work/script"
-kernel=yes
-may_make_devices || { kernel= && echo "no kernel sockets beside it: that needs root, ip and TUN devices"; }
-for seed in 1 2 3; do
-    [ -x "$program" ] && through_ftnode ftnode "$program" "$seed"
-    [ -n "$older" ] && through_ftnode older "$older" "$seed"
-    [ -n "$kernel" ] && through_kernel "$seed"
-done
-for beside in ${older:+older} ${kernel:+kernel}; do
-    awk -v a="$(median ftnode)" -v b="$(median "$beside")" -v name="$beside" 'BEGIN { printf "median %.2f s, %s %.2f s: as fast as %s: %.3f\n", a, name, b, name, b / a }'
-done
+if may_make_devices; then
+    kernel=yes
+    echo "sockets of the kernel have the congestion control $control"
+else
+    kernel=''
+    echo "no sockets of the kernel: they need root, ip and TUN devices"
+fi
+for each in $losses; do compare_at "$each"; done

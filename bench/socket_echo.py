@@ -1,12 +1,13 @@
 #!/usr/bin/env python3
 """Two sockets of the kernel for bench/loss.sh: `socket_echo.py serve HOST PORT` sends back to one client what it says, and `socket_echo.py ask HOST PORT FILE`
-says the bytes of a file and prints the seconds until all have come back. It ends with 1 where other bytes come, or none for a minute."""
+says the bytes of a file and prints the seconds until all have come back. It ends with 1 where other bytes come, or not all of them within five minutes: after
+many losses the kernel itself waits up to two minutes until it sends again."""
 import select
 import socket
 import sys
 import time
 
-PATIENCE = 60
+PATIENCE = 300
 PIECE = 65536
 
 
@@ -23,9 +24,10 @@ def ask(at, data):
     link = socket.create_connection(at, timeout=PATIENCE)
     link.setblocking(False)
     while True:
-        came, free, _ = select.select([link], [link] if sent < len(data) else [], [], PATIENCE)
+        left = begun + PATIENCE - time.monotonic()
+        came, free, _ = select.select([link], [link] if sent < len(data) else [], [], max(0, left))
         if not came and not free:
-            sys.exit(f"nothing came for {PATIENCE} seconds behind {len(back)} bytes")
+            sys.exit(f"{len(back)} bytes had come after {PATIENCE} seconds")
         if free:
             sent += link.send(data[sent : sent + PIECE])
             if sent == len(data):

@@ -1,7 +1,7 @@
 #!/usr/bin/env bash
 # A crash that nobody notices: logger, server and client on the loopback. The client asks the service Transfer REQUESTS times for 2,047 bytes. When a third of them
 # has come the server is killed with kill -9, and started again; what the client has in the end is compared with what a server that never failed sends.
-# It takes 2 to 25 seconds, and wants a built ftnode:
+# It takes 1 to 25 seconds, and wants a built ftnode:
 #     examples/crash.sh [PROGRAM] [REQUESTS] [STRAY]
 # PROGRAM is crates/ftnode/out/ftnode, REQUESTS 250, at most 8,000, and STRAY 0 where nothing is said: so many datagrams a second, which are no packets, come to
 # the server from another port meanwhile.

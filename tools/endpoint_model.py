@@ -1,16 +1,17 @@
 #!/usr/bin/env python3
-"""One endpoint of plain TCP in Python, by RFC 9293 and in stream offsets, beside the program: it plays the cases of scripts for `endpoint_script`.
+"""One endpoint of plain TCP in Python, by RFC 9293 and RFC 5681 and in stream offsets, beside the program: it plays the cases of scripts for `endpoint_script`.
 
     tools/endpoint_model.py check < SCRIPT   says at which lines it sees something else than the script wants
     tools/endpoint_model.py write < SCRIPT   writes the script with what it sees in the place of what is wanted
     tools/endpoint_model.py draw SEED STEPS  writes a case with early segments from a seed, and what it sees in it
+    tools/endpoint_model.py acks SEED STEPS  the same with acknowledgements: new ones, repeated, split, too high, with another window
 
 Lines that stand for much at once (`join`, `hostile`, `tally`) are passed over, and so are the scripts behind the first one, which are to be refused.
 """
 import random
 import sys
 
-from model import LIMIT, WINDOW, Segment, Stream, gap, is_acceptable, is_at_right_edge, is_at_zero_window, length_of, number
+from model import LIMIT, WINDOW, Congestion, Segment, Stream, gap, is_acceptable, is_at_right_edge, is_at_zero_window, length_of, number
 
 ACTS = ("in", "tick", "flush")
 SHOWN = ("out", "nothing", "segments")
@@ -21,7 +22,7 @@ class Endpoint(Stream):
 
     def __init__(self, isn, limit, active):
         super().__init__()
-        self.isn, self.limit, self.peer, self.mss = isn, limit, 0, 536
+        self.isn, self.limit, self.peer, self.mss, self.congestion = isn, limit, 0, 536, Congestion(536)
         self.state, self.reset, self.closed = "SYN-SENT" if active else "LISTEN", False, False
         self.consumed, self.written = 0, bytearray()
         self.una = self.sent = self.edge = self.wl1 = self.wl2 = 0
@@ -71,6 +72,7 @@ class Endpoint(Stream):
 
     def size(self, came):
         self.mss = 536 if came.mss is None else min(1460, max(64, came.mss))
+        self.congestion = Congestion(self.mss)
 
     def arrive_listening(self, came):
         if "R" in came.flags:
@@ -135,10 +137,14 @@ class Endpoint(Stream):
             self.enter({"ESTABLISHED": "CLOSE-WAIT", "FIN-WAIT-1": "CLOSING", "FIN-WAIT-2": "TIME-WAIT"}[self.state])
 
     def acknowledge(self, came, first, acked):
+        repeats = not came.text and "F" not in came.flags and acked == self.una < self.sent and acked + came.window == self.edge
         if acked >= self.una and (self.wl1 < first or self.wl1 == first and self.wl2 <= acked):
             self.edge, self.wl1, self.wl2 = acked + came.window, first, acked
         if acked > self.una:
+            self.congestion.acknowledge(acked - self.una)
             self.una, self.interval, self.rest = acked, 1, 1
+        elif repeats:
+            self.again = self.congestion.repeat(self.sent - self.una)
         if self.closed and self.una == len(self.written) + 1:
             self.enter({"FIN-WAIT-1": "FIN-WAIT-2", "CLOSING": "TIME-WAIT", "LAST-ACK": "CLOSED"}.get(self.state, self.state))
 
@@ -150,6 +156,8 @@ class Endpoint(Stream):
         if self.rest > 1:
             self.rest -= 1
         elif self.rest == 1 and self.state not in ("CLOSED", "LISTEN"):
+            if self.una < min(self.sent, self.edge):
+                self.congestion.lose(self.sent - self.una, self.interval == 1)
             self.interval = self.rest = min(64, 2 * self.interval)
             self.again = not self.opened or self.una < self.sent
             self.probe = not self.again
@@ -187,7 +195,7 @@ class Endpoint(Stream):
         return sent
 
     def resent(self):
-        """The first segment again, at an expiry and at the opening."""
+        """The first segment again, at an expiry, at the third duplicate acknowledgement and at the opening."""
         if not self.again:
             return []
         if not self.opened:
@@ -199,9 +207,9 @@ class Endpoint(Stream):
         return [self.out("A", self.una, self.written[self.una : self.una + length])]
 
     def fresh(self):
-        """All that the edge allows and wasn't sent, or one unit more as a probe, and the timer as it stands then."""
+        """All that the edge and the congestion window allow and wasn't sent, or one unit more as a probe, and the timer as it stands then."""
         start = self.sent
-        self.sent = max(start, min(self.ending(), self.edge))
+        self.sent = max(start, min(self.ending(), self.edge, self.una + self.congestion.window))
         if self.probe and self.sent == start < self.ending():
             self.sent += 1
         stop = min(self.sent, len(self.written))
@@ -295,6 +303,15 @@ class Player:
             return self.look(line, verb, words)
         self.lines.append(line)
         return None
+
+    def play_turn(self, line):
+        """A line that opens a turn, and all that leaves in it."""
+        self.play(line)
+        self.end_turn()
+        if self.leaving:
+            self.settle()
+        else:
+            self.lines.append("nothing")
 
     def show(self, line, verb, words):
         self.end_turn()
@@ -422,10 +439,45 @@ def drawn(seed, steps):
     return lines + ["read 9999 -", "nothing", "ended no"]
 
 
+def drawn_ack(dice, it):
+    """An acknowledgement, and its window: mostly one that leaves the right edge as it is."""
+    first = min(it.una + 1, it.sent)
+    near = it.una, it.una, it.una, it.una, min(it.una + it.mss, it.sent), it.sent, first, dice.randrange(first, it.sent + 1)
+    acked = dice.choice(near * 4 + (it.una - 1, it.sent + 1, it.sent - 1))
+    window = dice.choice((it.edge - acked,) * 6 + (WINDOW, WINDOW, it.sent - acked, dice.randrange(0, 9 * it.mss)))
+    return acked, min(WINDOW, max(0, window))
+
+
+def drawn_acks(seed, steps):
+    """A case whose peer acknowledges as it likes, with a byte of text here and there, while the user writes, and closes in the end."""
+    dice, player = random.Random(seed), Player()
+    size = dice.choice((64, 100, 536, 1095, 1096, 1460))
+    player.play("listen 192.0.2.100:7 4294960000")
+    player.play_turn(f"in S seq 1000 ack 0 win 65535 mss {size}")
+    player.play_turn("in A seq 1001 ack 4294960001 win 65535")
+    for _ in range(steps):
+        it, kind = player.it, dice.randrange(14)
+        if kind < 2:
+            count = min(dice.randrange(1, 6 * size), it.room())
+            player.play_turn(f"write fill:{count}@{len(it.written) % 251}")
+        elif kind == 2:
+            player.play_turn("tick")
+        else:
+            acked, window = (it.una, min(WINDOW, it.edge - it.una)) if kind == 3 else drawn_ack(dice, it)
+            data = " data x" * (dice.randrange(20) == 0)
+            for _ in range(dice.randrange(3, 7) if kind == 3 else 1):
+                player.play_turn(f"in A seq {number(1001 + len(it.data))} ack {number(4294960001 + acked)} win {max(0, window)}{data}")
+    player.play_turn("close")
+    player.play_turn("tick")
+    player.play(f"sent {number(4294960001 + player.it.sent)}")
+    return player.lines
+
+
 def main():
-    if sys.argv[1:2] == ["draw"]:
+    if sys.argv[1:2] in (["draw"], ["acks"]):
         seed, steps = map(int, sys.argv[2:])
-        written, _ = play_script("\n".join([f"case drawn arrivals, seed {seed}", *drawn(seed, steps)]))
+        what, lines = ("arrivals", drawn(seed, steps)) if sys.argv[1] == "draw" else ("acknowledgements", drawn_acks(seed, steps))
+        written, _ = play_script("\n".join([f"case drawn {what}, seed {seed}", *lines]))
         print("\n".join(written))
         return
     given = sys.stdin.read()

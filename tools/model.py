@@ -2,7 +2,6 @@
 
 It follows the laws of docs/MODEL.md in stream offsets, with whole streams in memory and no TCP inside: a second way to the same reports, outside the
 proofs. What it makes of a schedule is compared with what `ftreplay` makes of it (tools/seed_model.py), so no line here may be taken from the program.
-Congestion control is not in it.
 """
 from collections import namedtuple
 
@@ -13,6 +12,7 @@ UNANSWERED = 32  # reads on their way to the log
 OPENINGS = 64  # also the entries of a log
 PACKETS = 200_000  # packets of a run
 RUNS = 16  # runs of bytes that are held behind a gap
+WIDEST = 1 << 20  # the most units of a congestion window
 PIECE = 1460  # the most bytes of a Data
 
 # The bytes of a message without what follows its fields.
@@ -225,6 +225,46 @@ class Stream:
         return not self.fin and self.held_fin is None and len(self.data) <= at < edge and at > max(self.held, default=-1)
 
 
+class Congestion:
+    """How far beyond the first unit that isn't acknowledged may be sent (RFC 5681, 3.1 and 3.2), in units. `flight` is what is sent and unacknowledged."""
+
+    def __init__(self, mss):
+        self.mss, self.dups, self.threshold = mss, 0, WINDOW
+        self.window = (4 if mss <= 1095 else 3) * mss
+
+    def widen(self, window):
+        self.window = min(window, WIDEST)
+
+    def halve(self, flight):
+        self.threshold = max(flight // 2, 2 * self.mss)
+
+    def acknowledge(self, units):
+        """So many units are acknowledged for the first time: it grows, or fast recovery ends."""
+        if self.dups >= 3:
+            self.widen(self.threshold)
+        elif self.window < self.threshold:
+            self.widen(self.window + min(units, self.mss))
+        else:
+            self.widen(self.window + max(1, self.mss * self.mss // self.window))
+        self.dups = 0
+
+    def repeat(self, flight):
+        """A duplicate acknowledgement. Whether it is the third in a row, at which a segment is sent again."""
+        before, self.dups = self.dups, min(4, self.dups + 1)
+        if before == 2:
+            self.halve(flight)
+            self.widen(self.threshold + 3 * self.mss)
+        elif before > 2:
+            self.widen(self.window + self.mss)
+        return before == 2
+
+    def lose(self, flight, first):
+        """The timer expires. `first` is false where it did before, and nothing was acknowledged since."""
+        if first:
+            self.halve(flight)
+        self.window, self.dups = self.mss, 0
+
+
 class Entry:
     """What the log keeps of one connection."""
 
@@ -321,6 +361,7 @@ class Connection(Stream):
         self.lengths, self.consumed, self.reads_answered = [], 0, 0
         self.una = self.sent = self.edge = self.wl1 = self.wl2 = 0
         self.counted, self.interval, self.rest = False, 1, 1
+        self.congestion, self.again = Congestion(mss), False
         self.end_ticks, self.reset = 0, False
 
     @classmethod
@@ -383,6 +424,7 @@ class Connection(Stream):
             return self.turn_reset(kind, came)
         una, taken, right, answered, was_over = self.una, self.taken(), self.right(), self.answered, self.is_over()
         segments, owed, copied, silent = [], kind == "live", [], False
+        self.again = False
         if kind == "segment":
             if self.is_repeated_syn(came):
                 segments, owed = [self.syn_ack()], False
@@ -401,6 +443,8 @@ class Connection(Stream):
             self.rest -= 1
         if expired:
             segments += self.expire()
+        elif self.again:
+            segments.append(self.first_again())
         segments += self.send_more()
         owed = owed or self.answered > answered or (self.taken(), self.right()) != (taken, right)
         if owed and not segments and not silent:
@@ -438,11 +482,16 @@ class Connection(Stream):
         self.come(first, came.text, "F" in came.flags, self.right() - self.fin)
         una, lowered = self.una, min(acked, self.sent)
         window = min(WINDOW, came.window + acked - lowered)
+        repeats = not came.text and "F" not in came.flags and lowered == una < self.sent and lowered + window == self.edge
         if lowered >= una and (not self.counted or self.wl1 < first or self.wl1 == first and self.wl2 <= lowered):
             self.edge, self.wl1, self.wl2 = lowered + window, first, lowered
         self.una = max(una, lowered)
         if self.una > una or not self.counted:
             self.interval = self.rest = 1
+        if self.una > una:
+            self.congestion.acknowledge(self.una - una)
+        elif repeats:
+            self.again = self.congestion.repeat(self.sent - una)
         self.counted = True
 
     def copies(self, came, first, had, had_fin):
@@ -482,22 +531,29 @@ class Connection(Stream):
 
     def expire(self):
         """The timer is out: the first segment again, or a probe."""
+        first = self.interval == 1
         self.interval = self.rest = min(64, 2 * self.interval)
         if not self.counted:
             return [self.syn_ack()]
-        output = self.released()
         if self.una < self.sent:
-            if self.una == output:
-                return [self.out("AF", self.una)]
-            length = min(self.mss, min(self.sent, output) - self.una, max(1, self.edge - self.una))
-            return [self.part(self.una, self.una + length)]
+            if self.una < self.edge:
+                self.congestion.lose(self.sent - self.una, first)
+            return [self.first_again()]
         at, self.sent = self.sent, self.sent + 1
-        return [self.part(at, at + 1) if at < output else self.out("AF", at)]
+        return [self.part(at, at + 1) if at < self.released() else self.out("AF", at)]
+
+    def first_again(self):
+        """The first segment that isn't acknowledged, as far as the edge has room for it, but at least one byte."""
+        output = self.released()
+        if self.una == output:
+            return self.out("AF", self.una)
+        length = min(self.mss, min(self.sent, output) - self.una, max(1, self.edge - self.una))
+        return self.part(self.una, self.una + length)
 
     def send_more(self):
-        """All that the edge allows and wasn't sent, and the timer as it stands then."""
+        """All that the edge and the congestion window allow and wasn't sent, and the timer as it stands then."""
         start = self.sent
-        self.sent = max(self.sent, min(self.target(), self.edge)) if self.counted else self.sent
+        self.sent = max(self.sent, min(self.target(), self.edge, self.una + self.congestion.window)) if self.counted else self.sent
         end = min(self.sent, self.released())
         segments = [self.part(at, min(at + self.mss, end)) for at in range(start, end, self.mss)]
         if self.sent > max(start, self.released()):

@@ -1,12 +1,13 @@
 #!/usr/bin/env python3
-"""Tests of tools/model.py: numbers that follow from the rules by hand, a crash at each turn of the first path, and the runs that are stored in
-crates/replay_script. It takes half a minute. Run it: tools/model_test.py"""
+"""Tests of tools/model.py: numbers that follow from the rules by hand, a crash at each turn of the first path, transfers whose segments get lost, and the
+runs that are stored in crates/replay_script. It takes half a minute. Run it: tools/model_test.py"""
 import pathlib
 import re
 import unittest
 
+import lossy
 from endpoint_model import play_script
-from model import Client, Connection, Log, Message, Segment, Server, Service, Stream, World, size_of
+from model import WIDEST, Client, Congestion, Connection, Log, Message, Segment, Server, Service, Stream, World, size_of
 from reordered import drawn
 from replay_stored import FOLDER, printed
 
@@ -232,6 +233,77 @@ class Receiving(unittest.TestCase):
             self.assertEqual((client.acked, len(client.accepted)), (0, 0))
 
 
+class Congestions(unittest.TestCase):
+    """The congestion window by RFC 5681. `a` acknowledges so many units, `d` is a duplicate with so many units in flight, `l` a loss by the timer, the first
+    one with `f`; behind each the window, the threshold and the count of duplicates."""
+
+    def check(self, mss, *steps, window=None, threshold=65535):
+        it = Congestion(mss)
+        it.window, it.threshold = window or it.window, threshold
+        for what, units, *wanted in steps:
+            if what == "a":
+                it.acknowledge(units)
+            elif what == "d":
+                self.assertEqual(it.repeat(units), wanted[2] == 3, (mss, what, units))
+            else:
+                it.lose(units, what == "f")
+            self.assertEqual([it.window, it.threshold, it.dups], wanted, (mss, what, units))
+
+    def test_initial_windows(self):
+        for mss, window in ((64, 256), (536, 2144), (1095, 4380), (1096, 3288), (1460, 4380)):
+            self.check(mss, ("d", 0, window, 65535, 1))
+
+    def test_slow_start(self):
+        self.check(100, ("a", 1, 401, 65535, 0), ("a", 30, 431, 65535, 0), ("a", 100, 531, 65535, 0), ("a", 101, 631, 65535, 0), ("a", 631, 731, 65535, 0))
+        self.check(100, ("a", 100, 499, 400, 0), ("a", 1, 519, 400, 0), window=399, threshold=400)
+
+    def test_congestion_avoidance(self):
+        self.check(100, ("a", 1, 425, 400, 0), ("a", 425, 448, 400, 0), ("a", 100, 470, 400, 0), threshold=400)
+        self.check(64, ("a", 64, 4097, 128, 0), ("a", 64, 4098, 128, 0), window=4096, threshold=128)
+        self.check(1460, ("a", 1, WIDEST, 2920, 0), ("a", 1460, WIDEST, 2920, 0), window=WIDEST - 1, threshold=2920)
+
+    def test_recovery(self):
+        more = ("d", 650, 650, 250, 4), ("d", 750, 750, 250, 4), ("d", 850, 850, 250, 4)
+        self.check(100, ("d", 500, 400, 65535, 1), ("d", 500, 400, 65535, 2), ("d", 500, 550, 250, 3), *more, ("a", 1, 250, 250, 0), ("d", 9, 250, 250, 1))
+        self.check(100, ("d", 399, 400, 65535, 1), ("d", 399, 400, 65535, 2), ("a", 1, 401, 65535, 0), ("d", 399, 401, 65535, 1))
+        self.check(100, ("d", 1, 400, 65535, 1), ("d", 1, 400, 65535, 2), ("d", 403, 501, 201, 3), ("a", 400, 201, 201, 0), ("a", 100, 250, 201, 0))
+        self.check(1460, ("d", 9, 9, 65535, 1), ("d", 9, 9, 65535, 2), ("d", 65535, 37147, 32767, 3), window=9)
+
+    def test_losses(self):
+        self.check(100, ("f", 400, 100, 200, 0), ("l", 900, 100, 200, 0), ("a", 400, 200, 200, 0), ("a", 100, 250, 200, 0), ("f", 601, 100, 300, 0))
+        self.check(100, ("d", 400, 400, 65535, 1), ("d", 400, 400, 65535, 2), ("d", 400, 500, 200, 3), ("f", 500, 100, 250, 0), ("d", 500, 100, 250, 1))
+
+    def sent(self, place, *came):
+        """Where the segments stand that leave at each of these, and how long they are."""
+        turns = [place.turn("segment", it) if isinstance(it, Segment) else place.turn(it) for it in came]
+        return [[((it.seq - 5001) % 2**32, len(it.text)) for it in segments] for segments, _ in turns]
+
+    def test_restart(self):
+        """A restarted connection begins anew, whatever its window was. The client has 1,000 bytes already: at first that acknowledges nothing."""
+        requests = b"\0\0\7\xff" * 3
+        entry = {"key": KEY, "cisn": 1000, "sisn": 5000, "mss": 536, "length": 12, "fin": 0, "acked": 0, "data": bytearray(requests), "lengths": [12]}
+        place = Connection.of_entry(entry, "transfer")
+        self.assertEqual(self.sent(place, "live"), [[(0, 0)]])
+        knows = text(12, b"", 6001)
+        self.assertEqual(self.sent(place, knows), [[(0, 536), (536, 536), (1072, 536), (1608, 536)]])
+        self.assertEqual(self.sent(place, knows), [[(2144, 536), (2680, 536), (3216, 464)]])
+
+    def test_duplicates(self):
+        """Of 6,141 bytes 2,144 are sent. Neither text, FIN nor another window is in a duplicate, and the third in a row sends the first segment again."""
+        place = Connection(KEY, 1000, 5000, 536, "transfer")
+        place.turn("start")
+        place.turn("segment", text(0, b"\0\0\7\xff" * 3))
+        place.turn("logged", said("Reads", key=KEY, length=12, fin=0, reads=1))
+        bare, then = text(12, b""), text(13, b"")
+        others = bare._replace(window=65534), bare._replace(window=65535), bare._replace(flags=""), bare._replace(ack=5000), bare._replace(text=b"x")
+        self.assertEqual(self.sent(place, bare, bare, *others), [[], [], [], [], [], [], [(2144, 0)]])
+        self.assertEqual((place.congestion.dups, place.congestion.window), (2, 2144))
+        self.assertEqual(self.sent(place, then, then), [[(0, 536), (2144, 536)], [(2680, 536)]])
+        self.assertEqual((place.congestion.threshold, place.congestion.window), (1072, 3216))
+        self.assertEqual(self.sent(place, "tick", then, then._replace(ack=5001 + 536)), [[(0, 536)], [], []])
+        self.assertEqual((place.congestion.threshold, place.congestion.window), (1608, 1072))
+
+
 class Copies(unittest.TestCase):
     """What a turn tells the log of text that was held."""
 
@@ -271,7 +343,7 @@ class StoredRuns(unittest.TestCase):
     def test_replay_script(self):
         stored = [(FOLDER / name).read_text() for name in ("stdin", "stdout")]
         told = {name: (stands, wanted) for name, stands, wanted in printed(*stored)}
-        self.assertEqual(sum(wanted is not None for _, wanted in told.values()), 73)
+        self.assertEqual(sum(wanted is not None for _, wanted in told.values()), 79)
         for name, (stands, wanted) in told.items():
             self.assertIn(wanted, (None, stands), name)
 
@@ -305,6 +377,11 @@ class Worlds(unittest.TestCase):
     def test_segments_out_of_order(self):
         for seed in range(100):
             self.assertEqual(drawn(seed)[1], drawn(seed, in_order=True)[1], seed)
+
+    def test_lost_segments(self):
+        for seed in range(40):
+            _, accepted, wanted = lossy.drawn(seed)
+            self.assertEqual(accepted, wanted, seed)
 
     def test_sizes(self):
         self.assertEqual(size_of(said("Data", key=KEY, offset=0, acked=0, fin=0, bytes=b"hello")), 0x24)

@@ -16,10 +16,10 @@ KEY, SERVER, WINDOW = "192.0.2.1:40000", "192.0.2.100:7", 65535
 class Run:
     """A world that is driven, with its schedule and the packets that may still come."""
 
-    def __init__(self, spelled):
+    def __init__(self, spelled, service="echo"):
         self.client = Client(KEY, 4294967000, script_of(spelled))
-        self.world = World("echo", SERVER, [self.client])
-        self.lines = ["service echo", f"server {SERVER}", f"client 1 {KEY} {self.client.isn} {spelled}"]
+        self.world = World(service, SERVER, [self.client])
+        self.lines = [f"service {service}", f"server {SERVER}", f"client 1 {KEY} {self.client.isn} {spelled}"]
         self.waiting = []
 
     def happen(self, verb, *words):
@@ -36,6 +36,12 @@ class Run:
     def drain(self):
         while self.waiting:
             self.deliver(self.waiting[0])
+
+    def begin(self):
+        """The server boots, and the client has opened a connection."""
+        for verb, *words in (("boot", 1, 5000), ("open", 1, WINDOW), ("ack", 1, WINDOW)):
+            self.happen(verb, *words)
+            self.drain()
 
     def answer(self, dice):
         """Delivers some of what server and log have to say."""
@@ -98,12 +104,7 @@ def drawn(seed, in_order=False):
     """The lines of a schedule, and what the client has accepted."""
     dice = random.Random(seed)
     run = Run(f"fill:{dice.randrange(200, 500)}")
-    run.happen("boot", 1, 5000)
-    run.drain()
-    run.happen("open", 1, WINDOW)
-    run.drain()
-    run.happen("ack", 1, WINDOW)
-    run.drain()
+    run.begin()
     send_all(run, dice)
     come(run, dice, in_order)
     finish(run)

@@ -1,0 +1,162 @@
+#!/usr/bin/env bash
+# A server that is killed again and again under many clients: CLIENTS clients of the kernel, each in a network namespace and behind a tools/bridge.py of its own,
+# send BYTES bytes each to an echo of ftnode and compare what comes back. Meanwhile the server is killed (kill -9) KILLS times, each time that another part of all
+# bytes has come back, and is started again with the next boot number PAUSE seconds later. Beside it as many clients send the same to an echo server of the
+# kernel over paths (bench/relay.py) with the same loss, without window scaling and selective acknowledgements; nothing is killed there, and the pauses that ftnode's
+# clients had are added to the time. Both run at each loss. Printed are resets, bytes lost, the longest time in which a client got nothing, and the time.
+# The goal: no reset, no byte lost, and all clients done within three times. Status 0 where it is met, 1 where it is missed, 2 where it can't run.
+#     sudo bench/soak.sh [PROGRAM]        a built ftnode, else this checkout's
+# CLIENTS (16, at most 64: a log takes no more), KILLS (100), BYTES (400000), LOSS ("0 1 5", in percent), PAUSE (0.2), RATE (4000: bytes that a client sends
+# in a second, so that about one kill a second comes; 0: as fast as it can) and LIMIT (400) may stand in the environment. It takes eleven minutes. Neither half of a
+# loss takes longer than LIMIT seconds and half a minute, so three losses end within 43 minutes. It makes network namespaces and TUN devices, and removes them
+# in the end.
+set -eu
+program=${1:+$(realpath "$1")}
+. "$(dirname "$0")/common.sh"
+clients=${CLIENTS:-16} kills=${KILLS:-100} bytes=${BYTES:-400000} losses=${LOSS:-0 1 5} pause=${PAUSE:-0.2} rate=${RATE:-4000} limit=${LIMIT:-400}
+server=10.79.1.1 port=7 logger=10.79.1.2:7008 outside=soak_$$ pids=() spaces=()
+for ((k = 1; k <= clients; k++)); do spaces+=("soak_${k}_$$"); done
+
+missing() { echo "soak.sh: not run: $1" >&2; exit 2; }
+[ "$(id -u)" = 0 ] || missing "it needs root"
+[ -c /dev/net/tun ] || missing "there is no /dev/net/tun: the kernel has no TUN devices"
+command -v ip >/dev/null || missing "the command ip is missing (package iproute2)"
+((clients >= 1 && clients <= 64)) || missing "a log takes 1 to 64 clients"
+if [ -z "$program" ]; then
+    build ftnode logger --local 127.0.0.1:7040 --turns 1
+    program=$PWD/crates/ftnode/out/ftnode
+fi
+
+# ends what was started, and removes the namespaces with the devices in them
+finish() {
+    for pid in "${pids[@]}"; do { kill -9 "$pid" && wait "$pid"; } 2>/dev/null || true; done
+    pids=()
+    for space in "${spaces[@]}" "$outside"; do ip netns del "$space" 2>/dev/null || true; done
+}
+trap 'finish; rm -rf "$work"' EXIT
+trap 'exit 1' INT TERM
+
+# starts something in the namespace of the servers; its process number is in `last`, and what it prints in a file of its name
+start() { # NAME WORD..
+    local name=$1
+    shift
+    rm -f "$work/$name"
+    ip netns exec "$outside" "$@" >"$work/$name" 2>"$work/$name.err" &
+    last=$!
+    pids+=("$last")
+}
+wait_for_up() { # NAME
+    for _ in {1..200}; do
+        grep -qs up "$work/$1" && return
+        sleep 0.05
+    done
+    missing "$1 doesn't start: $(cat "$work/$1.err")"
+}
+client_ip() { echo "10.79.0.$1"; } # NUMBER
+
+# the namespaces: one of servers and logger, and one for each client
+add_spaces() {
+    ip netns add "$outside" 2>"$work/why" || missing "no network namespace can be made: $(cat "$work/why")"
+    ip -n "$outside" link set lo up
+    for address in "$server" "${logger%:*}"; do ip -n "$outside" addr add "$address/32" dev lo; done
+    for space in "${spaces[@]}"; do ip netns add "$space"; done
+    for space in "${spaces[@]}" "$outside"; do
+        ip netns exec "$space" sh -c 'echo 0 >/proc/sys/net/ipv4/tcp_window_scaling; echo 0 >/proc/sys/net/ipv4/tcp_sack'
+    done
+}
+
+start_server() { # BOOT
+    start "server.$1" "$program" server --local "$server:$port" --logger "$logger" --service echo --boot "$1" --isn "$((100000 * $1))" --turns 1000000
+    server_process=$last
+}
+server_runs() { kill -0 "$server_process" 2>/dev/null || { echo "server $boot ended by itself: $(cat "$work/server.$boot" "$work/server.$boot.err")" && false; }; }
+now() { echo "${EPOCHREALTIME//[!0-9]/}"; } # microseconds
+
+# the server is killed, and the next one started; `away` is how long there has been none, in microseconds
+kill_server() {
+    local begun
+    begun=$(now)
+    server_runs || ended_early=$((ended_early + 1))
+    { kill -9 "$server_process"; wait "$server_process"; } 2>/dev/null || true
+    unset "pids[-1]"
+    sleep "$pause"
+    boot=$((boot + 1))
+    start_server "$boot"
+    away=$((away + $(now) - begun))
+}
+
+# the clients, and the kills that they ask for; their `end` line is in `told`
+run_clients() { # KILLS
+    local word rest asking
+    told='' boot=1 away=0 ended_early=0 last_kill=0
+    mkfifo "$work/events"
+    bench/soak_clients.py ask "$server" "$port" "$bytes" "$rate" "$1" "$limit" "${spaces[@]}" >"$work/events" &
+    asking=$!
+    while read -r word rest; do
+        case $word in
+            kill) last_kill=$rest && kill_server ;;
+            end) told=$rest ;;
+            *) echo "$word $rest" ;;
+        esac
+    done <"$work/events"
+    rm "$work/events"
+    wait "$asking" || { echo "soak.sh: the clients ended with $?" >&2; exit 1; }
+}
+
+through_ftnode() { # LOSS
+    add_spaces
+    start logger "$program" logger --local "$logger" --turns 1000000
+    for ((k = 1; k <= clients; k++)); do
+        ip -n "$outside" addr add "$(client_ip "$k")/32" dev lo
+        start "bridge$k" tools/bridge.py --client "$(client_ip "$k")" --server "$server:$port" --netns "${spaces[k - 1]}" --device "soak${k}_$$" --loss "$1" --seed "$k"
+    done
+    for ((k = 1; k <= clients; k++)); do wait_for_up "bridge$k"; done
+    start_server 1
+    run_clients "$kills"
+    server_runs || ended_early=$((ended_early + 1))
+    finish
+}
+
+through_kernel() { # LOSS
+    add_spaces
+    start serve bench/soak_clients.py serve "$server" "$port"
+    for ((k = 1; k <= clients; k++)); do start "relay$k" bench/relay.py "tun:a${k}_$$" "tun:b${k}_$$" "$1" 0 "$k"; done
+    for ((k = 1; k <= clients; k++)); do
+        wait_for_up "relay$k"
+        ip -n "$outside" link set "a${k}_$$" netns "${spaces[k - 1]}"
+        ip -n "${spaces[k - 1]}" addr add "$(client_ip "$k")/32" dev "a${k}_$$"
+        ip -n "${spaces[k - 1]}" link set "a${k}_$$" mtu 1500 up
+        ip -n "${spaces[k - 1]}" route add "$server/32" dev "a${k}_$$"
+        ip -n "$outside" link set "b${k}_$$" mtu 1500 up
+        ip -n "$outside" route add "$(client_ip "$k")/32" dev "b${k}_$$" src "$server"
+    done
+    run_clients 0
+    finish
+}
+
+show() { # NAME
+    local seconds resets lost wrong silence served
+    read -r seconds resets lost wrong silence served <<<"$told"
+    echo "$1: $served of $clients clients done in $seconds s; resets $resets, bytes lost $lost, bytes wrong $wrong, longest silence $silence s"
+}
+
+# both halves at this loss; `missed` says whether the goal was missed at one
+soak_at() { # LOSS
+    echo "$1 % lost, load $(cut -d' ' -f1 /proc/loadavg):"
+    through_ftnode "$1"
+    local ours=$told gone=$away restarts=$((boot - 1)) early=$ended_early
+    show "ftnode, $restarts kills, the last at $last_kill s"
+    through_kernel "$1"
+    show "kernel, no kill"
+    echo "$ours $told" | awk -v away="$gone" -v clients="$clients" -v early="$early" -v all="$((restarts == kills))" '{
+        seconds = away / 1e6; times = $1 / ($7 + seconds); met = $2 + $3 + $4 + early == 0 && $6 == clients && all && times <= 3
+        printf "pauses of %.1f s in all; %.2f times as long as the kernel with them; goal %s\n", seconds, times, met ? "met" : "MISSED"
+        exit !met
+    }' || missed=1
+}
+
+machine
+echo "$clients clients, $bytes bytes each way, $rate bytes a second each, $kills kills, each for $pause s"
+missed=0
+for each in $losses; do soak_at "$each"; done
+exit $missed

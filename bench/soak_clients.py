@@ -1,0 +1,146 @@
+#!/usr/bin/env python3
+"""Sockets of the kernel for bench/soak.sh.
+
+    soak_clients.py serve HOST PORT                                   an echo server
+    soak_clients.py ask HOST PORT BYTES RATE KILLS LIMIT SPACE..      a client in each of these network namespaces, all in this process
+
+Each client sends BYTES bytes of its own, at most RATE bytes a second (as fast as its socket takes them where RATE is 0), ends its side, and compares what comes
+back. Printed are `kill SECONDS` each time that another part of all bytes has come, KILLS times in all; `client N: WHY` for a client that got less than all; and at
+last `end SECONDS RESETS LOST WRONG SILENCE DONE`: how long it took, connections that were reset, bytes that didn't come, bytes that came and were others, the
+longest time in which nothing came to a client that waited, in seconds, and how many clients got all. It ends after LIMIT seconds at the latest.
+"""
+import ctypes
+import os
+import random
+import select
+import socket
+import socketserver
+import sys
+import time
+
+PIECE = 2000  # bytes that a client with a rate sends at a time
+ROOM = 65536
+PERIOD = 0.02  # seconds until a client looks again whether it may send
+NEW_NETWORK = 0x40000000  # CLONE_NEWNET
+
+
+class Echo(socketserver.BaseRequestHandler):
+    def handle(self):
+        while data := self.request.recv(ROOM):
+            self.request.sendall(data)
+
+
+class Server(socketserver.ThreadingTCPServer):
+    allow_reuse_address = daemon_threads = True
+    request_queue_size = 64
+
+
+def enter(space):
+    """From here on this process makes its sockets in this network namespace."""
+    libc = ctypes.CDLL(None, use_errno=True)
+    with open(f"/run/netns/{space}", encoding="ascii") as file:
+        if libc.setns(file.fileno(), NEW_NETWORK) != 0:
+            sys.exit(f"soak_clients: no way into {space}: {os.strerror(ctypes.get_errno())}")
+
+
+class Client:
+    """One connection: what it sends, what came, and when."""
+
+    def __init__(self, number, at, size):
+        self.number, self.data = number, random.Random(number).randbytes(size)
+        self.sent = self.back = self.wrong = 0
+        self.is_reset, self.is_open, self.why = False, True, ""
+        self.silence, self.last = 0.0, time.monotonic()
+        self.link = socket.socket()
+        self.link.setblocking(False)
+        self.link.connect_ex(at)
+
+    def got_all(self):
+        return self.back == len(self.data) and not self.wrong and not self.is_reset
+
+    def end(self, why):
+        self.is_open, self.why = False, why
+        self.silence = max(self.silence, time.monotonic() - self.last)
+        self.link.close()
+
+    def send(self, allowed):
+        """Sends what the rate allows and the socket takes."""
+        try:
+            while self.sent < allowed:
+                self.sent += self.link.send(self.data[self.sent : allowed])
+                if self.sent == len(self.data):
+                    self.link.shutdown(socket.SHUT_WR)
+        except BlockingIOError:
+            pass
+        except OSError as why:
+            self.fail(why)
+
+    def receive(self):
+        """Takes what came, and says how many bytes that is."""
+        try:
+            more = self.link.recv(ROOM)
+        except BlockingIOError:
+            return 0
+        except OSError as why:
+            self.fail(why)
+            return 0
+        if not more:
+            self.end("the stream ended")
+            return 0
+        now = time.monotonic()
+        self.silence, self.last = max(self.silence, now - self.last), now
+        self.compare(more)
+        self.back += len(more)
+        return len(more)
+
+    def compare(self, more):
+        wanted = self.data[self.back : self.back + len(more)]
+        if more != wanted:
+            self.wrong += sum(a != b for a, b in zip(more, wanted)) + len(more) - len(wanted)
+
+    def fail(self, why):
+        self.is_reset = isinstance(why, (ConnectionResetError, ConnectionRefusedError, BrokenPipeError))
+        self.end(why.strerror)
+
+
+def ask(at, size, rate, kills, limit, spaces):
+    clients, begun = [], time.monotonic()
+    for number, space in enumerate(spaces, 1):
+        enter(space)
+        clients.append(Client(number, at, size))
+    back, killed = 0, 0
+    while (live := [each for each in clients if each.is_open]) and (passed := time.monotonic() - begun) < limit:
+        allowed = size if rate == 0 else min(size, int(passed * rate) // PIECE * PIECE + PIECE)
+        for each in live:
+            if each.sent < allowed:
+                each.send(allowed)
+        live = [each for each in live if each.is_open]
+        came = set(select.select([each.link for each in live], [], [], PERIOD)[0])
+        for each in live:
+            if each.link in came:
+                back += each.receive()
+        while killed < kills and back > (killed + 1) * size * len(clients) // (kills + 1):
+            killed += 1
+            print(f"kill {time.monotonic() - begun:.1f}", flush=True)
+    for each in clients:
+        if each.is_open:
+            each.end(f"not done after {limit:.0f} seconds")
+        if not each.got_all():
+            print(f"client {each.number}: {each.back} of {size} bytes came: {each.why}")
+    resets, lost = sum(each.is_reset for each in clients), sum(max(0, size - each.back) for each in clients)
+    wrong, done = sum(each.wrong for each in clients), sum(each.got_all() for each in clients)
+    print(f"end {time.monotonic() - begun:.2f} {resets} {lost} {wrong} {max(each.silence for each in clients):.2f} {done}", flush=True)
+
+
+def main():
+    verb, host, port, *words = sys.argv[1:]
+    if verb == "serve":
+        with Server((host, int(port)), Echo) as server:
+            server.serve_forever()
+    else:
+        size, rate, kills, limit, *spaces = words
+        ask((host, int(port)), int(size), int(rate), int(kills), float(limit), spaces)
+
+
+if __name__ == "__main__":
+    main()
