@@ -1,4 +1,4 @@
--- What goes out of a logger as the code holds it.
+-- What a logger sends, as the code holds it.
 use Rattle.std.specs.Prelude.{ℕ, Bool, true, not, List, [], ◌∷◌, ◌≡◌, map, Vec}
 use Rattle.std.specs.declared.alloc.Global.{Global}
 use Rattle.std.specs.List.{AllByRecursion}
@@ -8,7 +8,7 @@ use Rattle.twin_laws.specs.declared.part.Side.{Side}
 use Rattle.twin_laws.specs.declared.part.Side.TheVariants as sides
 use Rattle.twin_laws.specs.Twin.{Request}
 
--- an answer of the log goes to the server; where there is none, nothing goes out
+-- an answer of the log is sent to the server; where there is none, nothing is sent
 abbrev pub answer_out : List ℕ → List (Side × List ℕ)
 answer_out [] = []
 answer_out (byte ∷ bytes) = (sides.Server, byte ∷ bytes) ∷ []
@@ -21,7 +21,7 @@ AreAsking messages = AllByRecursion (λ message. is_asking message ≡ true) mes
 abbrev pub texts_of : List (Vec ℕ Global) → List (List ℕ)
 texts_of messages = map (λ message. message.items) messages
 
--- a message with the bytes in which it came
+-- a message with the bytes in which it arrived
 abbrev pub request_in : List ℕ → Message → Request
 request_in bytes message = record { bytes = bytes; message = message }
 

@@ -1,4 +1,4 @@
--- What the code's datagrams between two loggers say, in the plain values of their grammar.
+-- What the code's datagrams between two loggers say, as plain values of their grammar.
 use Rattle.std.specs.Prelude.{Result, Ok, Err}
 use Rattle.seq_arith.specs.declared.twin.BadTwin.{BadTwin}
 use Rattle.seq_arith.specs.TwinDatagram.{TwinDatagram}

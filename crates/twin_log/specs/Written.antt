@@ -1,4 +1,4 @@
--- The header of a datagram between two loggers, without what is behind it.
+-- The header of a datagram between two loggers, without what follows it.
 use Rattle.std.specs.Prelude.{ℕ, List, ◌∷◌, ◌++◌}
 use Rattle.seq_arith.specs.declared.twin.TwinKind.{TwinKind}
 use Rattle.seq_arith.specs.Bytes.{two}

@@ -1,4 +1,4 @@
-//! Room for one datagram that goes out.
+//! Room for one datagram that is sent.
 
 ghost use Rattle.std.specs.Prelude.{[], ◌≡◌, ◌≤◌, length};
 ghost use Rattle.seq_arith.specs.TwinGrammar.{spelling, IsSpellable};
@@ -10,11 +10,11 @@ use crate::writing::write_twin;
 use std::marker::Model;
 use twin_laws::Side;
 
-/// Bytes and to whom they go, in room for 2,048 bytes.
+/// Bytes and their addressee, in room for 2,048 bytes.
 #[derive(Drop)]
 pub(crate) struct Datagram {
     to: Side,
-    /// The datagram, and room behind it.
+    /// The datagram, and room after it.
     bytes: [u8; 2_048],
     /// How many of these bytes are the datagram's.
     len: usize,
@@ -43,7 +43,7 @@ impl Datagram {
         }
     }
 
-    /// To whom it goes.
+    /// Its addressee.
     pub(crate) fn to(&self) -> Side
         ensures { result ≡ self.now.0 }
     {
@@ -56,7 +56,7 @@ impl Datagram {
         &self.bytes[..self.len]
     }
 
-    /// Puts bytes for the server in place of what there was.
+    /// Puts bytes for the server in place of the content.
     #[tactic(auto, using(crate::proofs::Fronts::seams))]
     pub(crate) fn answer(&mut self, bytes: &[u8])
         requires { length bytes.now ≤ 2048 }
@@ -67,7 +67,7 @@ impl Datagram {
         self.len = bytes.len();
     }
 
-    /// Puts a datagram for the other logger in place of what there was.
+    /// Puts a datagram for the other logger in place of the content.
     #[tactic(auto, using(crate::proofs::Fronts::datagram_whole, crate::proofs::Fronts::datagram_fits))]
     pub(crate) fn tell(&mut self, m: &TwinMsg<'_>)
         requires { IsSpellable (said_by m.now) }

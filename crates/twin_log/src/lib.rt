@@ -1,7 +1,6 @@
-//! Two loggers that act as one: the datagrams between them, and what each of them does with what comes to it. The head takes the server's
-//! messages, numbers them and forwards them; the tail applies them in that order and answers the server. When one of them has stopped and the
-//! other is told so, that one serves alone. What each does is the definition of `twin_laws`, datagram for datagram; a call that is refused
-//! for memory changes nothing.
+//! Two loggers that act as one: the datagrams between them, and what each of them does with what arrives. The head takes the server's messages, numbers them
+//! and forwards them. The tail applies them in that order and answers the server. When one of them has stopped and the other learns of it, that one serves
+//! alone. What each does is the definition of `twin_laws`, datagram for datagram. A call that returns `NoMemory` changes nothing.
 #![tactic(auto)]
 
 pub use reading::read_twin;

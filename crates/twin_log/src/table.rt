@@ -10,7 +10,7 @@ use seq_arith::TwinKind;
 /// The bytes of every header.
 pub(crate) const HEADER: usize = 16;
 
-/// What every datagram begins with: "FU", and the version behind it.
+/// What every datagram begins with: "FU". The version follows.
 pub(crate) const MAGIC: u16 = 0x4655;
 
 pub(crate) const VERSION: u8 = 1;
@@ -35,7 +35,7 @@ pub(crate) fn kind_of_number(number: u8) -> Option<TwinKind>
         .find(|kind| number_of(*kind) == number)
 }
 
-/// Whether a datagram of a kind may have so many bytes.
+/// Whether a datagram of a kind may have `len` bytes.
 #[tactic(auto, unfolding(seq_arith::specs::TwinGrammar::has_length))]
 pub(crate) fn has_length(kind: TwinKind, len: usize) -> bool
     ensures { result ≡ has_length_lem kind len }
@@ -57,7 +57,7 @@ fn is_asking(bytes: &[u8]) -> bool
     }
 }
 
-/// Whether what a datagram of a kind says is in its range, with this number and these bytes behind its header.
+/// Whether what a datagram of a kind says is in its range, with this number and these bytes after its header.
 #[tactic(auto, unfolding(seq_arith::specs::TwinGrammar::is_sound))]
 pub(crate) fn is_sound(kind: TwinKind, number: u64, behind: &[u8]) -> bool
     ensures { result ≡ is_sound_lem kind number behind.now }

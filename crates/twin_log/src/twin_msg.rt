@@ -1,9 +1,9 @@
 //! What a datagram between two loggers says.
 
-/// A datagram between two loggers, with the message of a Forward where it was read from.
+/// A datagram between two loggers. The message of a Forward stays where it was read from.
 #[derive(Clone, Copy, Debug)]
 pub enum TwinMsg<'a> {
-    /// A server's message, 16 to 1,491 bytes as they came, with its number, at least 1.
+    /// A server's message, 16 to 1,491 bytes as they arrived, with its number, at least 1.
     Forward { number: u64, message: &'a [u8] },
     /// All messages up to this number, at least 1, are applied.
     Got { number: u64 },

@@ -1,4 +1,4 @@
-//! What a logger sends in one turn, in room that is made once.
+//! What a logger sends in one turn, in room that is allocated once.
 
 ghost use Rattle.std.specs.Prelude.{[], ◌≡◌, ◌≤◌, ◌<◌, ◌++◌, ◌∷◌, Some, length, option_map, slice_get, slice_set, IfOk};
 ghost use Rattle.seq_arith.specs.TwinGrammar.{spelling, IsSpellable};
@@ -15,12 +15,12 @@ use twin_laws::Side;
 /// The most datagrams that one turn sends.
 const ROOM: usize = 64;
 
-/// The datagrams that a logger sends in one turn, at most 64, in order. Contracts see their list, each with its side.
+/// The datagrams that a logger sends in one turn, at most 64, in order. In contracts they are a list, each with its side.
 #[derive(Drop)]
 pub struct TwinOut {
     /// Room for 64.
     datagrams: Vec<Datagram>,
-    /// How many of them go out.
+    /// How many of them are sent.
     count: usize,
 }
 
@@ -35,7 +35,7 @@ impl Model for TwinOut {
     ghost invariant = { λ o. (o.count ≤ 64) × (length o.datagrams.items ≡ 64) };
 }
 
-/// Makes room for so many datagrams.
+/// Makes room for `count` datagrams.
 fn make_room(alloc: Global, count: usize) -> Result<Vec<Datagram>, NoMemory>
     ensures { IfOk result (λ datagrams. length datagrams.items ≡ count) }
 {
@@ -65,7 +65,7 @@ fn tell_at(datagrams: &mut [Datagram], i: usize, m: &TwinMsg<'_>)
 }
 
 impl TwinOut {
-    /// Room for 64 datagrams, with none in it.
+    /// Room for 64 datagrams, and no datagram yet.
     pub fn new(alloc: Global) -> Result<TwinOut, NoMemory>
         ensures { IfOk result (λ out. out ≡ []) }
     {
@@ -83,7 +83,7 @@ impl TwinOut {
         self.count
     }
 
-    /// Datagram `i`, from 0.
+    /// Datagram `i`, counted from 0.
     fn at(&self, i: usize) -> &Datagram
         requires { i < length self.now }
         ensures { slice_get self.now i ≡ Some result.now }
@@ -91,7 +91,7 @@ impl TwinOut {
         &self.datagrams[i]
     }
 
-    /// To whom datagram `i`, from 0, goes.
+    /// The addressee of datagram `i`, counted from 0.
     pub fn to(&self, i: usize) -> Side
         requires { i < length self.now }
         ensures { option_map (λ d. d.0) (slice_get self.now i) ≡ Some result }
@@ -99,7 +99,7 @@ impl TwinOut {
         self.at(i).to()
     }
 
-    /// The bytes of datagram `i`, from 0.
+    /// The bytes of datagram `i`, counted from 0.
     pub fn bytes(&self, i: usize) -> &[u8]
         requires { i < length self.now }
         ensures { option_map (λ d. d.1) (slice_get self.now i) ≡ Some result.now }
@@ -107,7 +107,7 @@ impl TwinOut {
         self.at(i).bytes()
     }
 
-    /// Takes all datagrams out.
+    /// Removes all datagrams.
     pub fn clear(&mut self)
         ensures { self.new ≡ [] }
     {

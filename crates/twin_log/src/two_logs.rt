@@ -22,7 +22,7 @@ use std::alloc::Global;
 use std::marker::Model;
 use twin_laws::{Part, Side};
 
-/// A head or a tail: its log, and how far it is with the other. A head keeps besides the messages that the tail hasn't confirmed, at most 64.
+/// A head or a tail: its log, and how far it is with the other. A head also stores the messages that the tail hasn't confirmed, at most 64.
 #[derive(Drop)]
 pub struct TwinLog {
     part: Part,
@@ -89,8 +89,7 @@ impl TwinLog {
         self.alone = true;
     }
 
-    /// Takes a datagram that came from a side, and puts what goes out in the place of what `out` held. Without memory all is as it was, and
-    /// `out` is empty.
+    /// Takes a datagram that came from a side, and replaces the content of `out` by what is sent. After `NoMemory` everything is as it was, and `out` is empty.
     pub fn deliver(
         &mut self,
         alloc: Global,
@@ -131,7 +130,7 @@ impl TwinLog {
         }
     }
 
-    /// Takes a datagram of the other logger. One that is alone passes over it.
+    /// Takes a datagram of the other logger. One that serves alone ignores it.
     #[tactic(auto, using(crate::proofs::Cases::told_alone), unfolding(twin_laws::specs::Kept::kept_does))]
     fn on_other(&mut self, alloc: Global, bytes: &[u8], out: &mut TwinOut) -> Result<(), NoMemory>
         requires empty { out.old ≡ [] }
@@ -168,7 +167,7 @@ impl TwinLog {
         }
     }
 
-    /// Takes a forwarded message as one of a pair. The head passes over it.
+    /// Takes a forwarded message as one of a pair. The head ignores it.
     #[tactic(auto, using(crate::proofs::Cases::noise_in_pair))]
     fn on_forward(
         &mut self,
@@ -193,7 +192,7 @@ impl TwinLog {
         }
     }
 
-    /// Takes a Got as one of a pair. The tail passes over it.
+    /// Takes a Got as one of a pair. The tail ignores it.
     fn on_got(&mut self, number: u64)
         ensures { self.new ≡ (paired_does self.old.part (Tells (Got number)) self.old).next }
     {
@@ -203,7 +202,7 @@ impl TwinLog {
         }
     }
 
-    /// Gives a message to the log, whose answer goes to the server: all that a logger does that is alone.
+    /// Gives a message to the log, whose answer is sent to the server: that is all that a logger does that serves alone.
     #[tactic(auto, using(crate::proofs::Outgoing::answer_is))]
     fn serve(&mut self, alloc: Global, msg: &Msg<'_>, out: &mut TwinOut) -> Result<(), NoMemory>
         requires sendable { IsSendable msg.now }
@@ -301,8 +300,7 @@ impl TwinLog {
         }
     }
 
-    /// Takes a forwarded message as the tail of a pair: the next one is applied, an earlier one confirmed once more, and one behind a gap
-    /// passed over.
+    /// Takes a forwarded message as the tail of a pair: the next one is applied, an earlier one confirmed once more, and one after a gap ignored.
     fn apply(
         &mut self,
         alloc: Global,

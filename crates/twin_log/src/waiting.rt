@@ -16,7 +16,7 @@ use std::marker::Model;
 /// The most messages that wait.
 pub(crate) const WAITING: usize = 64;
 
-/// At most 64 messages in their order, as the bytes in which they came, in a row whose room is made once.
+/// At most 64 messages in their order, as the bytes in which they arrived, in a queue whose room is allocated once.
 #[derive(Drop)]
 pub(crate) struct Waiting {
     messages: VecDeque<Vec<u8>>,
@@ -34,7 +34,7 @@ impl Model for Waiting {
     ghost invariant = { λ w. (length w.messages.items ≤ 64) × (64 ≤ deque_capacity w.messages) × AreAsking (texts_of w.messages.items) };
 }
 
-/// Takes the first messages away.
+/// Removes the first messages.
 fn drop_messages(messages: &mut VecDeque<Vec<u8>>, count: usize)
     ensures items { messages.new.items ≡ drop count messages.old.items }
     ensures capacity { deque_capacity messages.new ≡ deque_capacity messages.old }
@@ -52,7 +52,7 @@ fn text_at(messages: &VecDeque<Vec<u8>>, i: usize) -> &[u8]
     &messages[i]
 }
 
-/// Forwards each message, the first with the number after this.
+/// Forwards each message. The first has the number after `confirmed`.
 fn forward(messages: &VecDeque<Vec<u8>>, confirmed: u64, out: &mut TwinOut)
     requires asking { AreAsking (texts_of messages.now.items) }
     requires room { length out.old + length messages.now.items ≤ 64 }
@@ -85,7 +85,7 @@ impl Waiting {
         self.messages.len()
     }
 
-    /// Puts a message behind the others.
+    /// Appends a message.
     #[tactic(auto, using(crate::proofs::Fronts::mapped))]
     pub(crate) fn push(&mut self, message: Vec<u8>)
         requires asking { is_asking message.items ≡ true }
@@ -95,7 +95,7 @@ impl Waiting {
         self.messages.push_back(message).unwrap();
     }
 
-    /// Takes the first messages away.
+    /// Removes the first messages.
     #[tactic(auto, using(crate::proofs::Fronts::mapped))]
     pub(crate) fn drop_front(&mut self, count: usize)
         ensures { self.new ≡ drop count self.old }
@@ -103,7 +103,7 @@ impl Waiting {
         drop_messages(&mut self.messages, count);
     }
 
-    /// Forwards each message, the first with the number after this.
+    /// Forwards each message. The first has the number after `confirmed`.
     #[tactic(auto, using(crate::proofs::Fronts::mapped))]
     pub(crate) fn forward(&self, confirmed: u64, out: &mut TwinOut)
         requires empty { out.old ≡ [] }

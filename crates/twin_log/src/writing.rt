@@ -1,4 +1,4 @@
-//! Writing a datagram between two loggers in its one spelling. The checksum is summed over what will stand there, with zero in its place.
+//! Writing a datagram between two loggers in its one spelling. The checksum is computed over what will be there, with zero in its own place.
 
 ghost use Rattle.std.specs.Prelude.{◌≡◌, ◌≤◌, ◌+◌, ◌++◌, length, take, drop, Ok};
 ghost use Rattle.seq_arith.specs.TwinGrammar.{kind_of as kind_lem, number_of as number_lem, behind_of as behind_lem, spelling, reading, IsSpellable};
@@ -11,13 +11,13 @@ use byteorder::{BigEndian, ByteOrder};
 use logger_wire::checksum_of_both;
 use seq_arith::TwinKind;
 
-/// Writes a datagram between two loggers at the front of `out`, which has room for 2,048 bytes, and says how many bytes it has: at most 1,507.
+/// Writes a datagram between two loggers at the beginning of `out`, which has room for 2,048 bytes, and returns how many bytes it has: at most 1,507.
 pub fn write_twin(m: &TwinMsg<'_>, out: &mut [u8]) -> usize
     requires spellable { IsSpellable (said_by m.now) }
     requires room { 2048 ≤ length out.old }
     ensures length { result ≡ 16 + length (behind_lem (said_by m.now)) }
     ensures bytes { out.new ≡ spelling (said_by m.now) ++ drop result out.old }
-    // What was written is read again.
+    // What was written is read back.
     ensures read { reading (take result out.new) ≡ Ok (said_by m.now) }
 {
     let (front, rest) = out.split_at_mut(HEADER);
@@ -32,7 +32,7 @@ pub fn write_twin(m: &TwinMsg<'_>, out: &mut [u8]) -> usize
     len
 }
 
-/// Writes bytes at the front of others.
+/// Writes bytes at the beginning of others.
 fn put(bytes: &[u8], out: &mut [u8])
     requires { length bytes.now ≤ length out.old }
     ensures { out.new ≡ bytes.now ++ drop (length bytes.now) out.old }
@@ -61,7 +61,7 @@ fn number_in(m: &TwinMsg<'_>) -> u64
     }
 }
 
-/// What stands behind its header.
+/// What follows its header.
 fn behind_of<'a>(m: &TwinMsg<'a>) -> &'a [u8]
     ensures { result.now ≡ behind_lem (said_by m.now) }
 {
