@@ -1,5 +1,5 @@
-# Sourced by real_client.sh and own.sh: a kernel's TCP client in a network namespace of its own, and a server, its logger and tools/bridge.py in another. The
-# script sets `name`, `program` (a built one), `loss` (in percent) and the array `service` (the words of a server that choose its service, or none).
+# Sourced by real_client.sh, own.sh and logger_crash.sh: a kernel's TCP client in a network namespace of its own, and a server, its logger and tools/bridge.py in
+# another. The script sets `name`, `program` (a built one), `loss` (in percent) and the array `service` (the words of a server that choose its service, or none).
 program=$(realpath "$program") client_ip=10.77.0.1 server=10.77.0.2:7 logger=10.77.0.3:7008
 inside=ftclient$$ outside=ftnode$$ room=$(mktemp -d) started=()
 
@@ -27,18 +27,26 @@ start_server() { # BOOT
     started+=("$server_process")
 }
 
-start_all() {
+add_spaces() { # ADDRESS..: the two namespaces, with these addresses in the outer one besides
     ip netns add "$inside" 2>"$room/why" && ip netns add "$outside" 2>>"$room/why" || missing "no network namespace can be made: $(cat "$room/why")"
     ip -n "$outside" link set lo up
-    for address in "$client_ip" "${server%:*}" "${logger%:*}"; do ip -n "$outside" addr add "$address/32" dev lo; done
-    ip netns exec "$outside" "$program" logger --local "$logger" --turns 1000000 >"$room/logger" 2>&1 &
-    started+=("$!")
-    start_server 1
+    for address in "$client_ip" "${server%:*}" "${logger%:*}" "$@"; do ip -n "$outside" addr add "$address/32" dev lo; done
+}
+
+start_bridge() {
     ip netns exec "$outside" tools/bridge.py --client "$client_ip" --server "$server" --netns "$inside" --device "ft$$" --loss "$loss" >"$room/bridge" 2>&1 &
     bridge_process=$!
     started+=("$bridge_process")
-    for _ in $(seq 100); do grep -q up "$room/bridge" && break; sleep 0.05; done
+    for _ in $(seq 100); do grep -qs up "$room/bridge" && break; sleep 0.05; done
     grep -q up "$room/bridge" || missing "the bridge doesn't start: $(cat "$room/bridge")"
+}
+
+start_all() {
+    add_spaces
+    ip netns exec "$outside" "$program" logger --local "$logger" --turns 1000000 >"$room/logger" 2>&1 &
+    started+=("$!")
+    start_server 1
+    start_bridge
 }
 
 # The client sends the bytes of $room/sent, and those of $room/wanted have to come. The server is killed (kill -9) when a quarter, a half and three quarters

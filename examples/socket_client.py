@@ -1,8 +1,8 @@
 #!/usr/bin/env python3
-"""An ordinary socket of the kernel: socket_client.py SENT WANTED HOST PORT PROGRESS.
+"""An ordinary socket of the kernel: socket_client.py SENT WANTED HOST PORT PROGRESS [PIECE].
 
-It sends the bytes of the file SENT, 2,000 every 20 ms, ends its side when all are sent, and compares what comes with those of the file WANTED. How many bytes
-have come stands in the file PROGRESS."""
+It sends the bytes of the file SENT, PIECE (2,000 where nothing is said) every 20 ms, ends its side when all are sent, and compares what comes with those of the
+file WANTED. How many bytes have come stands in the file PROGRESS."""
 import os
 import select
 import socket
@@ -12,6 +12,7 @@ import time
 PATIENCE = 60
 data, wanted = [open(name, "rb").read() for name in sys.argv[1:3]]
 host, port, progress = sys.argv[3], int(sys.argv[4]), sys.argv[5]
+piece = int(sys.argv[6]) if len(sys.argv) > 6 else 2000
 back, sent, due = b"", 0, time.monotonic()
 link = socket.create_connection((host, port), timeout=PATIENCE)
 print("from", link.getsockname(), flush=True)
@@ -28,7 +29,7 @@ while True:
     elif sent == len(data):
         sys.exit(f"nothing came for {PATIENCE} seconds; {len(back)} bytes had come")
     if sent < len(data) and time.monotonic() >= due:
-        sent += link.send(data[sent : sent + 2000])
+        sent += link.send(data[sent : sent + piece])
         due += 0.02
         if sent == len(data):
             link.shutdown(socket.SHUT_WR)
