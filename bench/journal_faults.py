@@ -1,0 +1,219 @@
+#!/usr/bin/env python3
+"""What `ftnode logger --journal FILE` does with bad files and bad disks: journal_faults.py PROGRAM FOLDER.
+
+Each case has its status and its text; a file that is damaged stays byte for byte as it is, and what a logger has told is never lost. Which files are damaged, and
+where, tools/journal_model.py says. bench/journal_faults.sh runs it as root in a mount namespace of its own, where FOLDER is empty.
+"""
+import os
+import shutil
+import socket
+import subprocess
+import sys
+import time
+from pathlib import Path
+
+sys.path.insert(0, str(Path(__file__).resolve().parent.parent / "tools"))
+from journal_model import CLOSED, KEY, MAGIC, OPEN, ROUND, Wrong, data, file_of, hello, opening, read, reading, said
+from twin_model import read_message
+
+HERE, PIECE = ("127.0.0.1", 7360), 1400
+DONE = "turns 1 datagrams 0 sent 0 lost 0 failed 0\n"
+FAULT, IN_USE, USAGE = "ftnode: journal fault\n", "ftnode: journal in use\n", "ftnode: usage\n"
+NOBODY = ["setpriv", "--reuid=65534", "--regid=65534", "--clear-groups", "--"]
+program, room = sys.argv[1], Path(sys.argv[2])
+counts = {"cases": 0, "failed": 0}
+
+
+def expect(what, got, wanted):
+    counts["cases"] += 1
+    if got != wanted:
+        counts["failed"] += 1
+        print(f"{what}: {got}, wanted {wanted}")
+
+
+def words(journal, turns, at=HERE):
+    return ["logger", "--local", f"{at[0]}:{at[1]}", "--turns", str(turns), *journal]
+
+
+def ended(path, before=()):
+    """The status and the text of a logger with one turn."""
+    run = subprocess.run([*before, program, *words(["--journal", str(path)], 1)], capture_output=True, text=True, timeout=60)
+    return run.returncode, run.stdout + run.stderr
+
+
+class Logger:
+    """A logger that runs, and a socket that asks it."""
+
+    def __init__(self, path):
+        self.process = subprocess.Popen([program, *words(["--journal", str(path)], 1_000_000)], stdout=subprocess.PIPE, stderr=subprocess.STDOUT, text=True)
+        self.link = socket.socket(socket.AF_INET, socket.SOCK_DGRAM)
+        self.link.connect(HERE)
+        self.link.settimeout(0.5)
+
+    def asked(self, message):
+        """The answer, or None once the logger has ended."""
+        while self.process.poll() is None:
+            try:
+                self.link.send(message)
+                return read_message(self.link.recv(2048))
+            except (ConnectionRefusedError, TimeoutError):
+                time.sleep(0.01)
+        return None
+
+    def end(self):
+        """Its status and its text, if it has ended; else it is killed."""
+        status = self.process.poll()
+        if status is None:
+            self.process.kill()
+        text = self.process.communicate()[0]
+        self.link.close()
+        return status, text
+
+
+def wanted_of(content):
+    """What a logger with one turn ends with, and the file behind it, by the model."""
+    try:
+        found = reading(content)
+    except Wrong as wrong:
+        return (12, f"ftnode: journal: byte {wrong.args[0]}\n"), content
+    return (0, DONE), file_of() if found is None else content[: found[1] + 1]
+
+
+def content_case(what, content):
+    path = room / "content"
+    path.write_bytes(content)
+    expect(what, (ended(path), path.read_bytes()), wanted_of(content))
+    path.unlink()
+
+
+def contents():
+    """Files of each kind: fronts of the magic, foreign bytes, and a journal that is cut at each byte, and has each of its bits changed."""
+    whole = file_of(hello(5) + opening(5), data(5, 0, b"abc") + read(5, 0, 2), tail=b"\x03\xd1.")
+    for size in range(9):
+        content_case(f"{size} bytes of the magic", MAGIC[:size])
+    for what, content in [("text", b"root:x:0:0\n" * 9), ("zeros", bytes(4096)), ("the magic of another version", b"ftlog 2\n."), ("one byte", b"x")]:
+        content_case(what, content)
+    content_case("a tail of the longest block", whole[:-3] + bytes(ROUND + 5))
+    content_case("a longer tail", whole[:-3] + bytes(ROUND + 6))
+    content_case("a block of other bytes", MAGIC + bytes([OPEN, 0, 0, 0, 4]) + b"root" + bytes([CLOSED]))
+    for size in range(9, len(whole) + 1):
+        content_case(f"cut at {size}", whole[:size])
+    for at in range(len(whole)):
+        for bit in range(8):
+            content_case(f"bit {bit} of byte {at} changed", whole[:at] + bytes([whole[at] ^ 1 << bit]) + whole[at + 1 :])
+
+
+def no_files():
+    """What stands at the name and is no file of this name alone, or may not be written."""
+    journal = file_of(hello(5))
+    (room / "folder").mkdir()
+    (room / "target").write_bytes(journal)
+    (room / "link").symlink_to("target")
+    for name in (room / "folder", room / "link", "/dev/null", room / "none" / "journal", ""):
+        expect(f"`{name}`", ended(name), (11, FAULT))
+    os.link(room / "target", room / "second")
+    expect("a second name", ended(room / "second"), (11, FAULT))
+    (room / "second").unlink()
+    room.chmod(0o755)
+    for mode in (0o600, 0o444):
+        (room / "target").chmod(mode)
+        expect(f"no right to write, {mode:o}", (ended(room / "target", NOBODY), (room / "target").read_bytes()), ((11, FAULT), journal))
+    expect("no right to make it", (ended(room / "new", NOBODY), (room / "new").exists()), ((11, FAULT), False))
+    expect("the rights again", ended(room / "target"), (0, DONE))
+
+
+def wrong_words():
+    path = str(room / "words")
+    server = ["server", "--local", "127.0.0.1:7361", "--logger", "127.0.0.1:7360", "--service", "echo", "--boot", "1", "--isn", "1", "--turns", "1"]
+    option = ["--journal", path]
+    for line in (words(option * 2, 1), words(["--journal", "-x"], 1), words(["--journal"], 1), server + option, words([*option, "--boot", "1"], 1)):
+        run = subprocess.run([program, *line], capture_output=True, text=True, timeout=60)
+        expect(" ".join(line), (run.returncode, run.stdout + run.stderr, Path(path).exists()), (2, USAGE, False))
+
+
+def two_loggers():
+    """The second one is refused, and the first one runs on. A port that is taken is a fault of the link, behind the opening."""
+    path = room / "shared"
+    first = Logger(path)
+    expect("the first", first.asked(hello(3)).name, "Summary")
+    before = path.read_bytes()
+    for name in (path, room / "." / "folder" / ".." / "shared"):
+        expect("the second", (ended(name), path.read_bytes()), ((13, IN_USE), before))
+    expect("the first again", first.asked(hello(4)).name, "Summary")
+    expect("a taken port", ended(room / "other"), (4, "ftnode: link fault\n"))
+    expect("the first at its end", first.end()[0], None)
+    expect("the file once the first is dead", ended(path), (0, DONE))
+
+
+def fill(logger, told):
+    """Sends text until the logger has ended; how much of it was told to be in the log."""
+    while True:
+        text = bytes((told + i) % 251 for i in range(PIECE))
+        answer = logger.asked(data(5, told, text))
+        if answer is None:
+            return told
+        told = max(told, answer.fields["length"])
+
+
+def is_there(logger, told):
+    """Whether all that was told is in the log, byte for byte."""
+    at = 0
+    while at < told:
+        part = logger.asked(said(5, 5, KEY + at.to_bytes(4, "big")))
+        if part is None or part.name != "Part" or part.fields["bytes"] != bytes((at + i) % 251 for i in range(len(part.fields["bytes"]))):
+            return False
+        at += len(part.fields["bytes"])
+    return True
+
+
+
+
+def full_disk():
+    """A disk that gets full: the logger ends before it answers what it couldn't keep. On the full disk it opens its file again, and ends at the next change; with
+    room it goes on."""
+    disk = room / "disk"
+    disk.mkdir()
+    subprocess.run(["mount", "-t", "tmpfs", "-o", "size=64k", "tmpfs", disk], check=True)
+    path = disk / "journal"
+    logger = Logger(path)
+    logger.asked(hello(5))
+    logger.asked(opening(5))
+    told = fill(logger, 0)
+    expect("a disk that gets full", logger.end(), (11, FAULT))
+    expect("what was told before it was", 40_000 < told < 65_536, True)
+    logger = Logger(path)
+    expect("the full disk again", logger.asked(hello(5)).name, "Summary")
+    expect("what was told, on the full disk", is_there(logger, told), True)
+    logger.end()
+    logger = Logger(path)
+    expect("no more is told", fill(logger, told), told)
+    expect("the full disk at the next change", logger.end(), (11, FAULT))
+    subprocess.run(["mount", "-o", "remount,size=256k", disk], check=True)
+    logger = Logger(path)
+    expect("what was told, with room", is_there(logger, told), True)
+    more = logger.asked(data(5, told, b"")).fields["length"]
+    expect("more with room", logger.asked(data(5, more, bytes(9))).fields["length"], more + 9)
+    logger.end()
+    expect("at the end", ended(path), (0, DONE))
+    subprocess.run(["umount", disk], check=True)
+
+
+def full_at_first():
+    """A disk that is full before the first start: nothing was ever told, and with room the file is made."""
+    disk = room / "first"
+    disk.mkdir()
+    subprocess.run(["mount", "-t", "tmpfs", "-o", "size=8k", "tmpfs", disk], check=True)
+    (disk / "ballast").write_bytes(bytes(8192))
+    expect("full at the first start", ended(disk / "journal"), (11, FAULT))
+    (disk / "ballast").unlink()
+    expect("with room", (ended(disk / "journal"), (disk / "journal").read_bytes()), ((0, DONE), file_of()))
+    subprocess.run(["umount", disk], check=True)
+
+
+for part in (wrong_words, no_files, two_loggers, full_disk, full_at_first, contents):
+    begun, cases = time.monotonic(), counts["cases"]
+    part()
+    print(f"{part.__name__}: {counts['cases'] - cases} checks, {time.monotonic() - begun:.1f} s")
+shutil.rmtree(room)
+print(f"{counts['cases']} checks, {counts['failed']} failed")
+sys.exit(counts["failed"] != 0)
