@@ -1,5 +1,6 @@
 -- Counter: the bytes of the input are counted, and each line feed is answered by the count. The empty chunk closes.
-use Rattle.std.specs.Prelude.{ℕ, ◌+◌, ◌-◌, ◌^◌, min, List, [], ◌∷◌, ◌++◌, length, decimal, codes, ◌==◌, if◌then◌else◌}
+use Rattle.std.specs.Prelude.{ℕ, ◌+◌, ◌-◌, ◌^◌, min, List, [], ◌∷◌, ◌++◌, length, decimal, codes, ◌==◌, Option, Some, None, if◌then◌else◌}
+use Rattle.std.specs.Int.{w64, to_be_bytes, from_be_bytes}
 use Rattle.server_trait.specs.Service.{Served, Machine, machine}
 use Rattle.counter_service.specs.declared.counter.Counter.{Counter}
 
@@ -15,7 +16,7 @@ counted count = min (count + 1) (2 ^ 64 - 1)
 abbrev pub answer : ℕ → ℕ → List ℕ
 answer count byte = if byte == 10 then decimal count ++ codes "\n" else []
 
--- the count behind these bytes
+-- the count after these bytes
 abbrev pub count_after : ℕ → List ℕ → ℕ
 count_after count [] = count
 count_after count (byte ∷ bytes) = count_after (counted count) bytes
@@ -33,3 +34,11 @@ counter_after counter chunk =
 -- the service as runs see it
 abbrev pub counter_machine : Machine Counter
 counter_machine = machine counter_started counter_after
+
+-- what is kept of it: the count, in 8 bytes
+abbrev pub counter_form : Counter → List ℕ
+counter_form counter = to_be_bytes w64 counter.count
+
+-- the counter whose form these bytes are
+abbrev pub counter_of : List ℕ → Option Counter
+counter_of bytes = if length bytes == 8 then Some (record { count = from_be_bytes w64 bytes }) else None

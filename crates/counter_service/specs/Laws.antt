@@ -1,13 +1,18 @@
--- What the trait asks of each service, of Counter: what is written at a chunk is short, and is bytes.
-use Rattle.std.proofs.Common.{ℕ, ◌*◌, ◌^◌, ◌<◌, ◌≤◌, ◌==◌, Bool, true, false, List, [], ◌∷◌, ◌++◌, length, arith, length-append}
+-- What the traits ask of each service, of Counter: what is written at a chunk is short, and is bytes; and what is kept of it is read back.
+use Rattle.std.proofs.Common.{ℕ, ◌*◌, ◌^◌, ◌<◌, ◌≤◌, ◌==◌, Bool, true, false, List, [], ◌∷◌, ◌++◌, length, refl, sym, ap, ◌∙◌, arith, length-append}
 use Rattle.std.specs.Prelude.{decimal, codes, IsAscii, if◌then◌else◌}
 use Rattle.std.proofs.lemmas.Fmt.{length-decimal-le, IsAscii-decimal}
 use Rattle.std.proofs.lemmas.Str.{IsAscii-append}
 use Rattle.std.proofs.lemmas.List.Elements.{All-from_get_or, recursion_from_All}
-use Rattle.server_trait.specs.Service.{AreBytes, WritesBytes}
-use Rattle.sample_servers.specs.WrittenBytes.{Anything, bytes_fold}
+use Rattle.std.specs.Int.{w64, from_be_bytes}
+use Rattle.std.proofs.lemmas.Nat.{from_be_bytes-to_be_bytes_8, be_bytes_8}
+use Rattle.ft_io.proofs.Choices.{same_some}
+use Rattle.server_trait.specs.Service.{AreBytes, WritesBytes, fold}
+use Rattle.server_trait.specs.Saved.{writing, ReadsBack, HasOneForm}
+use Rattle.sample_servers.specs.WrittenBytes.{IsServed, bytes_fold, run_kept}
+use Rattle.sample_servers.specs.ReadBack.{when_some, bytes_at, bytes_of_64}
 use Rattle.counter_service.specs.declared.counter.Counter.{Counter}
-use Rattle.counter_service.specs.Counter.{counted, answer, answers, counter_after, counter_machine}
+use Rattle.counter_service.specs.Counter.{counted, answer, count_after, answers, counter_after, counter_machine, counter_form, counter_of}
 
 -- a byte is answered by at most 20 digits and a line feed
 length-answer-le : (count byte : ℕ) → length (answer (counted count) byte) ≤ 21
@@ -44,6 +49,28 @@ bytes-ascii : (text : List ℕ) → IsAscii text → AreBytes text
 bytes-ascii text ascii =
     recursion_from_All (λ n. n < 256) text (All-from_get_or (λ n. n < 256) text 0 (λ i within. let below = ascii i in omega arith))
 
+-- the count is one of 64 bits
+abbrev pub IsCounter : Counter → Type 0
+IsCounter s = s.count < 2 ^ 64
+
+small-count_after : (count : ℕ) (bytes : List ℕ) → count < 2 ^ 64 → count_after count bytes < 2 ^ 64
+small-count_after count [] small = small
+small-count_after count (byte ∷ bytes) small = small-count_after (counted count) bytes (omega arith)
+
+served : (s : Counter) (chunk : List ℕ) → IsCounter s → AreBytes chunk → IsServed IsCounter (counter_after s chunk)
+served s chunk small given = (bytes-ascii (answers s.count chunk) (ascii-answers s.count chunk), small-count_after s.count chunk small)
+
 pub bytes-counter : WritesBytes counter_machine
-bytes-counter =
-    bytes_fold counter_machine Anything tt (λ s chunk _ _. (bytes-ascii (answers s.count chunk) (ascii-answers s.count chunk), tt))
+bytes-counter = bytes_fold counter_machine IsCounter (omega arith) served
+
+pub counter_reads_back : ReadsBack counter_machine (writing counter_form counter_of)
+counter_reads_back chunks given running =
+    let s = (fold counter_machine chunks).state in
+    let small : s.count < 2 ^ 64 = (run_kept counter_machine IsCounter (omega arith) served chunks given).1 in
+    record { same = rw (from_be_bytes-to_be_bytes_8 s.count small) refl; short = omega arith; bytes = bytes_of_64 s.count }
+
+pub counter_one_form : HasOneForm (writing counter_form counter_of)
+counter_one_form bytes s given same =
+    let there = when_some (length bytes == 8) (record { count = from_be_bytes w64 bytes }) s same in
+    ap counter_form (sym (same_some there.1))
+    ∙ be_bytes_8 bytes (from_be_bytes w64 bytes) (let eight = there.0 in grind arith) (bytes_at bytes given) refl

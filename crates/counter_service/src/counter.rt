@@ -5,7 +5,7 @@ ghost use Rattle.counter_service.specs.Counter.{counted, answer};
 
 use ft_io::NoMemory;
 use itoa::Buffer;
-use server_trait::{Next, Service};
+use server_trait::{Next, Saved, Service};
 use std::alloc::Global;
 
 /// The service that counts the bytes of its input. It answers each line feed with the count up to and with it, in decimal, and a line feed.
@@ -59,4 +59,37 @@ impl Service for Counter {
     ghost is_short = { length-counter_after-le };
 
     ghost writes_bytes = { λ _. bytes-counter };
+}
+
+impl Saved for Counter {
+    ghost use Rattle.counter_service.specs.Counter.{counter_form, counter_of};
+    ghost use Rattle.counter_service.specs.Laws.{counter_reads_back, counter_one_form};
+
+    ghost is_savable = { true };
+
+    ghost form = { counter_form };
+
+    ghost state_of = { λ _. counter_of };
+
+    fn savable() -> bool {
+        true
+    }
+
+    fn save(&self, out: &mut Vec<u8>) -> Result<(), NoMemory> {
+        out.extend_from_slice(&self.count.to_be_bytes())?;
+        Ok(())
+    }
+
+    fn load(_alloc: Global, _kind: u8, bytes: &[u8]) -> Result<Option<Counter>, NoMemory> {
+        let [a, b, c, d, e, f, g, h] = *bytes else {
+            return Ok(None);
+        };
+        Ok(Some(Counter {
+            count: u64::from_be_bytes([a, b, c, d, e, f, g, h]),
+        }))
+    }
+
+    ghost reads_back = { λ _ _. counter_reads_back };
+
+    ghost one_form = { λ _. counter_one_form };
 }

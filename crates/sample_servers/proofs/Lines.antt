@@ -2,12 +2,14 @@
 use Rattle.std.proofs.lemmas.List.Elements.{All-append, All-from_get_or}
 use Rattle.std.proofs.Common.{◌≡◌, ℕ, suc, ◌+◌, ◌-◌, ◌<◌, ◌≤◌, ◌==◌, true, false, List, [], ◌∷◌, ◌++◌, length, take, drop, get_or, refl, sym, ◌∙◌, ap, subst, arith, append_assoc, append-nil, length-append, length-take}
 use Rattle.std.specs.Prelude.{bytes_eq, nat_eq, nat_lt, decimal}
+use Rattle.std.specs.List.{list_any}
+use Rattle.std.proofs.lemmas.List.Folds.{list_any_none, list_any_at}
 use Rattle.std.specs.Cmp.Lexicographic.{pointwise, same_text, other_text}
 use Rattle.std.proofs.lemmas.Bool.{lt-ltb, false_from_ne_true}
 use Rattle.std.proofs.lemmas.Bool.Decides.{nat_tests}
 use Rattle.std.proofs.lemmas.List.{length-take-le, get_or-take, take_all, take_at, take-append-drop, drop_more, take_more}
 use Rattle.sample_servers.specs.Stream.{waiting, and_then, each_byte}
-use Rattle.sample_servers.specs.Line.{LineState, numbered, line_finished, line_byte, NoFeed, EndsAt, StaysOpen}
+use Rattle.sample_servers.specs.Line.{LineState, numbered, line_finished, line_byte, is_unfinished, NoFeed, EndsAt, StaysOpen}
 
 -- a line of at most 1,024 bytes comes back whole
 pub numbered_whole : (number : ℕ) (front back : List ℕ) → length front + length back ≤ 1024 → numbered number (front ++ back) ≡ decimal number ++ 32 ∷ (front ++ (back ++ 10 ∷ []))
@@ -122,3 +124,13 @@ stays_open s bytes n room all none = record {
 
 pub no_feed_joined : (held bytes : List ℕ) → NoFeed held → NoFeed bytes → NoFeed (held ++ bytes)
 no_feed_joined held bytes = All-append (λ byte. (byte == 10) ≡ false) held bytes
+
+-- where a search finds no line feed there is none
+pub none_fed : (bytes : List ℕ) → ((k : ℕ) → 0 ≤ k → k < length bytes → (get_or bytes k 0 == 10) ≡ true → ⊥) → list_any (λ byte. byte == 10) bytes ≡ false
+none_fed bytes none =
+    list_any_none (λ byte. byte == 10) bytes (All-from_get_or (λ byte. (byte == 10) ≡ false) bytes 0 (λ k below. false_from_ne_true (get_or bytes k 0 == 10) (none k (omega arith) below)))
+
+-- and none is in an unfinished line
+pub unfinished_no_feed : (line : List ℕ) → is_unfinished line ≡ true → NoFeed line
+unfinished_no_feed line unfinished = λ k d below.
+    false_from_ne_true (get_or line k d == 10) (λ feed. let found = list_any_at (λ (byte : ℕ). byte == 10) line k d below feed in grind arith)

@@ -15,7 +15,7 @@ pattern_push place (suc size) =
     let one : suc size + 1 ≡ suc (size + 1) = omega arith in
     rw one (ap (λ bytes. place % 251 ∷ bytes) (pattern_push (place + 1) size ∙ ap (λ at. pattern (place + 1) size ++ at % 251 ∷ []) e))
 
--- two stretches of the pattern, one behind the other
+-- two stretches of the pattern, one after the other
 pub pattern-append : (place size more : ℕ) → pattern place size ++ pattern (place + size) more ≡ pattern place (size + more)
 unfolding pattern
 pattern-append place zero more = let here : place + 0 ≡ place = omega arith in let none : 0 + more ≡ more = omega arith in rw (here, none) refl

@@ -40,11 +40,11 @@ pub request_alone : (place request : ℕ) → and_then (request_served place req
 unfolding request_served
 request_alone place request = grind (arith, append-nil {A = ℕ})
 
--- one byte of some, and then those behind it
+-- one byte of some, and then those after it
 pub bytes_served_at : (s : TransferState) (bytes : List ℕ) (i : ℕ) → i < length bytes → bytes_served s (drop i bytes) ≡ and_then (bytes_served s (get_or bytes i 0 ∷ [])) (λ next. bytes_served next (drop (i + 1) bytes))
 bytes_served_at s bytes i below =
     ap (bytes_served s) (drop_more bytes i 0 below) ∙ bytes_served-append s (get_or bytes i 0 ∷ []) (drop (i + 1) bytes)
 
--- behind the last byte nothing more is written
+-- after the last byte nothing more is written
 pub bytes_served_end : (before : List ℕ) (s : TransferState) (bytes : List ℕ) (i : ℕ) → length bytes ≤ i → written before (bytes_served s (drop i bytes)) ≡ record { next = s; output = before; closed = false }
 bytes_served_end before s bytes i end = rw (drop_all i bytes end, bytes_served-nil s.place s.held) (rw append-nil refl)

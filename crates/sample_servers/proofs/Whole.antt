@@ -71,7 +71,7 @@ pub request_served_more : (place request : ℕ) → (request == 0) ≡ false →
 unfolding request_served
 request_served_more place request is = rw is refl
 
--- one request and those behind it
+-- one request and those after it
 pub requests_served_split : (place a b c d : ℕ) (bytes : List ℕ) (zero : Bool) → (request_of a b c d == 0) ≡ zero → (requests_served ((place + size_of (request_of a b c d)) % 251) bytes).output ≡ pattern ((place + size_of (request_of a b c d)) % 251) (total_size bytes) → (requests_served place (a ∷ b ∷ c ∷ d ∷ bytes)).output ≡ pattern place (total_size (a ∷ b ∷ c ∷ d ∷ bytes))
 requests_served_split place a b c d bytes true is behind =
     ap (λ served. (and_then served (λ (next : TransferState). requests_served next.place bytes)).output) (request_served_zero place (request_of a b c d) is)

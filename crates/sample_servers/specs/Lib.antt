@@ -1,4 +1,5 @@
 pub mod Stream
+pub mod OneState
 pub mod Echo
 pub mod Line
 pub mod Transfer
@@ -7,3 +8,4 @@ pub mod AnyService
 pub mod Lengths
 pub mod WrittenBytes
 pub mod Cuts
+pub mod ReadBack

@@ -1,7 +1,8 @@
 -- Line: the input is split at line feeds, and each line comes back with its number. It is a fold over the bytes, so that a line may
 -- be cut over any number of chunks.
-use Rattle.std.specs.Prelude.{◌≡◌, ℕ, ◌<◌, ◌≤◌, drop, true, false, List, [], ◌∷◌, ◌++◌, ◌+◌, ◌-◌, ◌^◌, min, take, length, decimal, codes, bytes_eq, nat_lt, ◌==◌, if◌then◌else◌}
-use Rattle.std.specs.List.{All}
+use Rattle.std.specs.Prelude.{◌≡◌, ℕ, ◌<◌, ◌≤◌, drop, Bool, true, false, not, List, [], ◌∷◌, ◌++◌, ◌+◌, ◌-◌, ◌^◌, min, take, length, decimal, codes, bytes_eq, nat_lt, nat_le, ◌==◌, ◌&&◌, Option, Some, None, if◌then◌else◌}
+use Rattle.std.specs.List.{All, list_any}
+use Rattle.std.specs.Int.{w64, to_be_bytes, from_be_bytes}
 use Rattle.server_trait.specs.Service.{Served, Machine, machine}
 use Rattle.sample_servers.specs.Stream.{waiting, and_then, each_byte}
 use Rattle.sample_servers.specs.declared.line.Piece.{Piece}
@@ -59,6 +60,21 @@ line_after state chunk = if length chunk == 0 then line_end state else each_byte
 -- the service as runs see it
 abbrev pub line_machine : Machine LineState
 line_machine = machine line_started line_after
+
+-- what is kept of it: how many lines are finished, in 8 bytes, and then the bytes of the unfinished one
+abbrev pub line_form : LineState → List ℕ
+line_form state = to_be_bytes w64 state.finished ++ state.held
+
+-- an unfinished line has fewer than 1,024 bytes, and no line feed among them
+abbrev pub is_unfinished : List ℕ → Bool
+is_unfinished line = nat_lt (length line) 1024 && not (list_any (λ byte. byte == 10) line)
+
+-- the state whose form these bytes are. Any number of lines may be finished
+abbrev pub line_state_of : List ℕ → Option LineState
+line_state_of bytes =
+    if nat_le 8 (length bytes) && is_unfinished (drop 8 bytes)
+    then Some (record { finished = from_be_bytes w64 (take 8 bytes); held = drop 8 bytes })
+    else None
 
 -- no line feed is among the bytes
 abbrev pub NoFeed : List ℕ → Type 0

@@ -1,7 +1,8 @@
 -- Transfer: the input is requests of four bytes, each a number, big-endian. A request gives as many bytes as it says, at most 2,047,
 -- of the pattern whose byte i, over the whole output, is i modulo 251. Request 0 closes.
-use Rattle.std.specs.Prelude.{sum_by, ℕ, zero, suc, true, false, List, [], ◌∷◌, ◌++◌, ◌+◌, ◌*◌, ◌%◌, min, length, ◌==◌, if◌then◌else◌}
+use Rattle.std.specs.Prelude.{sum_by, ℕ, zero, suc, true, false, List, [], ◌∷◌, ◌++◌, ◌+◌, ◌*◌, ◌%◌, min, length, nat_lt, ◌==◌, Option, Some, None, if◌then◌else◌}
 use Rattle.std.specs.List.{before_first}
+use Rattle.std.specs.Option.{option_map}
 use Rattle.server_trait.specs.Service.{Served, Machine, machine}
 use Rattle.sample_servers.specs.Stream.{waiting, and_then}
 use Rattle.sample_servers.specs.declared.transfer.Held.{Held}
@@ -74,6 +75,24 @@ transfer_after transfer chunk =
 -- the service as runs see it
 abbrev pub transfer_machine : Machine TransferState
 transfer_machine = machine transfer_started transfer_after
+
+-- what is kept of it: how many bytes are written, modulo 251, in one byte, and then the bytes that are held
+abbrev pub transfer_form : TransferState → List ℕ
+transfer_form state = state.place ∷ held_bytes state.held
+
+-- fewer bytes than a request has, as they are held
+abbrev pub held_of : List ℕ → Option Held
+held_of [] = Some Nothing
+held_of (a ∷ []) = Some (One a)
+held_of (a ∷ b ∷ []) = Some (Two a b)
+held_of (a ∷ b ∷ c ∷ []) = Some (Three a b c)
+held_of _ = None
+
+-- the state whose form these bytes are
+abbrev pub transfer_state_of : List ℕ → Option TransferState
+transfer_state_of [] = None
+transfer_state_of (place ∷ bytes) =
+    if nat_lt place 251 then option_map (λ held. record { place = place; held = held }) (held_of bytes) else None
 
 -- the requests that these bytes spell, without an incomplete one
 abbrev pub requests : List ℕ → List ℕ

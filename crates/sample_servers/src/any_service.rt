@@ -4,7 +4,7 @@ ghost use Rattle.std.specs.Prelude.{◌≡◌, ℕ, ◌^◌, ◌≤◌, List, []
 
 use crate::{Echo, Line, Meter, Transfer};
 use ft_io::NoMemory;
-use server_trait::{Next, Service};
+use server_trait::{Next, Saved, Service};
 use std::alloc::Global;
 
 /// One of the four services. `fresh` takes its kind as 1 for Echo, 2 for Line, 3 for Transfer and 4 for Meter, and every other kind as 1.
@@ -48,4 +48,42 @@ impl Service for AnyService {
     ghost is_short = { length-any_after-le };
 
     ghost writes_bytes = { bytes-any };
+}
+
+impl Saved for AnyService {
+    ghost use Rattle.sample_servers.specs.AnyService.{any_form, any_state_of};
+    ghost use Rattle.sample_servers.specs.ReadBack.{any_reads_back, any_one_form};
+
+    ghost is_savable = { true };
+
+    ghost form = { any_form };
+
+    ghost state_of = { any_state_of };
+
+    fn savable() -> bool {
+        true
+    }
+
+    fn save(&self, out: &mut Vec<u8>) -> Result<(), NoMemory> {
+        match self {
+            AnyService::Echo(echo) => echo.save(out),
+            AnyService::Line(line) => line.save(out),
+            AnyService::Transfer(transfer) => transfer.save(out),
+            AnyService::Meter(meter) => meter.save(out),
+        }
+    }
+
+    fn load(alloc: Global, kind: u8, bytes: &[u8]) -> Result<Option<AnyService>, NoMemory> {
+        let service = match kind {
+            2 => Line::load(alloc, kind, bytes)?.map(AnyService::Line),
+            3 => Transfer::load(alloc, kind, bytes)?.map(AnyService::Transfer),
+            4 => Meter::load(alloc, kind, bytes)?.map(AnyService::Meter),
+            _ => Echo::load(alloc, kind, bytes)?.map(AnyService::Echo),
+        };
+        Ok(service)
+    }
+
+    ghost reads_back = { λ _. any_reads_back };
+
+    ghost one_form = { any_one_form };
 }

@@ -3,12 +3,12 @@
 ghost use Rattle.std.specs.Prelude.{◌≡◌, ℕ, ◌^◌, ◌≤◌, ◌<◌, ◌+◌, ◌-◌, List, [], ◌++◌, length, take, drop, true, codes, bytes_eq, IfOk, OnOk};
 ghost use Rattle.server_trait.specs.Service.{next_of};
 ghost use Rattle.sample_servers.specs.Stream.{waiting, and_then, each_byte};
-ghost use Rattle.sample_servers.specs.Line.{LineState, numbered, line_finished, line_end, line_byte, NoFeed, Splits};
+ghost use Rattle.sample_servers.specs.Line.{LineState, numbered, line_finished, line_end, line_byte, is_unfinished as unfinished, NoFeed, Splits};
 
 use ft_io::NoMemory;
 use itoa::Buffer;
 use memchr::memchr;
-use server_trait::{Next, Service};
+use server_trait::{Next, Saved, Service};
 use std::alloc::Global;
 use std::marker::Model;
 
@@ -130,6 +130,17 @@ fn is_quit(front: &[u8], back: &[u8]) -> bool
     }
 }
 
+// Whether bytes are a line that hasn't ended: they aren't too many, and no line feed is among them.
+#[tactic(auto, using(std::proofs::lemmas::List::Folds::list_any_at, crate::proofs::Lines::none_fed))]
+fn is_unfinished(line: &[u8]) -> bool
+    ensures { result ≡ unfinished line.now }
+{
+    match memchr(b'\n', line) {
+        Some(_) => false,
+        None => line.len() < LINE_LIMIT,
+    }
+}
+
 // Appends a line in two parts, with its number.
 #[tactic(auto, using(crate::proofs::Lines::numbered_whole, std::proofs::Common::append_assoc))]
 fn write_line(number: u64, front: &[u8], back: &[u8], out: &mut Vec<u8>) -> Result<(), NoMemory>
@@ -175,6 +186,45 @@ impl Service for Line {
     ghost is_short = { length-line_after-le };
 
     ghost writes_bytes = { λ _. bytes-line };
+}
+
+impl Saved for Line {
+    ghost use Rattle.sample_servers.specs.Line.{line_form, line_state_of};
+    ghost use Rattle.sample_servers.specs.ReadBack.{line_reads_back, line_one_form};
+
+    ghost is_savable = { true };
+
+    ghost form = { line_form };
+
+    ghost state_of = { λ _. line_state_of };
+
+    fn savable() -> bool {
+        true
+    }
+
+    fn save(&self, out: &mut Vec<u8>) -> Result<(), NoMemory> {
+        out.reserve(8 + self.held.len())?;
+        out.extend_from_slice(&self.finished.to_be_bytes())?;
+        out.extend_from_slice(&self.held)?;
+        Ok(())
+    }
+
+    fn load(alloc: Global, _kind: u8, bytes: &[u8]) -> Result<Option<Line>, NoMemory> {
+        let [a, b, c, d, e, f, g, h, held @ ..] = bytes else {
+            return Ok(None);
+        };
+        if !is_unfinished(held) {
+            return Ok(None);
+        }
+        Ok(Some(Line {
+            finished: u64::from_be_bytes([*a, *b, *c, *d, *e, *f, *g, *h]),
+            held: Vec::from_slice(alloc, held)?,
+        }))
+    }
+
+    ghost reads_back = { λ _ _. line_reads_back };
+
+    ghost one_form = { λ _. line_one_form };
 }
 
 #[cfg(test)]

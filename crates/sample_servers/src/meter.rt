@@ -4,7 +4,7 @@ ghost use Rattle.std.specs.Prelude.{◌≡◌, ℕ, ◌^◌, ◌≤◌, List, []
 
 use ft_io::NoMemory;
 use itoa::Buffer;
-use server_trait::{Next, Service};
+use server_trait::{Next, Saved, Service};
 use std::alloc::Global;
 
 /// The service that measures its reads. A chunk that isn't empty gives its length, in decimal, and a line feed. It has no state.
@@ -40,4 +40,32 @@ impl Service for Meter {
     ghost is_short = { λ _ chunk short. Prim.omega (arith, length-length_line-le chunk short) };
 
     ghost writes_bytes = { λ _. bytes-meter };
+}
+
+impl Saved for Meter {
+    ghost use Rattle.sample_servers.specs.OneState.{empty_form, only_state};
+    ghost use Rattle.sample_servers.specs.Meter.{meter_started};
+    ghost use Rattle.sample_servers.specs.ReadBack.{only_one_form, meter_reads_back};
+
+    ghost is_savable = { true };
+
+    ghost form = { empty_form };
+
+    ghost state_of = { λ _. only_state meter_started };
+
+    fn savable() -> bool {
+        true
+    }
+
+    fn save(&self, _out: &mut Vec<u8>) -> Result<(), NoMemory> {
+        Ok(())
+    }
+
+    fn load(_alloc: Global, _kind: u8, bytes: &[u8]) -> Result<Option<Meter>, NoMemory> {
+        Ok(bytes.is_empty().then_some(Meter))
+    }
+
+    ghost reads_back = { λ _ _. meter_reads_back };
+
+    ghost one_form = { λ _. only_one_form meter_started };
 }

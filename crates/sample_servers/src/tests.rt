@@ -1,4 +1,4 @@
-//! The services by example. In a row's input `|` parts the chunks, and a chunk between two of them, or behind the last, may be empty.
+//! The services by example. In a row's input `|` parts the chunks, and a chunk between two of them, or after the last, may be empty.
 
 use crate::{AnyService, Echo, Line, Meter, Transfer};
 use ft_io::NoMemory;

@@ -1,11 +1,11 @@
 //! Transfer gives as many bytes as it is asked for: little input, large output.
 
-ghost use Rattle.std.specs.Prelude.{◌≡◌, ℕ, ◌^◌, ◌<◌, ◌≤◌, ◌+◌, ◌%◌, List, [], ◌∷◌, ◌++◌, length, true, IfOk, OnOk};
+ghost use Rattle.std.specs.Prelude.{◌≡◌, ℕ, ◌^◌, ◌<◌, ◌≤◌, ◌+◌, ◌%◌, List, [], ◌∷◌, ◌++◌, length, true, IfOk, OnOk, OnErr};
 ghost use Rattle.server_trait.specs.Service.{next_of};
-ghost use Rattle.sample_servers.specs.Transfer.{TransferState, request_of, request_served, bytes_served, pattern};
+ghost use Rattle.sample_servers.specs.Transfer.{TransferState, held_bytes, held_of, request_of, request_served, bytes_served, pattern};
 
 use ft_io::NoMemory;
-use server_trait::{Next, Service};
+use server_trait::{Next, Saved, Service};
 use std::alloc::Global;
 use std::marker::Model;
 
@@ -40,6 +40,35 @@ impl Model for Transfer {
     ghost view = { λ transfer. record { place = transfer.place; held = transfer.held } };
 
     ghost invariant = { λ transfer. transfer.place < 251 };
+}
+
+impl Held {
+    // The bytes of an incomplete request, if they are so few.
+    fn of(bytes: &[u8]) -> Option<Held>
+        ensures { result ≡ held_of bytes.now }
+    {
+        match *bytes {
+            [] => Some(Held::Nothing),
+            [a] => Some(Held::One(a)),
+            [a, b] => Some(Held::Two(a, b)),
+            [a, b, c] => Some(Held::Three(a, b, c)),
+            _ => None,
+        }
+    }
+
+    // Appends the bytes.
+    fn write(&self, out: &mut Vec<u8>) -> Result<(), NoMemory>
+        ensures ok { OnOk result (out.new.items ≡ out.old.items ++ held_bytes self.now) }
+        ensures err { OnErr result (out.new.items ≡ out.old.items) }
+    {
+        match *self {
+            Held::Nothing => {}
+            Held::One(a) => out.extend_from_slice(&[a])?,
+            Held::Two(a, b) => out.extend_from_slice(&[a, b])?,
+            Held::Three(a, b, c) => out.extend_from_slice(&[a, b, c])?,
+        }
+        Ok(())
+    }
 }
 
 impl Transfer {
@@ -150,4 +179,45 @@ impl Service for Transfer {
     ghost is_short = { length-transfer_after-le };
 
     ghost writes_bytes = { λ _. bytes-transfer };
+}
+
+impl Saved for Transfer {
+    ghost use Rattle.sample_servers.specs.Transfer.{transfer_form, transfer_state_of};
+    ghost use Rattle.sample_servers.specs.ReadBack.{transfer_reads_back, transfer_one_form};
+
+    ghost is_savable = { true };
+
+    ghost form = { transfer_form };
+
+    ghost state_of = { λ _. transfer_state_of };
+
+    fn savable() -> bool {
+        true
+    }
+
+    fn save(&self, out: &mut Vec<u8>) -> Result<(), NoMemory> {
+        out.push(self.place)?;
+        if let Err(full) = self.held.write(out) {
+            out.pop();
+            return Err(full);
+        }
+        Ok(())
+    }
+
+    fn load(_alloc: Global, _kind: u8, bytes: &[u8]) -> Result<Option<Transfer>, NoMemory> {
+        let [place, held @ ..] = bytes else {
+            return Ok(None);
+        };
+        match Held::of(held) {
+            Some(held) if *place < PERIOD => Ok(Some(Transfer {
+                place: *place,
+                held,
+            })),
+            _ => Ok(None),
+        }
+    }
+
+    ghost reads_back = { λ _ _. transfer_reads_back };
+
+    ghost one_form = { λ _. transfer_one_form };
 }

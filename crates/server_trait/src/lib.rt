@@ -2,7 +2,7 @@
 //! chunks by the lengths of the server's reads, and its output is the server's byte stream.
 #![tactic(auto)]
 
-ghost use Rattle.std.specs.Prelude.{◌≡◌, ℕ, ◌^◌, ◌≤◌, Bool, true, List, [], ◌++◌, length, IfOk};
+ghost use Rattle.std.specs.Prelude.{◌≡◌, ℕ, ◌^◌, ◌≤◌, Bool, true, List, [], ◌++◌, length, IfOk, OnOk, OnErr, Option};
 
 use ft_io::NoMemory;
 use std::alloc::Global;
@@ -48,4 +48,39 @@ pub trait Service: Drop {
 
     /// A service of any kind that is given bytes from its start on writes bytes.
     ghost writes_bytes: { (kind : ℕ) → WritesBytes (machine (started kind) after) };
+}
+
+/// A service whose state can be kept as bytes, its form, and which continues from them. Any service can be given this trait: one whose states aren't to be
+/// kept isn't savable, and has `no_form` and `no_state`.
+pub trait Saved: Service {
+    ghost use Rattle.server_trait.specs.Service.{machine};
+    ghost use Rattle.server_trait.specs.Saved.{writing, ReadsBack, HasOneForm};
+
+    /// Whether its states are kept.
+    ghost is_savable: { Bool };
+
+    /// The form of a state. A run that has closed isn't kept, so the states that it may have left matter to nobody.
+    ghost form: { Self → List ℕ };
+
+    /// The state of a service of this kind whose form these bytes are, if they are one's.
+    ghost state_of: { ℕ → List ℕ → Option Self };
+
+    /// Whether its states are kept.
+    fn savable() -> bool
+        ensures { result ≡ is_savable };
+
+    /// Appends the form of the state of a service that hasn't closed. After `NoMemory` `out` is as before.
+    fn save(&self, out: &mut Vec<u8>) -> Result<(), NoMemory>
+        ensures ok { OnOk result (out.new.items ≡ out.old.items ++ form self.now) }
+        ensures err { OnErr result (out.new.items ≡ out.old.items) };
+
+    /// The service of this kind whose form these bytes are. `None` says that they are the form of none.
+    fn load(alloc: Global, kind: u8, bytes: &[u8]) -> Result<Option<Self>, NoMemory>
+        ensures { IfOk result (λ loaded. loaded ≡ state_of kind bytes.now) };
+
+    /// Where states are kept, each that a run comes to before it closes is read back, and its form is at most 1,100 bytes.
+    ghost reads_back: { is_savable ≡ true → (kind : ℕ) → ReadsBack (machine (Self.started kind) Self.after) (writing form (state_of kind)) };
+
+    /// Bytes that are read as a state are its form.
+    ghost one_form: { (kind : ℕ) → HasOneForm (writing form (state_of kind)) };
 }
