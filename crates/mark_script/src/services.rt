@@ -1,0 +1,220 @@
+//! Services that are kept as bytes and read back.
+
+use crate::draws::{below, count_and_seed, folded, spell, spelled};
+use counter_service::Counter;
+use ft_io::NoMemory;
+use sample_servers::AnyService;
+use seq_arith::Generator;
+use server_trait::{CHUNK_LIMIT, Next, Saved, Service};
+use std::alloc::Global;
+
+/// The kind of the sample service of a name, and 0 for the counter.
+fn kind_of(name: &str) -> Option<u8> {
+    match name.as_bytes() {
+        b"counter" => Some(0),
+        b"echo" => Some(1),
+        b"line" => Some(2),
+        b"transfer" => Some(3),
+        b"meter" => Some(4),
+        _ => None,
+    }
+}
+
+/// Loads a service, and answers the form that it then has.
+pub(crate) fn load_line(alloc: Global, text: &str) -> Result<String, NoMemory> {
+    let (name, text) = text.split_once(' ').unwrap_or((text, ""));
+    let (Some(kind), Some(bytes)) = (kind_of(name), spelled(alloc, text)?) else {
+        return Ok(format!(in alloc; "no such line")?);
+    };
+    let form = if kind == 0 {
+        loaded::<Counter>(alloc, kind, bytes.as_slice())?
+    } else {
+        loaded::<AnyService>(alloc, kind, bytes.as_slice())?
+    };
+    match form {
+        Some(form) => {
+            let text = spell(alloc, form.as_slice())?;
+            Ok(format!(in alloc; "{name} {text}")?)
+        }
+        None => Ok(format!(in alloc; "{name} none")?),
+    }
+}
+
+/// The form of the service whose form these bytes are.
+fn loaded<S: Saved>(alloc: Global, kind: u8, bytes: &[u8]) -> Result<Option<Vec<u8>>, NoMemory> {
+    match S::load(alloc, kind, bytes)? {
+        Some(service) => Ok(Some(form_of(alloc, &service)?)),
+        None => Ok(None),
+    }
+}
+
+fn form_of<S: Saved>(alloc: Global, service: &S) -> Result<Vec<u8>, NoMemory> {
+    let mut form = Vec::new(alloc);
+    service.save(&mut form)?;
+    Ok(form)
+}
+
+/// What came of many runs.
+#[derive(Clone, Copy)]
+struct Tally {
+    /// The runs that have closed.
+    closed: u32,
+    /// The services that were read back, continued alike and have the same form then.
+    read_back: u32,
+    /// The damaged forms that were refused.
+    refused: u32,
+    /// What follows from all forms.
+    bytes: u32,
+}
+
+/// Plays the runs that a line asks for, and answers what it prints.
+pub(crate) fn runs_line(alloc: Global, text: &str) -> Result<String, NoMemory> {
+    let (name, rest) = text.split_once(' ').unwrap_or((text, ""));
+    let (Some(kind), Some((count, seed))) = (kind_of(name), count_and_seed(rest)) else {
+        return Ok(format!(in alloc; "no such line")?);
+    };
+    let Tally {
+        closed,
+        read_back,
+        refused,
+        bytes,
+    } = if kind == 0 {
+        play_runs::<Counter>(alloc, kind, count, seed)?
+    } else {
+        play_runs::<AnyService>(alloc, kind, count, seed)?
+    };
+    Ok(format!(in alloc;
+        "{name} {count}: closed {closed} read back {read_back} refused {refused} bytes {bytes}"
+    )?)
+}
+
+fn play_runs<S: Saved>(alloc: Global, kind: u8, count: u32, seed: u64) -> Result<Tally, NoMemory> {
+    let mut generator = Generator::new(seed);
+    let mut tally = Tally {
+        closed: 0,
+        read_back: 0,
+        refused: 0,
+        bytes: 0,
+    };
+    for _run in 0..count {
+        match run::<S>(alloc, &mut generator, kind)? {
+            Some(service) => check(alloc, &mut generator, kind, service, &mut tally)?,
+            None => tally.closed = tally.closed.wrapping_add(1),
+        }
+    }
+    Ok(tally)
+}
+
+/// A service after one to five chunks, where it hasn't closed.
+fn run<S: Saved>(
+    alloc: Global,
+    generator: &mut Generator,
+    kind: u8,
+) -> Result<Option<S>, NoMemory> {
+    let mut service = S::fresh(alloc, kind);
+    let mut closed = false;
+    for _chunk in 0..1 + below(generator, 5) {
+        let chunk = any_chunk(alloc, generator, kind)?;
+        if !closed {
+            let (next, _output) = taken(alloc, &mut service, chunk.as_slice())?;
+            closed = next == Next::Close;
+        }
+    }
+    Ok(if closed { None } else { Some(service) })
+}
+
+/// What a service does with a chunk, of which it is given at most 2,048 bytes.
+fn taken<S: Saved>(
+    alloc: Global,
+    service: &mut S,
+    chunk: &[u8],
+) -> Result<(Next, Vec<u8>), NoMemory> {
+    let mut out = Vec::new(alloc);
+    let next = service.take(&chunk[..chunk.len().min(CHUNK_LIMIT)], &mut out)?;
+    Ok((next, out))
+}
+
+/// Saves a service, reads it back, and loads what is damaged of its form.
+fn check<S: Saved>(
+    alloc: Global,
+    generator: &mut Generator,
+    kind: u8,
+    service: S,
+    tally: &mut Tally,
+) -> Result<(), NoMemory> {
+    let mut form = form_of(alloc, &service)?;
+    tally.bytes = folded(tally.bytes, form.as_slice());
+    let chunk = any_chunk(alloc, generator, kind)?;
+    if is_read_back(alloc, kind, service, form.as_slice(), chunk.as_slice())? {
+        tally.read_back = tally.read_back.wrapping_add(1);
+    }
+    damage(generator, &mut form)?;
+    if S::load(alloc, kind, form.as_slice())?.is_none() {
+        tally.refused = tally.refused.wrapping_add(1);
+    }
+    Ok(())
+}
+
+/// Whether what is read back from a service's form has that form, and does with one more chunk what the service itself does.
+fn is_read_back<S: Saved>(
+    alloc: Global,
+    kind: u8,
+    service: S,
+    form: &[u8],
+    chunk: &[u8],
+) -> Result<bool, NoMemory> {
+    let Some(mut loaded) = S::load(alloc, kind, form)? else {
+        return Ok(false);
+    };
+    let mut service = service;
+    let again = form_of(alloc, &loaded)?;
+    let (next, out) = taken(alloc, &mut service, chunk)?;
+    let (loaded_next, loaded_out) = taken(alloc, &mut loaded, chunk)?;
+    Ok(again.as_slice() == form && next == loaded_next && out.as_slice() == loaded_out.as_slice())
+}
+
+/// Changes a byte of a form, drops its last or appends one.
+fn damage(generator: &mut Generator, form: &mut Vec<u8>) -> Result<(), NoMemory> {
+    let way = below(generator, 4);
+    let byte = below(generator, 256) as u8;
+    let place = below(generator, 1 + form.len().min(2_000) as u32) as usize;
+    if way == 0 {
+        form.pop();
+    } else if way == 1 || place >= form.len() {
+        form.push(byte)?;
+    } else {
+        form[place] = if way == 2 { b'\n' } else { byte };
+    }
+    Ok(())
+}
+
+/// A chunk of one to four pieces.
+fn any_chunk(alloc: Global, generator: &mut Generator, kind: u8) -> Result<Vec<u8>, NoMemory> {
+    let mut chunk = Vec::new(alloc);
+    for _piece in 0..1 + below(generator, 4) {
+        put_piece(generator, kind, &mut chunk)?;
+    }
+    Ok(chunk)
+}
+
+/// A line feed, the line `quit`, many bytes of one letter, a request, or a few bytes. Transfer, which gives much for little, is given few of the letters.
+fn put_piece(generator: &mut Generator, kind: u8, chunk: &mut Vec<u8>) -> Result<(), NoMemory> {
+    match below(generator, 6) {
+        0 => chunk.push(b'\n')?,
+        1 => chunk.extend_from_slice(b"quit\n")?,
+        2 => {
+            let len = below(generator, if kind == 3 { 8 } else { 500 });
+            chunk.resize(chunk.len().saturating_add(len as usize), b'a')?;
+        }
+        3 => {
+            let size = below(generator, 2_048).to_be_bytes();
+            chunk.extend_from_slice(&size)?;
+        }
+        _ => {
+            for _byte in 0..1 + below(generator, 5) {
+                chunk.push(below(generator, 256) as u8)?;
+            }
+        }
+    }
+    Ok(())
+}
