@@ -4,21 +4,24 @@
 //! - `in HEX` gives a datagram; the answer is printed as `out HEX`, or `out -` where there is none;
 //! - `state` prints the log's boot number and its count of entries, and `entry I` the entry at place I;
 //! - `byte I AT` and `length I AT` print the byte and the length at place AT of the entry at place I;
+//! - `trim I READS` trims the entry at place I by its first READS reads, and prints how many bytes these took; `kept I` prints how many bytes are kept;
 //! - `random COUNT SEED` gives COUNT datagrams that are drawn from SEED, and prints how many of them were refused, answered and passed over, and a
 //!   number that follows from all answers.
 #![tactic(auto)]
 
 use ft_io::NoMemory;
 use hex::FromHexError;
-use logger_store::{LogStore, MsgOut};
+use logger_store::{MsgOut, TrimStore};
 use logger_wire::read_msg;
 use random::give_random;
-use readers::{byte_at, entry_at, length_at};
+use readers::{byte_at, entry_at, kept_at, length_at};
 use std::alloc::Global;
 use std::io;
+use trimming::trim_at;
 
 mod random;
 mod readers;
+mod trimming;
 
 /// What became of a datagram.
 #[derive(Clone, Copy, Debug, PartialEq, Eq)]
@@ -33,7 +36,7 @@ enum Given {
 /// Gives the log a datagram.
 fn give(
     alloc: Global,
-    log: &mut LogStore,
+    log: &mut TrimStore,
     datagram: &[u8],
     out: &mut MsgOut,
 ) -> Result<Given, NoMemory> {
@@ -49,7 +52,7 @@ fn give(
 }
 
 /// The log's answer to a datagram in hexadecimal, as a line.
-fn answer_to(alloc: Global, log: &mut LogStore, text: &str) -> Result<String, NoMemory> {
+fn answer_to(alloc: Global, log: &mut TrimStore, text: &str) -> Result<String, NoMemory> {
     let datagram = match hex::decode(alloc, text) {
         Ok(datagram) => datagram,
         Err(FromHexError::OutOfMemory) => return Err(NoMemory),
@@ -66,12 +69,12 @@ fn answer_to(alloc: Global, log: &mut LogStore, text: &str) -> Result<String, No
 }
 
 /// Plays a line, and answers what it prints.
-fn play(alloc: Global, log: &mut LogStore, line: &str) -> Result<String, NoMemory> {
+fn play(alloc: Global, log: &mut TrimStore, line: &str) -> Result<String, NoMemory> {
     let (word, rest) = line.split_once(' ').unwrap_or((line, ""));
     match word.as_bytes() {
         b"#" => Ok(format!(in alloc; "{line}")?),
         b"log" => {
-            *log = LogStore::new(alloc);
+            *log = TrimStore::new(alloc);
             Ok(format!(in alloc; "log")?)
         }
         b"in" => answer_to(alloc, log, rest),
@@ -82,13 +85,15 @@ fn play(alloc: Global, log: &mut LogStore, line: &str) -> Result<String, NoMemor
         b"entry" => entry_at(alloc, log, rest),
         b"byte" => byte_at(alloc, log, rest),
         b"length" => length_at(alloc, log, rest),
+        b"trim" => trim_at(alloc, log, rest),
+        b"kept" => kept_at(alloc, log, rest),
         b"random" => give_random(alloc, log, rest),
         _ => Ok(format!(in alloc; "no such line")?),
     }
 }
 
 /// Plays a line. Where memory is refused it is played once more, since the log is then as it was before.
-fn play_again(alloc: Global, log: &mut LogStore, line: &str) -> Result<String, NoMemory> {
+fn play_again(alloc: Global, log: &mut TrimStore, line: &str) -> Result<String, NoMemory> {
     match play(alloc, log, line) {
         Ok(text) => Ok(text),
         Err(NoMemory) => play(alloc, log, line),
@@ -96,7 +101,7 @@ fn play_again(alloc: Global, log: &mut LogStore, line: &str) -> Result<String, N
 }
 
 fn main(rt: HostRuntime) -> io::Result<()> {
-    let mut log = LogStore::new(rt.alloc());
+    let mut log = TrimStore::new(rt.alloc());
     for line in rt.lines(rt.alloc()) {
         let Ok(text) = play_again(rt.alloc(), &mut log, line?.as_str()) else {
             println!(rt; "no memory")?;

@@ -5,7 +5,7 @@ ghost use Rattle.std.specs.Prelude.{◌≡◌, ◌<◌, ◌≤◌, length};
 
 use crate::{Given, give};
 use ft_io::NoMemory;
-use logger_store::{LogStore, MsgOut};
+use logger_store::{MsgOut, TrimStore};
 use seq_arith::{Generator, Sum16};
 use std::alloc::Global;
 
@@ -108,7 +108,7 @@ fn any_message(generator: &mut Generator, boot: u8, bytes: &mut [u8; 128]) -> us
 }
 
 /// Gives the log so many datagrams from a seed. The boot number of messages grows by one every 2,000 datagrams.
-fn give_all(alloc: Global, log: &mut LogStore, count: u32, seed: u64) -> Result<Tally, NoMemory> {
+fn give_all(alloc: Global, log: &mut TrimStore, count: u32, seed: u64) -> Result<Tally, NoMemory> {
     let mut generator = Generator::new(seed);
     let mut tally = Tally {
         refused: 0,
@@ -134,7 +134,7 @@ fn give_all(alloc: Global, log: &mut LogStore, count: u32, seed: u64) -> Result<
 /// Gives the log as many datagrams as a line says, and answers what it prints.
 pub(crate) fn give_random(
     alloc: Global,
-    log: &mut LogStore,
+    log: &mut TrimStore,
     text: &str,
 ) -> Result<String, NoMemory> {
     let (count, seed) = text.split_once(' ').unwrap_or((text, ""));

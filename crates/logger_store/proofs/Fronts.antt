@@ -1,4 +1,4 @@
--- What an answer gives of an entry: a front of what stands behind a place.
+-- What an answer gives of an entry: a front of what comes after a place.
 use Rattle.std.proofs.Common.{◌≡◌, ◌∙◌, ℕ, zero, suc, ◌-◌, Bool, true, ap, refl, List, [], ◌∷◌, length, take, drop, min}
 use Rattle.std.specs.List.{list_all}
 use Rattle.std.proofs.lemmas.Bool.{and_from, and_parts}

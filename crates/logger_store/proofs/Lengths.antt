@@ -31,13 +31,13 @@ one_length n small = ap (λ k. k ∷ []) (again n small)
 pub one_length_more : (bytes : List ℕ) (n : ℕ) → length bytes % 2 ≡ 0 → n < 2 ^ 16 → lens_in (bytes ++ to_be_bytes w16 n) ≡ lens_in bytes ++ n ∷ []
 one_length_more bytes n even small = behind_even bytes (to_be_bytes w16 n) even ∙ ap (λ ls. lens_in bytes ++ ls) (one_length n small)
 
-front_of_equals : (m n y : ℕ) → take m (replicate n y) ≡ replicate (min m n) y
+pub front_of_equals : (m n y : ℕ) → take m (replicate n y) ≡ replicate (min m n) y
 front_of_equals m n y = elim (cases_lt m n) [
   | inl less ↦ take-replicate m n y (omega (arith, less)) ∙ ap (λ k. replicate k y) (omega (arith, less))
   | inr more ↦ take_all m (replicate n y) (subst (λ k. k ≤ m) (sym (length-replicate n y)) more) ∙ ap (λ k. replicate k y) (omega (arith, more))
 ]
 
--- what is left of a run behind its first lengths, as much as there is room for
+-- what is left of a run after its first lengths, as much as there is room for
 pub run_behind : (old : List ℕ) (count len skip k : ℕ) → length old ≤ 512 → k ≡ min (512 - length old) (count - skip)
     → old ++ replicate k len ≡ take 512 (old ++ drop skip (replicate count len))
 run_behind old count len skip k within is =

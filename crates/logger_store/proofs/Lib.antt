@@ -1,9 +1,15 @@
 pub mod Filling
 pub mod Paging
+pub mod GivenUp
 pub mod Lengths
+pub mod Took
 pub mod Answers
 pub mod Changed
 pub mod Entries
+pub mod Places
+pub mod Left
+pub mod LeftLogs
+pub mod Asking
 pub mod Fronts
 pub mod Sending
 pub mod Fence

@@ -8,7 +8,7 @@ use Rattle.std.proofs.lemmas.Bool.{cases_lt}
 use Rattle.logger_store.specs.Pages.{IsFull, IsLast, page_of}
 use Rattle.logger_store.proofs.Filling.{length_full, length_is, rest}
 
--- behind a full page the pages count on
+-- after a full page the pages count on
 next_page : (p ys : List ℕ) (i : ℕ) → IsFull p → page_of (p ++ ys) (suc i) ≡ page_of ys i
 next_page p ys i full =
     let at : 4096 * suc i ≡ length p + 4096 * i = omega arith in
@@ -34,7 +34,7 @@ last_page pages page i h within at =
     let there : length (flat_map (λ p. p) pages) ≡ 4096 * i = length_full pages h ∙ ap (λ n. 4096 * n) (sym at) in
     sym (ap (take 4096) (drop_at (flat_map (λ p. p) pages) page (4096 * i) there) ∙ take_all 4096 page within)
 
--- behind the last byte there is no page
+-- after the last byte there is no page
 pub no_page : (bytes : List ℕ) (i : ℕ) → length bytes ≤ 4096 * i → [] ≡ page_of bytes i
 no_page bytes i behind = sym (ap (take 4096) (drop_all (4096 * i) bytes behind))
 
@@ -82,7 +82,7 @@ split_front n xs ys = elim (cases_lt n (length xs)) [ inl short ↦ inside short
         ∙ (ap (λ zs. zs ++ take (n - length xs) ys) (sym (take-length xs))
         ∙ ap (λ k. take k xs ++ take (n - k) ys) (sym (least n (length xs) h))))
 
--- what stands behind a place in the first n elements goes on behind them
+-- what comes after a place in the first n elements goes on after them
 behind : (n r : ℕ) (xs : List ℕ) → r ≤ n → drop r xs ≡ drop r (take n xs) ++ drop n xs
 behind n zero xs h = sym (take-append-drop n xs)
 behind zero (suc r) xs h = absurd (omega (arith, h))

@@ -1,6 +1,11 @@
 -- How the bytes of an entry stand in pages, and its lengths in runs.
-use Rattle.std.specs.Prelude.{◌≡◌, ◌≤◌, ◌<◌, ◌-◌, ◌*◌, ◌%◌, ◌==◌, ℕ, Bool, false, List, length, take, drop, slice_get, replicate}
+use Rattle.std.specs.Prelude.{zero, suc, ◌≡◌, ◌≤◌, ◌<◌, ◌-◌, ◌*◌, ◌/◌, ◌%◌, ◌==◌, ℕ, Bool, false, List, length, take, drop, slice_get, replicate, ◌++◌, [], ◌∷◌, Option, Some, None, unwrap_or, map, sum, if◌then◌else◌}
+use Rattle.std.specs.List.{flat_map, list_any}
 use Rattle.std.specs.Option.{option_map_or}
+use Rattle.std.specs.List.{position}
+use Rattle.ft_io.specs.declared.Key.{Key}
+use Rattle.ft_io.specs.Key.{key_eq}
+use Rattle.ft_model.specs.Log.{Log, Entry}
 use Rattle.logger_store.specs.declared.runs.Run.{Run}
 
 -- a page that is full
@@ -12,6 +17,10 @@ pub record IsLast (page : List ℕ) : Type 0 where
   pub some : 0 < length page
   pub within : length page ≤ 4096
 
+-- the bytes of full pages and of the last page
+abbrev pub kept : List (List ℕ) → Option (List ℕ) → List ℕ
+kept pages last = flat_map (λ page. page) pages ++ unwrap_or last []
+
 -- how many bytes more the page of the last byte takes
 abbrev pub room_after : ℕ → ℕ
 room_after len = (4096 - len % 4096) % 4096
@@ -20,9 +29,35 @@ room_after len = (4096 - len % 4096) % 4096
 abbrev pub page_of : List ℕ → ℕ → List ℕ
 page_of bytes i = take 4096 (drop (4096 * i) bytes)
 
+-- bytes of which so many were given up: these are zeros
+abbrev pub zeroed : ℕ → List ℕ → List ℕ
+zeroed n bytes = replicate n 0 ++ drop n bytes
+
+-- so many bytes in whole pages
+abbrev pub pages : ℕ → ℕ
+pages bytes = 4096 * (bytes / 4096)
+
+-- an entry without the whole pages of its first bytes
+abbrev pub zeroing : ℕ → Entry → Entry
+zeroing bytes e = record e { bytes = zeroed (pages bytes) e.bytes }
+
+-- the entry at a place, changed
+abbrev pub changed_at : ℕ → (Entry → Entry) → List Entry → List Entry
+changed_at i change [] = []
+changed_at zero change (e ∷ es) = change e ∷ es
+changed_at (suc i) change (e ∷ es) = e ∷ changed_at i change es
+
+-- the place of a key's entry
+abbrev pub place_of : Key → Log → Option ℕ
+place_of key log = position (key_eq key) (map (λ e. e.key) log.entries)
+
 -- the lengths that a run stands for
 abbrev pub lengths_in : Run → List ℕ
 lengths_in run = replicate run.count run.length
+
+-- how many bytes the first reads took, where no closing read is among them
+abbrev pub took : ℕ → List ℕ → Option ℕ
+took reads lengths = if list_any (λ n. n == 0) (take reads lengths) then None else Some (sum (take reads lengths))
 
 -- whether the last of some lengths is this one
 abbrev pub ends_with : ℕ → List ℕ → Bool

@@ -12,7 +12,7 @@ pub const LENS: usize = 512;
 /// At most 512 lengths, two bytes each.
 #[derive(Drop)]
 pub struct Lens {
-    /// The lengths one behind the other, as a message spells them.
+    /// The lengths one after the other, as a message spells them.
     bytes: ArrayVec<u8, 1_024>,
 }
 

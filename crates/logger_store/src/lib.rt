@@ -5,6 +5,7 @@
 pub use entry_head::EntryHead;
 pub use msg_out::MsgOut;
 pub use store::{LogStore, is_answer};
+pub use trimming::{Trim, TrimStore};
 
 mod entry_head;
 pub mod laws;
@@ -16,3 +17,4 @@ mod runs;
 mod store;
 mod stored_entry;
 mod telling;
+mod trimming;

@@ -11,7 +11,7 @@ use std::marker::Model;
 /// The bytes of a message, or none, in room for 2,048 bytes.
 #[derive(Debug, Drop)]
 pub struct MsgOut {
-    /// The message, and room behind it.
+    /// The message, and room after it.
     bytes: [u8; 2_048],
     /// How many of these bytes are the message's.
     len: usize,

@@ -1,36 +1,42 @@
 //! A client's bytes in pages of 4,096.
 
-ghost use Rattle.std.specs.Prelude.{[], ◌≡◌, ◌≤◌, ◌<◌, ◌+◌, ◌-◌, ◌/◌, ◌%◌, ◌^◌, ◌++◌, option_map, unwrap_or, IfSome, IfNone, IfOk, IsOk, OnOk, OnErr, length};
+ghost use Rattle.std.specs.Prelude.{[], ◌≡◌, ◌≤◌, ◌<◌, ◌+◌, ◌-◌, ◌*◌, ◌/◌, ◌%◌, ◌^◌, ◌++◌, All, option_map, unwrap_or, IfSome, IfNone, IfOk, IsOk, OnOk, OnErr, length};
 ghost use Rattle.std.specs.Prelude.{take, drop, slice_index};
-ghost use Rattle.logger_store.specs.Pages.{page_of, room_after};
+ghost use Rattle.logger_store.specs.Pages.{IsFull, IsLast, kept, page_of, room_after, zeroed};
 
 use crate::page::{PAGE, Page};
 use arrayvec::ArrayVec;
 use ft_io::NoMemory;
 use std::alloc::Global;
+use std::collections::VecDeque;
 use std::marker::Model;
 use std::mem;
 
 /// The most bytes that one answer gives.
 pub const PART: usize = 1_024;
 
-/// The bytes of an entry: full pages, and the page of the last bytes once there is one.
+/// In place of a page that was given up.
+static ZEROS: [u8; PAGE] = [0; PAGE];
+
+/// The bytes of an entry: full pages, and the page of the last bytes once there is one. Pages in front of these may be given up: their bytes are then zeros to
+/// whoever reads them.
 #[derive(Debug, Drop)]
 pub struct Pages {
-    /// Those of 4,096 bytes, the first first.
-    full: Vec<Page>,
-    /// The page behind them: 1 to 4,096 bytes.
+    /// How many pages are given up.
+    given_up: usize,
+    /// Those of 4,096 bytes that are kept, the first first.
+    full: VecDeque<Page>,
+    /// The page after them: 1 to 4,096 bytes.
     last: Option<Page>,
 }
 
 impl Model for Pages {
-    ghost use Rattle.std.specs.Prelude.{ℕ, [], ◌++◌, List, All, IfSome, unwrap_or};
-    ghost use Rattle.std.specs.List.{flat_map};
-    ghost use Rattle.logger_store.specs.Pages.{IsFull, IsLast};
+    ghost use Rattle.std.specs.Prelude.{ℕ, ◌++◌, ◌*◌, List, All, IfSome, replicate};
+    ghost use Rattle.logger_store.specs.Pages.{IsFull, IsLast, kept};
 
     ghost Value = { List ℕ };
 
-    ghost view = { λ p. flat_map (λ page. page) p.full.items ++ unwrap_or p.last [] };
+    ghost view = { λ p. replicate (4096 * p.given_up) 0 ++ kept p.full.items p.last };
 
     ghost invariant = { λ p. All IsFull p.full.items × IfSome p.last IsLast };
 }
@@ -76,31 +82,63 @@ fn page_with(alloc: Global, bytes: &[u8]) -> Result<Page, NoMemory>
     Ok(page)
 }
 
+/// Drops the first page, which is full.
+#[tactic(auto, using(crate::proofs::GivenUp::first_dropped, crate::proofs::GivenUp::last_dropped))]
+fn drop_page(full: &mut VecDeque<Page>, last: &mut Option<Page>)
+    requires full { All IsFull full.old.items }
+    requires last { IfSome last.old IsLast }
+    requires there { 4096 ≤ length (kept full.old.items last.old) }
+    ensures value { kept full.new.items last.new ≡ drop 4096 (kept full.old.items last.old) }
+    ensures full { All IsFull full.new.items }
+    ensures last { IfSome last.new IsLast }
+{
+    if full.pop_front().is_none() {
+        *last = None;
+    }
+}
+
+/// Drops the first pages, which are full.
+#[tactic(auto, using(crate::proofs::GivenUp::drops_on, crate::proofs::GivenUp::one_more_dropped))]
+fn drop_pages(full: &mut VecDeque<Page>, last: &mut Option<Page>, count: usize)
+    requires full { All IsFull full.old.items }
+    requires last { IfSome last.old IsLast }
+    requires there { 4096 * count ≤ length (kept full.old.items last.old) }
+    ensures value { kept full.new.items last.new ≡ drop (4096 * count) (kept full.old.items last.old) }
+    ensures full { All IsFull full.new.items }
+    ensures last { IfSome last.new IsLast }
+{
+    for _dropped in 0..count {
+        drop_page(full, last);
+    }
+}
+
 impl Pages {
     /// No bytes. It takes no memory.
     pub fn new(alloc: Global) -> Pages
         ensures { result ≡ [] }
     {
         Pages {
-            full: Vec::new(alloc),
+            given_up: 0,
+            full: VecDeque::new(alloc),
             last: None,
         }
     }
 
     /// How many bytes there are.
-    #[tactic(auto, using(crate::proofs::Filling::length_is))]
+    #[tactic(auto, using(crate::proofs::GivenUp::all_length))]
     pub fn len(&self) -> usize
         requires { length self.now ≤ 2 ^ 24 }
         ensures { result ≡ length self.now }
     {
+        let full = (self.given_up + self.full.len()) * PAGE;
         match &self.last {
-            Some(page) => self.full.len() * PAGE + page.len(),
-            None => self.full.len() * PAGE,
+            Some(page) => full + page.len(),
+            None => full,
         }
     }
 
     /// Adds bytes, at most a page of them. What the page of the last byte takes needs no memory.
-    #[tactic(auto, using(crate::proofs::Filling::room_is, crate::proofs::Filling::all_more, crate::proofs::Filling::filled))]
+    #[tactic(auto, using(crate::proofs::GivenUp::room_kept, crate::proofs::Filling::all_more, crate::proofs::Filling::filled, std::proofs::Common::append_assoc))]
     pub fn add(&mut self, alloc: Global, bytes: &[u8]) -> Result<(), NoMemory>
         requires { length bytes.now ≤ 4096 }
         ensures ok { OnOk result (self.new ≡ self.old ++ bytes.now) }
@@ -116,24 +154,39 @@ impl Pages {
         self.full.reserve(1)?;
         add_to(&mut self.last, &bytes[..room]);
         if let Some(full) = mem::replace(&mut self.last, Some(page)) {
-            self.full.push(full).unwrap();
+            self.full.push_back(full).unwrap();
         }
         Ok(())
     }
 
-    /// The bytes of the page at this place, from 0; none behind the last page.
-    #[tactic(auto, using(crate::proofs::Paging::last_page, crate::proofs::Paging::none_behind))]
+    /// The bytes of the page at this place, from 0; none after the last page.
+    #[tactic(auto, using(crate::proofs::GivenUp::zero_page, crate::proofs::GivenUp::last_kept, crate::proofs::GivenUp::none_kept))]
     fn page(&self, i: usize) -> &[u8]
         ensures value { result.now ≡ page_of self.now i }
         ensures within { length result.now ≤ 4096 }
     {
-        if i < self.full.len() {
-            return self.full[i].as_slice();
+        if i < self.given_up {
+            return &ZEROS;
         }
-        if i == self.full.len() {
+        let place = i - self.given_up;
+        if place < self.full.len() {
+            return self.full[place].as_slice();
+        }
+        if place == self.full.len() {
             return bytes_in(&self.last);
         }
         &[]
+    }
+
+    /// Gives up so many pages from the first on, and none anew where more were given up before. It takes no memory.
+    #[tactic(auto, using(crate::proofs::GivenUp::zeroed_is))]
+    pub fn give_up(&mut self, pages: usize)
+        requires { 4096 * pages ≤ length self.old }
+        ensures { self.new ≡ zeroed (4096 * pages) self.old }
+    {
+        let more = pages.saturating_sub(self.given_up);
+        drop_pages(&mut self.full, &mut self.last, more);
+        self.given_up += more;
     }
 
     /// The byte at this place, from 0.

@@ -1,7 +1,7 @@
 //! The lengths of an entry's reads, in runs of equal ones.
 
-ghost use Rattle.std.specs.Prelude.{[], ◌≡◌, ◌≤◌, ◌<◌, ◌+◌, ◌-◌, ◌^◌, ◌++◌, ◌∷◌, true, IsOk, OnOk, OnErr, length, take, drop, slice_index};
-ghost use Rattle.logger_store.specs.Pages.{ends_with, lengths_in};
+ghost use Rattle.std.specs.Prelude.{[], ◌≡◌, ◌≤◌, ◌<◌, ◌+◌, ◌-◌, ◌^◌, ◌++◌, ◌∷◌, true, IsOk, OnOk, OnErr, length, take, drop, slice_index, sum};
+ghost use Rattle.logger_store.specs.Pages.{ends_with, lengths_in, took};
 
 use crate::lens::{LENS, Lens};
 use ft_io::NoMemory;
@@ -36,7 +36,7 @@ impl Model for Runs {
     ghost view = { λ r. flat_map lengths_in r.closed.items ++ lengths_in r.last };
 }
 
-/// Adds those lengths of a run that stand behind its first `skip`, as many as there is room for, and says how many are left to be skipped.
+/// Adds those lengths of a run that come after its first `skip`, as many as there is room for, and says how many are left to be skipped.
 #[tactic(auto, using(crate::proofs::Lengths::run_behind, std::proofs::lemmas::List::replicate_more, std::proofs::Common::append_assoc))]
 fn spell_run(run: Run, skip: usize, lens: &mut Lens) -> usize
     ensures skip { result ≡ skip - run.count }
@@ -48,6 +48,22 @@ fn spell_run(run: Run, skip: usize, lens: &mut Lens) -> usize
         lens.push(run.length);
     }
     skip.saturating_sub(count)
+}
+
+/// How many bytes the first reads of a run took; none where they are closing ones.
+#[tactic(auto, using(crate::proofs::Took::took_same, crate::proofs::Took::took_closing, crate::proofs::Took::took_nothing, crate::proofs::Took::few_fit))]
+fn took_of(run: Run, reads: usize) -> Option<u32>
+    requires { sum (lengths_in run) ≤ 2 ^ 24 }
+    ensures value { result ≡ took reads (lengths_in run) }
+{
+    let count = reads.min(run.count as usize);
+    if count == 0 {
+        return Some(0);
+    }
+    if run.length == 0 {
+        return None;
+    }
+    Some(count as u32 * u32::from(run.length))
 }
 
 impl Runs {
@@ -112,5 +128,18 @@ impl Runs {
             skip = spell_run(*run, skip, lens);
         }
         spell_run(self.last, skip, lens);
+    }
+
+    /// How many bytes the first reads took; none where a closing read is among them.
+    pub fn took(&self, reads: usize) -> Option<u32>
+        requires { sum self.now ≤ 2 ^ 24 }
+        ensures { result ≡ took reads self.now }
+    {
+        let (mut left, mut total) = (reads, 0u32);
+        for run in &self.closed {
+            total += took_of(*run, left)?;
+            left = left.saturating_sub(run.count as usize);
+        }
+        Some(total + took_of(self.last, left)?)
     }
 }

@@ -11,6 +11,8 @@ ghost use Rattle.ft_io.specs.Key.{key_eq};
 ghost use Rattle.seq_arith.specs.Message.Body.{OpenMsg, DataMsg, ReadMsg, DoneMsg};
 ghost use Rattle.logger_wire.specs.Value.{body_of, message_of, IsSendable};
 ghost use Rattle.logger_store.specs.Changes.{body_changes, changes};
+ghost use Rattle.std.specs.Prelude.{sum, take};
+ghost use Rattle.logger_store.specs.Pages.{changed_at, took, zeroing, place_of};
 ghost use Rattle.logger_store.specs.Stored.{numbers_value, part_value, head_value, adds, answer_bytes, with_boot, wants_memory, bytes_of, lengths_of};
 
 use crate::entry_head::EntryHead;
@@ -211,6 +213,33 @@ impl LogStore {
             return Ok(());
         };
         entry.take_read(index, len)
+    }
+
+    /// Gives up the whole pages of the first bytes of the entry at this place, of which its reads took as many. It takes no memory.
+    pub(crate) fn give_up(&mut self, i: u16, bytes: u32)
+        requires { bytes ≤ sum (lengths_of (slice_get self.old.entries i)) }
+        ensures { self.new ≡ record self.old { entries = changed_at i (zeroing bytes) self.old.entries } }
+    {
+        let Some(entry) = self.entries.get_index_mut(usize::from(i)) else {
+            return;
+        };
+        entry.give_up(bytes);
+    }
+
+    /// How many bytes the first reads of the entry at this place took; none where there is no entry, or a closing read is among them.
+    pub(crate) fn took(&self, i: u16, reads: u32) -> Option<u32>
+        ensures value { IfSome result (λ n. n ≡ sum (take reads (lengths_of (slice_get self.now.entries i)))) }
+        ensures within { IfSome result (λ n. n ≤ length (bytes_of (slice_get self.now.entries i))) }
+        ensures all { i < length self.now.entries → result ≡ took reads (lengths_of (slice_get self.now.entries i)) }
+    {
+        self.at(i)?.took(reads)
+    }
+
+    /// The place of a key's entry, from 0.
+    pub(crate) fn place_of(&self, key: Key) -> Option<u16>
+        ensures { result ≡ place_of key self.now }
+    {
+        Some(self.entries.get_index_of(&key)? as u16)
     }
 
     /// Notes that a connection has ended.

@@ -1,13 +1,15 @@
 //! What is logged of one connection.
 
-ghost use Rattle.std.specs.Prelude.{[], take, drop, ◌≡◌, ◌≤◌, ◌<◌, ◌+◌, ◌-◌, ◌^◌, ◌&&◌, min, nat_le, true, false, OnOk, OnErr, IsOk, length, slice_index};
+ghost use Rattle.std.specs.Prelude.{[], take, drop, ◌≡◌, ◌≤◌, ◌<◌, ◌+◌, ◌-◌, ◌^◌, ◌&&◌, min, nat_le, true, false, OnOk, OnErr, IsOk, length, slice_index, sum, IfSome};
 ghost use Rattle.std.specs.List.{list_all};
 ghost use Rattle.ft_model.specs.Log.{new_entry, with_bytes, with_its_fin, with_part, with_read, is_next_read, head_of, Entry};
 ghost use Rattle.logger_store.specs.Changes.{part_changes};
+ghost use Rattle.logger_store.specs.Pages.{took, zeroing};
 ghost use Rattle.logger_store.specs.Stored.{numbers_value, part_value, head_value, adds_page, begins_run};
 
 use crate::entry_head::EntryHead;
 use crate::lens::Lens;
+use crate::page::PAGE;
 use crate::pages::{PART, Pages};
 use crate::runs::Runs;
 use arrayvec::ArrayVec;
@@ -37,7 +39,7 @@ pub struct Part<'a> {
     pub offset: u32,
     /// The units of output that the client has acknowledged.
     pub acked: u32,
-    /// Whether the client's FIN stands behind them.
+    /// Whether the client's FIN comes after them.
     pub fin: bool,
     /// The bytes of text.
     pub bytes: &'a [u8],
@@ -177,7 +179,7 @@ impl StoredEntry {
         self.lengths.copy(first as usize, lens);
     }
 
-    /// Logs the bytes past those that are logged, unless they leave a gap or stand behind the FIN.
+    /// Logs the bytes past those that are logged, unless they leave a gap or come after the FIN.
     fn take_bytes(&mut self, alloc: Global, part: &Part<'_>) -> Result<(), NoMemory>
         requires room { part.now.offset + length part.now.bytes.now ≤ 2 ^ 24 }
         requires few { length part.now.bytes.now ≤ 1460 }
@@ -258,6 +260,24 @@ impl StoredEntry {
             self.closed = len == 0;
         }
         Ok(())
+    }
+
+    /// How many bytes the first reads took; none where a closing read is among them.
+    #[tactic(auto, using(crate::proofs::Took::sum_took, crate::proofs::Took::few_took))]
+    pub fn took(&self, reads: u32) -> Option<u32>
+        ensures value { result ≡ took reads self.now.lengths }
+        ensures bytes { IfSome result (λ n. n ≡ sum (take reads self.now.lengths)) }
+        ensures within { IfSome result (λ n. n ≤ length self.now.bytes) }
+    {
+        self.lengths.took(reads as usize)
+    }
+
+    /// Gives up the whole pages of its first bytes. It takes no memory.
+    pub fn give_up(&mut self, bytes: u32)
+        requires { bytes ≤ sum self.old.lengths }
+        ensures { self.new ≡ zeroing bytes self.old }
+    {
+        self.bytes.give_up(bytes as usize / PAGE);
     }
 
     /// Whether the connection has ended.

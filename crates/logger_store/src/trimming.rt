@@ -1,0 +1,193 @@
+//! A log whose entries' fronts may be given up.
+
+ghost use Rattle.std.specs.Prelude.{[], ◌≡◌, ◌≤◌, ◌<◌, ◌-◌, ◌&&◌, ◌==◌, true, false, None, option_map, option_copied, IfSome, OnOk, OnErr, IsOk, length, sum, take, slice_get, slice_index, slice_index_or, slice_set, if◌then◌else◌};
+ghost use Rattle.ft_model.specs.Log.{head_of, log_after, answer_to};
+ghost use Rattle.logger_wire.specs.Value.{body_of, message_of, IsSendable};
+ghost use Rattle.logger_store.specs.Stored.{head_value, answer_bytes, wants_memory, bytes_of, lengths_of};
+ghost use Rattle.logger_store.specs.Pages.{pages, took};
+
+use crate::entry_head::EntryHead;
+use crate::msg_out::MsgOut;
+use crate::page::PAGE;
+use crate::store::LogStore;
+use ft_io::{Key, NoMemory};
+use logger_wire::{Body, Msg};
+use std::alloc::Global;
+use std::marker::Model;
+
+/// Up to where an entry isn't told any more.
+#[derive(Clone, Copy, Debug)]
+pub struct Trim {
+    /// The bytes below this place, at most 2^24, ..
+    pub bytes: u32,
+    /// .. which these first reads took, at most 2^24 + 1.
+    pub reads: u32,
+}
+
+/// Nothing is trimmed.
+const UNTRIMMED: Trim = Trim { bytes: 0, reads: 0 };
+
+/// A log store that can be trimmed: an entry's first reads and their bytes aren't told any more, and the whole pages of these bytes are given up.
+#[derive(Drop)]
+pub struct TrimStore {
+    /// Zeros stand in it for the bytes that are given up.
+    log: LogStore,
+    /// Of the entry at each place.
+    trims: [Trim; 64],
+}
+
+impl Model for TrimStore {
+    ghost use Rattle.logger_store.specs.Trimmed.{TrimmedLog};
+
+    ghost Value = { TrimmedLog };
+
+    ghost view = { λ s. record { log = s.log; trims = s.trims } };
+}
+
+impl TrimStore {
+    ghost use Rattle.logger_store.specs.Trimmed.{untrimmed, trim_at, trim_of, is_trimmed, answer_left, with_trim, MayTrim};
+
+    /// A log of boot 0 without entries. It takes no memory.
+    pub fn new(alloc: Global) -> TrimStore
+        ensures { result ≡ untrimmed }
+    {
+        TrimStore {
+            log: LogStore::new(alloc),
+            trims: [UNTRIMMED; 64],
+        }
+    }
+
+    /// The boot number of the newest server that has said Hello, and 0 before.
+    pub fn boot(&self) -> u64
+        ensures { result ≡ self.now.log.boot }
+    {
+        self.log.boot()
+    }
+
+    /// How many entries there are, at most 64.
+    pub fn count(&self) -> u16
+        ensures value { result ≡ length self.now.log.entries }
+        ensures within { result ≤ 64 }
+    {
+        self.log.count()
+    }
+
+    /// The entry at this place, from 0, without its bytes and lengths. None exactly where there is none.
+    pub fn entry(&self, i: u16) -> Option<EntryHead>
+        ensures value { option_map head_value result ≡ option_map head_of (slice_get self.now.log.entries i) }
+        ensures flags { IfSome result (λ head. (head.fin ≤ 1) × (head.done ≤ 1)) }
+    {
+        self.log.entry(i)
+    }
+
+    /// The logged byte at this place, from 0, of the entry at place i, past what is trimmed.
+    pub fn byte(&self, i: u16, at: u32) -> u8
+        requires there { at < length (bytes_of (slice_get self.now.log.entries i)) }
+        requires told { (trim_at self.now.trims i).bytes ≤ at }
+        ensures { result ≡ slice_index (bytes_of (slice_get self.now.log.entries i)) at }
+    {
+        self.log.byte(i, at)
+    }
+
+    /// The logged length of the read with this index, from 0, of the entry at place i, past what is trimmed.
+    pub fn length(&self, i: u16, at: u32) -> u16
+        requires there { at < length (lengths_of (slice_get self.now.log.entries i)) }
+        requires told { (trim_at self.now.trims i).reads ≤ at }
+        ensures { result ≡ slice_index (lengths_of (slice_get self.now.log.entries i)) at }
+    {
+        self.log.length(i, at)
+    }
+
+    /// Up to where the entry at a place is trimmed.
+    pub fn trim_at(&self, i: u16) -> Trim
+        ensures { result ≡ trim_at self.now.trims i }
+    {
+        match self.trims.get(usize::from(i)) {
+            Some(trim) => *trim,
+            None => UNTRIMMED,
+        }
+    }
+
+    /// .. and a key's entry.
+    fn trim_of(&self, key: Key) -> Trim
+        ensures { result ≡ trim_of key self.now }
+    {
+        match self.log.place_of(key) {
+            Some(place) => self.trim_at(place),
+            None => UNTRIMMED,
+        }
+    }
+
+    /// Whether a body asks for what is trimmed.
+    fn is_trimmed(&self, body: &Body<'_>) -> bool
+        ensures { result ≡ is_trimmed self.now (body_of body.now) }
+    {
+        match *body {
+            Body::BytesMsg { key, offset } => offset < self.trim_of(key).bytes,
+            Body::CutsMsg { key, first } => first < self.trim_of(key).reads,
+            _ => false,
+        }
+    }
+
+    /// Whether a message of the log's own boot asks for what is trimmed. Such a message changes nothing.
+    #[tactic(auto, using(crate::proofs::Asking::question_stays))]
+    fn hides(&self, m: &Msg<'_>) -> bool
+        ensures value { result ≡ (m.now.boot == self.now.log.boot && is_trimmed self.now (body_of m.now.body)) }
+        ensures stays { result ≡ true → log_after self.now.log (message_of m.now) ≡ self.now.log }
+    {
+        m.boot == self.boot() && self.is_trimmed(&m.body)
+    }
+
+    /// Takes a message, and puts the answer to it, or nothing, in the place of what `out` held, as `LogStore::answer` does; but what is trimmed isn't told.
+    #[tactic(auto, unfolding(crate::specs::Trimmed::answer_left))]
+    pub fn answer(&mut self, alloc: Global, m: &Msg<'_>, out: &mut MsgOut) -> Result<(), NoMemory>
+        requires { IsSendable m.now }
+        ensures next { OnOk result (self.new.log ≡ log_after self.old.log (message_of m.now)) }
+        ensures answer { OnOk result (out.new ≡ answer_bytes (answer_left self.old (message_of m.now))) }
+        ensures refused { OnErr result (self.new.log ≡ self.old.log) }
+        ensures empty { OnErr result (out.new ≡ []) }
+        ensures memory { wants_memory self.old.log (message_of m.now) ≡ false → IsOk result }
+        ensures trims { self.new.trims ≡ self.old.trims }
+    {
+        if self.hides(m) {
+            out.clear();
+            return Ok(());
+        }
+        self.log.answer(alloc, m, out)
+    }
+
+    /// How many bytes the first reads of the entry at place i took; none where there is no entry, or a closing read is among them.
+    pub fn took(&self, i: u16, reads: u32) -> Option<u32>
+        ensures value { IfSome result (λ n. n ≡ sum (take reads (lengths_of (slice_get self.now.log.entries i)))) }
+        ensures within { IfSome result (λ n. n ≤ length (bytes_of (slice_get self.now.log.entries i))) }
+        ensures all { i < length self.now.log.entries → result ≡ took reads (lengths_of (slice_get self.now.log.entries i)) }
+    {
+        self.log.took(i, reads)
+    }
+
+    /// Trims the entry at place i: its first `reads` reads, which took its first `bytes` bytes, aren't told any more. It takes no memory.
+    pub fn trim(&mut self, i: u16, bytes: u32, reads: u32)
+        requires { MayTrim i bytes reads self.old }
+        ensures { self.new ≡ with_trim i bytes reads self.old }
+    {
+        if i >= self.count() {
+            return;
+        }
+        self.log.give_up(i, bytes);
+        self.trims[usize::from(i)] = Trim { bytes, reads };
+    }
+
+    /// How many bytes of the entry at place i are kept: those past the whole pages that are given up.
+    pub fn kept(&self, i: u16) -> u32
+        requires { i < length self.now.log.entries }
+        ensures { result ≡ length (bytes_of (slice_get self.now.log.entries i)) - pages (trim_at self.now.trims i).bytes }
+    {
+        match self.log.entry(i) {
+            Some(head) => {
+                let bytes = self.trim_at(i).bytes;
+                head.length.saturating_sub(bytes - bytes % PAGE as u32)
+            }
+            None => 0,
+        }
+    }
+}
