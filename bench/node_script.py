@@ -7,14 +7,13 @@ those on held segments and on congestion control: what a server does there is to
 """
 import os
 import pathlib
-import random
 import struct
 import sys
 
 sys.path.insert(0, str(pathlib.Path(__file__).parent.parent / "tools"))
 
 import model  # noqa: E402
-from seed_model import packet_words  # noqa: E402
+from seed_model import Generator, packet_words  # noqa: E402
 
 REPORTS = sys.argv[1]
 OUT = sys.argv[2]
@@ -571,17 +570,34 @@ HOSTILE = "192.0.2.66:666"
 GOOD = ["192.0.2.11:40000", "192.0.2.12:40000", "192.0.2.13:7"]
 
 
+ODD = ["AF", "AR", "AS", "F", "A"]
+
+
+def digest_of(sent):
+    """How many packets, and a polynomial hash of them at 257, modulo 2^32 - 5: of each the client's address, if it goes to one, and its bytes."""
+    total = 0
+    for key, content in sent:
+        words = packet_words(content).split()
+        data = key_bytes(key_of(key)) + segment("S>1", words, {"1": key_of(key)}) if key else told(words[0], words[1:])
+        for byte in data:
+            total = (total * 257 + byte + 1) % (2**32 - 5)
+    return f"sent {len(sent)} digest {total}"
+
+
 class Struck(Played):
     """The same, with a fourth client that sends hostile datagrams between all turns. The log doesn't answer what that client's connection tells."""
 
     def __init__(self, service, strikes):
-        self.draws, self.strikes, self.said_of, self.may_open = random.Random(46), strikes, {}, False
+        self.struck, self.lines, self.strikes, self.said_of, self.may_open = 0, 0, strikes, {}, False
         super().__init__(service)
+
+    def keep(self, sent):
+        for key, content in sent:
+            self.said_of.setdefault(key or content.fields.get("key"), []).append(content)
 
     def turn(self, line, sent):
         super().turn(line, sent)
-        for key, content in sent:
-            self.said_of.setdefault(key or content.fields.get("key"), []).append(content)
+        self.keep(sent)
         self.sent = [it for it in self.sent if it.fields.get("key") != HOSTILE]
 
     def drain(self):
@@ -597,34 +613,46 @@ class Struck(Played):
         words = packet_words(answer).split()
         self.turn(msg(told(words[0], words[1:])), self.server.on_message(answer))
 
-    def strike(self, times=None):
-        for _ in range(self.strikes if times is None else times):
-            kept_sent = self.sent
-            it = self.hostile()
-            self.turn(pkt(segment("1>S", packet_words(it).split(), {"1": key_of(HOSTILE)})), self.server.on_segment(HOSTILE, it))
-            self.sent = kept_sent
-
-    def hostile(self):
-        """Acknowledgements far ahead, wrong edges, RSTs beside the number, SYNs, and text that overlaps with other bytes."""
-        draws, place = self.draws, self.server.places.get(HOSTILE)
+    def strike(self, times=1):
+        """So many times as many hostile segments, in one line, round the numbers that the fourth client's connection has before them."""
+        count = self.strikes * times
+        if not count:
+            return
+        place = self.server.places.get(HOSTILE)
         live = isinstance(place, model.Connection)
-        cisn, sisn, taken = (place.cisn, place.sisn, place.taken()) if live else (77, 5000, 0)
-        kind, seq, ack = draws.choice([0, 1, 2, 3, 4, 5] if self.may_open else [0, 1, 2, 4, 5]), cisn + 1 + taken, sisn + 1 + (place.sent if live else 0)
-        text = bytes(draws.randrange(256) for _ in range(draws.randrange(1, 20)))
+        seq = ((place.cisn if live else 77) + 1 + (place.taken() if live else 0)) % 2**32
+        ack = ((place.sisn if live else 5000) + 1 + (place.sent if live else 0)) % 2**32
+        kinds = 6 if self.may_open else 5
+        self.lines += 1
+        draws, sent = Generator(self.lines), []
+        for _ in range(count):
+            sent += self.server.on_segment(HOSTILE, self.hostile(draws, kinds, seq, ack))
+        self.struck += count
+        self.keep(sent)
+        say(f"strike {count} {self.lines} {kinds} {seq} {ack}", digest_of(sent))
+
+    def hostile(self, draws, kinds, seq, ack):
+        """Acknowledgements far ahead, wrong edges, RSTs beside the number, text that overlaps with other bytes, odd flags, and SYNs."""
+        below = lambda bound: draws.draw() % bound
+        kind = below(kinds)
         if kind == 0:
-            it = ("A", seq, ack + draws.randrange(1, 1 << 30), b"")
+            flags, ack, room = "A", ack + 1 + below(1 << 30), 1
         elif kind == 1:
-            it = ("A", seq + 65535 + draws.randrange(-1, 3), ack, text[: draws.randrange(2)])
+            flags, seq, room = "A", seq + 65534 + below(4), 2
         elif kind == 2:
-            it = ("R", seq + draws.choice([-1, 1, 2, 65534, 65536]), 0, b"")
+            flags, seq, room = "R", seq + [-1, 64, 65, 65534, 65536][below(5)], 1
         elif kind == 3:
-            it = ("S", cisn + draws.choice([0, 0, 1, 70000]), 0, b"")
+            flags, seq, ack, room = "A", seq - 12 + below(12), ack, 20
+            ack = ack - 3 + below(3)
         elif kind == 4:
-            it = ("A", seq - draws.randrange(12), ack - draws.randrange(3), text)
+            flags, seq, room = ODD[below(5)], seq + 2 + below(7), 20
+            ack = draws.draw()
         else:
-            it = (draws.choice(["AF", "AR", "AS", "F", "A"]), seq + draws.randrange(2, 9), draws.randrange(1 << 32) if not live else ack - 70000, text)
-        flags, seq, ack, text = it
-        return model.Segment(flags, seq % 2**32, ack % 2**32 if "A" in flags else 0, draws.randrange(65536), None, text)
+            flags, seq, room = "S", seq + [-1, -1, 0, 69999][below(4)], 1
+        window = below(65536)
+        text = bytes([below(256)]) * 20
+        text = text[: below(room)]
+        return model.Segment(flags, seq % 2**32, ack % 2**32 if "A" in flags else 0, window, None, text)
 
     def opens_hostile(self):
         """The log answers the fourth client's opening after all: it has a connection."""
@@ -667,7 +695,7 @@ def serve_three(strikes):
         it.drain()
         it.says_of(number, 0)
     it.may_open = True                  # the three have their numbers
-    it.strike(3 * strikes)
+    it.strike(3)
     if strikes:
         it.opens_hostile()
     words = [b"left alone", b"as if nobody", b"else were there"]
@@ -690,16 +718,17 @@ def serve_three(strikes):
     it.ticks(5)
     assert all(it.server.places[key] == "done" for key in GOOD)
     it.strike()
-    return {key: it.said_of[key] for key in GOOD}
+    return {key: it.said_of[key] for key in GOOD}, it.struck
 
 
 say("# three clients are served to their ends, over a restart, while a fourth sends far acknowledgements, wrong edges, RSTs beside the number, SYNs and text")
-say("# that overlaps, between all turns and in every stage of its own: unknown, pending, live, restarted, reset and done")
-struck = serve_three(4)
+say("# that overlaps, before each turn and in every stage of its own: unknown, pending, live, restarted, reset and done")
+struck, count = serve_three(600)
+assert count >= 40000, count
 alone, lines_kept, prints_kept = None, list(lines), list(prints)
-alone = serve_three(0)
+alone, none = serve_three(0)
 lines[:], prints[:] = lines_kept, prints_kept
-assert struck == alone
+assert struck == alone and none == 0
 open(f"{OUT}/stdin", "w").write("\n".join(lines) + "\n")
 open(f"{OUT}/stdout", "w").write("\n".join(prints) + "\n")
 print(len(lines), "lines,", len(prints), "printed")

@@ -18,7 +18,7 @@ const FROM: Key = Key {
 };
 
 /// Below a bound.
-fn below(draws: &mut Generator, bound: u32) -> u32
+pub(crate) fn below(draws: &mut Generator, bound: u32) -> u32
     requires { 0 < bound }
     ensures { result < bound }
 {

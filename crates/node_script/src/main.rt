@@ -6,7 +6,9 @@
 //! - `packet HEX` and `message HEX` are datagrams from a client and from the logger, and a line of one word, `tick`, is a tick;
 //! - `conn IP PORT` prints the numbers of a client's connection, or `none`; IP is a number;
 //! - `attack COUNT SEED` gives COUNT datagrams that are drawn from SEED, and prints whether the server was silent, and else how many of its segments
-//!   to live connections didn't acknowledge exactly what is taken and logged, or were RSTs.
+//!   to live connections didn't acknowledge exactly what is taken and logged, or were RSTs;
+//! - `strike COUNT SEED KINDS SEQ ACK` gives COUNT hostile segments of one client that are drawn from SEED, of the first KINDS kinds of six, round the
+//!   client's next number and the server's, and prints how many packets were sent and a digest of them.
 //!
 //! A boot and a turn print `client IP PORT HEX` or `logger HEX` for each packet, `-` where there is none, and `fenced by BOOT` where a server
 //! with that boot number has ended this one.
@@ -18,6 +20,7 @@ use std::io;
 
 mod attack;
 mod player;
+mod strike;
 
 fn main(rt: HostRuntime) -> io::Result<()> {
     let Ok(mut player) = Player::new(rt.alloc()) else {

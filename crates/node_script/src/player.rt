@@ -1,8 +1,10 @@
 //! A server, and what a line of the script makes of it.
 
 use crate::attack::attack;
+use crate::strike::{Strikes, strike};
 use ft_io::{Addr, Key, NoMemory};
 use sample_servers::AnyService;
+use seq_arith::Seq;
 use server_node::{Input, Node, OutPacket, To, TurnEnd};
 use std::alloc::Global;
 
@@ -46,13 +48,14 @@ impl Player {
             b"boot" => self.boot(alloc, numbers(rest)),
             b"conn" => self.tell_conn(alloc, numbers(rest)),
             b"attack" => self.attack(alloc, numbers(rest)),
+            b"strike" => self.strike(alloc, numbers(rest)),
             b"packet" => self.give(alloc, rest, true),
             b"message" => self.give(alloc, rest, false),
             _ => Ok(self.out.push_str(line)?),
         }
     }
 
-    fn boot(&mut self, alloc: Global, [kind, boot, isn]: [u64; 3]) -> Result<(), NoMemory> {
+    fn boot(&mut self, alloc: Global, [kind, boot, isn, ..]: [u64; 5]) -> Result<(), NoMemory> {
         let kind = (kind % 256) as u8;
         let isn = (isn % 4_294_967_296) as u32;
         self.node = Node::boot(alloc, boot.max(1), isn, kind, LOCAL)?;
@@ -87,7 +90,7 @@ impl Player {
     }
 
     /// The numbers of a client's connection.
-    fn tell_conn(&mut self, _alloc: Global, [ip, port, _]: [u64; 3]) -> Result<(), NoMemory> {
+    fn tell_conn(&mut self, _alloc: Global, [ip, port, ..]: [u64; 5]) -> Result<(), NoMemory> {
         let key = Key {
             ip: (ip % 4_294_967_296) as u32,
             port: (port % 65_536) as u16,
@@ -109,7 +112,7 @@ impl Player {
         Ok(())
     }
 
-    fn attack(&mut self, alloc: Global, [count, seed, _]: [u64; 3]) -> Result<(), NoMemory> {
+    fn attack(&mut self, alloc: Global, [count, seed, ..]: [u64; 5]) -> Result<(), NoMemory> {
         let tally = attack(alloc, &mut self.node, count, seed)?;
         if tally.sent == 0 {
             self.out.push_str("silent")?;
@@ -118,14 +121,31 @@ impl Player {
         }
         Ok(())
     }
+
+    fn strike(
+        &mut self,
+        alloc: Global,
+        [times, seed, kinds, seq, ack]: [u64; 5],
+    ) -> Result<(), NoMemory> {
+        let strikes = Strikes {
+            times,
+            seed,
+            kinds: (kinds % 7) as u32,
+            seq: Seq((seq % 4_294_967_296) as u32),
+            ack: Seq((ack % 4_294_967_296) as u32),
+        };
+        let digest = strike(alloc, &mut self.node, strikes)?;
+        write!(&mut self.out, "sent {} digest {}", digest.sent, digest.sum)?;
+        Ok(())
+    }
 }
 
-/// The numbers of a line, up to three; 0 for each that isn't there.
-fn numbers(rest: &str) -> [u64; 3] {
-    let mut all = [0; 3];
+/// The numbers of a line, up to five; 0 for each that isn't there.
+fn numbers(rest: &str) -> [u64; 5] {
+    let mut all = [0; 5];
     let mut at = 0;
     for word in rest.split(' ') {
-        if at < 3 {
+        if at < 5 {
             all[at] = word.parse().unwrap_or(0);
             at += 1;
         }

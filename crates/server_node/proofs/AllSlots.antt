@@ -37,7 +37,7 @@ live_ticks service node key (Opens n) c now old new st h = absurd st
 live_ticks service node key (Ended k) c now old new st h = absurd st
 
 module _ {S : Type 0} (service : Machine S) (node : Node) (input : Input) where
-  -- the place at which the slot behind these stands
+  -- the place at which the slot after these stands
   at_slot : (es : List (Key × Slot S)) (went left : List Place) (i : ℕ) → AllStand service node es (went ++ left) → length went ≡ i → i < length es
       → (place : Place) × (others : List Place) × (left ≡ place ∷ others)
       × ((e : Key × Slot S) → slice_get es i ≡ Some e → SlotStands service node e.0 e.1 place)

@@ -196,7 +196,7 @@ module _ {S : Type 0} (service : Machine S) (node : Node) (input : Input) where
   opens_there key (Some s) None st = absurd st
   opens_there key None (Some q) st = absurd st
 
-  -- a key's turn, from that of its place and the Opens behind it
+  -- a key's turn, from that of its place and the Opens after it
   place_turn : (key : Key) (place : Option Place) (slot : Option (Slot S)) (told : List Wire) (opened : ℕ) → (m : KeyMeets service node input key place slot told)
       → newcomers node input opened (option_to_list place) ≡ [] → refusals node input (option_to_list place) ≡ []
       → ServingTurn service node input opened (option_to_list place) (option_to_list m.after) (m.packets ++ key_opens node input key slot)

@@ -34,7 +34,7 @@ pub numbers_are : (segment : Segment) (key : Key) (number : ℕ) (o : Opening) �
     → segment_size segment.head.mss ≡ o.mss → numbers_of key o ≡ record { key = source_of segment; cisn = segment.head.seq; sisn = number; mss = segment_size segment.head.mss }
 numbers_are segment key number o from seq sisn size = cc
 
--- each initial number is 65,536 behind the one before it, ..
+-- each initial number is 65,536 after the one before it, ..
 pub counted_on : (isn number next : ℕ) → IsCounted isn number → next ≡ (number + 65536) % 2 ^ 32 → IsCounted isn next
 counted_on isn number next counted is = (omega (arith, counted.0, is), omega (arith, is))
 

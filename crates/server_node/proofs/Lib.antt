@@ -34,3 +34,4 @@ pub mod Apart
 pub mod Strange
 pub mod StagedApart
 pub mod Runs
+pub mod RestoredAlone

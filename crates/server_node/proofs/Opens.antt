@@ -48,7 +48,7 @@ no_opens node message (Opens n ∷ qs) = no_opens node message qs
 no_opens node message (Lives p ∷ qs) = no_opens node message qs
 no_opens node message (Ended k ∷ qs) = no_opens node message qs
 
--- packets behind packets
+-- packets after packets
 pub put_on : (first more : List Packet) (old mid new : List Wire) → ArePut first old mid → ArePut more mid new → ArePut (first ++ more) old new
 put_on first more old mid new a b = record {
   wires = b.wires ∙ (ap (λ xs. xs ++ map wire_of more) a.wires

@@ -17,7 +17,7 @@ use Rattle.ft_io.proofs.Choices.{holds_if}
 abbrev said_in : ℕ → Body → Message
 said_in boot body = record { boot = boot; body = body }
 
--- nothing stands behind its fields
+-- nothing comes after its fields
 abbrev IsBare : Body → Type 0
 IsBare body = behind_of body ≡ []
 

@@ -44,7 +44,7 @@ sound_insert who key (e ∷ es) now sound s = go (key_eq key e.0) refl (sound_in
     go false t rest = (sound.0, rest)
 
 -- a key that isn't that of the last entry is found among the others
-behind_others : {X : Type 0} (key last : Key) (es : List (Key × X)) (x : X) → key_eq key last ≡ false → lookup (key_eq key) es ≡ None → lookup (key_eq key) (es ++ (last, x) ∷ []) ≡ None
+pub behind_others : {X : Type 0} (key last : Key) (es : List (Key × X)) (x : X) → key_eq key last ≡ false → lookup (key_eq key) es ≡ None → lookup (key_eq key) (es ++ (last, x) ∷ []) ≡ None
 behind_others key last [] x other none = ap (λ b. cond b (Some x) None) other
 behind_others key last (e ∷ es) x other none = go (key_eq key e.0) refl (behind_others key last es x other)
   where
@@ -65,7 +65,7 @@ found_last key (e ∷ es) x none = go (key_eq key e.0) refl (found_last key es x
         ap (λ b. cond b (Some e.1) (lookup (key_eq key) (es ++ (key, x) ∷ []))) t
         ∙ rest (sym (ap (λ b. cond b (Some e.1) (lookup (key_eq key) es)) t) ∙ none)
 
--- a connection that is found stays so where a slot is added behind
+-- a connection that is found stays so where a slot is added after
 numbered_on : {S : Type 0} (service : Machine S) (entry : Entry) (i : ℕ) (key last : Key) (es : List (Key × Slot S)) (now : Slot S)
     → IsNumbered service entry i (conn_in (lookup (key_eq key) es)) → IsNumbered service entry i (conn_in (lookup (key_eq key) (es ++ (last, now) ∷ [])))
 numbered_on service entry i key last [] now n = absurd n
@@ -162,43 +162,42 @@ module _ {S : Type 0} (service : Machine S) (node : Node) where
       (λ also. subst (λ i. IsNumbered service (entry_in f) i (conn_in (Some now))) r.stands.number numbered)
 
 -- what is true of all is true of one
-distinct_at : (front : List Fetched) (f : Fetched) (fetched : List Fetched) → AreDistinct (front ++ f ∷ fetched) → is_fetched f.head.key fetched ≡ false
+pub distinct_at : (front : List Fetched) (f : Fetched) (fetched : List Fetched) → AreDistinct (front ++ f ∷ fetched) → is_fetched f.head.key fetched ≡ false
 distinct_at [] f fetched d = d.0
 distinct_at (x ∷ front) f fetched d = distinct_at front f fetched d.1
 
-sound_at : {S : Type 0} (service : Machine S) (front : List Fetched) (f : Fetched) (fetched : List Fetched) → AreSound service (front ++ f ∷ fetched)
+pub sound_at : {S : Type 0} (service : Machine S) (front : List Fetched) (f : Fetched) (fetched : List Fetched) → AreSound service (front ++ f ∷ fetched)
     → f.head.done ≡ false → is_whole f ≡ true → IsSound service (entry_in f)
 sound_at service [] f fetched sound = sound.0
 sound_at service (x ∷ front) f fetched sound = sound_at service front f fetched sound.1
 
 -- how far the log is restored: these are left, in the log's order, and those are done, the newest first
-pub record RestoresOn {S : Type 0} (service : Machine S) (node : Node) (fetched : List Fetched) (entries : List (EntryState S)) (now : Serving S) (old new : List Wire) : Type 0 where
+pub record RestoresOn {S : Type 0} (service : Machine S) (So_far : List Fetched → Serving S → (old new : List Wire) → Type 0) (fetched : List Fetched) (entries : List (EntryState S)) (now : Serving S) (old new : List Wire) : Type 0 where
   pub left : List Fetched
   pub done : List Fetched
   pub split : fetched ≡ reverse left ++ done
   pub waits : StandsWhole service left entries
-  pub so_far : AreRestored service node done now old new
+  pub so_far : So_far done now old new
 
-module _ {S : Type 0} (service : Machine S) (node : Node) where
+module _ {S : Type 0} (service : Machine S) (So_far : List Fetched → Serving S → (old new : List Wire) → Type 0) where
   pub restores_none : (fetched : List Fetched) (entries : List (EntryState S)) (now : Serving S) (told : List Wire) → StandsWhole service (reverse fetched) entries
-      → now.next.0 ≡ initial_number node.isn 0 → now.slots.entries ≡ [] → RestoresOn service node fetched entries now told told
-  restores_none fetched entries now told st number none = record {
+      → So_far [] now told told → RestoresOn service So_far fetched entries now told told
+  restores_none fetched entries now told st none = record {
     left = reverse fetched;
     done = [];
     split = sym (append-nil (reverse (reverse fetched)) ∙ reverse-reverse fetched);
     waits = st;
-    so_far = restored_none service node now told number none;
+    so_far = none;
   }
 
   pub restores_more : (fetched : List Fetched) (was rest : List (EntryState S)) (entry : Restored S) (before after : Serving S) (old mid new : List Wire)
-      → AreDistinct fetched → AreSound service fetched → RestoresOn service node fetched was before old mid
-      → ((left : List Fetched) → StandsWhole service left was → FirstIs service left (Some entry) rest)
-      → ((f : Fetched) (done : List Fetched) → RestoredIs service f entry → (f.head.done ≡ false → IsSound service (entry_in f)) → is_fetched f.head.key done ≡ false
-      → AreRestored service node done before old mid → AreRestored service node (f ∷ done) after old new)
-      → RestoresOn service node fetched rest after old new
-  restores_more fetched was rest entry before after old mid new distinct sound r first more = go r.left r.split r.waits
+      → RestoresOn service So_far fetched was before old mid → ((left : List Fetched) → StandsWhole service left was → FirstIs service left (Some entry) rest)
+      → ((front : List Fetched) (f : Fetched) (done : List Fetched) → fetched ≡ front ++ f ∷ done → is_whole f ≡ true → RestoredIs service f entry
+      → So_far done before old mid → So_far (f ∷ done) after old new)
+      → RestoresOn service So_far fetched rest after old new
+  restores_more fetched was rest entry before after old mid new r first more = go r.left r.split r.waits
     where
-      go : (left : List Fetched) → fetched ≡ reverse left ++ r.done → StandsWhole service left was → RestoresOn service node fetched rest after old new
+      go : (left : List Fetched) → fetched ≡ reverse left ++ r.done → StandsWhole service left was → RestoresOn service So_far fetched rest after old new
       go [] split st = none_is_some entry (sym (first [] st).0)
       go (f ∷ left) split st =
           let is = first (f ∷ left) st in
@@ -208,15 +207,13 @@ module _ {S : Type 0} (service : Machine S) (node : Node) where
             done = f ∷ r.done;
             split = there;
             waits = is.1;
-            so_far = more f r.done is.0
-                (λ live. sound_at service (reverse left) f r.done (subst (AreSound service) there sound) live st.whole.0)
-                (distinct_at (reverse left) f r.done (subst AreDistinct there distinct)) r.so_far;
+            so_far = more (reverse left) f r.done there st.whole.0 is.0 r.so_far;
           }
 
-  pub restores_all : (fetched : List Fetched) (was rest : List (EntryState S)) (now : Serving S) (old new : List Wire) → RestoresOn service node fetched was now old new
-      → ((left : List Fetched) → StandsWhole service left was → FirstIs service left None rest) → AreRestored service node fetched now old new
+  pub restores_all : (fetched : List Fetched) (was rest : List (EntryState S)) (now : Serving S) (old new : List Wire) → RestoresOn service So_far fetched was now old new
+      → ((left : List Fetched) → StandsWhole service left was → FirstIs service left None rest) → So_far fetched now old new
   restores_all fetched was rest now old new r first = go r.left r.split r.waits
     where
-      go : (left : List Fetched) → fetched ≡ reverse left ++ r.done → StandsWhole service left was → AreRestored service node fetched now old new
-      go [] split st = subst (λ l. AreRestored service node l now old new) (sym split) r.so_far
+      go : (left : List Fetched) → fetched ≡ reverse left ++ r.done → StandsWhole service left was → So_far fetched now old new
+      go [] split st = subst (λ l. So_far l now old new) (sym split) r.so_far
       go (f ∷ left) split st = absurd (first (f ∷ left) st).0

@@ -20,6 +20,7 @@ use Rattle.server_node.specs.Identity.{node_of}
 use Rattle.server_node.specs.Numbered.{fetched_by}
 use Rattle.server_node.specs.Opening.{ArePut}
 use Rattle.server_node.specs.Restarting.{AreDistinct, FetchingStands, IsOwn}
+use Rattle.server_node.specs.Restarts.{RestoredAlone, StillAsks, RestartGoes, AnswerGoes}
 use Rattle.server_node.specs.Reviving.{AreRestored, StageGoes}
 use Rattle.server_node.specs.Stages.{StageStands, NodeGoes}
 use Rattle.server_node.proofs.Answering.{IsSame, then_distinct}
@@ -110,6 +111,47 @@ module _ {S : Type 0} (service : Machine S) (who : Identity) where
       go (Some more) distinct sounds (taken, stands) =
           let g = goes more (record { so_many = same.so_many ∙ st.so_many; distinct = distinct; entries = stands }) sounds in
           record { after = g.after; packets = g.packets; stands = g.stands; goes = g.goes; numbers = g.numbers; wires = g.wires; spelled = g.spelled }
+
+  -- something is missing: it is asked for, whatever the entries are
+  pub still_asks : (standing : law.Stage) (count : ℕ) (fetched : List Fetched) (f : FetchingState S) (old new : List Wire) → is_some (wanted count fetched) ≡ true
+      → FetchingStands service count fetched f → ArePut (asked (node_of who standing) (wanted count fetched)) old new
+      → StillAsks service (node_of who standing) count fetched f old new
+  still_asks standing count fetched f old new some st put = go (wanted count fetched) refl some put
+    where
+      go : (o : Option Wanted) → wanted count fetched ≡ o → is_some o ≡ true → ArePut (asked (node_of who standing) o) old new
+          → StillAsks service (node_of who standing) count fetched f old new
+      go None is e p = absurd (true≢false (sym e))
+      go (Some w) is e p = record { next = w; missing = is; stands = st; asks = p }
+
+  -- nothing is missing: each entry has its turn by itself
+  pub serves_alone : (standing : law.Stage) (count : ℕ) (fetched : List Fetched) (now : Serving S) (old mid new : List Wire) → is_some (wanted count fetched) ≡ false
+      → ArePut (asked (node_of who standing) (wanted count fetched)) old mid → RestoredAlone service (node_of who standing) fetched now mid new
+      → RestartGoes service (node_of who standing) count fetched (stage.Serving now) old new
+  serves_alone standing count fetched now old mid new nothing put r = go (wanted count fetched) refl nothing put
+    where
+      go : (o : Option Wanted) → wanted count fetched ≡ o → is_some o ≡ false → ArePut (asked (node_of who standing) o) old mid
+          → RestartGoes service (node_of who standing) count fetched (stage.Serving now) old new
+      go (Some w) is e p = absurd (true≢false e)
+      go None is e p = (
+        is,
+        record { told = r.told; put = r.put ∙ ap (λ ws. ws ++ r.told) (p.wires ∙ append-nil old); each = r.each; others = r.others; whose = r.whose },
+      )
+
+  -- a message that answers nothing changes nothing, and an answer leads on, whatever the entries are
+  pub answers_alone : (standing : law.Stage) (message : Message) (count : ℕ) (fetched : List Fetched) (before after : FetchingState S) (fits : Bool) (now : Stage S) (old new : List Wire)
+      → IsSame before after → IsOwn who before → FetchingStands service count fetched before
+      → AnswerLeads service (restart.fetched_then before.boot before.count message fetched) fits before after
+      → (fits ≡ false → (now ≡ stage.Fetching after) × (new ≡ old))
+      → (fits ≡ true → (more : List Fetched) → FetchingStands service count more after → RestartGoes service (node_of who standing) count more now old new)
+      → AnswerGoes service (node_of who standing) message count fetched before now old new
+  answers_alone standing message count fetched before after fits now old new same own st leads unfit goes =
+      go (fetched_then (node_of who standing) message count fetched) (then_distinct (node_of who standing) message count fetched st.distinct)
+      (subst (λ o. AnswerLeads service o fits before after) (fetched_same standing message count fetched before own st) leads)
+    where
+      go : (o : Option (List Fetched)) → IfSome o AreDistinct → AnswerLeads service o fits before after
+          → MatchOption o ((now ≡ stage.Fetching before) × (new ≡ old)) (λ more. RestartGoes service (node_of who standing) count more now old new)
+      go None distinct (e, is) = ((unfit e).0 ∙ ap stage.Fetching is, (unfit e).1)
+      go (Some more) distinct (e, stands) = goes e more (record { so_many = same.so_many ∙ st.so_many; distinct = distinct; entries = stands })
 
   -- a stage's turn by the law is the node's
   stage_goes : (standing : law.Stage) (input : law.Input) (now : Stage S) (told : List Wire) → is_fenced standing ≡ false → fence (node_of who standing) input ≡ None

@@ -1,11 +1,13 @@
 -- A turn of a node in each stage, as those have it whom its input isn't about.
-use Rattle.std.proofs.Common.{◌≡◌, ◌∙◌, ◌<◌, ◌^◌, false, ◌&&◌, ◌==◌, refl, sym, ap, subst, List, [], ◌++◌}
+use Rattle.std.proofs.Common.{◌≡◌, ◌∙◌, ◌<◌, ◌^◌, ℕ, false, ◌&&◌, ◌==◌, refl, sym, ap, subst, Option, Some, None, MatchOption, List, [], ◌++◌, eq-eqb, if◌then◌else◌}
 use Rattle.std.specs.List.{AllByRecursion}
 use Rattle.ft_io.specs.declared.Key.{Key}
 use Rattle.seq_arith.specs.Message.{Message}
 use Rattle.server_trait.specs.Service.{Machine}
 use Rattle.ft_model.specs.Node as law
-use Rattle.ft_model.specs.Node.{Node, is_for}
+use Rattle.ft_model.specs.Lawful.{count_told, summary_count, fetched_then}
+use Rattle.ft_model.specs.Node.{Node}
+use Rattle.ft_model.specs.Restart.{wanted, fetched_after}
 use Rattle.ft_model.specs.Node.Input.{Packet_comes, Message_comes, Noise_comes, Tick_comes}
 use Rattle.ft_model.specs.Serving.{concerns, names}
 use Rattle.ft_model.specs.Wire.{Wire}
@@ -16,6 +18,7 @@ use Rattle.server_node.specs.declared.stage.Stage.{Stage}
 use Rattle.server_node.specs.declared.stage.Stage.TheVariants as stage
 use Rattle.server_node.specs.Alone.{LeavesOthers, HoldsOthers, Others, Alone, ServesAlone, GoAlone}
 use Rattle.server_node.specs.Identity.{node_of}
+use Rattle.server_node.specs.Restarts.{RestartGoes, MessageRestarts}
 use Rattle.server_node.specs.Stages.{IsSoundStage}
 use Rattle.server_node.specs.Whose.{IsFor, IsOnlyFor}
 use Rattle.server_node.proofs.Apart.{rests_key}
@@ -59,3 +62,33 @@ rest_alone service who standing input stage.Lost low sound none = tt
 -- so does a message of another boot
 pub other_boot : (node : Node) (message : Message) → (message.boot == node.boot) ≡ false → (key : Key) → concerns node (Message_comes message) key ≡ false
 other_boot node message other key = ap (λ b. b && names message.body key) other
+
+-- where a message leads nothing on, nothing changes
+rests_if_none : {X S : Type 0} (o : Option X) (was now : Stage S) (sent : List Wire) (Goes : X → Type 0) → o ≡ None → now ≡ was → sent ≡ []
+    → MatchOption o ((now ≡ was) × (sent ≡ [])) Goes
+rests_if_none o was now sent Goes none same silent = subst (λ x. MatchOption x ((now ≡ was) × (sent ≡ [])) Goes) (sym none) (same, silent)
+
+module _ {S : Type 0} (service : Machine S) (node : Node) (message : Message) where
+  -- a Summary begins a restart, ..
+  pub begun_restarts : (count : ℕ) (now : Stage S) (sent : List Wire) → message.boot ≡ node.boot → summary_count message.body ≡ Some count → RestartGoes service node count [] now [] sent
+      → MessageRestarts service node message stage.Asking now sent
+  begun_restarts count now sent boot told goes =
+      subst (λ o. MatchOption o ((now ≡ stage.Asking) × (sent ≡ [])) (λ n. RestartGoes service node n [] now [] sent))
+      (sym (ap (λ b. if b then summary_count message.body else None) (eq-eqb message.boot node.boot boot) ∙ told)) goes
+
+  -- .. any other message doesn't, ..
+  pub untold_restarts : (sent : List Wire) → message.boot ≡ node.boot → summary_count message.body ≡ None → sent ≡ [] → MessageRestarts service node message stage.Asking stage.Asking sent
+  untold_restarts sent boot untold silent =
+      rests_if_none (count_told node message) stage.Asking stage.Asking sent (λ count. RestartGoes service node count [] stage.Asking [] sent)
+      (ap (λ b. if b then summary_count message.body else None) (eq-eqb message.boot node.boot boot) ∙ untold) refl silent
+
+  -- .. and one of another boot leads no restart on
+  pub other_restarts : (at : Stage S) → (message.boot == node.boot) ≡ false → MessageRestarts service node message at at []
+  other_restarts stage.Asking other =
+      rests_if_none (count_told node message) stage.Asking stage.Asking [] (λ count. RestartGoes service node count [] stage.Asking [] [])
+      (ap (λ b. if b then summary_count message.body else None) other) refl refl
+  other_restarts (stage.Fetching f) other = λ count fetched st.
+      rests_if_none (fetched_then node message count fetched) (stage.Fetching f) (stage.Fetching f) [] (λ more. RestartGoes service node count more (stage.Fetching f) [] [])
+      (ap (λ b. if b then fetched_after (wanted count fetched) message.body fetched else None) other) refl refl
+  other_restarts (stage.Serving s) other = tt
+  other_restarts stage.Lost other = tt

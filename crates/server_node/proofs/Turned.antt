@@ -133,7 +133,7 @@ unanswered_low : {S : Type 0} (service : Machine S) (c : ConnState S) (q : Point
 unanswered_low service c q true st s = unanswered_by service c q st.given st.north s
 unanswered_low service c q false st s = unanswered_by service c q st.given st.parts.stand.north s
 
--- the reads of a turn are behind those that were known to be logged before
+-- the reads of a turn are after those that were known to be logged before
 behind_low : (m n : ℕ) (lengths : List ℕ) → m ≤ n → AreLow (drop m lengths) → AreLow (drop n lengths)
 behind_low m n lengths low all =
     let at : m + (n - m) ≡ n = omega (arith, low) in
@@ -194,7 +194,7 @@ acts service server boot news p now segments messages typed short size few s loc
           (have_wires p.key x.to_client x.to_logger written (subst (AllByRecursion AreBytes) x.segments_are typed.sent) (subst (AllByRecursion AreBytes) x.messages_are typed.told));
     }
 
--- its packets behind those of the others
+-- its packets after those of the others
 pub goes : {S : Type 0} (service : Machine S) (server : Addr) (boot : ℕ) (news : News) (p : Point) (now : ConnState S) (key : Key) (segments messages : List (List ℕ)) (old new : List Wire)
     → p.key ≡ key → new ≡ old ++ wires_of key segments messages → Acts service server boot news p now segments messages → ConnGoes service server boot news p now old new
 goes service server boot news p now key segments messages old new is sent a = record {

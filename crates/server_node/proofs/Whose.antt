@@ -65,7 +65,7 @@ kind_there : (message : Message) (check : ℕ) → kind_numbered (slice_index (s
 unfolding spelled header two
 kind_there message check = kind_back (kind_of message.body)
 
--- .. and so does the key, behind the header
+-- .. and so does the key, after the header
 ip_there : (message : Message) (check ip : ℕ) (more : List ℕ) → numbers_bytes (fields_of (kind_of message.body)) (numbers_of message.body) ≡ number_bytes 4 ip ++ more → ip < 2 ^ 32
     → number_in 4 (drop 16 (spelled message check)) ≡ ip
 unfolding spelled header two number_bytes
@@ -238,7 +238,7 @@ ticks_own c now segments messages r =
 pub belongs_on : {S : Type 0} (who : Identity) (key : Key) (c now : ConnState S) → Belongs who key c → IsSame c now → IsSound now → Belongs who key now
 belongs_on who key c now b same s = record { sound = s; client = same.key ∙ b.client; incarnation = same.boot ∙ b.incarnation }
 
--- a connection of the key, and what leaves behind what was sent
+-- a connection of the key, and what leaves after what was sent
 pub leaves_for : {S : Type 0} (key : Key) (c : ConnState S) (segments messages : List (List ℕ)) (old new : List Wire) → FitsKey key → c.key ≡ key → TellsOwn c messages
     → new ≡ old ++ wires_of key segments messages → IsOnlyFor key old new
 leaves_for key c segments messages old new fits own t put = record {

@@ -11,18 +11,15 @@ use Rattle.server_trait.specs.Service.{Machine}
 use Rattle.ft_model.specs.Lawful.{IsNearTo}
 use Rattle.ft_model.specs.Network.{Packet, source_of}
 use Rattle.ft_model.specs.Node.{Node, Place, Input, is_for}
-use Rattle.ft_model.specs.Node.{Stage as law_stage}
 use Rattle.ft_model.specs.Node.Input.{Packet_comes, Message_comes, Noise_comes, Tick_comes}
 use Rattle.ft_model.specs.Opening.{initial_number}
 use Rattle.ft_model.specs.Serving.{PlaceTurn, ServingTurn, concerns}
 use Rattle.ft_model.specs.Wire.{Wire, wire_of, HasWire}
 use Rattle.reincarnate.specs.Asking.{FetchingState}
-use Rattle.server_node.specs.declared.identity.Identity.{Identity}
 use Rattle.server_node.specs.declared.serving.Serving.{Serving}
 use Rattle.server_node.specs.declared.slot.Slot.{Slot}
 use Rattle.server_node.specs.declared.stage.Stage.{Stage}
 use Rattle.server_node.specs.declared.stage.Stage.TheVariants as stage
-use Rattle.server_node.specs.Identity.{node_of}
 use Rattle.server_node.specs.Opening.{pending_slots}
 use Rattle.server_node.specs.Slots.{SlotStands}
 use Rattle.server_node.specs.Whose.{IsFor, of_key}
@@ -87,7 +84,7 @@ pub record KeyMeets {S : Type 0} (service : Machine S) (node : Node) (input : In
   pub wires : of_key key sent ≡ map wire_of packets
   pub spelled : AllByRecursion HasWire packets
 
--- the slots of all keys, each alone: what is told stands behind what was sent before
+-- the slots of all keys, each alone: what is told comes after what was sent before
 pub record SlotsAlone {S : Type 0} (service : Machine S) (node : Node) (input : Input) (was now : List (Key × Slot S)) (old new : List Wire) : Type 0 where
   pub told : List Wire
   pub put : new ≡ old ++ told
@@ -147,10 +144,3 @@ is_for_nobody node Tick_comes = false
 -- that changes nothing, and nothing is sent
 abbrev pub IsUntouched : {S : Type 0} → Node → Input → (was now : Stage S) → List Wire → Type 0
 IsUntouched node input was now sent = is_for_nobody node input ≡ true → (now ≡ was) × (sent ≡ [])
-
--- what holds of a node's turn whatever came, and wherever any of its connections stood: it leaves others alone, what is for nobody here does
--- nothing, and each key has its turn
-pub record TurnsApart {S : Type 0} (service : Machine S) (who : Identity) (input : Input) (was now : Stage S) (sent : List Wire) : Type 0 where
-  pub others : (standing : law_stage) → Others (node_of who standing) input was now sent
-  pub untouched : (standing : law_stage) → IsUntouched (node_of who standing) input was now sent
-  pub alone : (standing : law_stage) → Alone service (node_of who standing) input was now sent

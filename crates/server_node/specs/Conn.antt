@@ -70,7 +70,7 @@ pub record Acts {S : Type 0} (service : Machine S) (server : Addr) (boot : ℕ) 
   pub wires : wires_of p.key segments messages ≡ map wire_of packets
   pub spelled : AllByRecursion HasWire packets
 
--- the same with its packets behind those of the others
+-- the same with its packets after those of the others
 pub record ConnGoes {S : Type 0} (service : Machine S) (server : Addr) (boot : ℕ) (news : News) (p : Point) (c : ConnState S) (old new : List Wire) : Type 0 where
   pub after : Point
   pub packets : List Packet

@@ -10,7 +10,7 @@ use Rattle.tcp_endpoint.specs.Turning.{sent_number, acked_number}
 use Rattle.wrapped_conn.specs.ConnState.{ConnState}
 use Rattle.wrapped_conn.specs.Standing.{Tells}
 
--- the TCP inside began its output behind the units that the client had acknowledged then, under a number of its own, which is delta below
+-- the TCP inside began its output after the units that the client had acknowledged then, under a number of its own, which is delta below
 -- the client's number of the same unit
 pub record BeginsBehind (p : Point) (delta : ℕ) (e : Tcb) : Type 0 where
   pub behind : ℕ

@@ -16,4 +16,6 @@ pub mod Lending
 pub mod Numbered
 pub mod Whose
 pub mod Alone
+pub mod Restarts
+pub mod Apart
 pub mod Runs

@@ -29,7 +29,7 @@ abbrev pub IsNumbered : {S : Type 0} → Machine S → Entry → (i : ℕ) → O
 IsNumbered service e i (Some c) = GoesOnUnder service e i c
 IsNumbered service e i None = ⊥
 
--- of these entries, the newest first, each that isn't done goes on under the next initial number behind those of the earlier ones
+-- of these entries, the newest first, each that isn't done goes on under the next initial number after those of the earlier ones
 abbrev pub AreNumbered : {S : Type 0} → Machine S → (isn : ℕ) → List Fetched → List (Key × Slot S) → Type 0
 AreNumbered service isn [] es = Unit {0}
 AreNumbered service isn (f ∷ earlier) es =

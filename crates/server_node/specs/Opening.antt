@@ -20,7 +20,7 @@ use Rattle.server_node.specs.declared.slot.Opening.{Opening}
 pub use Rattle.server_node.specs.Sending.{ArePut}
 use Rattle.server_node.specs.Slots.{numbers_of, AllStand}
 
--- a number is one of the initial numbers of an incarnation, each 65,536 behind the one before it
+-- a number is one of the initial numbers of an incarnation, each 65,536 after the one before it
 abbrev pub IsCounted : (isn next : ℕ) → Type 0
 IsCounted isn next = (next % 65536 ≡ isn % 65536) × (next < 2 ^ 32)
 

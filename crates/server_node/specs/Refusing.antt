@@ -5,6 +5,6 @@ use Rattle.ft_model.specs.Network.Packet.{To_client}
 use Rattle.ft_model.specs.Wire.{Wire}
 use Rattle.server_node.specs.Sending.{ArePut}
 
--- these segments to clients are behind what was sent
+-- these segments to clients are after what was sent
 abbrev pub AreSent : List Segment → (old new : List Wire) → Type 0
 AreSent segments old new = ArePut (map To_client segments) old new

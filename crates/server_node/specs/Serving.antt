@@ -15,7 +15,7 @@ pub record ServingStands {S : Type 0} (service : Machine S) (node : Node) (opene
   pub number : now.next.0 ≡ initial_number node.isn opened
   pub slots : AllStand service node now.slots.entries places
 
--- a turn by the law: it stands elsewhere, and the packets of the turn are behind what was sent, each in its one spelling
+-- a turn by the law: it stands elsewhere, and the packets of the turn are after what was sent, each in its one spelling
 pub record ServingGoes {S : Type 0} (service : Machine S) (node : Node) (input : Input) (opened : ℕ) (places : List Place) (now : Serving S) (old new : List Wire) : Type 0 where
   pub later : List Place
   pub packets : List Packet

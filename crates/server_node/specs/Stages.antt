@@ -52,7 +52,7 @@ pub record NodeGoes {S : Type 0} (service : Machine S) (node : law.Node) (input 
   pub wires : sent ≡ map wire_of packets
   pub spelled : AllByRecursion HasWire packets
 
--- an end names a larger boot number, or is for want of memory
+-- an end names a larger boot number, or is because memory ran out
 abbrev pub IsFence : TurnEnd → (ℕ → Type 0) → Type 0
 IsFence (end.Fenced newer) Holds = Holds newer
 IsFence end.NoMemory Holds = Unit {0}

@@ -45,7 +45,7 @@ IsBetween key The_server bytes = ⊥
 abbrev pub IsFor : Key → Wire → Type 0
 IsFor key wire = IsBetween key wire.to wire.bytes
 
--- behind what was sent stands nothing but packets of this key alone
+-- after what was sent stands nothing but packets of this key alone
 pub record IsOnlyFor (key : Key) (old new : List Wire) : Type 0 where
   pub told : List Wire
   pub put : new ≡ old ++ told

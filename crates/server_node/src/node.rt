@@ -36,10 +36,12 @@ impl<S: Service> Node<S> {
     ghost use Rattle.ft_model.specs.Wire.{wire_of};
     ghost use Rattle.wrapped_conn.specs.Sound.{IsSound};
     ghost use Rattle.server_node.specs.contracts.node.Node.{the_row};
-    ghost use Rattle.server_node.specs.Alone.{Others, IsUntouched, Alone, TurnsApart};
+    ghost use Rattle.server_node.specs.Alone.{Others, IsUntouched, Alone};
+    ghost use Rattle.server_node.specs.Apart.{TurnsApart};
     ghost use Rattle.server_node.specs.Identity.{node_of};
     ghost use Rattle.server_node.specs.Inputs.{input_of};
     ghost use Rattle.server_node.specs.Lending.{IsConnAt, place_in};
+    ghost use Rattle.server_node.specs.Restarts.{Restarts};
     ghost use Rattle.server_node.specs.Stages.{StageStands, NodeGoes, IsFence};
 
     /// Boots, with this boot number, the number from which initial numbers are counted, and the kind of the service. It has said Hello then.
@@ -101,6 +103,8 @@ impl<S: Service> Node<S> {
             self.new.stage self.new.sent.items) }
         ensures alone { OnOk result ((standing : Standing) → Alone (machine (S.started self.old.who.kind) S.after) (node_of self.old.who standing)
             (input_of input.entry) self.old.stage self.new.stage self.new.sent.items) }
+        ensures restarts { OnOk result ((standing : Standing) → Restarts (machine (S.started self.old.who.kind) S.after) (node_of self.old.who standing)
+            (input_of input.entry) self.old.stage self.new.stage self.new.sent.items) }
         ensures unfenced { OnOk result ((standing : Standing) → fence (node_of self.old.who standing) (input_of input.entry) ≡ None) }
         ensures fenced { IfErr result (λ end. IsFence end (λ newer. (standing : Standing)
             → fence (node_of self.old.who standing) (input_of input.entry) ≡ Some newer)) }
@@ -113,9 +117,9 @@ impl<S: Service> Node<S> {
         Ok(())
     }
 
-    /// One turn, which lends what it sends. Whatever comes, it leaves alone whom the input isn't about, and each key goes on by the law whose own
-    /// packets are near. After an error the node may only be dropped. A Stale of its boot that names a larger one ends it by
-    /// `Fenced`, also where there is no memory left, and nothing else does.
+    /// One turn, which lends what it sends. Whatever comes, it leaves alone whom the input isn't about, each key continues by the law whose own
+    /// packets are near, and at the end of a restart so does each key whose own entry is sound. After an error the node may only be dropped. A
+    /// Stale of its boot that names a larger one ends it by `Fenced`, also where there is no memory left, and nothing else does.
     pub fn turn(&mut self, alloc: Global, input: Input<'_>) -> Result<&[OutPacket], TurnEnd>
         ensures* after { sem 𝓛 (follows_so (the_row S.row S.Service) (the_row S.row S.Service) self.entry.ghost_name none (λ _ _. ⊤)
             (λ node. IfOk result (λ sent. (node.who ≡ self.old.who) × (node.sent.items ≡ sent.now) × ((standing : Standing)

@@ -8,7 +8,7 @@ use ft_io::NoMemory;
 use std::alloc::Global;
 use std::marker::Model;
 
-/// The packets of a turn, in order. Behind them stand packets of earlier turns, whose rooms are filled again. Contracts see the turn's.
+/// The packets of a turn, in order. After them stand packets of earlier turns, whose rooms are filled again. Contracts see the turn's.
 #[derive(Drop)]
 pub(crate) struct Outgoing {
     packets: Vec<OutPacket>,
@@ -45,7 +45,7 @@ impl Outgoing {
         self.count = 0;
     }
 
-    /// Puts a packet behind the others.
+    /// Puts a packet after the others.
     pub(crate) fn send(&mut self, alloc: Global, to: To, bytes: &[u8]) -> Result<(), NoMemory>
         ensures { OnOk result (self.new.items ≡ self.old.items ++ sent_to to bytes.now ∷ []) }
     {
@@ -61,7 +61,7 @@ impl Outgoing {
     }
 }
 
-/// Puts a packet behind so many others: into the room there, if there is one.
+/// Puts a packet after so many others: into the room there, if there is one.
 #[tactic(auto, using(std::proofs::lemmas::List::take_more_set))]
 fn put(
     alloc: Global,

@@ -18,6 +18,7 @@ ghost use Rattle.server_node.specs.Identity.{node_of};
 ghost use Rattle.server_node.specs.Numbered.{fetched_by};
 ghost use Rattle.server_node.specs.Opening.{ArePut};
 ghost use Rattle.server_node.specs.Restarting.{FetchingStands, IsOwn};
+ghost use Rattle.server_node.specs.Restarts.{RestartGoes, AnswerGoes};
 ghost use Rattle.server_node.specs.Reviving.{StageGoes};
 ghost use Rattle.server_node.specs.Stages.{IsSoundStage};
 ghost use Rattle.server_node.specs.Whose.{IsOnlyFor};
@@ -51,6 +52,8 @@ pub(crate) fn begin_fetching<S: Service>(
     ensures turn { IfOk result (λ after. (standing : Standing)
         → StageGoes (machine (S.started who.kind) S.after) who [] (Fetches (machine (S.started who.kind) S.after) (node_of who standing) count [])
         after sent.old.items sent.new.items) }
+    ensures alone { IfOk result (λ after. (standing : Standing)
+        → RestartGoes (machine (S.started who.kind) S.after) (node_of who standing) count [] after sent.old.items sent.new.items) }
     ensures sound { IfOk result (λ after. IsSoundStage who after) }
 {
     let Ok(fetching) = Asked::new(who.boot).on_summary(alloc, who.kind, count) else {
@@ -77,6 +80,10 @@ pub(crate) fn take_answer<S: Service>(
         → StageGoes (machine (S.started who.kind) S.after) who (fetched_by (node_of who standing) (Fetches_on count fetched) (Message_comes (message_of m.now)))
         (StageTurn (machine (S.started who.kind) S.after) (node_of who standing) (Fetches_on count fetched)
         (Message_comes (message_of m.now))) after sent.old.items sent.new.items) }
+    ensures alone { IfOk result (λ after. (standing : Standing) (count : ℕ) (fetched : List Fetched)
+        → FetchingStands (machine (S.started who.kind) S.after) count fetched fetching
+        → AnswerGoes (machine (S.started who.kind) S.after) (node_of who standing) (message_of m.now) count fetched fetching after
+        sent.old.items sent.new.items) }
     ensures sound { IfOk result (λ after. IsSoundStage who after) }
 {
     if !fetching.on_answer(alloc, m)? {
@@ -100,6 +107,9 @@ fn go_on<S: Service>(
         → AreSound (machine (S.started who.kind) S.after) fetched
         → StageGoes (machine (S.started who.kind) S.after) who fetched
         (Fetches (machine (S.started who.kind) S.after) (node_of who standing) count fetched) after sent.old.items sent.new.items) }
+    ensures alone { IfOk result (λ after. (standing : Standing) (count : ℕ) (fetched : List Fetched)
+        → FetchingStands (machine (S.started who.kind) S.after) count fetched fetching
+        → RestartGoes (machine (S.started who.kind) S.after) (node_of who standing) count fetched after sent.old.items sent.new.items) }
     ensures sound { IfOk result (λ after. IsSoundStage who after) }
 {
     if ask(alloc, who, &fetching, sent)? {

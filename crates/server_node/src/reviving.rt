@@ -16,8 +16,10 @@ ghost use Rattle.server_node.specs.Lending.{conn_in};
 ghost use Rattle.server_node.specs.Numbered.{IsNumbered};
 ghost use Rattle.server_node.specs.Opening.{IsCounted};
 ghost use Rattle.server_node.specs.Restarting.{AreDistinct};
+ghost use Rattle.server_node.specs.Restarts.{RestoredAlone};
 ghost use Rattle.server_node.specs.Reviving.{SlotRevives, AreRestored};
 ghost use Rattle.server_node.specs.Slots.{AllSound, IsSoundSlot};
+ghost use Rattle.server_node.specs.Whose.{IsOnlyFor};
 
 use crate::identity::Identity;
 use crate::live::start_live;
@@ -47,6 +49,9 @@ pub(crate) fn restore_all<S: Service>(
         → StandsWhole (machine (S.started who.kind) S.after) (reverse fetched) entries
         → AreDistinct fetched → AreSound (machine (S.started who.kind) S.after) fetched
         → AreRestored (machine (S.started who.kind) S.after) (node_of who standing) fetched serving sent.old.items sent.new.items) }
+    ensures alone { IfOk result (λ serving. (standing : Standing) (fetched : List Fetched)
+        → StandsWhole (machine (S.started who.kind) S.after) (reverse fetched) entries → AreDistinct fetched
+        → RestoredAlone (machine (S.started who.kind) S.after) (node_of who standing) fetched serving sent.old.items sent.new.items) }
     ensures sound { IfOk result (λ serving. AllSound who serving.slots.entries) }
     ensures counted { IfOk result (λ serving. IsCounted who.isn serving.next.0) }
 {
@@ -76,6 +81,10 @@ fn restore<S: Service>(
         → (f.head.done ≡ false → IsSoundEntry (machine (S.started who.kind) S.after) (entry_in f)) → is_fetched f.head.key fetched ≡ false
         → AreRestored (machine (S.started who.kind) S.after) (node_of who standing) fetched serving.old first sent.old.items
         → AreRestored (machine (S.started who.kind) S.after) (node_of who standing) (f ∷ fetched) serving.new first sent.new.items) }
+    ensures alone { OnOk result ((standing : Standing) (f : Fetched) (fetched : List Fetched) (first : List Wire)
+        → RestoredIs (machine (S.started who.kind) S.after) f entry → is_fetched f.head.key fetched ≡ false
+        → RestoredAlone (machine (S.started who.kind) S.after) (node_of who standing) fetched serving.old first sent.old.items
+        → RestoredAlone (machine (S.started who.kind) S.after) (node_of who standing) (f ∷ fetched) serving.new first sent.new.items) }
     ensures sound { OnOk result (AllSound who serving.new.slots.entries) }
     ensures counted { OnOk result (IsCounted who.isn serving.old.next.0 → IsCounted who.isn serving.new.next.0) }
 {
@@ -106,6 +115,7 @@ fn revive<S: Service>(
         (Lives (point_of (machine (S.started who.kind) S.after) e)) slot sent.old.items sent.new.items) }
     ensures number { IfOk result (λ slot. (fresh : S) (e : Entry) → IsReplayed (machine fresh S.after) e replayed → IsSoundEntry (machine fresh S.after) e
         → IsNumbered (machine fresh S.after) e isn.0 (conn_in (Some slot))) }
+    ensures alone { OnOk result (IsOnlyFor replayed.head.key sent.old.items sent.new.items) }
     ensures sound { IfOk result (λ slot. IsSoundSlot who replayed.head.key slot) }
 {
     let key = replayed.head().key;

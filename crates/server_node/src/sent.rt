@@ -15,7 +15,7 @@ use logger_wire::{Msg, write_msg};
 use std::alloc::Global;
 use wrapped_conn::TurnOut;
 
-/// Sends the logger a message without bytes behind its fields.
+/// Sends the logger a message without bytes after its fields.
 pub(crate) fn tell(alloc: Global, message: &Msg<'_>, sent: &mut Outgoing) -> Result<(), NoMemory>
     requires sendable { IsSendable message.now }
     requires bare { behind_of (body_of message.now.body) ≡ [] }

@@ -19,6 +19,7 @@ ghost use Rattle.server_node.specs.Identity.{node_of};
 ghost use Rattle.server_node.specs.Inputs.{input_of};
 ghost use Rattle.server_node.specs.Lending.{IsConnAt, place_in};
 ghost use Rattle.server_node.specs.Opening.{ArePut, IsCounted};
+ghost use Rattle.server_node.specs.Restarts.{MessageRestarts, Restarts};
 ghost use Rattle.server_node.specs.Serving.{ServingStands, ServingGoes};
 ghost use Rattle.server_node.specs.Slots.{AllSound};
 ghost use Rattle.server_node.specs.Stages.{StageStands, IsSoundStage, NodeGoes, IsFence};
@@ -117,6 +118,8 @@ fn on_message<S: Service>(
         → Others (node_of who standing) (Message_comes (message_of m.now)) stage after sent.new.items) }
     ensures alone { IfOk result (λ after. (standing : Standing) → m.now.boot ≡ who.boot
         → Alone (machine (S.started who.kind) S.after) (node_of who standing) (Message_comes (message_of m.now)) stage after sent.new.items) }
+    ensures restarts { IfOk result (λ after. (standing : Standing) → m.now.boot ≡ who.boot
+        → MessageRestarts (machine (S.started who.kind) S.after) (node_of who standing) (message_of m.now) stage after sent.new.items) }
     ensures sound { IfOk result (λ after. IsSoundStage who after) }
 {
     match stage {
@@ -154,6 +157,8 @@ fn on_summary<S: Service>(
     ensures turn { IfOk result (λ after. (standing : Standing) → m.now.boot ≡ who.boot → fence (node_of who standing) (Message_comes (message_of m.now)) ≡ None
         → standing ≡ Asking → NodeGoes (machine (S.started who.kind) S.after) (node_of who standing)
         (Message_comes (message_of m.now)) who after sent.new.items) }
+    ensures restarts { IfOk result (λ after. (standing : Standing) → m.now.boot ≡ who.boot
+        → MessageRestarts (machine (S.started who.kind) S.after) (node_of who standing) (message_of m.now) Stage.Asking after sent.new.items) }
     ensures sound { IfOk result (λ after. IsSoundStage who after) }
 {
     let Some(count) = count_in(&m.body) else {
@@ -203,6 +208,8 @@ fn hear<S: Service>(
         → Others (node_of who standing) (Message_comes (message_of m.now)) stage after sent.new.items) }
     ensures alone { IfOk result (λ after. (standing : Standing)
         → Alone (machine (S.started who.kind) S.after) (node_of who standing) (Message_comes (message_of m.now)) stage after sent.new.items) }
+    ensures restarts { IfOk result (λ after. (standing : Standing)
+        → MessageRestarts (machine (S.started who.kind) S.after) (node_of who standing) (message_of m.now) stage after sent.new.items) }
     ensures untouched { IfOk result (λ after. (standing : Standing)
         → IsUntouched (node_of who standing) (Message_comes (message_of m.now)) stage after sent.new.items) }
     ensures unfenced { IfOk result (λ after. (standing : Standing) → fence (node_of who standing) (Message_comes (message_of m.now)) ≡ None) }
@@ -332,6 +339,8 @@ pub(crate) fn go<S: Service>(
     ensures others { IfOk result (λ after. (standing : Standing) → Others (node_of who standing) (input_of input.entry) stage after sent.new.items) }
     ensures alone { IfOk result (λ after. (standing : Standing)
         → Alone (machine (S.started who.kind) S.after) (node_of who standing) (input_of input.entry) stage after sent.new.items) }
+    ensures restarts { IfOk result (λ after. (standing : Standing)
+        → Restarts (machine (S.started who.kind) S.after) (node_of who standing) (input_of input.entry) stage after sent.new.items) }
     ensures untouched { IfOk result (λ after. (standing : Standing)
         → IsUntouched (node_of who standing) (input_of input.entry) stage after sent.new.items) }
     ensures unfenced { IfOk result (λ after. (standing : Standing) → fence (node_of who standing) (input_of input.entry) ≡ None) }

@@ -12,3 +12,9 @@ returns-clause-turn g c = if_ok c.go_on.result
     (λ after h standing.
     let is = same_ok c.on_summary.result c.in-Ok.fetching _ c.in-Ok.is c.on_summary.ensures.value in
     h standing c.args.count [] (record { so_many = ap (λ f. f.count) is; distinct = tt; entries = c.in-Ok.ensures.law }) tt) c.go_on.ensures.turn
+
+pub returns-clause-alone : goal.returns-clause-alone
+returns-clause-alone g c = if_ok c.go_on.result
+    (λ after h standing.
+    let is = same_ok c.on_summary.result c.in-Ok.fetching _ c.in-Ok.is c.on_summary.ensures.value in
+    h standing c.args.count [] (record { so_many = ap (λ f. f.count) is; distinct = tt; entries = c.in-Ok.ensures.law })) c.go_on.ensures.alone

@@ -1,9 +1,10 @@
-use Rattle.std.proofs.Common.{rules, tests, ◌≡◌, true, false, sym, subst}
+use Rattle.std.proofs.Common.{rules, tests, ◌≡◌, ◌∙◌, true, false, true≢false, refl, sym, subst}
 use Rattle.server_trait.specs.Service.{machine}
 use Rattle.logger_wire.specs.Value.{message_of}
 use Rattle.reincarnate.specs.Standing.{StandsFetching, AnswerLeads, fetched_then}
 use Rattle.server_node.proofs.Answering.{answer_same, still_own}
-use Rattle.server_node.proofs.Resuming.{answers_nothing, answers_on}
+use Rattle.server_node.specs.declared.stage.Stage.TheVariants as stage
+use Rattle.server_node.proofs.Resuming.{answers_nothing, answers_on, answers_alone}
 use Rattle.server_node.proofs.restarting.take_answer.Goals as goal
 use Rattle.ft_io.proofs.Outcomes.{if_ok}
 
@@ -38,3 +39,28 @@ returns-clause-turn g c =
     answers_on (machine (g.S.Service.started c.args.who.kind) g.S.Service.after) c.args.who standing (message_of c.args.m.now) count fetched c.args.fetching c.on_answer.new.self
     c.in_ok-on_answer.field-0 after c.args.sent.now.items c.go_on.new.sent.items fit same c.requires.own st sound leads (λ more stands sounds. h standing count more stands sounds))
     c.go_on.ensures.turn
+
+pub returns-then-not-branch-clause-alone : goal.returns-then-not-branch-clause-alone
+returns-then-not-branch-clause-alone g c = λ standing count fetched st.
+    let same = answer_same g.S.Service.started g.S.Service.after (message_of c.args.m.now) c.args.fetching c.on_answer.new.self c.in_ok-on_answer.field-0 c.in_ok-on_answer.ensures.value in
+    let before = subst (λ k. StandsFetching (machine (g.S.Service.started k) g.S.Service.after) fetched c.args.fetching) (sym c.requires.own.kind) st.entries in
+    let leads = subst (λ k. AnswerLeads (machine (g.S.Service.started k) g.S.Service.after) (fetched_then c.args.fetching.boot c.args.fetching.count (message_of c.args.m.now) fetched)
+    c.in_ok-on_answer.field-0 c.args.fetching c.on_answer.new.self) c.requires.own.kind (c.in_ok-on_answer.ensures.law fetched before) in
+    let unfit : c.in_ok-on_answer.field-0 ≡ false = search (rules, tests) in
+    answers_alone (machine (g.S.Service.started c.args.who.kind) g.S.Service.after) c.args.who standing (message_of c.args.m.now) count fetched c.args.fetching c.on_answer.new.self
+    c.in_ok-on_answer.field-0 (stage.Fetching c.on_answer.new.self) c.args.sent.now.items c.args.sent.now.items same c.requires.own st leads
+    (λ e. (refl, refl)) (λ e more stands. absurd (true≢false (sym e ∙ unfit)))
+
+pub returns-clause-alone : goal.returns-clause-alone
+returns-clause-alone g c =
+    let same = answer_same g.S.Service.started g.S.Service.after (message_of c.args.m.now) c.args.fetching c.on_answer.new.self c.in_ok-on_answer.field-0 c.in_ok-on_answer.ensures.value in
+    let fit : c.in_ok-on_answer.field-0 ≡ true = search (rules, tests) in
+    if_ok c.go_on.result
+    (λ after h standing count fetched st.
+    let before = subst (λ k. StandsFetching (machine (g.S.Service.started k) g.S.Service.after) fetched c.args.fetching) (sym c.requires.own.kind) st.entries in
+    let leads = subst (λ k. AnswerLeads (machine (g.S.Service.started k) g.S.Service.after) (fetched_then c.args.fetching.boot c.args.fetching.count (message_of c.args.m.now) fetched)
+    c.in_ok-on_answer.field-0 c.args.fetching c.on_answer.new.self) c.requires.own.kind (c.in_ok-on_answer.ensures.law fetched before) in
+    answers_alone (machine (g.S.Service.started c.args.who.kind) g.S.Service.after) c.args.who standing (message_of c.args.m.now) count fetched c.args.fetching c.on_answer.new.self
+    c.in_ok-on_answer.field-0 after c.args.sent.now.items c.go_on.new.sent.items same c.requires.own st leads
+    (λ e. absurd (true≢false (sym fit ∙ e))) (λ e more stands. h standing count more stands))
+    c.go_on.ensures.alone

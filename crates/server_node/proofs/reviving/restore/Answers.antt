@@ -6,7 +6,9 @@ use Rattle.ft_model.specs.Restart.{entry_in}
 use Rattle.server_node.specs.Identity.{node_of}
 use Rattle.server_node.specs.Slots.{IsSoundSlot}
 use Rattle.server_node.proofs.Knocking.{counted_on}
+use Rattle.server_node.specs.Whose.{IsOnlyFor}
 use Rattle.server_node.proofs.Restored.{ended_more, live_more}
+use Rattle.server_node.proofs.RestoredAlone.{ended_alone, live_alone}
 use Rattle.server_node.proofs.Turned.{at_ok}
 use Rattle.server_node.proofs.reviving.restore.Goals as goal
 
@@ -42,3 +44,25 @@ returns-in_ok-slot-in-Live-clause-sound g c =
 pub returns-in_ok-slot-in-Live-clause-counted : goal.returns-in_ok-slot-in-Live-clause-counted
 returns-in_ok-slot-in-Live-clause-counted g c =
     at_ok c.add_slot-in-Live.result (λ counted. counted_on c.args.who.isn c.args.serving.now.next.0 c.add-serving.result.0 counted c.add-serving.ensures)
+
+pub returns-in-Ended-clause-alone : goal.returns-in-Ended-clause-alone
+returns-in-Ended-clause-alone g c =
+    let service = machine (g.S.Service.started c.args.who.kind) g.S.Service.after in
+    on_ok_weaker c.add_slot.result
+    (λ added standing f fetched first is fresh r.
+    let here = subst (RestoredIs service f) c.in-Ended.is is in
+    ended_alone service (node_of c.args.who standing) f fetched c.in-Ended.key c.args.serving.now (record { next = c.args.serving.now.next; slots = c.add_slot.new.slots }) first c.args.sent.now.items
+    here.0 here.1 fresh r added) c.add_slot.ensures.added
+
+pub returns-in_ok-slot-in-Live-clause-alone : goal.returns-in_ok-slot-in-Live-clause-alone
+returns-in_ok-slot-in-Live-clause-alone g c =
+    let service = machine (g.S.Service.started c.args.who.kind) g.S.Service.after in
+    let alone = rw c.in_ok-slot-in-Live.was at c.revive.ensures.alone in
+    on_ok_weaker c.add_slot-in-Live.result
+    (λ added standing f fetched first is fresh r.
+    let here = subst (RestoredIs service f) c.in-Live.is is in
+    let key : c.head.result.key ≡ f.head.key = ap (λ h. h.key) c.head.ensures ∙ ap (λ h. h.key) here.1.head in
+    live_alone service (node_of c.args.who standing) f fetched c.head.result.key c.args.serving.now (record { next = c.add-serving.result; slots = c.add_slot-in-Live.new.slots }) c.in_ok-slot-in-Live.slot
+    first c.args.sent.now.items c.revive.new.sent.items here.0 key fresh r (subst (λ h. IsOnlyFor h.key c.args.sent.now.items c.revive.new.sent.items) (sym c.head.ensures) alone)
+    (λ sound. c.in_ok-slot-in-Live.ensures.turn standing (entry_in f) here.1 sound) added)
+    c.add_slot-in-Live.ensures.added

@@ -1,19 +1,29 @@
 use Rattle.std.proofs.Common.{rules, ◌≡◌, refl, sym, subst}
 use Rattle.server_trait.specs.Service.{machine}
+use Rattle.ft_model.specs.Lawful.{AreSound}
 use Rattle.ft_model.specs.Opening.{initial_number}
 use Rattle.reincarnate.specs.Standing.{FirstIs}
 use Rattle.server_node.specs.Identity.{node_of}
+use Rattle.server_node.specs.Restarting.{AreDistinct}
+use Rattle.server_node.specs.Restarts.{RestoredAlone}
+use Rattle.server_node.specs.Reviving.{AreRestored}
 use Rattle.server_node.specs.Slots.{AllSound}
-use Rattle.server_node.proofs.Restored.{restores_none, restores_more, restores_all}
+use Rattle.server_node.proofs.Restored.{restored_none, restores_none, restores_more, restores_all, distinct_at, sound_at}
+use Rattle.server_node.proofs.RestoredAlone.{none_restored}
 use Rattle.server_node.proofs.reviving.restore_all.Goals as goal
 
 pub loop-entry-init : goal.loop-entry-init
 loop-entry-init g c =
+    let service = machine (g.S.Service.started c.args.who.kind) g.S.Service.after in
     let number : c.args.who.isn ≡ initial_number c.args.who.isn 0 = search rules in (
       subst (AllSound c.args.who) (sym c.new.ensures.empty) tt,
       (refl, search rules),
-      λ standing fetched st distinct sound. restores_none (machine (g.S.Service.started c.args.who.kind) g.S.Service.after) (node_of c.args.who standing) fetched c.args.entries
-          (record { next = record { 0 = c.args.who.isn }; slots = c.new.result }) c.args.sent.now.items st number c.new.ensures.empty,
+      λ standing fetched st distinct sound. restores_none service (AreRestored service (node_of c.args.who standing)) fetched c.args.entries
+          (record { next = record { 0 = c.args.who.isn }; slots = c.new.result }) c.args.sent.now.items st
+          (restored_none service (node_of c.args.who standing) (record { next = record { 0 = c.args.who.isn }; slots = c.new.result }) c.args.sent.now.items number c.new.ensures.empty),
+      λ standing fetched st distinct. restores_none service (RestoredAlone service (node_of c.args.who standing)) fetched c.args.entries
+          (record { next = record { 0 = c.args.who.isn }; slots = c.new.result }) c.args.sent.now.items st
+          (none_restored service (node_of c.args.who standing) (record { next = record { 0 = c.args.who.isn }; slots = c.new.result }) c.args.sent.now.items c.new.ensures.empty),
     )
 
 pub loop-entry-preserved : goal.loop-entry-preserved
@@ -23,16 +33,29 @@ loop-entry-preserved g c =
     let told = rw c.in_ok-restore.was at c.restore.ensures in (
       told.sound,
       told.counted c.loop-entry.invariant.1,
-      λ standing fetched st distinct sound. restores_more service (node_of c.args.who standing) fetched c.loop-entry.entries c.advance.new.self c.in-Some.entry c.loop-entry.serving c.restore.new.serving
-          c.args.sent.now.items c.loop-entry.sent.items c.restore.new.sent.items distinct sound (c.loop-entry.invariant.2 standing fetched st distinct sound)
+      λ standing fetched st distinct sound. restores_more service (AreRestored service (node_of c.args.who standing)) fetched c.loop-entry.entries c.advance.new.self c.in-Some.entry c.loop-entry.serving c.restore.new.serving
+          c.args.sent.now.items c.loop-entry.sent.items c.restore.new.sent.items (c.loop-entry.invariant.2 standing fetched st distinct sound)
           (λ left waits. subst (λ o. FirstIs service left o c.advance.new.self) c.in-Some.is (c.advance.ensures.law fresh left waits))
-          (λ f done is entry new restored. told.turn standing f done c.args.sent.now.items is entry new restored),
+          (λ front f done there whole is sofar. told.turn standing f done c.args.sent.now.items is (λ live. sound_at service front f done (subst (AreSound service) there sound) live whole)
+          (distinct_at front f done (subst AreDistinct there distinct)) sofar),
+      λ standing fetched st distinct. restores_more service (RestoredAlone service (node_of c.args.who standing)) fetched c.loop-entry.entries c.advance.new.self c.in-Some.entry c.loop-entry.serving c.restore.new.serving
+          c.args.sent.now.items c.loop-entry.sent.items c.restore.new.sent.items (c.loop-entry.invariant.3 standing fetched st distinct)
+          (λ left waits. subst (λ o. FirstIs service left o c.advance.new.self) c.in-Some.is (c.advance.ensures.law fresh left waits))
+          (λ front f done there whole is sofar. told.alone standing f done c.args.sent.now.items is (distinct_at front f done (subst AreDistinct there distinct)) sofar),
     )
 
 pub returns-clause-turn : goal.returns-clause-turn
 returns-clause-turn g c = λ standing fetched st distinct sound.
     let fresh = g.S.Service.started c.args.who.kind in
     let service = machine fresh g.S.Service.after in
-    restores_all service (node_of c.args.who standing) fetched c.loop-entry.entries c.advance.new.self c.loop-entry.serving c.args.sent.now.items c.loop-entry.sent.items
+    restores_all service (AreRestored service (node_of c.args.who standing)) fetched c.loop-entry.entries c.advance.new.self c.loop-entry.serving c.args.sent.now.items c.loop-entry.sent.items
     (c.loop-entry.invariant.2 standing fetched st distinct sound)
+    (λ left waits. subst (λ o. FirstIs service left o c.advance.new.self) c.in_default.is (c.advance.ensures.law fresh left waits))
+
+pub returns-clause-alone : goal.returns-clause-alone
+returns-clause-alone g c = λ standing fetched st distinct.
+    let fresh = g.S.Service.started c.args.who.kind in
+    let service = machine fresh g.S.Service.after in
+    restores_all service (RestoredAlone service (node_of c.args.who standing)) fetched c.loop-entry.entries c.advance.new.self c.loop-entry.serving c.args.sent.now.items c.loop-entry.sent.items
+    (c.loop-entry.invariant.3 standing fetched st distinct)
     (λ left waits. subst (λ o. FirstIs service left o c.advance.new.self) c.in_default.is (c.advance.ensures.law fresh left waits))

@@ -7,6 +7,8 @@ use Rattle.reincarnate.specs.Standing.{StandsWhole}
 use Rattle.server_node.specs.Identity.{node_of}
 use Rattle.server_node.specs.Opening.{IsCounted}
 use Rattle.server_node.specs.Restarting.{AreDistinct}
+use Rattle.server_node.specs.Restarts.{RestoredAlone}
+use Rattle.server_node.specs.Reviving.{AreRestored}
 use Rattle.server_node.specs.Slots.{AllSound}
 use Rattle.server_node.proofs.Restored.{RestoresOn}
 use Rattle.server_node.proofs.reviving.restore_all.Given as goal
@@ -16,7 +18,11 @@ invariant-loop-entry g l = AllSound l.who l.serving.slots.entries
     × IsCounted l.who.isn l.serving.next.0
     × ((standing : Stage) (fetched : List Fetched) → StandsWhole (machine (g.S.Service.started l.who.kind) g.S.Service.after) (reverse fetched) l.initial.entries → AreDistinct fetched
     → AreSound (machine (g.S.Service.started l.who.kind) g.S.Service.after) fetched
-    → RestoresOn (machine (g.S.Service.started l.who.kind) g.S.Service.after) (node_of l.who standing) fetched l.entries l.serving l.initial.sent.items l.sent.items)
+    → RestoresOn (machine (g.S.Service.started l.who.kind) g.S.Service.after) (AreRestored (machine (g.S.Service.started l.who.kind) g.S.Service.after) (node_of l.who standing))
+    fetched l.entries l.serving l.initial.sent.items l.sent.items)
+    × ((standing : Stage) (fetched : List Fetched) → StandsWhole (machine (g.S.Service.started l.who.kind) g.S.Service.after) (reverse fetched) l.initial.entries → AreDistinct fetched
+    → RestoresOn (machine (g.S.Service.started l.who.kind) g.S.Service.after) (RestoredAlone (machine (g.S.Service.started l.who.kind) g.S.Service.after) (node_of l.who standing))
+    fetched l.entries l.serving l.initial.sent.items l.sent.items)
 
 abbrev pub decreases-loop-entry : goal.decreases-loop-entry
 decreases-loop-entry g l = length l.entries

@@ -4,6 +4,7 @@ use Rattle.server_node.specs.Identity.{node_of}
 use Rattle.server_node.specs.declared.slot.Slot.TheVariants as slot
 use Rattle.server_node.specs.Conn.{IsSound}
 use Rattle.server_node.specs.Slots.{IsSoundSlot}
+use Rattle.server_node.specs.Whose.{IsOnlyFor}
 use Rattle.server_node.proofs.Revived.{live_again, goes_on_under}
 use Rattle.server_node.proofs.reviving.revive.Goals as goal
 
@@ -37,3 +38,8 @@ pub returns-clause-sound : goal.returns-clause-sound
 returns-clause-sound g c =
     let sound = rw c.in_ok-start_live.was at c.start_live.ensures.sound in
     subst (λ h. IsSoundSlot c.args.who h.key (slot.Live c.start_live.new.conn)) c.head.ensures sound
+
+pub returns-clause-alone : goal.returns-clause-alone
+returns-clause-alone g c =
+    let alone = rw c.in_ok-start_live.was at c.start_live.ensures.alone in
+    subst (λ h. IsOnlyFor h.key c.args.sent.now.items c.start_live.new.sent.items) c.head.ensures alone

@@ -13,6 +13,7 @@ use Rattle.server_node.specs.Identity.{node_of}
 use Rattle.server_node.specs.Inputs.{input_of}
 use Rattle.server_node.specs.Stages.{NodeGoes, IsFence}
 use Rattle.server_node.specs.Alone.{Others, Alone, IsUntouched}
+use Rattle.server_node.specs.Restarts.{Restarts}
 use Rattle.server_node.proofs.Staged.{noise_rests}
 use Rattle.server_node.proofs.StagedApart.{rest_others, rest_alone}
 use Rattle.server_node.proofs.stage.go.Goals as goal
@@ -138,3 +139,35 @@ returns-in-Ok-read_msg-clause-untouched g c =
     let is : input_of c.args.input ≡ Message_comes (messages.message_of c.in-Ok-read_msg.m) =
     ap input_of c.in-Message.is ∙ ap message_or_noise (sym c.read_msg.ensures.value ∙ ap messages.seen c.in-Ok-read_msg.is) in
     subst (λ i. IfOk c.hear.result (λ after. (standing : Stage) → IsUntouched (node_of c.args.who standing) i c.args.stage after c.hear.new.sent.items)) (sym is) c.hear.ensures.untouched
+
+pub returns-in_ok-on_tick-in-Tick-clause-restarts : goal.returns-in_ok-on_tick-in-Tick-clause-restarts
+returns-in_ok-on_tick-in-Tick-clause-restarts g c = λ standing.
+    let service = machine (g.S.Service.started c.args.who.kind) g.S.Service.after in
+    let is : input_of c.args.input ≡ Tick_comes = ap input_of c.in-Tick.is in
+    subst (λ i. Restarts service (node_of c.args.who standing) i c.args.stage c.in_ok-on_tick-in-Tick.field-0 c.on_tick.new.sent.items) (sym is) tt
+
+pub returns-in_ok-on_packet-in-Ok-clause-restarts : goal.returns-in_ok-on_packet-in-Ok-clause-restarts
+returns-in_ok-on_packet-in-Ok-clause-restarts g c = λ standing.
+    let service = machine (g.S.Service.started c.args.who.kind) g.S.Service.after in
+    let reads : reading c.in-Packet.bytes.now ≡ Ok (packets.segment_of c.in-Ok.field-0) = sym c.read_packet.ensures ∙ ap packets.seen c.in-Ok.is in
+    let is : input_of c.args.input ≡ Packet_comes (packets.segment_of c.in-Ok.field-0) = ap input_of c.in-Packet.is ∙ ap segment_or_noise reads in
+    subst (λ i. Restarts service (node_of c.args.who standing) i c.args.stage c.in_ok-on_packet-in-Ok.field-0 c.on_packet.new.sent.items) (sym is) tt
+
+pub returns-in-Err-clause-restarts : goal.returns-in-Err-clause-restarts
+returns-in-Err-clause-restarts g c = λ standing.
+    let service = machine (g.S.Service.started c.args.who.kind) g.S.Service.after in
+    let noise : input_of c.args.input ≡ Noise_comes = ap input_of c.in-Packet.is ∙ ap segment_or_noise (sym c.read_packet.ensures ∙ ap packets.seen c.in-Err.is) in
+    subst (λ i. Restarts service (node_of c.args.who standing) i c.args.stage c.args.stage c.args.sent.now.items) (sym noise) tt
+
+pub returns-in-Err-read_msg-clause-restarts : goal.returns-in-Err-read_msg-clause-restarts
+returns-in-Err-read_msg-clause-restarts g c = λ standing.
+    let service = machine (g.S.Service.started c.args.who.kind) g.S.Service.after in
+    let noise : input_of c.args.input ≡ Noise_comes = ap input_of c.in-Message.is ∙ ap message_or_noise (sym c.read_msg.ensures.value ∙ ap messages.seen c.in-Err-read_msg.is) in
+    subst (λ i. Restarts service (node_of c.args.who standing) i c.args.stage c.args.stage c.args.sent.now.items) (sym noise) tt
+
+pub returns-in-Ok-read_msg-clause-restarts : goal.returns-in-Ok-read_msg-clause-restarts
+returns-in-Ok-read_msg-clause-restarts g c =
+    let service = machine (g.S.Service.started c.args.who.kind) g.S.Service.after in
+    let is : input_of c.args.input ≡ Message_comes (messages.message_of c.in-Ok-read_msg.m) =
+    ap input_of c.in-Message.is ∙ ap message_or_noise (sym c.read_msg.ensures.value ∙ ap messages.seen c.in-Ok-read_msg.is) in
+    subst (λ i. IfOk c.hear.result (λ after. (standing : Stage) → Restarts service (node_of c.args.who standing) i c.args.stage after c.hear.new.sent.items)) (sym is) c.hear.ensures.restarts

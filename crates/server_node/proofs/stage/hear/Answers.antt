@@ -6,8 +6,9 @@ use Rattle.ft_model.specs.Node.Input.{Message_comes}
 use Rattle.server_node.specs.Identity.{node_of}
 use Rattle.server_node.specs.Stages.{NodeGoes}
 use Rattle.server_node.specs.Alone.{Others, Alone}
+use Rattle.server_node.specs.Restarts.{MessageRestarts}
 use Rattle.server_node.proofs.Staged.{others_message}
-use Rattle.server_node.proofs.StagedApart.{rest_others, rest_alone, other_boot}
+use Rattle.server_node.proofs.StagedApart.{rest_others, rest_alone, other_boot, other_restarts}
 use Rattle.server_node.proofs.stage.hear.Goals as goal
 
 pub returns-in-Some-clause-fenced : goal.returns-in-Some-clause-fenced
@@ -60,3 +61,13 @@ returns-clause-alone g c = λ standing. c.in_ok-on_message.ensures.alone standin
 pub returns-clause-untouched : goal.returns-clause-untouched
 returns-clause-untouched g c = λ standing nobody.
     absurd (true≢false (sym nobody ∙ ap not (eq-eqb c.args.m.now.boot c.args.who.boot c.if-m-who.false)))
+
+pub returns-then-m-who-clause-restarts : goal.returns-then-m-who-clause-restarts
+returns-then-m-who-clause-restarts g c = λ standing.
+    let service = machine (g.S.Service.started c.args.who.kind) g.S.Service.after in
+    let other : (c.args.m.now.boot == c.args.who.boot) ≡ false = ne_eqb c.args.m.now.boot c.args.who.boot c.if-m-who.true in
+    subst (λ xs. MessageRestarts service (node_of c.args.who standing) (message_of c.args.m.now) c.args.stage c.args.stage xs) (sym c.requires.empty)
+    (other_restarts service (node_of c.args.who standing) (message_of c.args.m.now) c.args.stage other)
+
+pub returns-clause-restarts : goal.returns-clause-restarts
+returns-clause-restarts g c = λ standing. c.in_ok-on_message.ensures.restarts standing c.if-m-who.false

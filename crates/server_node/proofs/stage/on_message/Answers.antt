@@ -8,6 +8,7 @@ use Rattle.server_node.specs.declared.stage.Stage.TheVariants as stage
 use Rattle.server_node.specs.Alone.{Others, Alone}
 use Rattle.server_node.specs.Identity.{node_of}
 use Rattle.server_node.specs.Numbered.{fetched_by}
+use Rattle.server_node.specs.Restarts.{MessageRestarts, AnswerGoes}
 use Rattle.server_node.specs.Reviving.{StageGoes}
 use Rattle.server_node.specs.Serving.{ServingGoes}
 use Rattle.server_node.specs.Stages.{StageStands}
@@ -55,3 +56,23 @@ returns-in_ok-serve_message-in-Serving-clause-alone g c = λ standing boot.
     let told = rw c.in_ok-serve_message-in-Serving.was at c.serve_message.ensures.alone in
     subst (λ s. Alone service (node_of c.args.who standing) (Message_comes (message_of c.args.m.now)) s (stage.Serving c.serve_message.new.serving) c.serve_message.new.sent.items) (sym c.in-Serving.is)
     (serving_alone service (node_of c.args.who standing) (Message_comes (message_of c.args.m.now)) c.in-Serving.serving c.serve_message.new.serving c.args.sent.now.items c.serve_message.new.sent.items c.requires.empty (told standing boot))
+
+pub returns-in-Asking-clause-restarts : goal.returns-in-Asking-clause-restarts
+returns-in-Asking-clause-restarts g c =
+    let service = machine (g.S.Service.started c.args.who.kind) g.S.Service.after in
+    if_ok c.on_summary.result
+    (λ after h standing boot. subst (λ s. MessageRestarts service (node_of c.args.who standing) (message_of c.args.m.now) s after c.on_summary.new.sent.items) (sym c.in-Asking.is) (h standing boot))
+    c.on_summary.ensures.restarts
+
+pub returns-in-Fetching-clause-restarts : goal.returns-in-Fetching-clause-restarts
+returns-in-Fetching-clause-restarts g c =
+    let service = machine (g.S.Service.started c.args.who.kind) g.S.Service.after in
+    if_ok c.take_answer.result
+    (λ after h standing boot. subst (λ s. MessageRestarts service (node_of c.args.who standing) (message_of c.args.m.now) s after c.take_answer.new.sent.items) (sym c.in-Fetching.is)
+    (λ count fetched st. subst (λ xs. AnswerGoes service (node_of c.args.who standing) (message_of c.args.m.now) count fetched c.in-Fetching.fetching after xs c.take_answer.new.sent.items) c.requires.empty
+    (h standing count fetched st))) c.take_answer.ensures.alone
+
+pub returns-in_ok-serve_message-in-Serving-clause-restarts : goal.returns-in_ok-serve_message-in-Serving-clause-restarts
+returns-in_ok-serve_message-in-Serving-clause-restarts g c = λ standing boot.
+    let service = machine (g.S.Service.started c.args.who.kind) g.S.Service.after in
+    subst (λ s. MessageRestarts service (node_of c.args.who standing) (message_of c.args.m.now) s (stage.Serving c.serve_message.new.serving) c.serve_message.new.sent.items) (sym c.in-Serving.is) tt

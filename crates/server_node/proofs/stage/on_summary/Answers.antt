@@ -5,11 +5,13 @@ use Rattle.ft_model.specs.Lawful.{Fetches, summary_count}
 use Rattle.ft_model.specs.Node.Input.{Message_comes}
 use Rattle.server_node.specs.declared.stage.Stage.TheVariants as stage
 use Rattle.server_node.specs.Identity.{node_of}
+use Rattle.server_node.specs.Restarts.{RestartGoes}
 use Rattle.server_node.specs.Reviving.{StageGoes}
 use Rattle.server_node.specs.Stages.{NodeGoes}
 use Rattle.server_node.proofs.Ranged.{count_in_range}
 use Rattle.server_node.proofs.Resuming.{begins_on}
 use Rattle.server_node.proofs.Staged.{unanswered}
+use Rattle.server_node.proofs.StagedApart.{begun_restarts, untold_restarts}
 use Rattle.server_node.proofs.stage.on_summary.Goals as goal
 use Rattle.ft_io.proofs.Outcomes.{if_ok}
 
@@ -30,3 +32,16 @@ returns-clause-turn g c = if_ok c.begin_fetching.result
     begins_on service c.args.who standing (message_of c.args.m.now) c.in-Some.count after c.begin_fetching.new.sent.items boot (sym c.count_in.ensures ∙ c.in-Some.is) is unfenced
     (subst (λ xs. StageGoes service c.args.who [] (Fetches service (node_of c.args.who standing) c.in-Some.count []) after xs c.begin_fetching.new.sent.items) c.requires.empty (h standing)))
     c.begin_fetching.ensures.turn
+
+pub returns-in_default-clause-restarts : goal.returns-in_default-clause-restarts
+returns-in_default-clause-restarts g c = λ standing boot.
+    let none : summary_count (body_of c.args.m.now.body) ≡ None = search rules in
+    untold_restarts (machine (g.S.Service.started c.args.who.kind) g.S.Service.after) (node_of c.args.who standing) (message_of c.args.m.now) c.args.sent.now.items boot none c.requires.empty
+
+pub returns-clause-restarts : goal.returns-clause-restarts
+returns-clause-restarts g c = if_ok c.begin_fetching.result
+    (λ after h standing boot.
+    let service = machine (g.S.Service.started c.args.who.kind) g.S.Service.after in
+    begun_restarts service (node_of c.args.who standing) (message_of c.args.m.now) c.in-Some.count after c.begin_fetching.new.sent.items boot (sym c.count_in.ensures ∙ c.in-Some.is)
+    (subst (λ xs. RestartGoes service (node_of c.args.who standing) c.in-Some.count [] after xs c.begin_fetching.new.sent.items) c.requires.empty (h standing)))
+    c.begin_fetching.ensures.alone

@@ -1,0 +1,211 @@
+//! Hostile segments of one client from a seed, and a digest of what the server sends at them.
+
+ghost use Rattle.std.specs.Prelude.{◌≡◌, ◌<◌, None};
+
+use crate::attack::below;
+use crate::player::LOCAL;
+use ft_io::{Key, NoMemory};
+use sample_servers::AnyService;
+use segment_codec::{Head, write_packet};
+use seq_arith::{ACK, FIN, Generator, RST, SYN, Seq};
+use server_node::{Input, Node, OutPacket, To};
+use std::alloc::Global;
+
+/// The client that strikes.
+const FROM: Key = Key {
+    ip: 0xC000_0242,
+    port: 666,
+};
+
+/// What a line asks for: how many strikes, from which seed, of how many kinds, and the next numbers of the client and of the server.
+#[derive(Clone, Copy)]
+pub(crate) struct Strikes {
+    pub times: u64,
+    pub seed: u64,
+    pub kinds: u32,
+    pub seq: Seq,
+    pub ack: Seq,
+}
+
+/// A segment as it is drawn. Its text is shorter than `room`.
+#[derive(Clone, Copy)]
+struct Blow {
+    flags: u8,
+    seq: Seq,
+    ack: Seq,
+    room: u32,
+}
+
+/// An acknowledgement up to 2^30 ahead, without text.
+fn far_acknowledgement(draws: &mut Generator, strikes: Strikes) -> Blow
+    ensures { (0 < result.room) × (result.room < 21) }
+{
+    Blow {
+        flags: ACK,
+        seq: strikes.seq,
+        ack: strikes.ack.add(1 + below(draws, 1 << 30)),
+        room: 1,
+    }
+}
+
+/// At the right edge of a whole window, or one beside it, with at most one byte.
+fn wrong_edge(draws: &mut Generator, strikes: Strikes) -> Blow
+    ensures { (0 < result.room) × (result.room < 21) }
+{
+    Blow {
+        flags: ACK,
+        seq: strikes.seq.add(65_534 + below(draws, 4)),
+        ack: strikes.ack,
+        room: 2,
+    }
+}
+
+/// A RST beside the number, and past what the other segments of the same line can make it.
+fn wrong_reset(draws: &mut Generator, strikes: Strikes) -> Blow
+    ensures { (0 < result.room) × (result.room < 21) }
+{
+    let past = match below(draws, 5) {
+        0 => 4_294_967_295,
+        1 => 64,
+        2 => 65,
+        3 => 65_534,
+        _ => 65_536,
+    };
+    Blow {
+        flags: RST,
+        seq: strikes.seq.add(past),
+        ack: Seq(0),
+        room: 1,
+    }
+}
+
+/// Text that begins up to twelve bytes before the number, and acknowledges less.
+fn overlap(draws: &mut Generator, strikes: Strikes) -> Blow
+    ensures { (0 < result.room) × (result.room < 21) }
+{
+    Blow {
+        flags: ACK,
+        seq: strikes.seq.add(4_294_967_284 + below(draws, 12)),
+        ack: strikes.ack.add(4_294_967_293 + below(draws, 3)),
+        room: 20,
+    }
+}
+
+/// Text past the number, with any acknowledgement and odd flags.
+fn odd_flags(draws: &mut Generator, strikes: Strikes) -> Blow
+    ensures { (0 < result.room) × (result.room < 21) }
+{
+    let flags = match below(draws, 5) {
+        0 => ACK | FIN,
+        1 => ACK | RST,
+        2 => ACK | SYN,
+        3 => FIN,
+        _ => ACK,
+    };
+    Blow {
+        flags,
+        seq: strikes.seq.add(2 + below(draws, 7)),
+        ack: Seq(draws.draw()),
+        room: 20,
+    }
+}
+
+/// A SYN with the client's initial number, or beside it.
+fn opening(draws: &mut Generator, strikes: Strikes) -> Blow
+    ensures { (0 < result.room) × (result.room < 21) }
+{
+    let past = match below(draws, 4) {
+        0 | 1 => 4_294_967_295,
+        2 => 0,
+        _ => 69_999,
+    };
+    Blow {
+        flags: SYN,
+        seq: strikes.seq.add(past),
+        ack: Seq(0),
+        room: 1,
+    }
+}
+
+fn draw_blow(draws: &mut Generator, strikes: Strikes) -> Blow
+    ensures { (0 < result.room) × (result.room < 21) }
+{
+    match below(draws, strikes.kinds.max(1)) {
+        0 => far_acknowledgement(draws, strikes),
+        1 => wrong_edge(draws, strikes),
+        2 => wrong_reset(draws, strikes),
+        3 => overlap(draws, strikes),
+        4 => odd_flags(draws, strikes),
+        _ => opening(draws, strikes),
+    }
+}
+
+fn head(draws: &mut Generator, blow: Blow) -> Head
+    ensures { result.mss ≡ None }
+{
+    Head {
+        src: FROM.ip,
+        dst: LOCAL.ip,
+        sport: FROM.port,
+        dport: LOCAL.port,
+        seq: blow.seq,
+        ack: blow.ack,
+        flags: blow.flags,
+        window: below(draws, 65_536) as u16,
+        mss: None,
+    }
+}
+
+/// How many packets were sent, and a polynomial hash of them at 257, modulo 2^32 - 5.
+#[derive(Clone, Copy)]
+pub(crate) struct Digest {
+    pub sent: u64,
+    pub sum: u64,
+}
+
+impl Digest {
+    fn note(&mut self, byte: u8) {
+        self.sum = (self.sum % 4_294_967_291 * 257 + u64::from(byte) + 1) % 4_294_967_291;
+    }
+
+    fn note_all(&mut self, bytes: &[u8]) {
+        for byte in bytes {
+            self.note(*byte);
+        }
+    }
+
+    /// A packet: the address of its client, if it goes to one, and its bytes.
+    fn note_packet(&mut self, packet: &OutPacket) {
+        self.sent = self.sent.saturating_add(1);
+        if let To::Client(key) = packet.to() {
+            self.note_all(&key.ip.to_be_bytes());
+            self.note_all(&key.port.to_be_bytes());
+        }
+        self.note_all(packet.bytes());
+    }
+}
+
+/// Gives a server these segments, one after another.
+pub(crate) fn strike(
+    alloc: Global,
+    node: &mut Node<AnyService>,
+    strikes: Strikes,
+) -> Result<Digest, NoMemory> {
+    let mut draws = Generator::new(strikes.seed);
+    let mut digest = Digest { sent: 0, sum: 0 };
+    let mut bytes = [0u8; 2_048];
+    for _ in 0..strikes.times {
+        let blow = draw_blow(&mut draws, strikes);
+        let head = head(&mut draws, blow);
+        let text = [below(&mut draws, 256) as u8; 20];
+        let size = below(&mut draws, blow.room) as usize;
+        let len = write_packet(&head, &text[..size], &mut bytes).min(1_500);
+        if node.turn(alloc, Input::Packet(&bytes[..len])).is_err() {
+            return Err(NoMemory);
+        }
+        for packet in node.sent() {
+            digest.note_packet(packet);
+        }
+    }
+    Ok(digest)
+}

@@ -1,0 +1,127 @@
+-- The entries of a restart, each by itself.
+use Rattle.std.proofs.Common.{◌≡◌, ◌∙◌, Bool, true, false, refl, sym, ap, subst, true≢false, List, [], ◌∷◌, ◌++◌, append_assoc, append-nil, Some, None, if◌then◌else◌}
+use Rattle.std.specs.List.{AllByRecursion}
+use Rattle.std.specs.Map.{lookup}
+use Rattle.std.proofs.lemmas.Bool.{or_parts, or_right}
+use Rattle.ft_io.specs.declared.Key.{Key}
+use Rattle.ft_io.specs.Key.{key_eq}
+use Rattle.server_trait.specs.Service.{Machine}
+use Rattle.ft_model.specs.Lawful.{restored}
+use Rattle.ft_model.specs.Node.{Node}
+use Rattle.ft_model.specs.Node.Place.{Lives, Ended}
+use Rattle.ft_model.specs.Restart.{Fetched, IsSound, entry_in, is_fetched, point_of}
+use Rattle.ft_model.specs.Wire.{Wire}
+use Rattle.ft_model.proofs.Keys.{key_eq_turns}
+use Rattle.ft_model.proofs.Lists.{or_left, same_key, key_is, all_append, all_both, all_weaker}
+use Rattle.server_node.specs.declared.serving.Serving.{Serving}
+use Rattle.server_node.specs.declared.slot.Slot.{Slot}
+use Rattle.server_node.specs.declared.slot.Slot.TheVariants as slot
+use Rattle.server_node.specs.Alone.{slot_of, StandsFor}
+use Rattle.server_node.specs.Restarts.{IsRestorable, KeyRevives, IsForFetched, RestoredAlone}
+use Rattle.server_node.specs.Reviving.{SlotRevives}
+use Rattle.server_node.specs.Whose.{of_key, IsFor, IsOnlyFor}
+use Rattle.server_node.proofs.Found.{other_last}
+use Rattle.server_node.proofs.Keyed.{none_of, quiet_for, told_is, told_its}
+use Rattle.server_node.proofs.Restored.{behind_others, found_last}
+use Rattle.server_node.proofs.Ticked.{of_both}
+
+-- a key that isn't fetched is none of these
+all_unlike : (key : Key) (fetched : List Fetched) → is_fetched key fetched ≡ false → AllByRecursion (λ f. key_eq f.head.key key ≡ false) fetched
+all_unlike key [] e = tt
+all_unlike key (f ∷ fetched) e = let parts = or_parts (key_eq f.head.key key) (is_fetched key fetched) e in (parts.0, all_unlike key fetched parts.1)
+
+pub silent_fetched : (key : Key) (fetched : List Fetched) (told : List Wire) → is_fetched key fetched ≡ false → AllByRecursion (IsForFetched fetched) told → of_key key told ≡ []
+silent_fetched key fetched [] fresh whose = refl
+silent_fetched key fetched (w ∷ ws) fresh whose = one whose.0 (silent_fetched key fetched ws fresh whose.1)
+  where
+    one : IsForFetched fetched w → of_key key ws ≡ [] → of_key key (w ∷ ws) ≡ []
+    one (k, there, its) rest = go (key_eq k key) refl
+      where
+        go : (b : Bool) → key_eq k key ≡ b → of_key key (w ∷ ws) ≡ []
+        go true t = absurd (true≢false (sym (subst (λ x. is_fetched x fetched ≡ true) (same_key k key t) there) ∙ fresh))
+        go false t = of_both key (w ∷ []) ws ∙ (ap (λ x. x ++ of_key key ws) (none_of k key (w ∷ []) (its, tt) t) ∙ rest)
+
+module _ {S : Type 0} (service : Machine S) (node : Node) where
+  -- before any
+  pub none_restored : (now : Serving S) (told : List Wire) → now.slots.entries ≡ [] → RestoredAlone service node [] now told told
+  none_restored now told none = record { told = []; put = sym (append-nil told); each = tt; others = λ key e. ap (lookup (key_eq key)) none; whose = tt }
+
+  -- an entry more, the newest
+  more_restored : (f : Fetched) (fetched : List Fetched) (before after : Serving S) (now : Slot S) (old mid new : List Wire) → is_fetched f.head.key fetched ≡ false
+      → RestoredAlone service node fetched before old mid → IsOnlyFor f.head.key mid new
+      → (IsRestorable service f → SlotRevives service node f.head.key (restored service f) now mid new)
+      → (lookup (key_eq f.head.key) before.slots.entries ≡ None → after.slots.entries ≡ before.slots.entries ++ (f.head.key, now) ∷ [])
+      → RestoredAlone service node (f ∷ fetched) after old new
+  more_restored f fetched before after now old mid new fresh r p revives added = record {
+    told = r.told ++ p.told;
+    put = p.put ∙ (ap (λ ws. ws ++ p.told) r.put ∙ append_assoc old r.told p.told);
+    each = (
+      own,
+      all_both (λ x. key_eq x.head.key f.head.key ≡ false) (λ x. IsRestorable service x → KeyRevives service node x (slot_of x.head.key before) r.told)
+          (λ x. IsRestorable service x → KeyRevives service node x (slot_of x.head.key after) (r.told ++ p.told)) fetched still (all_unlike f.head.key fetched fresh) r.each,
+    );
+    others = λ key e.
+        let parts = or_parts (key_eq f.head.key key) (is_fetched key fetched) e in
+        ap (lookup (key_eq key)) is ∙ behind_others key f.head.key before.slots.entries now (key_eq_turns f.head.key key parts.0) (r.others key parts.1);
+    whose = all_append (IsForFetched (f ∷ fetched)) r.told p.told
+        (all_weaker (IsForFetched fetched) (IsForFetched (f ∷ fetched)) r.told (λ w (k, there, its). (k, or_right (key_eq f.head.key k) (is_fetched k fetched) there, its)) r.whose)
+        (all_weaker (IsFor f.head.key) (IsForFetched (f ∷ fetched)) p.told (λ w its. (f.head.key, or_left (key_eq f.head.key f.head.key) (is_fetched f.head.key fetched) (key_is f.head.key), its)) p.alone);
+  }
+    where
+      none : lookup (key_eq f.head.key) before.slots.entries ≡ None
+      none = r.others f.head.key fresh
+
+      is : after.slots.entries ≡ before.slots.entries ++ (f.head.key, now) ∷ []
+      is = added none
+
+      own : IsRestorable service f → KeyRevives service node f (slot_of f.head.key after) (r.told ++ p.told)
+      own ok =
+          let s = revives ok in record {
+            after = s.after;
+            packets = s.packets;
+            stands = subst (λ x. StandsFor service node f.head.key x (Some s.after))
+                (sym (ap (lookup (key_eq f.head.key)) is ∙ found_last f.head.key before.slots.entries now none)) s.stands;
+            turn = s.turn;
+            wires = of_both f.head.key r.told p.told ∙ (ap (λ ws. ws ++ of_key f.head.key p.told) (silent_fetched f.head.key fetched r.told fresh r.whose)
+                ∙ told_its f.head.key p.told s.packets p.alone (told_is mid new p.told s.packets p.put s.wires) s.spelled);
+            spelled = s.spelled;
+          }
+
+      still : (x : Fetched) → key_eq x.head.key f.head.key ≡ false → (IsRestorable service x → KeyRevives service node x (slot_of x.head.key before) r.told)
+          → IsRestorable service x → KeyRevives service node x (slot_of x.head.key after) (r.told ++ p.told)
+      still x unlike h ok =
+          let k = h ok in
+          let other = key_eq_turns x.head.key f.head.key unlike in record {
+            after = k.after;
+            packets = k.packets;
+            stands = subst (λ s. StandsFor service node x.head.key s (Some k.after))
+                (sym (ap (lookup (key_eq x.head.key)) is ∙ other_last f.head.key x.head.key other before.slots.entries now)) k.stands;
+            turn = k.turn;
+            wires = of_both x.head.key r.told p.told ∙ (ap (λ ws. of_key x.head.key r.told ++ ws) (none_of f.head.key x.head.key p.told p.alone other)
+                ∙ (append-nil (of_key x.head.key r.told) ∙ k.wires));
+            spelled = k.spelled;
+          }
+
+  -- one that is done, ..
+  pub ended_alone : (f : Fetched) (fetched : List Fetched) (key : Key) (before after : Serving S) (old mid : List Wire) → f.head.done ≡ true → key ≡ f.head.key → is_fetched f.head.key fetched ≡ false
+      → RestoredAlone service node fetched before old mid
+      → (lookup (key_eq key) before.slots.entries ≡ None → after.slots.entries ≡ before.slots.entries ++ (key, slot.Done) ∷ [])
+      → RestoredAlone service node (f ∷ fetched) after old mid
+  ended_alone f fetched key before after old mid done is fresh r added =
+      let place : restored service f ≡ Ended f.head.key = ap (λ b. if b then Ended f.head.key else Lives (point_of service (entry_in f))) done in
+      more_restored f fetched before after slot.Done old mid mid fresh r (quiet_for f.head.key mid)
+      (λ ok. subst (λ p. SlotRevives service node f.head.key p slot.Done mid mid) (sym place)
+      (record { after = Ended f.head.key; packets = []; stands = refl; turn = (refl, refl); wires = sym (append-nil mid); spelled = tt }))
+      (subst (λ k. lookup (key_eq k) before.slots.entries ≡ None → after.slots.entries ≡ before.slots.entries ++ (k, slot.Done) ∷ []) is added)
+
+  -- .. and one that isn't
+  pub live_alone : (f : Fetched) (fetched : List Fetched) (key : Key) (before after : Serving S) (now : Slot S) (old mid new : List Wire) → f.head.done ≡ false → key ≡ f.head.key
+      → is_fetched f.head.key fetched ≡ false → RestoredAlone service node fetched before old mid → IsOnlyFor key mid new
+      → (IsSound service (entry_in f) → SlotRevives service node f.head.key (Lives (point_of service (entry_in f))) now mid new)
+      → (lookup (key_eq key) before.slots.entries ≡ None → after.slots.entries ≡ before.slots.entries ++ (key, now) ∷ [])
+      → RestoredAlone service node (f ∷ fetched) after old new
+  live_alone f fetched key before after now old mid new live is fresh r p revives added =
+      let place : restored service f ≡ Lives (point_of service (entry_in f)) = ap (λ b. if b then Ended f.head.key else Lives (point_of service (entry_in f))) live in
+      more_restored f fetched before after now old mid new fresh r (subst (λ k. IsOnlyFor k mid new) is p)
+      (λ ok. subst (λ q. SlotRevives service node f.head.key q now mid new) (sym place) (revives (ok live)))
+      (subst (λ k. lookup (key_eq k) before.slots.entries ≡ None → after.slots.entries ≡ before.slots.entries ++ (k, now) ∷ []) is added)

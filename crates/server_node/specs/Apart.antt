@@ -1,0 +1,18 @@
+-- What holds of a node's turn whatever came, wherever its connections stood, and whatever its log's entries are.
+use Rattle.std.specs.Prelude.{List}
+use Rattle.server_trait.specs.Service.{Machine}
+use Rattle.ft_model.specs.Node.{Input}
+use Rattle.ft_model.specs.Node.{Stage as law_stage}
+use Rattle.ft_model.specs.Wire.{Wire}
+use Rattle.server_node.specs.declared.identity.Identity.{Identity}
+use Rattle.server_node.specs.declared.stage.Stage.{Stage}
+use Rattle.server_node.specs.Alone.{Others, IsUntouched, Alone}
+use Rattle.server_node.specs.Identity.{node_of}
+use Rattle.server_node.specs.Restarts.{Restarts}
+
+-- it leaves others alone, what is for nobody here does nothing, each key has its turn, and each entry is restarted by itself
+pub record TurnsApart {S : Type 0} (service : Machine S) (who : Identity) (input : Input) (was now : Stage S) (sent : List Wire) : Type 0 where
+  pub others : (standing : law_stage) → Others (node_of who standing) input was now sent
+  pub untouched : (standing : law_stage) → IsUntouched (node_of who standing) input was now sent
+  pub alone : (standing : law_stage) → Alone service (node_of who standing) input was now sent
+  pub restarts : (standing : law_stage) → Restarts service (node_of who standing) input was now sent

@@ -1,0 +1,80 @@
+-- What each entry's key has of a restart, whatever the other entries are: one that can't be restored touches its own key alone.
+use Rattle.std.specs.Prelude.{◌≡◌, MatchOption, ℕ, true, false, Option, Some, None, List, [], ◌∷◌, ◌++◌, map}
+use Rattle.std.specs.List.{AllByRecursion}
+use Rattle.ft_io.specs.declared.Key.{Key}
+use Rattle.seq_arith.specs.Message.{Message}
+use Rattle.server_trait.specs.Service.{Machine}
+use Rattle.ft_model.specs.Lawful.{Revives, restored, asked, count_told, fetched_then}
+use Rattle.ft_model.specs.Network.{Packet}
+use Rattle.ft_model.specs.Node.{Node, Place, Input}
+use Rattle.ft_model.specs.Node.Input.{Packet_comes, Message_comes, Noise_comes, Tick_comes}
+use Rattle.ft_model.specs.Restart.{Fetched, Wanted, IsSound, entry_in, is_fetched, wanted}
+use Rattle.ft_model.specs.Wire.{Wire, wire_of, HasWire}
+use Rattle.reincarnate.specs.Asking.{FetchingState}
+use Rattle.server_node.specs.declared.serving.Serving.{Serving}
+use Rattle.server_node.specs.declared.slot.Slot.{Slot}
+use Rattle.server_node.specs.declared.stage.Stage.{Stage}
+use Rattle.server_node.specs.declared.stage.Stage.TheVariants as stage
+use Rattle.server_node.specs.Alone.{slot_of, StandsFor}
+use Rattle.server_node.specs.Restarting.{FetchingStands}
+use Rattle.server_node.specs.Sending.{ArePut}
+use Rattle.server_node.specs.Whose.{of_key, IsFor}
+
+-- an entry that is done, or sound
+abbrev pub IsRestorable : {S : Type 0} → Machine S → Fetched → Type 0
+IsRestorable service f = f.head.done ≡ false → IsSound service (entry_in f)
+
+-- its key's first turn, from the place of the entry: its slot stands at the place after it, and of what is sent the key's packets are those of the law
+pub record KeyRevives {S : Type 0} (service : Machine S) (node : Node) (f : Fetched) (now : Option (Slot S)) (sent : List Wire) : Type 0 where
+  pub after : Place
+  pub packets : List Packet
+  pub stands : StandsFor service node f.head.key now (Some after)
+  pub turn : Revives service node (restored service f) (after ∷ []) packets
+  pub wires : of_key f.head.key sent ≡ map wire_of packets
+  pub spelled : AllByRecursion HasWire packets
+
+-- a packet of a key whose entry is fetched
+abbrev pub IsForFetched : List Fetched → Wire → Type 0
+IsForFetched fetched wire = (key : Key) × (is_fetched key fetched ≡ true) × IsFor key wire
+
+-- these entries have had their first turn, each by itself, and no other key has a slot or a packet
+pub record RestoredAlone {S : Type 0} (service : Machine S) (node : Node) (fetched : List Fetched) (now : Serving S) (old new : List Wire) : Type 0 where
+  pub told : List Wire
+  pub put : new ≡ old ++ told
+  pub each : AllByRecursion (λ f. IsRestorable service f → KeyRevives service node f (slot_of f.head.key now) told) fetched
+  pub others : (key : Key) → is_fetched key fetched ≡ false → slot_of key now ≡ None
+  pub whose : AllByRecursion (IsForFetched fetched) told
+
+-- it asks for what is missing next
+pub record StillAsks {S : Type 0} (service : Machine S) (node : Node) (count : ℕ) (fetched : List Fetched) (now : FetchingState S) (old new : List Wire) : Type 0 where
+  pub next : Wanted
+  pub missing : wanted count fetched ≡ Some next
+  pub stands : FetchingStands service count fetched now
+  pub asks : ArePut (asked node (Some next)) old new
+
+-- where a restart is with these entries: it asks for what is missing, or nothing is and it serves
+abbrev pub RestartGoes : {S : Type 0} → Machine S → Node → (count : ℕ) → List Fetched → Stage S → (old new : List Wire) → Type 0
+RestartGoes service node count fetched (stage.Fetching f) old new = StillAsks service node count fetched f old new
+RestartGoes service node count fetched (stage.Serving s) old new = (wanted count fetched ≡ None) × RestoredAlone service node fetched s old new
+RestartGoes service node count fetched _ old new = ⊥
+
+-- a message that fits no question changes nothing
+abbrev pub AnswerGoes : {S : Type 0} → Machine S → Node → Message → (count : ℕ) → List Fetched → FetchingState S → Stage S → (old new : List Wire) → Type 0
+AnswerGoes service node message count fetched f now old new =
+    MatchOption (fetched_then node message count fetched) ((now ≡ stage.Fetching f) × (new ≡ old)) (λ more. RestartGoes service node count more now old new)
+
+-- a message, while the logger is asked how many entries it has, or while those are fetched
+abbrev pub MessageRestarts : {S : Type 0} → Machine S → Node → Message → (was now : Stage S) → List Wire → Type 0
+MessageRestarts service node message stage.Asking now sent =
+    MatchOption (count_told node message) ((now ≡ stage.Asking) × (sent ≡ [])) (λ count. RestartGoes service node count [] now [] sent)
+MessageRestarts service node message (stage.Fetching f) now sent =
+    (count : ℕ) (fetched : List Fetched) → FetchingStands service count fetched f → AnswerGoes service node message count fetched f now [] sent
+MessageRestarts service node message (stage.Serving s) now sent = Unit {0}
+MessageRestarts service node message stage.Lost now sent = Unit {0}
+
+-- a node's turn restarts each key by itself. Only messages lead a restart on
+abbrev pub Restarts : {S : Type 0} → Machine S → Node → Input → (was now : Stage S) → List Wire → Type 0
+Restarts service node (Message_comes message) was now sent = MessageRestarts service node message was now sent
+Restarts service node (Packet_comes segment) was now sent = Unit {0}
+Restarts service node Noise_comes was now sent = Unit {0}
+Restarts service node Tick_comes was now sent = Unit {0}
