@@ -1,5 +1,5 @@
 -- The client machine goes on beside a client, turn by turn, as long as what comes is near.
-use Rattle.std.proofs.Common.{◌≡◌, ℕ, ◌-◌, None, List, [], ◌∷◌, ◌++◌, length, length-drop, drop, refl, sym, ap, ap₂, subst, arith, ◌∙◌, append-nil, Result, Ok, Err}
+use Rattle.std.proofs.Common.{◌≡◌, ℕ, None, List, [], ◌∷◌, ◌++◌, length, length-drop, drop, refl, sym, ap, ap₂, subst, arith, ◌∙◌, append-nil, Result, Ok, Err}
 use Rattle.std.specs.Prelude.{pos, ◌-ℤ◌, ◌≤ℤ◌, ◌^◌, ◌==◌, ◌&&◌, ◌||◌, not, int_lt}
 use Rattle.std.proofs.Math.Seq.{drop-append_seam}
 use Rattle.seq_arith.specs.Arrival.{int_eq}

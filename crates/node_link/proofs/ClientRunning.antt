@@ -104,7 +104,7 @@ module _ (isn : ℕ) (server : Addr) where
         beside = λ c standing none near. subst (λ (l : LiveState). IsDue l (machine_then before c r.received)) r.state (r.beside c standing none near);
       }
 
--- so many turns were done, behind the first flush
+-- so many turns were done, after the first flush
 pub record RunsTo (start : LiveState) (count : ℕ) (old now : Option (List LinkCall)) (Writes : List ℕ → Type 0) (client : LiveState) : Type 0 where
   pub first : List Bool
   pub turns : List ClientTurn
@@ -195,7 +195,7 @@ runs_end start client machine count most old new Writes Ends begins within ends 
   modelled = λ near. beside_ends start machine r.turns (r.beside machine begins near);
 }
 
--- a run stands behind its bind
+-- a run comes after its bind
 pub runs_behind : (start : LiveState) (machine : Client) (most : ℕ) (bound : List LinkCall) (before old new : Option (List LinkCall)) (Writes : List ℕ → Type 0)
     (Ends : Option ClientEnd → ℕ → Type 0) → Tells before old bound → Runs start machine most [] old new Writes Ends → Runs start machine most bound before new Writes Ends
 runs_behind start machine most bound before old new Writes Ends b r = record {

@@ -1,5 +1,5 @@
--- Texts that are written one behind another, as far as the writes go.
-use Rattle.std.proofs.Common.{◌≡◌, ℕ, zero, suc, ◌+◌, Option, None, Some, List, [], ◌∷◌, ◌++◌, take, refl, sym, ap, subst, Result, Ok, Err, OnErr, MatchOption}
+-- Texts that are written one after another, as far as the writes go.
+use Rattle.std.proofs.Common.{◌≡◌, ℕ, zero, suc, Option, None, Some, List, [], ◌∷◌, ◌++◌, take, refl, sym, ap, subst, Result, Ok, Err, OnErr, MatchOption}
 use Rattle.std.specs.Io.KnownBytes.{Appends}
 use Rattle.ft_io.specs.Sink.{AppendsFront}
 

@@ -5,6 +5,7 @@ pub mod ClientRunning
 pub mod Commanding
 pub mod Deciding
 pub mod Fronts
+pub mod KeyGoing
 pub mod Pairing
 pub mod Serviced
 pub mod Serving

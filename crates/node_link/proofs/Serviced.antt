@@ -3,6 +3,7 @@ use Rattle.std.proofs.Common.{◌≡◌, ◌∙◌, inl, inr, ℕ, true, false, 
 use Rattle.std.proofs.lemmas.List.{map-append, length-map}
 use Rattle.std.proofs.Math.Seq.{take-suc}
 use Rattle.ft_io.specs.declared.Addr.{Addr}
+use Rattle.ft_io.specs.declared.Key.{Key}
 use Rattle.ft_io.specs.declared.Failed.{Failed}
 use Rattle.ft_io.specs.declared.link_call.LinkCall.{LinkCall}
 use Rattle.ft_io.specs.declared.link_call.LinkCall.TheVariants.{Bound}
@@ -18,6 +19,7 @@ use Rattle.ft_model.specs.World.{segment_or_noise, message_or_noise}
 use Rattle.ft_model.specs.Wire.{Wire, wire_of}
 use Rattle.server_node.specs.declared.input.TurnEnd.{TurnEnd}
 use Rattle.server_node.specs.declared.input.TurnEnd.TheVariants as end
+use Rattle.server_node.specs.Apart.{TurnsApart}
 use Rattle.server_node.specs.Identity.{node_of}
 use Rattle.server_node.specs.Stages.{StageStands, NodeGoes, IsFence}
 use Rattle.node_link.specs.declared.counts.Counts.{Counts}
@@ -25,12 +27,15 @@ use Rattle.node_link.specs.declared.role.ServerRole.{ServerRole}
 use Rattle.node_link.specs.declared.status.NodeEnd.{NodeEnd}
 use Rattle.node_link.specs.declared.status.NodeEnd.TheVariants as ends
 use Rattle.node_link.specs.Counts.{count_line, counts_of, with_calls, HasRoom}
+use Rattle.node_link.specs.KeyLife.{AreFairFor}
+use Rattle.node_link.specs.KeyLife.KeyStage.{Asks}
 use Rattle.node_link.specs.Received.{Received, datagram, received_as, IsQuiet}
 use Rattle.node_link.specs.Telling.{TellStops}
 use Rattle.node_link.specs.ServerTurns.{is_from, input_from, Sent, wires_in, address_of, sent_as, sending, ServerTurn, turn_calls, server_calls}
-use Rattle.node_link.specs.Incarnation.{service_of, first_of, input_in, IsFairAt, AreFair, fence_in}
+use Rattle.node_link.specs.Incarnation.{kind_in, service_of, first_of, input_in, IsFairAt, AreFair, fence_in}
 use Rattle.node_link.specs.ServerLife.{IsServer, IsCutServer, ServerStops}
-use Rattle.node_link.specs.Turning.{Standing, HasSent, identity_of, HasBooted, Goes, HasTurned, EndsTurn, TurnStops, Stands, IsServing, HasServed, IsCutServing, ServeStops}
+use Rattle.node_link.specs.Turning.{Standing, HasSent, identity_of, HasBooted, Goes, HasTurned, EndsTurn, TurnStops, Stands, StandsForKey, IsServing, HasServed, IsCutServing, ServeStops}
+use Rattle.node_link.proofs.KeyGoing.{GoesFor, begins_for, key_goes}
 use Rattle.node_link.proofs.Calls.{tells_on, tells_none, counts_on, with_both, with_none, few_calls, IsFew}
 
 -- what came, as an input
@@ -98,9 +103,9 @@ module _ {State : Type 0} (services : ℕ → Machine State) where
   -- a turn, from its parts
   pub turned : (logger : Addr) (before after : Standing State) (old mid new : Option (List LinkCall)) (c between counts : Counts) (r : Received) (input : law.Input) (wires : List Wire)
       → Tells old mid (received_as r ∷ []) → between ≡ with_calls c (received_as r ∷ []) → input ≡ input_from logger r → length wires ≤ 2 ^ 64 → HasSent logger wires mid new between counts
-      → after.who ≡ before.who → Goes services before input after wires → ((standing : law.Stage) → fence (node_of before.who standing) input ≡ None)
-      → HasTurned services logger before after old new c counts
-  turned logger before after old mid new c between counts r input wires t k is few sent who goes unfenced =
+      → after.who ≡ before.who → Goes services before input after wires → TurnsApart (services before.who.kind) before.who input before.stage after.stage wires
+      → ((standing : law.Stage) → fence (node_of before.who standing) input ≡ None) → HasTurned services logger before after old new c counts
+  turned logger before after old mid new c between counts r input wires t k is few sent who goes apart unfenced =
       record {
         turn = record { received = r; sent = sent.sent };
         few = subst (λ n. n ≤ 2 ^ 64) (sym (length_sent logger wires mid new between counts sent)) few;
@@ -108,6 +113,8 @@ module _ {State : Type 0} (services : ℕ → Machine State) where
         counts_are = sent.counts_are ∙ (ap (λ x. with_calls x (sending logger sent.sent)) k ∙ with_both c (received_as r ∷ []) (sending logger sent.sent));
         who = who;
         goes = subst (λ i. Goes services before i after (wires_in sent.sent)) is (subst (Goes services before input after) (sym sent.wires_are) goes);
+        apart = subst (λ i. TurnsApart (services before.who.kind) before.who i before.stage after.stage (wires_in sent.sent)) is
+            (subst (TurnsApart (services before.who.kind) before.who input before.stage after.stage) (sym sent.wires_are) apart);
         unfenced = subst (λ i. (standing : law.Stage) → fence (node_of before.who standing) i ≡ None) is unfenced;
       }
 
@@ -133,11 +140,12 @@ module _ {State : Type 0} (services : ℕ → Machine State) where
         turns = [];
         count_is = refl;
         tells = b.tells;
-        serves = record { boots = b.wires_are; lawful = tt; unfenced = tt };
+        serves = record { boots = b.wires_are; lawful = tt; each_key = λ key. tt; unfenced = tt };
         counts_are = b.counts_are ∙ (ap (λ x. with_calls x (sending role.logger b.at_boot)) none ∙ sym (counts_on [] (sending role.logger b.at_boot)));
         total = subst (λ n. n ≤ (0 + 1) * (2 ^ 64 + 1)) (sym (length-map b.at_boot (sent_as role.logger))) (omega (arith, b.few));
         who = b.who;
         stands = λ fair. record { turns_by_law = []; standing = law.Stage.Asking; incarnation = record { turns_are = tt; lawful = tt }; node = refl; stands = b.stands };
+        each_key = λ key fair. record { at = Asks; run = refl; stands = begins_for services (first_of role) (first_of role) key s.stage (kind_in role.service) b.stands refl };
       }
 
   -- .. and one more
@@ -172,11 +180,25 @@ module _ {State : Type 0} (services : ℕ → Machine State) where
       let st : Stands services role turns s = stands fair.0 in
       stands_on role turns turn s s' who goes st (fair.1 st.turns_by_law st.incarnation)
 
+  key_on : (role : ServerRole) (turns : List ServerTurn) (turn : ServerTurn) (s s' : Standing State) (key : Key) → s.who ≡ identity_of role
+      → Goes services s (input_in role turn.received) s' (wires_in turn.sent) → TurnsApart (services s.who.kind) s.who (input_in role turn.received) s.stage s'.stage (wires_in turn.sent)
+      → (AreFairFor (service_of services role) (first_of role) key role.logger turns → StandsForKey services role key turns s)
+      → AreFairFor (service_of services role) (first_of role) key role.logger (turn ∷ turns) → StandsForKey services role key (turn ∷ turns) s'
+  key_on role turns turn s s' key who goes apart stands fair =
+      let st : StandsForKey services role key turns s = stands fair.0 in
+      let next : GoesFor services (identity_of role) key (input_in role turn.received) st.at (wires_in turn.sent) s'.stage =
+      key_goes services (identity_of role) key (input_in role turn.received) s.stage s'.stage (wires_in turn.sent)
+      (goes_by role s (input_in role turn.received) s' (wires_in turn.sent) who goes)
+      (subst (λ w. TurnsApart (services w.kind) w (input_in role turn.received) s.stage s'.stage (wires_in turn.sent)) who apart) st.at st.stands (fair.1 st.at st.run) in
+      record { at = next.after; run = (st.at, st.run, next.goes); stands = next.stands }
+
   pub serving_on : (role : ServerRole) (i : ℕ) (s s' : Standing State) (old mid new : Option (List LinkCall)) (c counts : Counts) → IsServing services role i s old mid c
       → HasTurned services role.logger s s' mid new c counts → IsServing services role (i + 1) s' old new counts
   serving_on role i s s' old mid new c counts h t =
       let calls : List LinkCall = server_calls role.logger h.at_boot h.turns in
       let stands : AreFair services role (t.turn ∷ h.turns) → Stands services role (t.turn ∷ h.turns) s' = lawful_on role h.turns t.turn s s' h.who t.goes h.stands in
+      let keys : (key : Key) → AreFairFor (service_of services role) (first_of role) key role.logger (t.turn ∷ h.turns) → StandsForKey services role key (t.turn ∷ h.turns) s' =
+      λ key. key_on role h.turns t.turn s s' key h.who t.goes t.apart (h.each_key key) in
       let none : fence_in role t.turn.received ≡ None =
       subst (λ w. fence (node_of w law.Stage.Asking) (input_in role t.turn.received) ≡ None) h.who (t.unfenced law.Stage.Asking) in
       record {
@@ -187,12 +209,14 @@ module _ {State : Type 0} (services : ℕ → Machine State) where
         serves = record {
           boots = h.serves.boots;
           lawful = (h.serves.lawful, λ fair. ((stands fair).turns_by_law, (stands fair).incarnation));
+          each_key = λ key. (h.serves.each_key key, λ fair. ((keys key fair).at, (keys key fair).run));
           unfenced = (none, h.serves.unfenced);
         };
         counts_are = t.counts_are ∙ (ap (λ x. with_calls x (turn_calls role.logger t.turn)) h.counts_are ∙ sym (counts_on (server_calls role.logger h.at_boot h.turns) (turn_calls role.logger t.turn)));
         total = longer role h.at_boot h.turns t.turn i h.total t.few;
         who = t.who ∙ h.who;
         stands = stands;
+        each_key = keys;
       }
 
   pub room_for_turn : (role : ServerRole) (i most : ℕ) (s : Standing State) (old new : Option (List LinkCall)) (counts : Counts) → i < most → most ≤ 1000000 → IsServing services role i s old new counts

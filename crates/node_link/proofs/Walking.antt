@@ -241,7 +241,7 @@ module _ (options : List OptionName) where
         → fold (walked rules []) w words ≡ at_word end idle → Holds end (before ++ uses) → Goes w words before found
     refuses : Fails (faults w words) → ((uses : List Use) → found ≡ Some uses → are_new options before uses ≡ true → ⊥) → Goes w words before found
 
-  -- where the walk stands: between two options, or behind `--NAME`
+  -- where the walk stands: between two options, or after `--NAME`
   pub data At : Walk → List Use → Option Text → Type 0 where
     between : (h : Held) (before : List Use) → Holds h before → At (at_word h idle) before None
     waits : (h : Held) (before : List Use) (o : OptionName) → option_named options (name_of o) ≡ Some o → Holds h before
@@ -266,7 +266,7 @@ module _ (options : List OptionName) where
   split_found u None uses e = absurd (none_some uses e)
   split_found u (Some us) uses e = record { rest = us; found = refl; whole = some_is _ _ e }
 
-  -- a word that names an option passes, and all is decided behind it
+  -- a word that names an option passes, and all is decided after it
   passes_on : (w after : Walk) (word : Text) (words : List Text) (before : List Use) (found : Option (List Use)) → turn w word ≡ [] → walked rules [] w word ≡ after
       → Goes after words before found → Goes w (word ∷ words) before found
   unfolding walk_fault
@@ -317,7 +317,7 @@ module _ (options : List OptionName) where
       by_word (Some p) is = by_name h (option (name_of o)) v p.0 p.1 refl (no_short v clean).0 is f (option_named options p.0) refl
       by_word None is = absurd (true_false (is_value v) (rw (clean, is) refl) e)
 
-  -- behind `--NAME` of an option that was used before, nothing passes
+  -- after `--NAME` of an option that was used before, nothing passes
   waiting_again : (h : Held) (before : List Use) (o : OptionName) (words : List Text) → Holds h before → option_named options (name_of o) ≡ Some o → is_used (name_of o) before ≡ true
       → list_any is_stray words ≡ false → Fails (faults (at_word (bare h o) (option (name_of o))) words)
   unfolding walk_fault

@@ -9,7 +9,7 @@ use Rattle.peer_client.specs.Standing.{AreMoves, AcksNear, receiving, outcome_of
 use Rattle.node_link.specs.Received.{Received, datagram, silence, failure}
 use Rattle.node_link.specs.ClientTurns.{ClientTurn, due_at, accepted_in}
 
--- what comes from the client's server acknowledges nothing far behind the client's stream
+-- what comes from the client's server acknowledges nothing far after the client's stream
 abbrev pub IsNear : Client → Received → Type 0
 IsNear c (datagram from bytes) = AcksNear c (reading bytes)
 IsNear c silence = Unit {0}

@@ -44,7 +44,7 @@ pub record HasTurned (server : Addr) (before after : LiveState) (old new : Optio
       → IsDue (after_receive before turn.received) (machine_then before c turn.received)
 
 -- with so many bytes written and read: what is sent and held for sending is among those written and a FIN, what waits to be read fits the buffer, and what
--- came early stands behind it
+-- came early comes after it
 pub record Limits (isn written read own una sent wl2 held : ℕ) (fin_sent : Bool) (done waiting limit : ℕ) (fin : Bool) (early : Early) : Type 0 where
   pub isn_is : own ≡ isn
   pub order : una ≤ sent

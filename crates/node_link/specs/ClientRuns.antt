@@ -28,7 +28,7 @@ IsSpent most outcome count = (outcome ≡ None) × (count ≡ most)
 abbrev pub IsCutShort : Option ClientEnd → ℕ → Type 0
 IsCutShort outcome count = Unit {0}
 
--- A client's first flush and its turns, behind these calls. It takes no turn more once its connection has an outcome. What is written are the bytes
+-- A client's first flush and its turns, after these calls. It takes no turn more once its connection has an outcome. What is written are the bytes
 -- accepted. Where what comes is near, the model's client machine goes beside it.
 pub record Runs (start : LiveState) (machine : Client) (most : ℕ) (calls : List LinkCall) (old new : Option (List LinkCall))
     (Writes : List ℕ → Type 0) (Ends : Option ClientEnd → ℕ → Type 0) : Type 0 where
@@ -41,7 +41,7 @@ pub record Runs (start : LiveState) (machine : Client) (most : ℕ) (calls : Lis
   pub ends : Ends (due_at start turns).outcome (length turns)
   pub modelled : AreNear machine turns → HasMachine start machine turns
 
--- the run of the words: behind the one bind, to the words' address, with their server, initial number and turns
+-- the run of the words: after the one bind, to the words' address, with their server, initial number and turns
 abbrev pub IsClient : ClientRole → (script : List ℕ) → (old new : Option (List LinkCall)) → (List ℕ → Type 0) → (Option ClientEnd → ℕ → Type 0) → Type 0
 IsClient role script old new Writes Ends =
     Runs (new_live role.local role.server role.isn script) (new_client Live role.server (record { ip = role.local.ip; port = role.local.port }) role.isn script)

@@ -8,7 +8,7 @@ use Rattle.tcp_endpoint.specs.Leaving.{packets}
 use Rattle.peer_client.specs.Live.{LiveState, heard, ticked, unread, handed, sent_by, turned}
 use Rattle.node_link.specs.Received.{Received, datagram, silence, failure, received_as}
 
--- what was received, and whether the sends of the flush behind it fail, one by one; those past the list don't
+-- what was received, and whether the sends of the flush after it fail, one by one; those past the list don't
 pub record ClientTurn : Type 0 where
   pub received : Received
   pub losses : List Bool
@@ -43,7 +43,7 @@ handings to (packet ∷ others) (is_lost ∷ losses) = Handed to packet is_lost 
 abbrev pub flush_calls : Addr → LiveState → List Bool → List LinkCall
 flush_calls server l losses = handings server (packets (sent_by l)) losses
 
--- all calls behind the bind, the oldest first; `first` are the losses of the first flush
+-- all calls after the bind, the oldest first; `first` are the losses of the first flush
 unfoldable pub client_calls : Addr → LiveState → (first : List Bool) → List ClientTurn → List LinkCall
 client_calls server start first [] = flush_calls server start first
 client_calls server start first (turn ∷ earlier) =

@@ -1,5 +1,5 @@
 -- How a process ends early: its exit status, and the line that tells it.
-use Rattle.std.specs.Prelude.{◌≡◌, ◌⊎◌, ℕ, Option, List, [], ◌++◌, codes}
+use Rattle.std.specs.Prelude.{◌≡◌, ◌⊎◌, ◌==◌, ◌||◌, ℕ, Bool, true, false, Option, Result, MatchResult, List, [], ◌++◌, codes}
 use Rattle.std.specs.Fmt.{decimal}
 use Rattle.std.specs.Io.KnownBytes.{Appends}
 use Rattle.ft_io.specs.Faults.{Rose}
@@ -17,6 +17,22 @@ code_of Reset = 7
 code_of Spent = 8
 code_of ReadFault = 9
 code_of ChildFault = 10
+
+-- the ends that a failed call brings: a bind, a write, a read, or a start of a child or a wait for one
+abbrev pub is_fault : NodeEnd → Bool
+is_fault LinkFault = true
+is_fault WriteFault = true
+is_fault ReadFault = true
+is_fault ChildFault = true
+is_fault _ = false
+
+-- and their statuses
+abbrev pub is_fault_status : (code : ℕ) → Bool
+is_fault_status code = code == 4 || (code == 5 || (code == 9 || code == 10))
+
+-- P, where no failed call ended it
+abbrev pub UnlessFault : {T : Type 0} → Result T NodeEnd → Type 0 → Type 0
+UnlessFault result P = MatchResult result (λ _. P) (λ end. is_fault end ≡ false → P)
 
 abbrev pub fence_text : ℕ → List ℕ
 fence_text newer = codes "ftnode: fenced by boot " ++ (decimal newer ++ codes "\n")

@@ -1,6 +1,7 @@
 -- The turns of a server's process as those of a lawful incarnation, for the services that its program offers, each by its kind.
 use Rattle.std.specs.Prelude.{◌≡◌, ℕ, Option, None, Some, map, List, [], ◌∷◌}
 use Rattle.std.specs.List.{AllByRecursion}
+use Rattle.ft_io.specs.declared.Key.{Key}
 use Rattle.server_trait.specs.Service.{Machine}
 use Rattle.ft_model.specs.Node.{Node, Input, booted}
 use Rattle.ft_model.specs.Lawful.{Turn, IsLawful, node_after, hello, fence, IsNearInput, IsSoundInput}
@@ -8,6 +9,7 @@ use Rattle.ft_model.specs.Schedule.{kind_of}
 use Rattle.ft_model.specs.declared.schedule.ServiceKind.{ServiceKind}
 use Rattle.ft_model.specs.Wire.{wire_of, HasWire}
 use Rattle.node_link.specs.declared.role.ServerRole.{ServerRole}
+use Rattle.node_link.specs.KeyLife.{AreLawfulFor}
 use Rattle.node_link.specs.Received.{Received}
 use Rattle.node_link.specs.ServerTurns.{Sent, wires_in, ServerTurn, input_from}
 
@@ -63,8 +65,10 @@ module _ {State : Type 0} (services : ℕ → Machine State) where
   AreLawful role [] = Unit {0}
   AreLawful role (turn ∷ earlier) = AreLawful role earlier × (AreFair role (turn ∷ earlier) → (law : List Turn) × IsIncarnation role (turn ∷ earlier) law)
 
-  -- a server from its boot on: it says Hello, its turns are lawful, and nothing that it received fences it
+  -- A server from its boot on: it says Hello, its turns are lawful, those of each key are as long as the premises hold of that key alone, and nothing that
+  -- it received fences it
   pub record Serves (role : ServerRole) (at_boot : List Sent) (turns : List ServerTurn) : Type 0 where
     pub boots : wires_in at_boot ≡ map wire_of (hello (first_of role))
     pub lawful : AreLawful role turns
+    pub each_key : (key : Key) → AreLawfulFor (service_of role) (first_of role) key role.logger turns
     pub unfenced : AllByRecursion (λ turn. fence_in role turn.received ≡ None) turns

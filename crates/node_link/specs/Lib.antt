@@ -6,6 +6,7 @@ pub mod Commands
 pub mod Counts
 pub mod Ends
 pub mod Incarnation
+pub mod KeyLife
 pub mod LoggerTurns
 pub mod Logging
 pub mod Options

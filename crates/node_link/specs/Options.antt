@@ -1,4 +1,4 @@
--- The options of a role, behind the role's word: in any order, each as the two words `--NAME` and value or as the one word `--NAME=VALUE`.
+-- The options of a role, after the role's word: in any order, each as the two words `--NAME` and value or as the one word `--NAME=VALUE`.
 use Rattle.std.specs.Prelude.{◌≡◌, ℕ, Bool, true, false, ◌&&◌, ◌||◌, not, Option, Some, None, is_some, option_map, option_and_then, List, [], ◌∷◌, ◌++◌, find, codes, if◌then◌else◌}
 use Rattle.std.specs.List.{list_any}
 use Rattle.std.specs.Str.{bytes_eq}
@@ -52,7 +52,7 @@ by_option None waiting later = None
 by_option (Some (name, Some value)) waiting later = with_use name value later
 by_option (Some (name, None)) waiting later = waiting name
 
--- the uses that words spell, in their order; behind `--NAME` (where a name is given) the first word is its value
+-- the uses that words spell, in their order; after `--NAME` (where a name is given) the first word is its value
 unfoldable pub uses_after : Option Text → List Text → Option (List Use)
 uses_after None [] = Some []
 uses_after None (word ∷ words) = by_option (long_of word) (λ name. uses_after (Some name) words) (uses_after None words)

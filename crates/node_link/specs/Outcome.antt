@@ -1,5 +1,5 @@
 -- What a process did, by its words and with any services, and how that is told.
-use Rattle.std.specs.Prelude.{◌≡◌, ◌⊎◌, ℕ, Option, None, Some, Result, Ok, Err, List}
+use Rattle.std.specs.Prelude.{◌≡◌, ◌⊎◌, ℕ, ◌^◌, ◌≤◌, Option, None, Some, Result, Ok, Err, List, length}
 use Rattle.std.specs.Io.KnownBytes.{Appends}
 use Rattle.ft_io.specs.declared.link_call.LinkCall.{LinkCall}
 use Rattle.ft_io.specs.declared.spawn_call.SpawnCall.{SpawnCall}
@@ -11,6 +11,7 @@ use Rattle.node_link.specs.declared.status.NodeEnd.{NodeEnd}
 use Rattle.node_link.specs.declared.status.NodeEnd.TheVariants.{Usage, NoMemory}
 use Rattle.server_trait.specs.Service.{Machine}
 use Rattle.ft_model.specs.Legal.{machines}
+use Rattle.ft_model.specs.declared.schedule.Script.{Script}
 use Rattle.sample_servers.specs.AnyService.{any_started, any_after}
 use Rattle.peer_client.specs.declared.live.ClientEnd.TheVariants.{Closed}
 use Rattle.node_link.specs.ClientRuns.{RunsScript, IsEndedBy, ClientStops}
@@ -41,6 +42,11 @@ IsTold (Err end) err_old err_new code =
 -- a count of faults doesn't rise
 abbrev pub IsStill : ℕ → ℕ → Type 0
 IsStill before after = Rose before after → ⊥
+
+-- a client can have its script: the words give it; or the source's content is specified and no longer than a script may be, and no read fails
+abbrev pub HasScript : Option Script → (left : Option (List ℕ)) → (faults_old faults_new : ℕ) → Type 0
+HasScript (Some script) left faults_old faults_new = Unit {0}
+HasScript None left faults_old faults_new = (bytes : List ℕ) × (left ≡ Some bytes) × (length bytes ≤ 2 ^ 24) × IsStill faults_old faults_new
 
 module _ {State : Type 0} (services : ℕ → Machine State) where
   -- what a role did. The client alone reads the input, and a pair alone starts children, and calls nothing on the link

@@ -24,7 +24,7 @@ name_of Client = codes "client"
 abbrev pub address_at : ℕ → List ℕ
 address_at port = codes "127.0.0.1:" ++ decimal port
 
--- the words of each start: the program, its role, and each option with its value behind it
+-- the words of each start: the program, its role, and each option with its value after it
 abbrev pub logger_start : PairRole → List (List ℕ)
 logger_start role =
     role.program ∷ codes "logger" ∷ codes "--local" ∷ address_at (role.base + 1) ∷ codes "--turns" ∷ decimal role.turns ∷ []
@@ -56,7 +56,7 @@ abbrev pub StepTells : ℕ → PairStep → List SpawnCall → List ℕ → Type
 StepTells before (Start words) calls line = (calls ≡ Started words ∷ []) × (line ≡ [])
 StepTells before (Wait child name) calls line = (status : ℤ) × (calls ≡ Ended (before + child) status ∷ []) × (line ≡ status_line name status)
 
--- and these steps, one behind another
+-- and these steps, one after another
 abbrev pub StepsTell : ℕ → List PairStep → List SpawnCall → List ℕ → Type 0
 StepsTell before [] calls lines = (calls ≡ []) × (lines ≡ [])
 StepsTell before (step ∷ steps) calls lines =

@@ -1,5 +1,5 @@
--- A role as words: its name, and behind it its options. Each value has the spelling that it has in a schedule's text.
-use Rattle.std.specs.Prelude.{ℕ, ◌^◌, ◌-◌, Bool, true, false, not, Option, Some, None, option_map, List, [], ◌∷◌, codes, if◌then◌else◌, ◌==◌}
+-- A role as words: its name, and after it its options. Each value has the spelling that it has in a schedule's text.
+use Rattle.std.specs.Prelude.{ℕ, ◌^◌, ◌-◌, Bool, true, false, not, Option, Some, None, is_none, option_map, List, [], ◌∷◌, codes, if◌then◌else◌, ◌==◌}
 use Rattle.std.specs.Option.{option_and_then}
 use Rattle.std.specs.Str.{bytes_eq}
 use Rattle.ft_io.specs.declared.Addr.{Addr}
@@ -34,13 +34,13 @@ script_in (Some word) = option_map Some (script_of word)
 abbrev pub script_at : List Use → OptionName → Option (Option Script)
 script_at uses o = script_in (value_of uses o)
 
--- a program is a word that isn't empty and doesn't begin with `-`
-abbrev pub is_program : Text → Bool
-is_program [] = false
-is_program (first ∷ rest) = not (first == 45)
+-- a program, and a file, is named by a word that isn't empty and doesn't begin with `-`
+abbrev pub is_name : Text → Bool
+is_name [] = false
+is_name (first ∷ rest) = not (first == 45)
 
 abbrev pub program_of : Text → Option Text
-program_of word = if is_program word then Some word else None
+program_of word = if is_name word then Some word else None
 
 abbrev pub program_at : List Use → OptionName → Option Text
 program_at uses o = option_and_then program_of (value_of uses o)
@@ -88,7 +88,7 @@ pair_from (Some program) (Some base) (Some first) (Some second) (Some turns) =
     Some (record { program = program; base = base; first = first; second = second; turns = turns })
 pair_from _ _ _ _ _ = None
 
--- the two ports behind the base are ports too
+-- the two ports after the base are ports too
 abbrev pub pair_in : List Use → Option PairRole
 pair_in uses =
     pair_from (program_at uses option.Program) (number_at 1 65533 uses option.Base)
@@ -146,3 +146,8 @@ own_role_of (name ∷ words) =
 abbrev pub is_pair : Option Role → Bool
 is_pair (Some (Pair role)) = true
 is_pair _ = false
+
+-- a client whose words give no script
+abbrev pub reads_input : Option Role → Bool
+reads_input (Some (Client role)) = is_none role.script
+reads_input _ = false

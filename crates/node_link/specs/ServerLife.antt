@@ -24,7 +24,7 @@ module _ {State : Type 0} (services : ℕ → Machine State) where
     pub serves : Serves services role at_boot turns
     pub written : Writes (count_line (counts_of (server_calls role.logger at_boot turns)))
 
-  -- one that want of memory ended: it sent nothing at what it received last, and that doesn't fence it
+  -- one that ended because memory ran out: it sent nothing at what it received last, and that doesn't fence it
   pub record IsCutServer (role : ServerRole) (old new : Option (List LinkCall)) : Type 0 where
     pub at_boot : List Sent
     pub turns : List ServerTurn
@@ -34,7 +34,7 @@ module _ {State : Type 0} (services : ℕ → Machine State) where
     pub serves : Serves services role at_boot turns
     pub unfenced : IfSome last (λ received. fence_in role received ≡ None)
 
-  -- want of memory may come before it says anything
+  -- a lack of memory may come before it says anything
   abbrev pub IsLostServer : ServerRole → (old new : Option (List LinkCall)) → Type 0
   IsLostServer role old new = Tells old new (Bound role.local ∷ []) ⊎ IsCutServer role old new
 

@@ -1,6 +1,7 @@
 -- What the parts of a server do in a turn, and in the turns so far.
 use Rattle.std.specs.Prelude.{◌≡◌, ◌⊎◌, ℕ, ◌+◌, ◌*◌, ◌^◌, ◌<◌, ◌≤◌, Option, Some, None, List, [], ◌∷◌, ◌++◌, length, map}
 use Rattle.ft_io.specs.declared.Addr.{Addr}
+use Rattle.ft_io.specs.declared.Key.{Key}
 use Rattle.ft_io.specs.declared.link_call.LinkCall.{LinkCall}
 use Rattle.ft_io.specs.Told.{Tells}
 use Rattle.ft_model.specs.Node as law
@@ -13,11 +14,17 @@ use Rattle.server_node.specs.declared.input.TurnEnd.{TurnEnd}
 use Rattle.server_node.specs.declared.input.TurnEnd.TheVariants as end
 use Rattle.server_node.specs.declared.node.Node.{Node}
 use Rattle.server_node.specs.declared.stage.Stage.{Stage}
+use Rattle.server_node.specs.declared.stage.Stage.TheVariants as stage
+use Rattle.server_node.specs.Alone.{slot_of, StandsFor}
+use Rattle.server_node.specs.Apart.{TurnsApart}
 use Rattle.server_node.specs.Identity.{node_of}
+use Rattle.server_node.specs.Restarting.{FetchingStands}
 use Rattle.server_node.specs.Stages.{StageStands, NodeGoes}
 use Rattle.node_link.specs.declared.counts.Counts.{Counts}
 use Rattle.node_link.specs.declared.role.ServerRole.{ServerRole}
 use Rattle.node_link.specs.Counts.{with_calls, counts_of}
+use Rattle.node_link.specs.KeyLife.{KeyStage, KeyRun, AreFairFor}
+use Rattle.node_link.specs.KeyLife.KeyStage.{Asks, Fetches, Has}
 use Rattle.node_link.specs.Received.{Received, received_as}
 use Rattle.node_link.specs.ServerTurns.{Sent, wires_in, sending, ServerTurn, turn_calls, server_calls, input_from}
 use Rattle.node_link.specs.Incarnation.{kind_in, service_of, first_of, IsIncarnation, AreFair, Serves, fence_in}
@@ -75,6 +82,7 @@ module _ {State : Type 0} (services : ℕ → Machine State) where
     pub counts_are : counts ≡ with_calls counted (turn_calls logger turn)
     pub who : after.who ≡ before.who
     pub goes : Goes before (input_from logger turn.received) after (wires_in turn.sent)
+    pub apart : TurnsApart (services before.who.kind) before.who (input_from logger turn.received) before.stage after.stage (wires_in turn.sent)
     pub unfenced : (standing : law.Stage) → fence (node_of before.who standing) (input_from logger turn.received) ≡ None
 
   -- where the node stands after these turns, as long as the premises hold
@@ -84,6 +92,19 @@ module _ {State : Type 0} (services : ℕ → Machine State) where
     pub incarnation : IsIncarnation services role turns turns_by_law
     pub node : node_after (first_of role) turns_by_law ≡ node_of (identity_of role) standing
     pub stands : StageStands (service_of services role) (node_of (identity_of role) standing) s.stage
+
+  -- how far it is for a key
+  abbrev pub StandsAt : law.Node → Key → KeyStage → Stage State → ℕ → Type 0
+  StandsAt node key Asks stage.Asking kind = Unit {0}
+  StandsAt node key (Fetches count fetched) (stage.Fetching f) kind = FetchingStands (services kind) count fetched f
+  StandsAt node key (Has place) (stage.Serving s) kind = StandsFor (services kind) node key (slot_of key s) place
+  StandsAt node key _ _ kind = ⊥
+
+  -- where it stands for a key after these turns, as long as the premises hold of that key
+  pub record StandsForKey (role : ServerRole) (key : Key) (turns : List ServerTurn) (s : Standing State) : Type 0 where
+    pub at : KeyStage
+    pub run : KeyRun (service_of services role) (first_of role) key role.logger turns at
+    pub stands : StandsAt (first_of role) key at s.stage (kind_in role.service)
 
   -- so many turns were done
   pub record IsServing (role : ServerRole) (count : ℕ) (s : Standing State) (old new : Option (List LinkCall)) (counts : Counts) : Type 0 where
@@ -96,6 +117,7 @@ module _ {State : Type 0} (services : ℕ → Machine State) where
     pub total : length (server_calls role.logger at_boot turns) ≤ (count + 1) * (2 ^ 64 + 1)
     pub who : s.who ≡ identity_of role
     pub stands : AreFair services role turns → Stands role turns s
+    pub each_key : (key : Key) → AreFairFor (service_of services role) (first_of role) key role.logger turns → StandsForKey role key turns s
 
   -- the same, wherever the node stands
   pub record HasServed (role : ServerRole) (old new : Option (List LinkCall)) (counts : Counts) : Type 0 where

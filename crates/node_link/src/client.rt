@@ -1,9 +1,10 @@
 //! The client: a live client over a link. It sends a script, and what the server sends is written out as it is accepted.
 
-ghost use Rattle.std.specs.Prelude.{◌≡◌, ℕ, ◌+◌, ◌%◌, ◌^◌, ◌≤◌, List, [], ◌∷◌, ◌++◌, length, vec_len, None, IfSome, IfOk, IfErr, OnOk, OnErr, IsErrOf};
+ghost use Rattle.std.specs.Prelude.{◌≡◌, ℕ, ◌+◌, ◌%◌, ◌^◌, ◌≤◌, List, [], ◌∷◌, ◌++◌, length, vec_len, None, is_none, false, IfSome, IfOk, IfErr, OnOk, OnErr, IsErrOf};
 ghost use Rattle.std.specs.Io.KnownBytes.{Appends};
 ghost use Rattle.ft_io.specs.Faults.{Rose};
 ghost use Rattle.ft_io.specs.Sink.{AppendsFront};
+ghost use Rattle.ft_io.specs.Source.{ConsumesAtMost};
 ghost use Rattle.ft_io.specs.declared.link_call.LinkCall.{LinkCall};
 ghost use Rattle.ft_model.specs.Client.{Client};
 ghost use Rattle.ft_model.specs.Schedule.{bytes_of as bytes_lem};
@@ -11,6 +12,7 @@ ghost use Rattle.tcp_endpoint.specs.Leaving.{packets as packets_lem};
 ghost use Rattle.tcp_endpoint.specs.Sending.{IsShort};
 ghost use Rattle.peer_client.specs.Live.{sent_by, turned};
 ghost use Rattle.node_link.specs.ClientParts.{AreHanded, HasReceived, HasTurned, IsLimited, IsFresh, BeginsBeside, RunStops};
+ghost use Rattle.node_link.specs.Ends.{UnlessFault};
 ghost use Rattle.node_link.specs.ClientRuns.{Runs, IsEndedBy, IsClient, IsScript, RunsScript, ScriptStops, ScriptRunStops, ClientStops};
 
 use crate::receiving::DATAGRAM_ROOM;
@@ -32,7 +34,9 @@ const ACCEPT_ROOM: usize = 65_535;
 fn read_script<I: Source>(alloc: Global, input: &mut I) -> Result<Vec<u8>, NodeEnd>
     ensures script { IfOk result (λ script. IsScript None (I.left input.old) (I.left input.new) script.items) }
     ensures stops { IfErr result (ScriptStops None (I.left input.old)) }
+    ensures taken { ConsumesAtMost 16777217 (I.left input.old) (I.left input.new) }
     ensures cause { IsErrOf result NodeEnd.ReadFault → Rose (I.fault_count input.old) (I.fault_count input.new) }
+    ensures no_read_fault { UnlessFault result (I.fault_count input.new ≡ I.fault_count input.old) }
     ensures no_bind { IsErrOf result NodeEnd.LinkFault → ⊥ }
     ensures no_write { IsErrOf result NodeEnd.WriteFault → ⊥ }
 {
@@ -52,7 +56,10 @@ fn script_of<I: Source>(
 ) -> Result<Vec<u8>, NodeEnd>
     ensures script { IfOk result (λ text. IsScript script.now (I.left input.old) (I.left input.new) text.items) }
     ensures stops { IfErr result (ScriptStops script.now (I.left input.old)) }
+    ensures unread { is_none script.now ≡ false → input.new ≡ input.old }
+    ensures taken { ConsumesAtMost 16777217 (I.left input.old) (I.left input.new) }
     ensures cause { IsErrOf result NodeEnd.ReadFault → Rose (I.fault_count input.old) (I.fault_count input.new) }
+    ensures no_read_fault { UnlessFault result (I.fault_count input.new ≡ I.fault_count input.old) }
     ensures no_bind { IsErrOf result NodeEnd.LinkFault → ⊥ }
     ensures no_write { IsErrOf result NodeEnd.WriteFault → ⊥ }
 {
@@ -71,7 +78,8 @@ fn accept_room(alloc: Global) -> Result<Vec<u8>, NoMemory>
 
 /// Hands each packet to send, in order. One whose send fails is lost.
 fn send_all<L: Link>(link: &mut L, to: Addr, outbox: &Outbox)
-    ensures { AreHanded to outbox.now (L.told link.old) (L.told link.new) }
+    ensures handed { AreHanded to outbox.now (L.told link.old) (L.told link.new) }
+    ensures no_bind_fault { L.bind_fault_count link.new ≡ L.bind_fault_count link.old }
 {
     for i in 0..outbox.len() {
         let _ = link.send(to, outbox.packet(i));
@@ -82,6 +90,7 @@ fn send_all<L: Link>(link: &mut L, to: Addr, outbox: &Outbox)
 fn flush<L: Link>(link: &mut L, to: Addr, client: &mut LiveClient, outbox: &mut Outbox)
     ensures sent { AreHanded to (packets_lem (sent_by client.old)) (L.told link.old) (L.told link.new) }
     ensures state { client.new ≡ turned client.old }
+    ensures no_bind_fault { L.bind_fault_count link.new ≡ L.bind_fault_count link.old }
 {
     outbox.clear();
     client.flush(outbox);
@@ -91,7 +100,8 @@ fn flush<L: Link>(link: &mut L, to: Addr, client: &mut LiveClient, outbox: &mut 
 /// Receives once: the client sees what comes, or else a tick.
 fn receive<L: Link>(link: &mut L, client: &mut LiveClient)
     requires { IsShort client.old.tcb.sending }
-    ensures { HasReceived client.old client.new (L.told link.old) (L.told link.new) }
+    ensures received { HasReceived client.old client.new (L.told link.old) (L.told link.new) }
+    ensures no_bind_fault { L.bind_fault_count link.new ≡ L.bind_fault_count link.old }
 {
     let mut buffer = [0; DATAGRAM_ROOM];
     match link.recv(&mut buffer) {
@@ -117,6 +127,8 @@ fn take_turn<L: Link, O: Sink>(
         (HasTurned role.now.server client.old client.new (L.told link.old) (L.told link.new) (AppendsFront (O.taken out.old) (O.taken out.new))) }
     ensures cause { OnErr result (Rose (O.fault_count out.old) (O.fault_count out.new)) }
     ensures never_falls { O.fault_count out.old ≤ O.fault_count out.new }
+    ensures no_write_fault { OnOk result (O.fault_count out.new ≡ O.fault_count out.old) }
+    ensures no_bind_fault { L.bind_fault_count link.new ≡ L.bind_fault_count link.old }
 {
     receive(link, client);
     let count = client.accept(room);
@@ -143,6 +155,8 @@ fn take_turns<L: Link, O: Sink>(
     ensures cause { IsErrOf result NodeEnd.WriteFault → Rose (O.fault_count out.old) (O.fault_count out.new) }
     ensures no_bind { IsErrOf result NodeEnd.LinkFault → ⊥ }
     ensures no_read { IsErrOf result NodeEnd.ReadFault → ⊥ }
+    ensures no_bind_fault { L.bind_fault_count link.new ≡ L.bind_fault_count link.old }
+    ensures no_write_fault { UnlessFault result (O.fault_count out.new ≡ O.fault_count out.old) }
 {
     flush(link, role.server, client, outbox);
     for _turn in 0..role.turns {
@@ -173,6 +187,8 @@ fn run_script<L: Link, O: Sink>(
     ensures bind_cause { IsErrOf result NodeEnd.LinkFault → Rose (L.bind_fault_count link.old) (L.bind_fault_count link.new) }
     ensures write_cause { IsErrOf result NodeEnd.WriteFault → Rose (O.fault_count out.old) (O.fault_count out.new) }
     ensures no_read { IsErrOf result NodeEnd.ReadFault → ⊥ }
+    ensures no_bind_fault { UnlessFault result (L.bind_fault_count link.new ≡ L.bind_fault_count link.old) }
+    ensures no_write_fault { UnlessFault result (O.fault_count out.new ≡ O.fault_count out.old) }
 {
     let mut client = LiveClient::new(alloc, role.local, role.server, role.isn, script)?;
     let mut outbox = Outbox::new(alloc)?;
@@ -206,6 +222,11 @@ pub(crate) fn run_client<L: Link, I: Source, O: Sink>(
     ensures read_cause { IsErrOf result NodeEnd.ReadFault → Rose (I.fault_count input.old) (I.fault_count input.new) }
     ensures bind_cause { IsErrOf result NodeEnd.LinkFault → Rose (L.bind_fault_count link.old) (L.bind_fault_count link.new) }
     ensures write_cause { IsErrOf result NodeEnd.WriteFault → Rose (O.fault_count out.old) (O.fault_count out.new) }
+    ensures unread { is_none role.now.script ≡ false → input.new ≡ input.old }
+    ensures taken { ConsumesAtMost 16777217 (I.left input.old) (I.left input.new) }
+    ensures no_read_fault { UnlessFault result (I.fault_count input.new ≡ I.fault_count input.old) }
+    ensures no_bind_fault { UnlessFault result (L.bind_fault_count link.new ≡ L.bind_fault_count link.old) }
+    ensures no_write_fault { UnlessFault result (O.fault_count out.new ≡ O.fault_count out.old) }
 {
     match script_of(alloc, &role.script, input) {
         Ok(script) => run_script(alloc, role, script, link, out),

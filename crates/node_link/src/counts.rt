@@ -6,6 +6,7 @@ ghost use Rattle.ft_io.specs.Faults.{Rose};
 ghost use Rattle.ft_io.specs.declared.Addr.{Addr};
 ghost use Rattle.ft_io.specs.Link.{recv_told, send_told};
 ghost use Rattle.node_link.specs.Counts.{no_calls, with_calls, HasRoom, count_line};
+ghost use Rattle.node_link.specs.Ends.{UnlessFault};
 ghost use Rattle.node_link.specs.Telling.{TellStops};
 
 use crate::status::NodeEnd;
@@ -97,6 +98,7 @@ pub fn tell_counts<O: Sink>(alloc: Global, counts: &Counts, out: &mut O) -> Resu
     ensures written { OnOk result (Appends (O.taken out.old) (O.taken out.new) (count_line counts.now)) }
     ensures stops { IfErr result (TellStops (count_line counts.now) (O.taken out.old) (O.taken out.new)) }
     ensures cause { IsErrOf result NodeEnd.WriteFault → Rose (O.fault_count out.old) (O.fault_count out.new) }
+    ensures no_fault { UnlessFault result (O.fault_count out.new ≡ O.fault_count out.old) }
 {
     match line_of(alloc, counts) {
         Err(NoMemory) => Err(NodeEnd::NoMemory),

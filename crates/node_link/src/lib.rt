@@ -5,7 +5,7 @@
 
 pub use counts::{Counts, tell_counts};
 pub use options::{OptionName, read_options};
-pub use program::Program;
+pub use program::{Program, is_name};
 pub use role::{ClientRole, LoggerRole, PairRole, Role, ServerRole, logger_role, read_role};
 pub use status::{NodeEnd, Status};
 pub use telling::tell;

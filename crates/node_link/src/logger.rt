@@ -10,6 +10,7 @@ ghost use Rattle.ft_io.specs.declared.link_call.LinkCall.TheVariants.{Bound};
 ghost use Rattle.std.specs.declared.option.Option.{Option};
 ghost use Rattle.logger_store.specs.Stored.{answer_bytes, IsAnswer};
 ghost use Rattle.node_link.specs.Counts.{HasRoom};
+ghost use Rattle.node_link.specs.Ends.{UnlessFault};
 ghost use Rattle.node_link.specs.LoggerTurns.{log_with, answer_for};
 ghost use Rattle.node_link.specs.Logging.{HasTurned, IsCutOff, Replies, HasCounted, IsCutServing, IsLogger, LoggerStops};
 
@@ -37,7 +38,8 @@ fn answer(alloc: Global, store: &mut LogStore, bytes: &[u8]) -> Result<MsgOut, N
 /// Hands an answer to send, if it has bytes.
 fn reply<L: Link>(link: &mut L, to: Addr, answer: &MsgOut, counts: &mut Counts)
     requires { HasRoom 1 counts.old }
-    ensures { Replies to answer.now (L.told link.old) (L.told link.new) counts.old counts.new }
+    ensures replies { Replies to answer.now (L.told link.old) (L.told link.new) counts.old counts.new }
+    ensures no_bind_fault { L.bind_fault_count link.new ≡ L.bind_fault_count link.old }
 {
     let bytes = answer.bytes();
     if bytes.is_empty() {
@@ -57,6 +59,7 @@ fn take_turn<L: Link>(
     requires { HasRoom 2 counts.old }
     ensures turned { OnOk result (HasTurned store.old store.new (L.told link.old) (L.told link.new) counts.old counts.new) }
     ensures cut_off { OnErr result ((calls : List LinkCall) × IsCutOff calls × Tells (L.told link.old) (L.told link.new) calls) }
+    ensures no_bind_fault { L.bind_fault_count link.new ≡ L.bind_fault_count link.old }
 {
     let mut buffer = [0; DATAGRAM_ROOM];
     let Some((len, from)) = receive(link, &mut buffer, counts) else {
@@ -72,6 +75,7 @@ fn serve<L: Link>(alloc: Global, link: &mut L, turns: u32) -> Result<Counts, NoM
     requires { turns ≤ 1000000 }
     ensures served { IfOk result (λ counts. HasCounted turns (L.told link.old) (L.told link.new) counts) }
     ensures cut_off { OnErr result (IsCutServing turns (L.told link.old) (L.told link.new)) }
+    ensures no_bind_fault { L.bind_fault_count link.new ≡ L.bind_fault_count link.old }
 {
     let mut store = LogStore::new(alloc);
     let mut counts = Counts::new();
@@ -81,7 +85,7 @@ fn serve<L: Link>(alloc: Global, link: &mut L, turns: u32) -> Result<Counts, NoM
     Ok(counts)
 }
 
-/// A logger behind its bind: its turns, and the line that it ends with.
+/// A logger after its bind: its turns, and the line that it ends with.
 fn serve_and_tell<L: Link, O: Sink>(
     alloc: Global,
     role: &LoggerRole,
@@ -95,6 +99,8 @@ fn serve_and_tell<L: Link, O: Sink>(
         → LoggerStops role.now before (L.told link.new) (O.taken out.old) (O.taken out.new) end) }
     ensures write_cause { IsErrOf result NodeEnd.WriteFault → Rose (O.fault_count out.old) (O.fault_count out.new) }
     ensures bound { IsErrOf result NodeEnd.LinkFault → ⊥ }
+    ensures no_bind_fault { L.bind_fault_count link.new ≡ L.bind_fault_count link.old }
+    ensures no_write_fault { UnlessFault result (O.fault_count out.new ≡ O.fault_count out.old) }
 {
     match serve(alloc, link, role.turns) {
         Err(NoMemory) => Err(NodeEnd::NoMemory),
@@ -114,6 +120,8 @@ pub(crate) fn run_logger<L: Link, O: Sink>(
     ensures stops { IfErr result (LoggerStops role.now (L.told link.old) (L.told link.new) (O.taken out.old) (O.taken out.new)) }
     ensures bind_cause { IsErrOf result NodeEnd.LinkFault → Rose (L.bind_fault_count link.old) (L.bind_fault_count link.new) }
     ensures write_cause { IsErrOf result NodeEnd.WriteFault → Rose (O.fault_count out.old) (O.fault_count out.new) }
+    ensures no_bind_fault { UnlessFault result (L.bind_fault_count link.new ≡ L.bind_fault_count link.old) }
+    ensures no_write_fault { UnlessFault result (O.fault_count out.new ≡ O.fault_count out.old) }
 {
     match link.bind(role.local) {
         Err(Failed) => Err(NodeEnd::LinkFault),

@@ -1,4 +1,4 @@
-//! A pair of servers, one behind the other, beside a logger and a client, each a program of its own. Where the first server has ended the second one
+//! A pair of servers, one after the other, beside a logger and a client, each a program of its own. Where the first server has ended the second one
 //! starts, and the client goes on with it.
 
 ghost use Rattle.std.specs.Prelude.{◌≡◌, ◌≤◌, ◌+◌, [], ◌∷◌, ◌++◌, map, string_bytes, decimal, length, IfOk, IfErr, OnOk, OnErr, IsErrOf};
@@ -9,6 +9,7 @@ ghost use Rattle.ft_io.specs.Sink.{AppendsFront};
 ghost use Rattle.ft_io.specs.Told.{Tells};
 ghost use Rattle.node_link.specs.Pair.{name_of, status_text as text_lem, status_line, address_at, logger_start, server_start, client_start, steps_of};
 ghost use Rattle.node_link.specs.Pair.{IsPair, StepsStop, PairStops};
+ghost use Rattle.node_link.specs.Ends.{UnlessFault};
 ghost use Rattle.node_link.specs.PairParts.{StartDone, IsCounted, FitsStep, FitSteps, WaitDone, WaitStops, StepDone, StepStops};
 
 use crate::role::PairRole;
@@ -193,6 +194,7 @@ fn write_number<O: Sink>(out: &mut O, n: i32) -> Result<(), Failed>
     ensures front { OnErr result (AppendsFront (O.taken out.old) (O.taken out.new) (signed_decimal n)) }
     ensures cause { OnErr result (Rose (O.fault_count out.old) (O.fault_count out.new)) }
     ensures never_falls { O.fault_count out.old ≤ O.fault_count out.new }
+    ensures no_fault { OnOk result (O.fault_count out.new ≡ O.fault_count out.old) }
 {
     let mut number = Buffer::new();
     write_all(out, number.format(n).as_bytes())
@@ -204,6 +206,7 @@ fn tell_status<O: Sink>(out: &mut O, name: ChildName, status: i32) -> Result<(),
     ensures front { OnErr result (AppendsFront (O.taken out.old) (O.taken out.new) (status_line name status)) }
     ensures cause { OnErr result (Rose (O.fault_count out.old) (O.fault_count out.new)) }
     ensures never_falls { O.fault_count out.old ≤ O.fault_count out.new }
+    ensures no_fault { OnOk result (O.fault_count out.new ≡ O.fault_count out.old) }
 {
     write_all(out, name.status_text())?;
     write_number(out, status)?;
@@ -224,6 +227,7 @@ fn start<P: Spawner>(words: &Words, children: &mut Children, kids: &mut P) -> Re
     ensures stops { IfErr result (λ end. (end ≡ PairFault.Child) × Tells (P.told kids.old) (P.told kids.new) []) }
     ensures cause { OnErr result (Rose (P.fault_count kids.old) (P.fault_count kids.new)) }
     ensures never_falls { P.fault_count kids.old ≤ P.fault_count kids.new }
+    ensures no_fault { OnOk result (P.fault_count kids.new ≡ P.fault_count kids.old) }
 {
     match kids.start(words.as_slice()) {
         Err(Failed) => Err(PairFault::Child),
@@ -251,6 +255,8 @@ fn wait<P: Spawner, O: Sink>(
     ensures write_cause { IsErrOf result PairFault.Write → Rose (O.fault_count out.old) (O.fault_count out.new) }
     ensures child_faults { P.fault_count kids.old ≤ P.fault_count kids.new }
     ensures write_faults { O.fault_count out.old ≤ O.fault_count out.new }
+    ensures no_child_fault { OnOk result (P.fault_count kids.new ≡ P.fault_count kids.old) }
+    ensures no_write_fault { OnOk result (O.fault_count out.new ≡ O.fault_count out.old) }
 {
     match kids.wait(number) {
         Err(Failed) => Err(PairFault::Child),
@@ -279,6 +285,8 @@ fn take_step<P: Spawner, O: Sink>(
     ensures write_cause { IsErrOf result PairFault.Write → Rose (O.fault_count out.old) (O.fault_count out.new) }
     ensures child_faults { P.fault_count kids.old ≤ P.fault_count kids.new }
     ensures write_faults { O.fault_count out.old ≤ O.fault_count out.new }
+    ensures no_child_fault { OnOk result (P.fault_count kids.new ≡ P.fault_count kids.old) }
+    ensures no_write_fault { OnOk result (O.fault_count out.new ≡ O.fault_count out.old) }
 {
     match step {
         PairStep::Start(words) => start(words, children, kids),
@@ -303,6 +311,8 @@ fn take_steps<P: Spawner, O: Sink>(
     ensures stops { IfErr result (StepsStop steps.now (P.started kids.old) (P.told kids.old) (P.told kids.new) (O.taken out.old) (O.taken out.new)) }
     ensures child_cause { IsErrOf result PairFault.Child → Rose (P.fault_count kids.old) (P.fault_count kids.new) }
     ensures write_cause { IsErrOf result PairFault.Write → Rose (O.fault_count out.old) (O.fault_count out.new) }
+    ensures no_child_fault { OnOk result (P.fault_count kids.new ≡ P.fault_count kids.old) }
+    ensures no_write_fault { OnOk result (O.fault_count out.new ≡ O.fault_count out.old) }
 {
     let mut children = Children { count: 0, last: 0 };
     for step in steps {
@@ -324,6 +334,8 @@ pub(crate) fn run_pair<P: Spawner, O: Sink>(
     ensures stops { IfErr result (PairStops role.now (P.started kids.old) (P.told kids.old) (P.told kids.new) (O.taken out.old) (O.taken out.new)) }
     ensures child_cause { IsErrOf result NodeEnd.ChildFault → Rose (P.fault_count kids.old) (P.fault_count kids.new) }
     ensures write_cause { IsErrOf result NodeEnd.WriteFault → Rose (O.fault_count out.old) (O.fault_count out.new) }
+    ensures no_child_fault { UnlessFault result (P.fault_count kids.new ≡ P.fault_count kids.old) }
+    ensures no_write_fault { UnlessFault result (O.fault_count out.new ≡ O.fault_count out.old) }
 {
     let steps = steps(alloc, role)?;
     match take_steps(&steps, kids, out) {

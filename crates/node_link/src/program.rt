@@ -1,7 +1,7 @@
 //! The program of a pair's children.
 
 ghost use Rattle.std.specs.Prelude.{◌≡◌, IfOk};
-ghost use Rattle.node_link.specs.Roles.{is_program as is_program_lem, program_of};
+ghost use Rattle.node_link.specs.Roles.{is_name as is_name_lem, program_of};
 
 use ft_io::NoMemory;
 use std::alloc::Global;
@@ -21,9 +21,9 @@ impl Model for Program {
     ghost view = { λ p. string_bytes p.word };
 }
 
-/// Whether a word names a program.
-fn is_program(word: &[u8]) -> bool
-    ensures { result ≡ is_program_lem word.now }
+/// Whether a word can name a program or a file: it isn't empty and doesn't begin with `-`.
+pub fn is_name(word: &[u8]) -> bool
+    ensures { result ≡ is_name_lem word.now }
 {
     match word {
         [] => false,
@@ -36,7 +36,7 @@ impl Program {
     pub(crate) fn read(alloc: Global, word: &str) -> Result<Option<Program>, NoMemory>
         ensures { IfOk result (λ program. program ≡ program_of word.now) }
     {
-        if !is_program(word.as_bytes()) {
+        if !is_name(word.as_bytes()) {
             return Ok(None);
         }
         let word = String::from_str(alloc, word)?;

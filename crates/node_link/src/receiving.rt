@@ -22,6 +22,7 @@ pub(crate) fn receive<L: Link>(
     ensures received { (r : Received) × Tells (L.told link.old) (L.told link.new) (received_as r ∷ [])
         × (counts.new ≡ with_calls counts.old (received_as r ∷ []))
         × MatchOption result (IsQuiet r) (λ g. (g.0 ≤ length buffer.new) × (r ≡ datagram g.1 (take g.0 buffer.new))) }
+    ensures no_bind_fault { L.bind_fault_count link.new ≡ L.bind_fault_count link.old }
 {
     let heard = link.recv(buffer);
     counts.note_received(&heard);

@@ -54,7 +54,7 @@ const PAIR_OPTIONS: [OptionName; 5] = [
     OptionName::Turns,
 ];
 
-/// The last port for a pair's server: the two behind it are the logger's and the client's.
+/// The last port for a pair's server: the two after it are the logger's and the client's.
 const LAST_BASE: u64 = 65_533;
 
 /// The most turns of a role.
@@ -96,12 +96,12 @@ pub struct ClientRole {
     pub script: Option<Script>,
 }
 
-/// Two servers, one behind the other, with a logger and a client, each a program of its own.
+/// Two servers, one after the other, with a logger and a client, each a program of its own.
 #[derive(Debug, Drop)]
 pub struct PairRole {
     /// The program of every child.
     pub program: Program,
-    /// The server's port, 1 to 65,533. The next one is the logger's, and the one behind that the client's.
+    /// The server's port, 1 to 65,533. The next one is the logger's, and the one after that the client's.
     pub base: u16,
     /// The turns of the first server, 1 to 1,000,000.
     pub first: u32,
@@ -327,7 +327,7 @@ fn read_pair(alloc: Global, words: &[String]) -> Result<Option<Role>, NoMemory>
     }
 }
 
-/// Reads a role from the words: its name, and behind it its options in any order, each as `--NAME VALUE` or `--NAME=VALUE`. None where the words
+/// Reads a role from the words: its name, and after it its options in any order, each as `--NAME VALUE` or `--NAME=VALUE`. None where the words
 /// aren't allowed.
 #[tactic(auto, unfolding(crate::specs::Roles::role_of))]
 pub fn read_role(alloc: Global, words: &[String]) -> Result<Option<Role>, NoMemory>

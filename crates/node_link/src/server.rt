@@ -12,6 +12,7 @@ ghost use Rattle.ft_model.specs.Legal.{machines};
 ghost use Rattle.server_node.specs.Inputs.{input_of as input_lem};
 ghost use Rattle.server_node.specs.Sending.{party_of};
 ghost use Rattle.node_link.specs.Counts.{HasRoom};
+ghost use Rattle.node_link.specs.Ends.{UnlessFault};
 ghost use Rattle.node_link.specs.Received.{Received, datagram, IsQuiet};
 ghost use Rattle.node_link.specs.Ranges.{ServerInRange};
 ghost use Rattle.node_link.specs.ServerTurns.{address_of as address_lem, input_from};
@@ -45,6 +46,7 @@ fn send_all<L: Link>(link: &mut L, logger: Addr, packets: &[OutPacket], counts: 
     requires { HasRoom (length packets.now) counts.old }
     ensures sent { HasSent logger packets.now (L.told link.old) (L.told link.new) counts.old counts.new }
     ensures short { length packets.now < 2 ^ 64 }
+    ensures no_bind_fault { L.bind_fault_count link.new ≡ L.bind_fault_count link.old }
 {
     for packet in packets {
         let sent = link.send(address_of(logger, packet.to()), packet.bytes());
@@ -81,6 +83,7 @@ fn take_turn<S: Service, L: Link>(
     requires { HasRoom (2 ^ 64) counts.old }
     ensures turned { OnOk result (HasTurned (machines S.started S.after) logger (standing_of node.old) (standing_of node.new) (L.told link.old) (L.told link.new) counts.old counts.new) }
     ensures stops { IfErr result (TurnStops logger (standing_of node.old) (L.told link.old) (L.told link.new)) }
+    ensures no_bind_fault { L.bind_fault_count link.new ≡ L.bind_fault_count link.old }
 {
     let mut buffer = [0; DATAGRAM_ROOM];
     let came = receive(link, &mut buffer, counts);
@@ -100,6 +103,7 @@ fn boot<S: Service, L: Link>(
     requires room { HasRoom (2 ^ 64) counts.old }
     ensures booted { IfOk result (λ node. HasBooted (machines S.started S.after) role.now (standing_of node) (L.told link.old) (L.told link.new) counts.old counts.new) }
     ensures lost { OnErr result (L.told link.new ≡ L.told link.old) }
+    ensures no_bind_fault { L.bind_fault_count link.new ≡ L.bind_fault_count link.old }
 {
     let node = Node::boot(alloc, role.boot, role.isn, role.kind(), role.local)?;
     send_all(link, role.logger, node.sent(), counts);
@@ -115,6 +119,7 @@ fn serve<S: Service, L: Link>(
     requires { ServerInRange role.now }
     ensures served { IfOk result (λ counts. HasServed (machines S.started S.after) role.now (L.told link.old) (L.told link.new) counts) }
     ensures stops { IfErr result (ServeStops (machines S.started S.after) role.now (L.told link.old) (L.told link.new)) }
+    ensures no_bind_fault { L.bind_fault_count link.new ≡ L.bind_fault_count link.old }
 {
     let mut counts = Counts::new();
     let mut node = boot::<S, L>(alloc, role, link, &mut counts)?;
@@ -124,7 +129,7 @@ fn serve<S: Service, L: Link>(
     Ok(counts)
 }
 
-/// A server behind its bind: its turns, and the line that it ends with.
+/// A server after its bind: its turns, and the line that it ends with.
 fn serve_and_tell<S: Service, L: Link, O: Sink>(
     alloc: Global,
     role: &ServerRole,
@@ -138,6 +143,8 @@ fn serve_and_tell<S: Service, L: Link, O: Sink>(
         → ServerStops (machines S.started S.after) role.now before (L.told link.new) (O.taken out.old) (O.taken out.new) end) }
     ensures write_cause { IsErrOf result NodeEnd.WriteFault → Rose (O.fault_count out.old) (O.fault_count out.new) }
     ensures bound { IsErrOf result NodeEnd.LinkFault → ⊥ }
+    ensures no_bind_fault { L.bind_fault_count link.new ≡ L.bind_fault_count link.old }
+    ensures no_write_fault { UnlessFault result (O.fault_count out.new ≡ O.fault_count out.old) }
 {
     match serve::<S, L>(alloc, role, link) {
         Err(TurnEnd::NoMemory) => Err(NodeEnd::NoMemory),
@@ -158,6 +165,8 @@ pub(crate) fn run_server<S: Service, L: Link, O: Sink>(
     ensures stops { IfErr result (ServerStops (machines S.started S.after) role.now (L.told link.old) (L.told link.new) (O.taken out.old) (O.taken out.new)) }
     ensures bind_cause { IsErrOf result NodeEnd.LinkFault → Rose (L.bind_fault_count link.old) (L.bind_fault_count link.new) }
     ensures write_cause { IsErrOf result NodeEnd.WriteFault → Rose (O.fault_count out.old) (O.fault_count out.new) }
+    ensures no_bind_fault { UnlessFault result (L.bind_fault_count link.new ≡ L.bind_fault_count link.old) }
+    ensures no_write_fault { UnlessFault result (O.fault_count out.new ≡ O.fault_count out.old) }
 {
     match link.bind(role.local) {
         Err(Failed) => Err(NodeEnd::LinkFault),

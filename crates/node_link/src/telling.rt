@@ -1,10 +1,10 @@
 //! What a process that wasn't done to its end writes to the error sink, and its status.
 
-ghost use Rattle.std.specs.Prelude.{◌≡◌, OnOk, OnErr};
+ghost use Rattle.std.specs.Prelude.{◌≡◌, false, OnOk, OnErr};
 ghost use Rattle.std.specs.Io.KnownBytes.{Appends};
 ghost use Rattle.ft_io.specs.Faults.{Rose};
 ghost use Rattle.ft_io.specs.Sink.{AppendsFront};
-ghost use Rattle.node_link.specs.Ends.{code_of, text_of, fence_text, TellsEnd};
+ghost use Rattle.node_link.specs.Ends.{code_of, text_of, fence_text, TellsEnd, is_fault, is_fault_status};
 
 use crate::status::{NodeEnd, Status};
 use ft_io::{Failed, Sink, write_all};
@@ -15,6 +15,7 @@ fn write_fence<E: Sink>(err: &mut E, newer: u64) -> Result<(), Failed>
     ensures whole { OnOk result (Appends (E.taken err.old) (E.taken err.new) (fence_text newer)) }
     ensures front { OnErr result (AppendsFront (E.taken err.old) (E.taken err.new) (fence_text newer)) }
     ensures cause { OnErr result (Rose (E.fault_count err.old) (E.fault_count err.new)) }
+    ensures no_fault { OnOk result (E.fault_count err.new ≡ E.fault_count err.old) }
 {
     let mut number = Buffer::new();
     write_all(err, b"ftnode: fenced by boot ")?;
@@ -27,6 +28,7 @@ fn write_end<E: Sink>(err: &mut E, end: NodeEnd) -> Result<(), Failed>
     ensures whole { OnOk result (Appends (E.taken err.old) (E.taken err.new) (text_of end)) }
     ensures front { OnErr result (AppendsFront (E.taken err.old) (E.taken err.new) (text_of end)) }
     ensures cause { OnErr result (Rose (E.fault_count err.old) (E.fault_count err.new)) }
+    ensures no_fault { OnOk result (E.fault_count err.new ≡ E.fault_count err.old) }
 {
     match end {
         NodeEnd::Usage => write_all(err, b"ftnode: usage\n"),
@@ -42,7 +44,9 @@ fn write_end<E: Sink>(err: &mut E, end: NodeEnd) -> Result<(), Failed>
 }
 
 fn code(end: NodeEnd) -> u8
-    ensures { result ≡ code_of end }
+    ensures value { result ≡ code_of end }
+    ensures early { result ≡ 0 → ⊥ }
+    ensures fault { is_fault_status result ≡ is_fault end }
 {
     match end {
         NodeEnd::Usage => 2,
@@ -60,6 +64,9 @@ fn code(end: NodeEnd) -> u8
 /// Writes the line of an end, and gives its status: 5 where that write failed.
 pub fn tell<E: Sink>(err: &mut E, end: NodeEnd) -> Status
     ensures told { TellsEnd end (E.taken err.old) (E.taken err.new) (E.fault_count err.old) (E.fault_count err.new) result.code }
+    ensures early { result.code ≡ 0 → ⊥ }
+    ensures fault { is_fault_status result.code ≡ false → is_fault end ≡ false }
+    ensures no_fault { is_fault_status result.code ≡ false → E.fault_count err.new ≡ E.fault_count err.old }
 {
     match write_end(err, end) {
         Ok(()) => Status { code: code(end) },

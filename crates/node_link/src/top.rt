@@ -2,6 +2,7 @@
 
 ghost use Rattle.std.specs.Prelude.{◌≡◌, ◌≤◌, ◌^◌, ◌⊎◌, ℕ, List, length, map, string_bytes, None, Some, Ok, Err, OnOk, IfErr, IsErrOf, false};
 ghost use Rattle.ft_io.specs.Faults.{Rose};
+ghost use Rattle.ft_io.specs.Source.{ConsumesAtMost};
 ghost use Rattle.node_link.specs.declared.role.ServerRole.{ServerRole};
 ghost use Rattle.node_link.specs.declared.role.ClientRole.{ClientRole};
 ghost use Rattle.node_link.specs.declared.role.LoggerRole.{LoggerRole};
@@ -9,8 +10,9 @@ ghost use Rattle.node_link.specs.declared.role.PairRole.{PairRole};
 ghost use Rattle.node_link.specs.declared.role.Role.TheVariants as roles;
 ghost use Rattle.ft_model.specs.Legal.{machines};
 ghost use Rattle.sample_servers.specs.AnyService.{any_started, any_after};
-ghost use Rattle.node_link.specs.Outcome.{Lives, HasEndedWith, HasEnded, with_link, IsStill};
-ghost use Rattle.node_link.specs.Roles.{role_of, own_role_of, is_pair};
+ghost use Rattle.node_link.specs.Ends.{is_fault_status, UnlessFault};
+ghost use Rattle.node_link.specs.Outcome.{Lives, HasEndedWith, HasEnded, with_link, IsStill, HasScript};
+ghost use Rattle.node_link.specs.Roles.{role_of, own_role_of, is_pair, reads_input};
 
 use crate::client::run_client;
 use crate::logger::run_logger;
@@ -37,10 +39,16 @@ fn run<L: Link, I: Source, O: Sink, P: Spawner>(
         (record { left = I.left input.old; calls = L.told link.old; started = P.started kids.old; spawned = P.told kids.old; out = O.taken out.old })
         (record { left = I.left input.new; calls = L.told link.new; started = P.started kids.new; spawned = P.told kids.new; out = O.taken out.new }) }
     ensures same_kids { is_pair (role_of (map string_bytes words.now)) ≡ false → kids.new ≡ kids.old }
+    ensures unread { reads_input (role_of (map string_bytes words.now)) ≡ false → input.new ≡ input.old }
+    ensures taken { ConsumesAtMost 16777217 (I.left input.old) (I.left input.new) }
     ensures read_cause { IsErrOf result NodeEnd.ReadFault → Rose (I.fault_count input.old) (I.fault_count input.new) }
     ensures bind_cause { IsErrOf result NodeEnd.LinkFault → Rose (L.bind_fault_count link.old) (L.bind_fault_count link.new) }
     ensures write_cause { IsErrOf result NodeEnd.WriteFault → Rose (O.fault_count out.old) (O.fault_count out.new) }
     ensures child_cause { IsErrOf result NodeEnd.ChildFault → Rose (P.fault_count kids.old) (P.fault_count kids.new) }
+    ensures no_read_fault { UnlessFault result (I.fault_count input.new ≡ I.fault_count input.old) }
+    ensures no_bind_fault { UnlessFault result (L.bind_fault_count link.new ≡ L.bind_fault_count link.old) }
+    ensures no_write_fault { UnlessFault result (O.fault_count out.new ≡ O.fault_count out.old) }
+    ensures no_child_fault { UnlessFault result (P.fault_count kids.new ≡ P.fault_count kids.old) }
 {
     match read_role(alloc, words)? {
         None => Err(NodeEnd::Usage),
@@ -53,7 +61,7 @@ fn run<L: Link, I: Source, O: Sink, P: Spawner>(
 
 /// `ftnode` with these words: a server, a logger or a client of FT-TCP over the link, or a pair, which starts these as programs of their own. What ended it
 /// early stands in `err`. The status is 0 where all was done: the turns of a server or a logger, both ends of a client's connection, the waits of a pair; 2
-/// where the words aren't allowed or the client's input is longer than a stream, 3 for want of memory, 4 where the bind failed, 5 for a fault of a sink, 6
+/// where the words aren't allowed or the client's input is longer than a stream, 3 because memory ran out, 4 where the bind failed, 5 for a fault of a sink, 6
 /// where a newer server fenced this one, 7 where the client was reset, 8 where its turns ended before, 9 for a fault of the source, and 10 where a start or a
 /// wait of a pair failed.
 pub fn node<L: Link, I: Source, O: Sink, E: Sink, P: Spawner>(
@@ -70,27 +78,37 @@ pub fn node<L: Link, I: Source, O: Sink, E: Sink, P: Spawner>(
         (record { left = I.left input.old; calls = L.told link.old; started = P.started kids.old; spawned = P.told kids.old; out = O.taken out.old })
         (record { left = I.left input.new; calls = L.told link.new; started = P.started kids.new; spawned = P.told kids.new; out = O.taken out.new })
         (E.taken err.old) (E.taken err.new) result.code }
+    // A client without a script in its words alone reads the input, at most one byte past the limit of a script. A pair alone starts children.
+    ensures unread { reads_input (role_of (map string_bytes words.now)) ≡ false → input.new ≡ input.old }
+    ensures taken { ConsumesAtMost 16777217 (I.left input.old) (I.left input.new) }
     ensures same_kids { is_pair (role_of (map string_bytes words.now)) ≡ false → kids.new ≡ kids.old }
+    ensures silent { result.code ≡ 0 → err.new ≡ err.old }
 
     ensures read_fault { result.code ≡ 9 → Rose (I.fault_count input.old) (I.fault_count input.new) }
     ensures link_fault { result.code ≡ 4 → Rose (L.bind_fault_count link.old) (L.bind_fault_count link.new) }
     ensures write_fault { result.code ≡ 5 → Rose (O.fault_count out.old) (O.fault_count out.new) ⊎ Rose (E.fault_count err.old) (E.fault_count err.new) }
     ensures child_fault { result.code ≡ 10 → Rose (P.fault_count kids.old) (P.fault_count kids.new) }
+    // At every other status no read, bind, write, start or wait has failed, not even one that was tried again.
+    ensures no_read_fault { is_fault_status result.code ≡ false → I.fault_count input.new ≡ I.fault_count input.old }
+    ensures no_bind_fault { is_fault_status result.code ≡ false → L.bind_fault_count link.new ≡ L.bind_fault_count link.old }
+    ensures no_write_fault { is_fault_status result.code ≡ false → O.fault_count out.new ≡ O.fault_count out.old }
+    ensures no_err_fault { is_fault_status result.code ≡ false → E.fault_count err.new ≡ E.fault_count err.old }
+    ensures no_child_fault { is_fault_status result.code ≡ false → P.fault_count kids.new ≡ P.fault_count kids.old }
 
-    // Where the words are allowed, the bind succeeded and no sink failed, only a fence or want of memory ends a role early.
+    // Where the words are allowed, the bind succeeded and no sink failed, only a fence or a lack of memory ends a role early.
     ensures server { (role : ServerRole) → role_of (map string_bytes words.now) ≡ Some (roles.Server role)
         → IsStill (L.bind_fault_count link.old) (L.bind_fault_count link.new) → IsStill (O.fault_count out.old) (O.fault_count out.new)
         → IsStill (E.fault_count err.old) (E.fault_count err.new) → (result.code ≡ 0) ⊎ ((result.code ≡ 6) ⊎ (result.code ≡ 3)) }
     ensures logger { (role : LoggerRole) → role_of (map string_bytes words.now) ≡ Some (roles.Logger role)
         → IsStill (L.bind_fault_count link.old) (L.bind_fault_count link.new) → IsStill (O.fault_count out.old) (O.fault_count out.new)
         → IsStill (E.fault_count err.old) (E.fault_count err.new) → (result.code ≡ 0) ⊎ (result.code ≡ 3) }
-    ensures client { (role : ClientRole) (left : List ℕ) → role_of (map string_bytes words.now) ≡ Some (roles.Client role) → I.left input.old ≡ Some left
-        → length left ≤ 2 ^ 24
-        → IsStill (I.fault_count input.old) (I.fault_count input.new) → IsStill (L.bind_fault_count link.old) (L.bind_fault_count link.new)
+    ensures client { (role : ClientRole) → role_of (map string_bytes words.now) ≡ Some (roles.Client role)
+        → HasScript role.script (I.left input.old) (I.fault_count input.old) (I.fault_count input.new)
+        → IsStill (L.bind_fault_count link.old) (L.bind_fault_count link.new)
         → IsStill (O.fault_count out.old) (O.fault_count out.new)
         → IsStill (E.fault_count err.old) (E.fault_count err.new) → (result.code ≡ 0) ⊎ ((result.code ≡ 7) ⊎ ((result.code ≡ 8) ⊎ (result.code ≡ 3))) }
 
-    // Where the words are allowed, and neither a start, nor a wait, nor a sink failed, only want of memory ends a pair early.
+    // Where the words are allowed, and neither a start, nor a wait, nor a sink failed, only a lack of memory ends a pair early.
     ensures pair { (role : PairRole) → role_of (map string_bytes words.now) ≡ Some (roles.Pair role)
         → IsStill (P.fault_count kids.old) (P.fault_count kids.new) → IsStill (O.fault_count out.old) (O.fault_count out.new)
         → IsStill (E.fault_count err.old) (E.fault_count err.new) → (result.code ≡ 0) ⊎ (result.code ≡ 3) }
@@ -112,6 +130,8 @@ fn run_own<S: Service, L: Link, O: Sink>(
         (with_link (L.told link.old) (O.taken out.old)) (with_link (L.told link.new) (O.taken out.new)) }
     ensures bind_cause { IsErrOf result NodeEnd.LinkFault → Rose (L.bind_fault_count link.old) (L.bind_fault_count link.new) }
     ensures write_cause { IsErrOf result NodeEnd.WriteFault → Rose (O.fault_count out.old) (O.fault_count out.new) }
+    ensures no_bind_fault { UnlessFault result (L.bind_fault_count link.new ≡ L.bind_fault_count link.old) }
+    ensures no_write_fault { UnlessFault result (O.fault_count out.new ≡ O.fault_count out.old) }
 {
     match read_own_role(alloc, words)? {
         None => Err(NodeEnd::Usage),
@@ -122,7 +142,7 @@ fn run_own<S: Service, L: Link, O: Sink>(
 
 /// A server with a service of one's own, or its logger, over the link. The words are those of a server or a logger of [`node`], without `--service`: the
 /// service is `S`, whose kind is 0. What ended it early stands in `err`. The status is 0 where all turns were done, 2 where the words aren't allowed, 3 for
-/// want of memory, 4 where the bind failed, 5 for a fault of a sink, and 6 where a newer server fenced this one.
+/// a lack of memory, 4 where the bind failed, 5 for a fault of a sink, and 6 where a newer server fenced this one.
 pub fn node_of<S: Service, L: Link, O: Sink, E: Sink>(
     alloc: Global,
     words: &[String],
@@ -136,8 +156,13 @@ pub fn node_of<S: Service, L: Link, O: Sink, E: Sink>(
 
     ensures link_fault { result.code ≡ 4 → Rose (L.bind_fault_count link.old) (L.bind_fault_count link.new) }
     ensures write_fault { result.code ≡ 5 → Rose (O.fault_count out.old) (O.fault_count out.new) ⊎ Rose (E.fault_count err.old) (E.fault_count err.new) }
+    ensures silent { result.code ≡ 0 → err.new ≡ err.old }
+    // At every other status no bind and no write has failed.
+    ensures no_bind_fault { is_fault_status result.code ≡ false → L.bind_fault_count link.new ≡ L.bind_fault_count link.old }
+    ensures no_write_fault { is_fault_status result.code ≡ false → O.fault_count out.new ≡ O.fault_count out.old }
+    ensures no_err_fault { is_fault_status result.code ≡ false → E.fault_count err.new ≡ E.fault_count err.old }
 
-    // Where the words are allowed, the bind succeeded and no sink failed, only a fence or want of memory ends a role early.
+    // Where the words are allowed, the bind succeeded and no sink failed, only a fence or a lack of memory ends a role early.
     ensures server { (role : ServerRole) → own_role_of (map string_bytes words.now) ≡ Some (roles.Server role)
         → IsStill (L.bind_fault_count link.old) (L.bind_fault_count link.new) → IsStill (O.fault_count out.old) (O.fault_count out.new)
         → IsStill (E.fault_count err.old) (E.fault_count err.new) → (result.code ≡ 0) ⊎ ((result.code ≡ 6) ⊎ (result.code ≡ 3)) }

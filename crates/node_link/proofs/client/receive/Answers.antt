@@ -5,8 +5,8 @@ use Rattle.ft_io.specs.declared.link.Heard.{Heard}
 use Rattle.node_link.specs.Received.{datagram}
 use Rattle.node_link.proofs.client.receive.Goals as goal
 
-pub returns-in-Ok-Got : goal.returns-in-Ok-Got
-returns-in-Ok-Got g c = record {
+pub returns-in-Ok-Got-clause-received : goal.returns-in-Ok-Got-clause-received
+returns-in-Ok-Got-clause-received g c = record {
   received = datagram c.in-Ok-Got.field-0-1 (take c.in-Ok-Got.len c.recv.new.buf);
   tells = subst (λ (h : Heard). Tells (g.L.Link.told c.args.link.now) (g.L.Link.told c.recv.new.self) (heard_as h c.recv.new.buf ∷ [])) c.in-Ok-Got.field-0-is
       c.in-Ok-Got.ensures.told;

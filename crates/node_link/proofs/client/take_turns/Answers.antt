@@ -1,4 +1,4 @@
-use Rattle.std.proofs.Common.{◌≡◌, ◌+◌, ◌∙◌, Some, sym, ap, arith}
+use Rattle.std.proofs.Common.{◌≡◌, ◌+◌, ◌∙◌, Some, refl, sym, ap, arith}
 use Rattle.std.specs.Io.KnownBytes.{Appends}
 use Rattle.ft_io.specs.Sink.{AppendsFront}
 use Rattle.peer_client.specs.Live.{LiveState}
@@ -12,7 +12,8 @@ loop-turn-init g c = (
   runs_none c.args.client.now c.flush.new.client c.args.role.now.server (g.L.Link.told c.args.link.now) (g.L.Link.told c.flush.new.link) (g.O.Sink.taken c.args.out.now)
       c.requires.fresh.server c.flush.ensures.sent c.flush.ensures.state,
   ap (λ (l : LiveState). l.outcome) c.flush.ensures.state ∙ c.requires.fresh.outcome,
-  omega arith,
+  refl,
+  c.flush.ensures.no_bind_fault,
 )
 
 pub take_turn-requires-clause-limited : goal.take_turn-requires-clause-limited
@@ -26,7 +27,8 @@ loop-turn-preserved g c = (
       (g.L.Link.told c.loop-turn.link) (g.L.Link.told c.take_turn.new.link) (g.O.Sink.taken c.args.out.now) (g.O.Sink.taken c.loop-turn.out) (g.O.Sink.taken c.take_turn.new.out)
       c.requires.fresh.limited c.requires.fresh.server c.loop-turn.invariant.0 c.loop-turn.invariant.1 c.in-Ok.ensures.turned,
   sym c.outcome.ensures ∙ c.in-None.is,
-  omega (arith, c.loop-turn.invariant.2, c.take_turn.ensures.never_falls),
+  c.in-Ok.ensures.no_write_fault ∙ c.loop-turn.invariant.2,
+  c.take_turn.ensures.no_bind_fault ∙ c.loop-turn.invariant.3,
 )
 
 pub returns-in-Err-clause-stops : goal.returns-in-Err-clause-stops

@@ -17,4 +17,4 @@ returns-clause-turned g c =
     let is : r.0 ≡ datagram c.in-Some.from (take c.in-Some.len c.receive.new.buffer) = cc in
     replied c.args.store.now c.answer.new.store (g.L.Link.told c.args.link.now) (g.L.Link.told c.receive.new.link) (g.L.Link.told c.reply.new.link) c.args.counts.now
     c.receive.new.counts c.reply.new.counts r.0 c.in-Some.from (take c.in-Some.len c.receive.new.buffer) c.in_ok-answer.answer r.1 r.2 is c.in_ok-answer.ensures.next
-    c.in_ok-answer.ensures.answer c.reply.ensures
+    c.in_ok-answer.ensures.answer c.reply.ensures.replies

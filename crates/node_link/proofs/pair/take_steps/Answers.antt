@@ -1,4 +1,4 @@
-use Rattle.std.proofs.Common.{◌<◌, length, sym, subst, arith}
+use Rattle.std.proofs.Common.{◌<◌, ◌∙◌, length, sym, subst, arith}
 use Rattle.node_link.specs.declared.pair.PairFault.{PairFault}
 use Rattle.node_link.specs.PairParts.{StepStops}
 use Rattle.node_link.proofs.Pairing.{goes_on, step_stops}
@@ -12,8 +12,8 @@ loop-step-preserved g c =
           (g.P.Spawner.told c.args.kids.now) (g.P.Spawner.told c.loop-step.kids) (g.O.Sink.taken c.args.out.now) (g.O.Sink.taken c.loop-step.out) within c.step-item.is
           c.loop-step.invariant.0 c.take_step.new.children (g.P.Spawner.started c.take_step.new.kids) (g.P.Spawner.told c.take_step.new.kids) (g.O.Sink.taken c.take_step.new.out)
           c.in_ok-take_step.ensures.done,
-      omega (arith, c.loop-step.invariant.1, c.take_step.ensures.child_faults),
-      omega (arith, c.loop-step.invariant.2, c.take_step.ensures.write_faults),
+      c.in_ok-take_step.ensures.no_child_fault ∙ c.loop-step.invariant.1,
+      c.in_ok-take_step.ensures.no_write_fault ∙ c.loop-step.invariant.2,
     )
 
 pub returns-in_err-take_step-clause-stops : goal.returns-in_err-take_step-clause-stops

@@ -1,7 +1,10 @@
+use Rattle.std.proofs.Common.{◌≡◌}
 use Rattle.ft_model.specs.Legal.{machines}
 use Rattle.node_link.specs.Turning.{IsServing, standing_of}
 use Rattle.node_link.proofs.server.serve.Given as goal
 
--- so many turns are done
+-- so many turns are done, and no bind failed
 abbrev pub invariant-loop-turn : goal.invariant-loop-turn
-invariant-loop-turn g l = IsServing (machines g.S.Service.started g.S.Service.after) l.role l._turn (standing_of l.node) (g.L.Link.told l.fn.link) (g.L.Link.told l.link) l.counts
+invariant-loop-turn g l =
+    IsServing (machines g.S.Service.started g.S.Service.after) l.role l._turn (standing_of l.node) (g.L.Link.told l.fn.link) (g.L.Link.told l.link) l.counts
+    × (g.L.Link.bind_fault_count l.link ≡ g.L.Link.bind_fault_count l.fn.link)
