@@ -185,11 +185,11 @@ KNOWN.update({stale(1, 2): (2, 1), stale(1, 18446744073709551615): (184467440737
 AT = {"logger": "127.0.0.1:7040", "server": "127.0.0.1:7007"}
 
 
-def run(words, come, bind=0, send=0, receive=0, write=0, error=0, way="run"):
+def run(words, come, bind=0, second_bind=False, send=0, receive=0, write=0, error=0, way="run"):
     role, turns = words.split(" ")[0], int(words.split(" ")[-1])
     for came in come:
         script.append("nothing" if came is None else f"come {came[0]} {came[1]}".rstrip())
-    for call, number in (("bind", bind), ("send", send), ("receive", receive), ("write", write), ("error", error)):
+    for call, number in (("bind", bind), ("bind", 2 * second_bind), ("send", send), ("receive", receive), ("write", write), ("error", error)):
         if number:
             script.append(f"fail {call} {number}")
     script.append(f"{way} {words}")
@@ -353,6 +353,10 @@ line("# faults of the bind and of the sinks", "# faults of the bind and of the s
 run(LOGGER, [], bind=1)
 run(SERVER, [], bind=1)
 run(LOGGER, [], bind=1, error=1)
+# there is no second bind: the first decides
+run(LOGGER, [], second_bind=True)
+run(SERVER, [], second_bind=True)
+life(closed, 5, 0, [], 2, 3, bind=2)
 run(LOGGER, [], write=1)
 run(SERVER, [], write=1)
 line("# words that aren't allowed", "# words that aren't allowed")
@@ -448,6 +452,7 @@ for n in range(1, 7):
 run(OWN, [("127.0.0.1:7008", stale(1, 2))], way="own")
 run(OWN, [("127.0.0.1:7008", stale(1, 2))], error=1, way="own")
 run(OWN, [], bind=1, way="own")
+run(OWN, [], second_bind=True, way="own")
 run(OWN, [], write=1, way="own")
 run(SIX, peers, way="own")
 run(LOGGER, [], bind=1, way="own")
@@ -536,6 +541,86 @@ played(OWN.replace("--boot 1 --isn 5000 --turns 6", "--boot 2 --isn 900000 --tur
     (logs(STABLE, 2, kept(12, 1)), [hears(ACK, 5003, 1013)]),
     (logs(READS, 2, kept(12, 2)), [hears(ACK, 5003, 1013, b"12\n")]),
 ])
+
+
+
+# The whole program as a process on this machine, at HERE; its peer, where it needs one, is at THERE
+HERE, THERE = "127.0.0.1:7462", "127.0.0.1:7461"
+PROCESS_LOGGER = f"logger --local {HERE} --turns 2"
+PROCESS_CLIENT = f"client --local {HERE} --server {THERE} --isn 1000 --turns"
+PROCESS_SERVER = f"server --local {HERE} --logger {THERE} --service echo --boot 1 --isn 5000 --turns 1000"
+TWO_TICKS = "turns 2 datagrams 0 sent 0 lost 0 failed 0"
+
+
+def start(words, status, *says, shell="", answers=(), hold=""):
+    """A process. Its shell's command has "$0" for the program and "$@" for its words."""
+    if shell:
+        script.append("shell " + shell)
+    if hold:
+        script.append("hold " + hold)
+    script.extend("answer " + data for data in answers)
+    line("start " + words, f"status {status}", *says)
+
+
+def from_server(flags, seq, ack, text=b""):
+    return spelled(THERE, HERE, flags, seq, ack, text)
+
+
+def answered(*comes):
+    """A client's end, where its server says these one after another, by the endpoint of the model."""
+    assert lived(comes, 1000, b"hi")[0] in (0, 7)
+    return [from_server(*came) for came in comes]
+
+
+THIS = 'exec "$0" "$@"'
+line("# ftnode as a process: a logger and a client that end well, and a pair of programs that only end", "# ftnode as a process: a logger and a client that end well, and a pair of programs that only end")
+start(PROCESS_LOGGER, 0, TWO_TICKS)
+# a read timeout of seconds would take longer than this
+start(PROCESS_LOGGER, 0, TWO_TICKS, shell='exec timeout 15 "$0" "$@"')
+start(PROCESS_LOGGER + " --journal kept", 0, TWO_TICKS, shell='exec timeout 15 "$0" "$@"')
+start(PROCESS_LOGGER + " --journal kept", 0, TWO_TICKS)
+closing = answered((SYN | ACK, 5000, 1001), (FIN | ACK, 5001, 1004, b"yes\n"))
+start(f"{PROCESS_CLIENT} 1000", 0, "yes", answers=closing, shell='printf hi | "$0" "$@"')
+start(f"{PROCESS_CLIENT} 1000 --script hex:6869", 0, "yes", answers=closing)
+for program, code in (("/bin/true", 0), ("/bin/false", 1)):
+    lines = [f"{name} status {code}" for name in ("server", "client", "server", "logger")]
+    start(f"pair --program {program} --base 7463 --first 1 --second 1 --turns 1", 0, *lines)
+line("# a word that isn't UTF-8, words that aren't allowed, and an input that is too long", "# a word that isn't UTF-8, words that aren't allowed, and an input that is too long")
+start("logger", 1, shell='exec "$0" "$@" "$(printf \'\\377\')" 2>/dev/null')
+usage = "ftnode: usage"
+start("logger", 2, usage)
+KEEPER = PROCESS_LOGGER + " --journal"
+for words in (KEEPER, KEEPER + " ''", KEEPER + "=", KEEPER + " -", KEEPER + " --", KEEPER + " -x", KEEPER + " a --journal a", KEEPER + " a --journal=b", KEEPER + " a b"):
+    start(words, 2, usage)
+for words in (without(KEEPER + " a", "local"), without(KEEPER + " a", "turns"), without(KEEPER + " a", "turns") + " --turns 0", KEEPER + " a --boot 1"):
+    start(words, 2, usage)
+for words in (PROCESS_SERVER, PROCESS_CLIENT + " 9", PAIR):
+    start(words + " --journal a", 2, usage)
+for words in ("--journal a", "--journal a " + PROCESS_LOGGER, "Logger" + KEEPER[6:] + " a"):
+    start(words, 2, usage)
+start(f"{PROCESS_CLIENT} 1", 2, usage, shell='head -c 16777217 /dev/zero | "$0" "$@"')
+start(f"{PROCESS_CLIENT} 1", 8, spent, shell='head -c 16777216 /dev/zero | "$0" "$@"')
+line("# no memory; no such address; sinks that are full", "# no memory; no such address; sinks that are full")
+start(f"{PROCESS_CLIENT} 1 --script fill:16777216", 3, "ftnode: no memory", shell='ulimit -v 15000; exec "$0" "$@"')
+for words in (f"logger --local 192.0.2.1:7462 --turns 2", f"logger --local 192.0.2.1:7462 --turns 2 --journal kept"):
+    start(words, 4, "ftnode: link fault")
+start(PROCESS_SERVER.replace(HERE, "192.0.2.1:7462"), 4, "ftnode: link fault")
+start(f"{PROCESS_CLIENT.replace(HERE, '192.0.2.1:7462')} 1 --script -", 4, "ftnode: link fault")
+for words in (PROCESS_LOGGER, KEEPER + " kept", "pair --program /bin/true --base 7463 --first 1 --second 1 --turns 1"):
+    start(words, 5, shell='exec "$0" "$@" >/dev/full')
+for words in ("logger", PROCESS_CLIENT + " 1 --script -"):
+    start(words, 5, shell='exec "$0" "$@" 2>/dev/full')
+line("# fenced, reset, spent, no input, no child", "# fenced, reset, spent, no input, no child")
+start(PROCESS_SERVER, 6, "ftnode: fenced by boot 2", answers=[stale(1, 2)])
+start(f"{PROCESS_CLIENT} 1000 --script hex:6869", 7, reset, answers=answered((SYN | ACK, 5000, 1001), (RST, 5001, 0)))
+start(f"{PROCESS_CLIENT} 2 --script -", 8, spent)
+start(f"{PROCESS_CLIENT} 2", 9, "ftnode: read fault", shell='exec "$0" "$@" </')
+start("pair --program /no/such/program --base 7463 --first 1 --second 1 --turns 1", 10, "ftnode: child fault")
+line("# a journal in no folder, one that is none, and one that is open", "# a journal in no folder, one that is none, and one that is open")
+start(KEEPER + " no/such/folder", 11, "ftnode: journal fault")
+start(KEEPER + " damaged", 12, "ftnode: journal: byte 0", shell='printf "no journal" >damaged; exec "$0" "$@"')
+start(KEEPER + " held", 13, "ftnode: journal in use", hold="held")
+start(KEEPER + " held", 0, TWO_TICKS)
 
 if len(sys.argv) != 3:
     sys.exit("link_oracle.py SCRIPT PRINTED")

@@ -1,4 +1,4 @@
--- Answers are handed over one behind the other, and counted.
+-- Answers are handed over one after the other, and counted.
 use Rattle.std.proofs.Common.{◌≡◌, ◌∙◌, ℕ, Bool, ◌+◌, ◌<◌, ◌≤◌, refl, sym, ap, subst, Option, List, [], ◌∷◌, ◌++◌, length, take, append_assoc, append-nil, length-append, arith}
 use Rattle.std.proofs.lemmas.List.{length-take, map-append}
 use Rattle.ft_io.specs.declared.Addr.{Addr}
@@ -17,7 +17,7 @@ use Rattle.journal_link.specs.Turning.{AreHanded, HandsOver, HasAnswered}
 pub on_link-append : (xs ys : List LinkCall) → on_link (xs ++ ys) ≡ on_link xs ++ on_link ys
 on_link-append xs ys = map-append OnLink xs ys
 
--- link calls are told behind one another on a desk
+-- link calls are told after one another on a desk
 pub tells_more : (old mid new : Option (List DeskCall)) (xs ys : List LinkCall) → Tells old mid (on_link xs) → Tells mid new (on_link ys) → Tells old new (on_link (xs ++ ys))
 tells_more old mid new xs ys a b = subst (Tells old new) (sym (on_link-append xs ys)) (tells_on old mid new (on_link xs) (on_link ys) a b)
 

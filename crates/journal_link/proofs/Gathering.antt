@@ -102,7 +102,7 @@ gathered i before after old new c counts answers some few s = record {
   answers_are = s.answers_are;
 }
 
--- want of memory ends a round
+-- a round ends because memory runs out
 pub gathering_cut : (i most : ℕ) (before mid : KeptState) (old between new : Option (List DeskCall)) (c k : Counts) (answers : List Answer) → i < most → most ≤ 256
     → IsGathering i before mid old between c k answers → ((r : Received) × Tells between new (on_link (received_as r ∷ []))) → IsCutGathering most old new
 gathering_cut i most before mid old between new c k answers lt le s (r, t) = record {

@@ -138,7 +138,7 @@ turned count before mid after old t1 t2 new c k counts replies idle g kept none 
       idle = none;
     }
 
--- a round that want of memory ends
+-- a round that ends because memory runs out
 pub cut_by_memory : (most : ℕ) (at : Place) (old new : Option (List DeskCall)) → IsCutGathering most old new → IsCutRound most at old new
 cut_by_memory most at old new g = record {
   received = g.received;

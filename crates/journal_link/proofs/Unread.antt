@@ -1,4 +1,4 @@
--- Want of memory to read the words: nothing was done, whatever they ask for.
+-- Memory ran out while the words were read: nothing was done, whatever they ask for.
 use Rattle.std.proofs.Common.{inl, inr, ℕ, refl, Option, None, Some, List, Err}
 use Rattle.server_trait.specs.Service.{Machine}
 use Rattle.disk.specs.declared.calls.DeskCall.{DeskCall}

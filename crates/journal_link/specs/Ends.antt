@@ -1,5 +1,5 @@
 -- How a logger with a journal ends early: its exit status, and the line that tells it.
-use Rattle.std.specs.Prelude.{◌≡◌, ◌⊎◌, ℕ, Option, List, ◌++◌, codes}
+use Rattle.std.specs.Prelude.{◌≡◌, ◌⊎◌, ℕ, Bool, false, Option, Result, MatchResult, List, ◌++◌, codes}
 use Rattle.std.specs.Fmt.{decimal}
 use Rattle.std.specs.Io.KnownBytes.{Appends}
 use Rattle.ft_io.specs.Faults.{Rose}
@@ -20,6 +20,15 @@ code_of (Node end) = node.code_of end
 code_of JournalFault = 11
 code_of (BadJournal at) = 12
 code_of InUse = 13
+
+-- the ends that a failed bind or write brings, as they may be of any role
+abbrev pub is_fault : JournalEnd → Bool
+is_fault (Node end) = node.is_fault end
+is_fault _ = false
+
+-- P, where no such end came
+abbrev pub UnlessFault : {T : Type 0} → Result T JournalEnd → Type 0 → Type 0
+UnlessFault result P = MatchResult result (λ _. P) (λ end. is_fault end ≡ false → P)
 
 abbrev pub place_text : ℕ → List ℕ
 place_text at = codes "ftnode: journal: byte " ++ (decimal at ++ codes "\n")

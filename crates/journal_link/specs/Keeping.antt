@@ -19,7 +19,7 @@ use Rattle.journal_link.specs.declared.role.JournalRole.{JournalRole}
 use Rattle.journal_link.specs.declared.status.JournalEnd.{JournalEnd}
 use Rattle.journal_link.specs.declared.status.JournalEnd.TheVariants.{Node, JournalFault, BadJournal, InUse}
 
--- Where a process starts: at the log of the blocks that its file has. By these calls it cuts off what a death has left behind them, or makes a file that was empty
+-- Where a process starts: at the log of the blocks that its file has. By these calls it cuts off what a death has left after them, or makes a file that was empty
 pub record Starts (file : Option (List ℕ)) (opening : List DiskCall) (start : Place) : Type 0 where
   pub bodies : List (List ℕ)
   pub has_log : HasLog bodies start.end start.log
@@ -44,7 +44,7 @@ pub record IsUnanswered (at : Place) (received : List Received) (calls : List De
   pub front : IsFrontOf (committing at.end (changes_in at.log received)) done
   pub calls_are : calls ≡ on_link (receives received) ++ on_disk done
 
--- a life that ended in a round, or behind all of them
+-- a life that ended in a round, or after all of them
 pub record IsCutKeeper (role : JournalRole) (file : Option (List ℕ)) (old new : Option (List DeskCall)) : Type 0 where
   pub opening : List DiskCall
   pub start : Place

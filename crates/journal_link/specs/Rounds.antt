@@ -49,7 +49,7 @@ change_by log (datagram from bytes) = change_in log bytes (reading bytes)
 change_by log silence = []
 change_by log failure = []
 
--- the messages that changed the log, each on top of those before it, one behind the other as they came
+-- the messages that changed the log, each on top of those before it, one after the other as they came
 abbrev pub changes_in : Log → List Received → List ℕ
 changes_in log [] = []
 changes_in log (last ∷ earlier) = changes_in log earlier ++ change_by (log_behind log earlier) last

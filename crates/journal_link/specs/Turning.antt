@@ -92,7 +92,7 @@ pub record HasGathered (count : ℕ) (before after : KeptState) (old new : Optio
   pub after_is : after ≡ with_all_received before received
   pub answers_are : answers ≡ replies_to before.log received
 
--- receives of which want of memory ended the last one
+-- receives of which the last one ended because memory ran out
 pub record IsCutGathering (most : ℕ) (old new : Option (List DeskCall)) : Type 0 where
   pub received : List Received
   pub within : length received ≤ most

@@ -6,7 +6,7 @@ use Rattle.node_link.specs.declared.options.OptionName.{OptionName}
 use Rattle.node_link.specs.declared.options.OptionName.TheVariants as option
 use Rattle.node_link.specs.declared.role.LoggerRole.{LoggerRole}
 use Rattle.node_link.specs.Options.{Text, Use, allowed_uses, value_of}
-use Rattle.node_link.specs.Roles.{logger_in}
+use Rattle.node_link.specs.Roles.{is_name, logger_in}
 use Rattle.journal_link.specs.declared.role.JournalRole.{JournalRole}
 
 abbrev pub journal_options : List OptionName
@@ -16,8 +16,11 @@ abbrev pub journal_from : Option LoggerRole → Option Text → Option JournalRo
 journal_from (Some logger) (Some journal) = Some (record { logger = logger; journal = journal })
 journal_from _ _ = None
 
+abbrev pub file_of : Text → Option Text
+file_of word = if is_name word then Some word else None
+
 abbrev pub journal_in : List Use → Option JournalRole
-journal_in uses = journal_from (logger_in uses) (value_of uses option.Journal)
+journal_in uses = journal_from (logger_in uses) (option_and_then file_of (value_of uses option.Journal))
 
 -- what words ask of a logger with a journal, where they are allowed as such. All other words are `node`'s
 unfoldable pub journal_of : List Text → Option JournalRole

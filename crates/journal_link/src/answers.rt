@@ -21,6 +21,7 @@ fn reply<K: Desk>(desk: &mut K, answer: &Answer, counts: &mut Counts)
     requires { HasRoom 1 counts.old }
     ensures handed { HandsOver answer.now (K.told desk.old) (K.told desk.new) counts.old counts.new }
     ensures no_disk_fault { K.fault_count desk.new ≡ K.fault_count desk.old }
+    ensures no_bind_fault { (K.beside desk.new).bind_faults ≡ (K.beside desk.old).bind_faults }
 {
     let bytes = answer.out.bytes();
     if bytes.is_empty() {
@@ -35,6 +36,7 @@ pub(crate) fn reply_to_all<K: Desk>(desk: &mut K, answers: &[Answer], counts: &m
     requires { HasRoom (length answers.now) counts.old }
     ensures answered { HasAnswered answers.now (K.told desk.old) (K.told desk.new) counts.old counts.new }
     ensures no_disk_fault { K.fault_count desk.new ≡ K.fault_count desk.old }
+    ensures no_bind_fault { (K.beside desk.new).bind_faults ≡ (K.beside desk.old).bind_faults }
 {
     for answer in answers {
         reply(desk, answer, counts);

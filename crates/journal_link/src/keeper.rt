@@ -3,6 +3,7 @@
 ghost use Rattle.std.specs.Prelude.{◌≡◌, ◌≤◌, [], Err, IfOk, IfErr, OnOk, IsErrOf};
 ghost use Rattle.std.specs.Io.KnownBytes.{Appends};
 ghost use Rattle.ft_io.specs.Faults.{Rose};
+ghost use Rattle.journal_link.specs.Ends.{UnlessFault};
 ghost use Rattle.journal_link.specs.Keeping.{IsKeeper, KeeperStops, IsOpen, OpeningStops};
 ghost use Rattle.journal_link.specs.Turning.{place_of, HasLived, ServingStops};
 
@@ -29,7 +30,7 @@ fn open_log<K: Desk>(alloc: Global, desk: &mut K, name: &str) -> Result<KeptLog,
     Ok(KeptLog::open(alloc, desk)?)
 }
 
-/// A logger behind its bind: its rounds, and the line that it ends with.
+/// A logger after its bind: its rounds, and the line that it ends with.
 fn serve_and_tell<K: Desk, O: Sink>(
     alloc: Global,
     turns: u32,
@@ -43,6 +44,8 @@ fn serve_and_tell<K: Desk, O: Sink>(
     ensures stops { IfErr result (ServingStops turns (place_of kept.old) (K.told desk.old) (K.told desk.new) (O.taken out.old) (O.taken out.new)) }
     ensures cause { IsErrOf result JournalEnd.JournalFault → Rose (K.fault_count desk.old) (K.fault_count desk.new) }
     ensures write_cause { result ≡ Err (JournalEnd.Node NodeEnd.WriteFault) → Rose (O.fault_count out.old) (O.fault_count out.new) }
+    ensures no_write_fault { UnlessFault result (O.fault_count out.new ≡ O.fault_count out.old) }
+    ensures no_bind_fault { (K.beside desk.new).bind_faults ≡ (K.beside desk.old).bind_faults }
 {
     let counts = serve(alloc, desk, kept, turns)?;
     Ok(tell_counts(alloc, &counts, out)?)
@@ -62,6 +65,8 @@ pub(crate) fn run_keeper<K: Desk, O: Sink>(
     ensures in_use { IsErrOf result JournalEnd.InUse → Rose (K.beside desk.old).refusals (K.beside desk.new).refusals }
     ensures bind_cause { result ≡ Err (JournalEnd.Node NodeEnd.LinkFault) → Rose (K.beside desk.old).bind_faults (K.beside desk.new).bind_faults }
     ensures write_cause { result ≡ Err (JournalEnd.Node NodeEnd.WriteFault) → Rose (O.fault_count out.old) (O.fault_count out.new) }
+    ensures no_write_fault { UnlessFault result (O.fault_count out.new ≡ O.fault_count out.old) }
+    ensures no_bind_fault { UnlessFault result ((K.beside desk.new).bind_faults ≡ (K.beside desk.old).bind_faults) }
 {
     let mut kept = open_log(alloc, desk, role.journal.as_str())?;
     match desk.bind(role.logger.local) {

@@ -2,11 +2,11 @@
 
 ghost use Rattle.std.specs.Prelude.{◌≡◌, ◌≤◌, List, map, string_bytes, IfOk, IfSome};
 ghost use Rattle.node_link.specs.Options.{Use, HasValues};
-ghost use Rattle.journal_link.specs.Words.{journal_in, journal_of};
+ghost use Rattle.journal_link.specs.Words.{file_of, journal_in, journal_of};
 
 use clap::ArgMatches;
 use ft_io::NoMemory;
-use node_link::{LoggerRole, OptionName, logger_role, read_options};
+use node_link::{LoggerRole, OptionName, is_name, logger_role, read_options};
 use std::alloc::Global;
 use std::marker::Model;
 
@@ -16,7 +16,7 @@ const JOURNAL_OPTIONS: [OptionName; 3] = [
     OptionName::Journal,
 ];
 
-/// The name of a file.
+/// The name of a file. It isn't empty and doesn't begin with `-`.
 #[derive(Debug, Drop)]
 pub struct FileName {
     word: String,
@@ -31,12 +31,15 @@ impl Model for FileName {
 }
 
 impl FileName {
-    /// The name of this word.
-    fn new(alloc: Global, word: &str) -> Result<FileName, NoMemory>
-        ensures { IfOk result (λ name. name ≡ word.now) }
+    /// The name of this word, or none where the word is empty or begins with `-`.
+    fn read(alloc: Global, word: &str) -> Result<Option<FileName>, NoMemory>
+        ensures { IfOk result (λ name. name ≡ file_of word.now) }
     {
+        if !is_name(word.as_bytes()) {
+            return Ok(None);
+        }
         let word = String::from_str(alloc, word)?;
-        Ok(FileName { word })
+        Ok(Some(FileName { word }))
     }
 
     /// The word.
@@ -65,8 +68,10 @@ fn journal_role(alloc: Global, matches: &ArgMatches<'_>) -> Result<Option<Journa
     let Some(word) = matches.get_str(OptionName::Journal.word()) else {
         return Ok(None);
     };
-    let journal = FileName::new(alloc, word)?;
-    Ok(Some(JournalRole { logger, journal }))
+    match FileName::read(alloc, word)? {
+        Some(journal) => Ok(Some(JournalRole { logger, journal })),
+        None => Ok(None),
+    }
 }
 
 #[tactic(auto, unfolding(crate::specs::Words::journal_of))]

@@ -41,6 +41,7 @@ fn receive<K: Desk>(
         × (counts.new ≡ with_calls counts.old (received_as r ∷ []))
         × MatchOption result (IsQuiet r) (λ g. (g.0 ≤ length buffer.new) × (r ≡ datagram g.1 (take g.0 buffer.new))) }
     ensures no_disk_fault { K.fault_count desk.new ≡ K.fault_count desk.old }
+    ensures no_bind_fault { (K.beside desk.new).bind_faults ≡ (K.beside desk.old).bind_faults }
 {
     let heard = if waits {
         desk.recv(buffer)
@@ -81,6 +82,7 @@ fn take_next<K: Desk>(
     ensures taken { IfOk result (λ more. HasTaken more kept.old kept.new (K.told desk.old) (K.told desk.new) counts.old counts.new answers.old.items answers.new.items) }
     ensures cut_off { OnErr result ((r : Received) × Tells (K.told desk.old) (K.told desk.new) (on_link (received_as r ∷ []))) }
     ensures no_disk_fault { K.fault_count desk.new ≡ K.fault_count desk.old }
+    ensures no_bind_fault { (K.beside desk.new).bind_faults ≡ (K.beside desk.old).bind_faults }
 {
     let mut buffer = [0; DATAGRAM_ROOM];
     let Some((len, to)) = receive(desk, waits, &mut buffer, counts) else {
@@ -108,6 +110,7 @@ fn gather<K: Desk>(
     ensures gathered { IfOk result (λ count. HasGathered count kept.old kept.new (K.told desk.old) (K.told desk.new) counts.old counts.new answers.new.items) }
     ensures cut_off { OnErr result (IsCutGathering most (K.told desk.old) (K.told desk.new)) }
     ensures no_disk_fault { K.fault_count desk.new ≡ K.fault_count desk.old }
+    ensures no_bind_fault { (K.beside desk.new).bind_faults ≡ (K.beside desk.old).bind_faults }
 {
     answers.clear();
     for count in 0..most {
@@ -140,6 +143,7 @@ fn take_round<K: Desk>(
     ensures ends { IfErr result IsServeEnd }
     ensures cause { IsErrOf result JournalEnd.JournalFault → Rose (K.fault_count desk.old) (K.fault_count desk.new) }
     ensures never_falls { K.fault_count desk.old ≤ K.fault_count desk.new }
+    ensures no_bind_fault { (K.beside desk.new).bind_faults ≡ (K.beside desk.old).bind_faults }
 {
     let count = gather(alloc, desk, kept, counts, answers, most)?;
     kept.commit(alloc, desk)?;
@@ -161,6 +165,7 @@ pub(crate) fn serve<K: Desk>(
     ensures ends { IfErr result IsServeEnd }
     ensures cause { IsErrOf result JournalEnd.JournalFault → Rose (K.fault_count desk.old) (K.fault_count desk.new) }
     ensures never_falls { K.fault_count desk.old ≤ K.fault_count desk.new }
+    ensures no_bind_fault { (K.beside desk.new).bind_faults ≡ (K.beside desk.old).bind_faults }
 {
     let mut counts = Counts::new();
     let mut answers = Vec::new(alloc);

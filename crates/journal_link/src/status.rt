@@ -1,12 +1,13 @@
 //! How a logger with a journal ends.
 
-ghost use Rattle.std.specs.Prelude.{◌≡◌, ◌++◌, codes, decimal, OnOk, OnErr};
+ghost use Rattle.std.specs.Prelude.{◌≡◌, ◌++◌, false, codes, decimal, OnOk, OnErr};
 ghost use Rattle.std.specs.Io.KnownBytes.{Appends};
 ghost use Rattle.ft_io.specs.Faults.{Rose};
 ghost use Rattle.ft_io.specs.Sink.{AppendsFront};
+ghost use Rattle.node_link.specs.Ends.{is_fault_status};
 ghost use Rattle.node_link.specs.declared.status.NodeEnd.TheVariants as node_ends;
 ghost use Rattle.journal_link.specs.declared.status.JournalEnd.TheVariants as ends;
-ghost use Rattle.journal_link.specs.Ends.{place_text, from_shelf, from_open, from_keep, TellsEnd};
+ghost use Rattle.journal_link.specs.Ends.{place_text, from_shelf, from_open, from_keep, TellsEnd, is_fault};
 
 use disk::ShelfEnd;
 use ft_io::{Failed, NoMemory, Sink, write_all};
@@ -83,6 +84,7 @@ fn write_place<E: Sink>(err: &mut E, at: u64) -> Result<(), Failed>
     ensures whole { OnOk result (Appends (E.taken err.old) (E.taken err.new) (place_text at)) }
     ensures front { OnErr result (AppendsFront (E.taken err.old) (E.taken err.new) (place_text at)) }
     ensures cause { OnErr result (Rose (E.fault_count err.old) (E.fault_count err.new)) }
+    ensures no_fault { OnOk result (E.fault_count err.new ≡ E.fault_count err.old) }
 {
     let mut number = Buffer::new();
     write_all(err, b"ftnode: journal: byte ")?;
@@ -104,6 +106,9 @@ fn status_of(code: u8, written: Result<(), Failed>) -> Status
 /// Writes the line of an end, and gives its status: 5 where that write failed.
 pub(crate) fn tell<E: Sink>(err: &mut E, end: JournalEnd) -> Status
     ensures told { TellsEnd end (E.taken err.old) (E.taken err.new) (E.fault_count err.old) (E.fault_count err.new) result.code }
+    ensures early { result.code ≡ 0 → ⊥ }
+    ensures fault { is_fault_status result.code ≡ false → is_fault end ≡ false }
+    ensures no_fault { is_fault_status result.code ≡ false → E.fault_count err.new ≡ E.fault_count err.old }
 {
     match end {
         JournalEnd::Node(end) => node_link::tell(err, end),

@@ -2,13 +2,15 @@
 
 ghost use Rattle.std.specs.Prelude.{◌≡◌, ◌≤◌, ◌^◌, ◌⊎◌, ℕ, List, length, map, string_bytes, None, Some, false};
 ghost use Rattle.ft_io.specs.Faults.{Rose};
+ghost use Rattle.ft_io.specs.Source.{ConsumesAtMost};
 ghost use Rattle.node_link.specs.declared.role.ServerRole.{ServerRole};
 ghost use Rattle.node_link.specs.declared.role.ClientRole.{ClientRole};
 ghost use Rattle.node_link.specs.declared.role.LoggerRole.{LoggerRole};
 ghost use Rattle.node_link.specs.declared.role.PairRole.{PairRole};
 ghost use Rattle.node_link.specs.declared.role.Role.TheVariants as roles;
-ghost use Rattle.node_link.specs.Outcome.{HasEnded, IsStill};
-ghost use Rattle.node_link.specs.Roles.{role_of, is_pair};
+ghost use Rattle.node_link.specs.Ends.{is_fault_status};
+ghost use Rattle.node_link.specs.Outcome.{HasEnded, IsStill, HasScript};
+ghost use Rattle.node_link.specs.Roles.{role_of, is_pair, reads_input};
 ghost use Rattle.journal_link.specs.declared.role.JournalRole.{JournalRole};
 ghost use Rattle.journal_link.specs.Outcome.{HasKept, MayEnd};
 ghost use Rattle.journal_link.specs.Words.{journal_of};
@@ -37,6 +39,10 @@ fn keep<K: Desk, O: Sink, E: Sink>(
     ensures link_fault { result.code ≡ 4 → Rose (K.beside desk.old).bind_faults (K.beside desk.new).bind_faults }
     ensures write_fault { result.code ≡ 5 → Rose (O.fault_count out.old) (O.fault_count out.new) ⊎ Rose (E.fault_count err.old) (E.fault_count err.new) }
     ensures ends { MayEnd result.code }
+    ensures silent { result.code ≡ 0 → err.new ≡ err.old }
+    ensures no_write_fault { is_fault_status result.code ≡ false → O.fault_count out.new ≡ O.fault_count out.old }
+    ensures no_err_fault { is_fault_status result.code ≡ false → E.fault_count err.new ≡ E.fault_count err.old }
+    ensures no_bind_fault { is_fault_status result.code ≡ false → (K.beside desk.new).bind_faults ≡ (K.beside desk.old).bind_faults }
 {
     match run_keeper(alloc, role, desk, out) {
         Ok(()) => Status { code: 0 },
@@ -45,7 +51,7 @@ fn keep<K: Desk, O: Sink, E: Sink>(
 }
 
 /// `ftnode` with these words: as [`node`], and a logger whose words have `--journal FILE` besides keeps its log in this file, so that it comes back with all that
-/// it has told. The desk is that logger's network and file, in one; `link` is for all others. Its status is 0 where all turns were done, 3 for want of memory, 4
+/// it has told. The desk is that logger's network and file, in one; `link` is for all others. Its status is 0 where all turns were done, 3 because memory ran out, 4
 /// where the bind failed, 5 for a fault of a sink, 11 where a call on the file failed, 12 where the file is no journal, and 13 where another process has it open.
 pub fn node_with<L: Link, I: Source, O: Sink, E: Sink, P: Spawner, K: Desk>(
     alloc: Global,
@@ -62,20 +68,31 @@ pub fn node_with<L: Link, I: Source, O: Sink, E: Sink, P: Spawner, K: Desk>(
         (record { left = I.left input.old; calls = L.told link.old; started = P.started kids.old; spawned = P.told kids.old; out = O.taken out.old })
         (record { left = I.left input.new; calls = L.told link.new; started = P.started kids.new; spawned = P.told kids.new; out = O.taken out.new })
         (E.taken err.old) (E.taken err.new) result.code }
+    ensures unread { reads_input (role_of (map string_bytes words.now)) ≡ false → input.new ≡ input.old }
+    ensures taken { ConsumesAtMost 16777217 (I.left input.old) (I.left input.new) }
     ensures same_kids { is_pair (role_of (map string_bytes words.now)) ≡ false → kids.new ≡ kids.old }
+    ensures silent { result.code ≡ 0 → err.new ≡ err.old }
     ensures read_fault { result.code ≡ 9 → Rose (I.fault_count input.old) (I.fault_count input.new) }
     ensures link_fault { journal_of (map string_bytes words.now) ≡ None → result.code ≡ 4 → Rose (L.bind_fault_count link.old) (L.bind_fault_count link.new) }
     ensures write_fault { result.code ≡ 5 → Rose (O.fault_count out.old) (O.fault_count out.new) ⊎ Rose (E.fault_count err.old) (E.fault_count err.new) }
     ensures child_fault { result.code ≡ 10 → Rose (P.fault_count kids.old) (P.fault_count kids.new) }
+    // At every other status no read, bind, write, start or wait has failed, not even one that was tried again.
+    ensures no_read_fault { is_fault_status result.code ≡ false → I.fault_count input.new ≡ I.fault_count input.old }
+    ensures no_bind_fault { is_fault_status result.code ≡ false → L.bind_fault_count link.new ≡ L.bind_fault_count link.old }
+    ensures no_write_fault { is_fault_status result.code ≡ false → O.fault_count out.new ≡ O.fault_count out.old }
+    ensures no_err_fault { is_fault_status result.code ≡ false → E.fault_count err.new ≡ E.fault_count err.old }
+    ensures no_child_fault { is_fault_status result.code ≡ false → P.fault_count kids.new ≡ P.fault_count kids.old }
+    ensures no_desk_bind_fault { is_fault_status result.code ≡ false → (K.beside desk.new).bind_faults ≡ (K.beside desk.old).bind_faults }
     ensures server { (role : ServerRole) → journal_of (map string_bytes words.now) ≡ None → role_of (map string_bytes words.now) ≡ Some (roles.Server role)
         → IsStill (L.bind_fault_count link.old) (L.bind_fault_count link.new) → IsStill (O.fault_count out.old) (O.fault_count out.new)
         → IsStill (E.fault_count err.old) (E.fault_count err.new) → (result.code ≡ 0) ⊎ ((result.code ≡ 6) ⊎ (result.code ≡ 3)) }
     ensures logger { (role : LoggerRole) → journal_of (map string_bytes words.now) ≡ None → role_of (map string_bytes words.now) ≡ Some (roles.Logger role)
         → IsStill (L.bind_fault_count link.old) (L.bind_fault_count link.new) → IsStill (O.fault_count out.old) (O.fault_count out.new)
         → IsStill (E.fault_count err.old) (E.fault_count err.new) → (result.code ≡ 0) ⊎ (result.code ≡ 3) }
-    ensures client { (role : ClientRole) (left : List ℕ) → journal_of (map string_bytes words.now) ≡ None
-        → role_of (map string_bytes words.now) ≡ Some (roles.Client role) → I.left input.old ≡ Some left → length left ≤ 2 ^ 24
-        → IsStill (I.fault_count input.old) (I.fault_count input.new) → IsStill (L.bind_fault_count link.old) (L.bind_fault_count link.new)
+    ensures client { (role : ClientRole) → journal_of (map string_bytes words.now) ≡ None
+        → role_of (map string_bytes words.now) ≡ Some (roles.Client role)
+        → HasScript role.script (I.left input.old) (I.fault_count input.old) (I.fault_count input.new)
+        → IsStill (L.bind_fault_count link.old) (L.bind_fault_count link.new)
         → IsStill (O.fault_count out.old) (O.fault_count out.new)
         → IsStill (E.fault_count err.old) (E.fault_count err.new) → (result.code ≡ 0) ⊎ ((result.code ≡ 7) ⊎ ((result.code ≡ 8) ⊎ (result.code ≡ 3))) }
     ensures pair { (role : PairRole) → journal_of (map string_bytes words.now) ≡ None → role_of (map string_bytes words.now) ≡ Some (roles.Pair role)
@@ -93,7 +110,7 @@ pub fn node_with<L: Link, I: Source, O: Sink, E: Sink, P: Spawner, K: Desk>(
         → result.code ≡ 4 → Rose (K.beside desk.old).bind_faults (K.beside desk.new).bind_faults }
     ensures journal_fault { result.code ≡ 11 → Rose (K.fault_count desk.old) (K.fault_count desk.new) }
     ensures in_use { result.code ≡ 13 → Rose (K.beside desk.old).refusals (K.beside desk.new).refusals }
-    // Where no call on the desk and no sink failed, only damage of the file or want of memory ends it early.
+    // Where no call on the desk and no sink failed, only damage of the file or a lack of memory ends it early.
     ensures keeper { (role : JournalRole) → journal_of (map string_bytes words.now) ≡ Some role
         → IsStill (K.fault_count desk.old) (K.fault_count desk.new) → IsStill (K.beside desk.old).refusals (K.beside desk.new).refusals
         → IsStill (K.beside desk.old).bind_faults (K.beside desk.new).bind_faults → IsStill (O.fault_count out.old) (O.fault_count out.new)

@@ -10,55 +10,82 @@
 //!   writes are on out and err, and starts of children and waits for them have one numbering;
 //! - `run WORDS` runs `node`, and prints its status, what it wrote to out and to err, and the calls that the link and the spawner tell; `brief WORDS` prints of
 //!   the link's calls only how many were receives and how many sends;
-//! - `own WORDS` is the same as `run`, for `node_of` with the service Counter.
+//! - `own WORDS` is the same as `run`, for `node_of` with the service Counter;
+//! - `start WORDS` starts `ftnode` as a process, and prints its exit status and what it wrote to both outputs. Its shell's command is that of a line
+//!   `shell TEXT` before it, where `$0` is the program and `$@` are its words. `answer HEX` is what a peer at 127.0.0.1:7461 answers to the datagrams that come to
+//!   it, one after another, and `hold FILE` keeps this journal open meanwhile.
+//!
+//! With words it is `ftnode`.
 #![tactic(auto)]
 
 use faults::Faults;
 use ft_io::{Addr, Arrival, NoMemory, Octets, WriteSink, write_all};
 use hex::FromHexError;
+use journal_link::run_ftnode;
 use node_link::{Role, read_role};
+use process::Meeting;
 use run::{Setting, Way};
 use schedule_text::read_addr;
 use std::alloc::Global;
-use std::{io, mem};
+use std::fs::{File, Files};
+use std::net::Net;
+use std::process::{ExitCode, Processes};
+use std::rt::Env;
+use std::time::Clock;
+use std::{env, io, mem};
 
 mod children;
 mod faults;
+mod process;
 mod run;
 
-fn main(rt: HostRuntime) -> io::Result<()> {
-    let mut script = Script {
-        arrivals: Vec::new(rt.alloc()),
-        input: Vec::new(rt.alloc()),
-        statuses: Vec::new(rt.alloc()),
-        faults: Faults::none(),
-        said: Vec::new(rt.alloc()),
-    };
+fn main(rt: HostRuntime) -> io::Result<ExitCode> {
+    if env::args(&rt)?.skip(1).next().is_some() {
+        return run_ftnode(&rt, rt.stdin(), rt.stdout(), rt.stderr());
+    }
+    let mut script = Script::new(rt.alloc());
     for line in rt.lines(rt.alloc()) {
-        if script.play(rt.alloc(), line?.as_str()).is_err() {
+        if script.play(&rt, line?.as_str()).is_err() {
             println!(rt; "no memory")?;
-            return Ok(());
+            return Ok(ExitCode::FAILURE);
         }
     }
     if write_all(&mut WriteSink::new(rt.stdout()), script.said.as_slice()).is_err() {
         println!(rt; "a fault")?;
     }
-    Ok(())
+    Ok(ExitCode::SUCCESS)
 }
 
-/// What comes to the next run and is its input, how its children end, which of its calls fail, and what was printed so far.
+/// What comes to the next run and is its input, how its children end, which of its calls fail; what the next process meets; and what was printed so far.
 #[derive(Drop)]
 struct Script {
     arrivals: Vec<Arrival>,
     input: Vec<u8>,
     statuses: Vec<i32>,
     faults: Faults,
+    meeting: Meeting,
     said: Vec<u8>,
 }
 
 impl Script {
+    fn new(alloc: Global) -> Script {
+        Script {
+            arrivals: Vec::new(alloc),
+            input: Vec::new(alloc),
+            statuses: Vec::new(alloc),
+            faults: Faults::none(),
+            meeting: Meeting::new(alloc),
+            said: Vec::new(alloc),
+        }
+    }
+
     /// Plays a line.
-    fn play(&mut self, alloc: Global, line: &str) -> Result<(), NoMemory> {
+    fn play<R: AllocGlobal + Env + Net + Clock + Files<File = File> + Processes>(
+        &mut self,
+        system: &R,
+        line: &str,
+    ) -> Result<(), NoMemory> {
+        let alloc = system.alloc();
         let (word, rest) = line.split_once(' ').unwrap_or((line, ""));
         match word.as_bytes() {
             b"#" => say(line, &mut self.said),
@@ -77,6 +104,10 @@ impl Script {
             b"run" => self.run(alloc, rest, Way::Node),
             b"brief" => self.run(alloc, rest, Way::Brief),
             b"own" => self.run(alloc, rest, Way::Own),
+            b"shell" => self.meeting.set_shell(alloc, rest),
+            b"hold" => self.meeting.hold(alloc, rest),
+            b"answer" => self.answer(alloc, rest),
+            b"start" => self.start(system, rest),
             _ => say("no such line", &mut self.said),
         }
     }
@@ -92,6 +123,29 @@ impl Script {
             way,
         };
         run::run(alloc, words.as_slice(), setting, &mut self.said)
+    }
+
+    /// Starts a process with these words.
+    fn start<R: AllocGlobal + Env + Net + Clock + Files<File = File> + Processes>(
+        &mut self,
+        system: &R,
+        rest: &str,
+    ) -> Result<(), NoMemory> {
+        let words = words_of(system.alloc(), rest)?;
+        let meeting = mem::replace(&mut self.meeting, Meeting::new(system.alloc()));
+        process::start(system, words.as_slice(), &meeting, &mut self.said)
+    }
+
+    /// Adds an answer of the next process's peer.
+    fn answer(&mut self, alloc: Global, text: &str) -> Result<(), NoMemory> {
+        match hex::decode(alloc, text) {
+            Ok(bytes) => {
+                self.meeting.answers.push(bytes)?;
+                Ok(())
+            }
+            Err(FromHexError::OutOfMemory) => Err(NoMemory),
+            Err(_) => say("no answer", &mut self.said),
+        }
     }
 
     /// Sets the input.

@@ -47,7 +47,8 @@ fn only(alloc: Global, number: u32) -> Result<Vec<u32>, NoMemory> {
 fn link_of(alloc: Global, arrivals: Vec<Arrival>, faults: Faults) -> Result<MemLink, NoMemory> {
     let sends = only(alloc, faults.send)?;
     let receives = only(alloc, faults.receive)?;
-    Ok(MemLink::new(alloc, arrivals, sends, receives, faults.bind != 0))
+    let binds = only(alloc, faults.bind)?;
+    Ok(MemLink::with_bind_fails(alloc, arrivals, sends, receives, binds))
 }
 
 /// Runs it between these.

@@ -16,4 +16,5 @@ loop-answer-preserved g c = record {
       (take_more c.args.answers.now c.loop-answer.answer-index c.answer-item.result c.loop-answer-test.true ∙ ap (λ x. take c.loop-answer.answer-index c.args.answers.now ++ x ∷ []) (sym c.answer-item.is))
       c.loop-answer.invariant.answered c.reply.ensures.handed;
   no_disk_fault = c.reply.ensures.no_disk_fault ∙ c.loop-answer.invariant.no_disk_fault;
+  no_bind_fault = c.reply.ensures.no_bind_fault ∙ c.loop-answer.invariant.no_bind_fault;
 }

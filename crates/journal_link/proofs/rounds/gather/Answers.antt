@@ -27,4 +27,5 @@ loop-count-preserved g c = record {
       (g.K.Disk.told c.take_next.new.desk) c.args.counts.now c.loop-count.counts c.take_next.new.counts c.loop-count.answers.items c.take_next.new.answers.items
       c.if-not-branch.false c.loop-count.invariant.gathering c.in_ok-take_next.ensures.taken;
   no_disk_fault = c.take_next.ensures.no_disk_fault ∙ c.loop-count.invariant.no_disk_fault;
+  no_bind_fault = c.take_next.ensures.no_bind_fault ∙ c.loop-count.invariant.no_bind_fault;
 }

@@ -1,4 +1,4 @@
-use Rattle.std.proofs.Common.{◌+◌, arith}
+use Rattle.std.proofs.Common.{◌+◌, ◌∙◌, arith}
 use Rattle.journal_link.specs.Turning.{place_of}
 use Rattle.journal_link.proofs.Rounding.{room_for_round, served_on}
 use Rattle.journal_link.proofs.rounds.serve.Goals as goal
@@ -21,4 +21,5 @@ loop-left-preserved g c =
           (g.K.Disk.told c.take_round.new.desk) c.loop-left.counts c.take_round.new.counts s.served c.in_ok-left.ensures.turned;
       idle = c.in_ok-left.ensures.turned.idle;
       never_falls = omega (arith, s.never_falls, c.take_round.ensures.never_falls);
+      no_bind_fault = c.take_round.ensures.no_bind_fault ∙ s.no_bind_fault;
     }

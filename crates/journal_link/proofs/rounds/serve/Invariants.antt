@@ -10,6 +10,7 @@ invariant-loop-left g l = record {
   served : HasServed done (place_of l.fn.kept) (place_of l.kept) (g.K.Disk.told l.fn.desk) (g.K.Disk.told l.desk) l.counts;
   idle : l.kept.round ≡ [];
   never_falls : g.K.Disk.fault_count l.fn.desk ≤ g.K.Disk.fault_count l.desk;
+  no_bind_fault : (g.K.Disk.beside l.desk).bind_faults ≡ (g.K.Disk.beside l.fn.desk).bind_faults;
 }
 
 abbrev pub decreases-loop-left : goal.decreases-loop-left

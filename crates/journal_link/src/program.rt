@@ -1,0 +1,40 @@
+//! All of `ftnode`, on a system that is given to it.
+
+use crate::top::node_with;
+use disk::HostDesk;
+use ft_io::{ProcessSpawner, ReadSource, UdpLink, WriteSink};
+use std::fs::{File, Files};
+use std::io::{Read, Write};
+use std::net::Net;
+use std::process::{ExitCode, Processes};
+use std::rt::Env;
+use std::time::Clock;
+use std::{env, io};
+
+/// `ftnode` with this system's words, sockets, files and processes, and with these three streams: its exit status, that of [`node_with`]. The words end with an
+/// error of std's where they can't be had: one of them isn't UTF-8, or memory is wanting.
+pub fn run_ftnode<
+    R: Env + AllocGlobal + Net + Clock + Files<File = File> + Processes,
+    I: Read + Drop,
+    O: Write + Drop,
+    E: Write + Drop,
+>(system: &R, input: I, out: O, err: E) -> io::Result<ExitCode> {
+    let words: Vec<String> = env::args(system)?.skip(1).collect(system.alloc())?;
+    let mut link = UdpLink::new(system);
+    let mut input = ReadSource::new(input);
+    let mut out = WriteSink::new(out);
+    let mut err = WriteSink::new(err);
+    let mut kids = ProcessSpawner::new(system, system.alloc());
+    let mut desk = HostDesk::new(system);
+    let status = node_with(
+        system.alloc(),
+        &words,
+        &mut link,
+        &mut input,
+        &mut out,
+        &mut err,
+        &mut kids,
+        &mut desk,
+    );
+    Ok(ExitCode::from(status.code))
+}
