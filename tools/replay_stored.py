@@ -92,7 +92,8 @@ def printed(stored, told):
     starts = [at for at, _, _ in marks if at is not None] + [len(told)]
     for at, words, text in marks:
         stands = told[at : starts[starts.index(at) + 1]] if at is not None else None
-        yield " ".join(words[:2]), stands, made(words, text)
+        is_refused = stands is not None and stands.startswith(f"{words[1]}: status 6\n")  # the model reads no text word for word
+        yield " ".join(words[:2]), stands, None if is_refused else made(words, text)
 
 
 def main():

@@ -1,9 +1,9 @@
 //! `replay_script`: plays the schedules of a script, which comes from standard input, by `replay` over memory, and prints what was written
-//! and how it ended. A line that begins with `=` says what is done with the lines behind it, up to the next such line:
+//! and how it ended. A line that begins with `=` says what is done with the lines after it, up to the next such line:
 //!
 //! - `= play NAME WORDS READ OUT ERR LAST` plays them as the text of a schedule, with these words, joined by `~`; READ, OUT and ERR number
 //!   the call of the source, of the sink of the report and of that of the errors that fails, 0 for none. Printed are the status, what was
-//!   written to the sink of the errors, and the report: its last LAST lines, or all of it for 0. Without lines behind it, it plays those of
+//!   written to the sink of the errors, and the report: its last LAST lines, or all of it for 0. Without lines after it, it plays those of
 //!   the one before it;
 //! - `= crash NAME` plays them in the world, and for each number of their first events anew: then the server crashes, restarts and all is
 //!   delivered that is sent, and the client goes on. Printed is what it has accepted at the end, and the lengths that the log keeps.

@@ -27,8 +27,9 @@ use Rattle.ft_io.specs.Faults.{Rose}
 use Rattle.replay_tool.specs.Ends.{end_of_read, CountsFaults}
 use Rattle.replay_tool.specs.OnItsWay.{IsOnItsWay, IsFrontOf, Wrote, WroteFront, Holds}
 use Rattle.replay_tool.specs.Played.{IsPlayedTo, lines_so_far, reached, NoneIsAllowed, Spells, ReportsAll, ReportsTill, ReportsToLimit, ReportsFront}
-use Rattle.replay_tool.specs.Playing.{Reaches, StandsAt, StopsPlaying, HoldsAtEnd, EndsPlaying}
-use Rattle.replay_tool.specs.Runs.{StopsReading, StopsRun, KeepsFront, KeepsOut, IsReadOut}
+use Rattle.replay_tool.specs.Playing.{Plays, Reaches, StandsAt, StopsPlaying, HoldsAtEnd, EndsPlaying}
+use Rattle.replay_tool.specs.Runs.{StopsReading, Reports, Refuses, RunStops, KeepsFront}
+use Rattle.replay_tool.specs.Stream.{Stream, HasFailed, HasNotFailed}
 use Rattle.replay_tool.specs.declared.status.TooMuch.TheVariants.{Text, Events, Packets}
 use Rattle.replay_tool.specs.declared.status.RunEnd.{RunEnd}
 use Rattle.replay_tool.specs.declared.status.RunEnd.TheVariants.{Usage, NoMemory, ReadFault, WriteFault, BadLine, BadEvent, TooLong}
@@ -40,16 +41,12 @@ pub when_err : {T E B : Type 0} {A : E → Type 0} (r : Result T E) → IsErrAnd
 when_err (Ok x) a f = absurd a
 when_err (Err e) a f = f e a
 
-pub err_gives : {T E B : Type 0} {A : E → Type 0} (r : Result T E) → ((end : E) → A end → B) → IfErr r A → OnErr r B
-err_gives (Ok x) f a = tt
-err_gives (Err e) f a = f e a
-
 -- before the first event
 abbrev none_played : AreSafe → (schedule : Schedule) → IsLegalFor any_machine schedule [] [] → IsPlayedTo schedule schedule.events
-none_played safe schedule legal = record { events = []; trace = []; split = refl; legal = legal; safe = safe schedule [] [] legal (omega arith) }
+none_played safe schedule legal = record { events = []; trace = []; split = refl; legal = legal; safe = safe schedule [] [] legal; within = omega arith }
 
 pub begins : AreSafe → (schedule : Schedule) (w : Kept AnyService) (old : Option (List ℕ)) (held : List ℕ) → StandsAfter any_machine schedule [] [] w → held ≡ header schedule
-    → Reaches schedule schedule.events w old old held
+    → Plays schedule schedule.events w old old held
 begins safe schedule w old held s is = record {
   played = none_played safe schedule s.legal;
   stands = s;
@@ -73,30 +70,30 @@ ends_before safe schedule old held start front =
 -- the next event among those that aren't played yet
 pub next_is : (schedule : Schedule) (events : List Event) (event : Event) (i : ℕ) (w : Kept AnyService) (old now : Option (List ℕ)) (held : List ℕ) → events ≡ schedule.events → i < length events
     → event ≡ get_or events i event → Reaches schedule (drop i events) w old now held
-    → (r : Reaches schedule (event ∷ drop (i + 1) events) w old now held) × (i + 1 ≡ length r.played.events + 1)
+    → (r : Reaches schedule (event ∷ drop (i + 1) events) w old now held) × (i + 1 ≡ length r.plays.played.events + 1)
 next_is schedule events event i w old now held all within same r =
     let left : drop i events ≡ event ∷ drop (i + 1) events = drop_more events i event within ∙ ap (λ e. e ∷ drop (i + 1) events) (sym same) in
     let next : Reaches schedule (event ∷ drop (i + 1) events) w old now held = subst (λ es. Reaches schedule es w old now held) left r in
-    let long : length events ≡ length next.played.events + length (event ∷ drop (i + 1) events) = ap length (all ∙ next.played.split) ∙ length-append next.played.events (event ∷ drop (i + 1) events) in
+    let long : length events ≡ length next.plays.played.events + length (event ∷ drop (i + 1) events) = ap length (all ∙ next.plays.played.split) ∙ length-append next.plays.played.events (event ∷ drop (i + 1) events) in
     let rest : length (drop (i + 1) events) ≡ length events - (i + 1) = length-drop (i + 1) events in
     (next, omega (arith, long, rest))
 
 -- it is played
 pub plays_next : (schedule : Schedule) (events : List Event) (event : Event) (i : ℕ) (w w' : Kept AnyService) (old now new : Option (List ℕ)) (held after : List ℕ) → events ≡ schedule.events → i < length events
     → event ≡ get_or events i event
-    → ((s : Schedule) (others : List Event) (o : Option (List ℕ)) (before : Reaches s (event ∷ others) w o now held) → i + 1 ≡ length before.played.events + 1 → Reaches s others w' o new after)
+    → ((s : Schedule) (others : List Event) (o : Option (List ℕ)) (before : Reaches s (event ∷ others) w o now held) → i + 1 ≡ length before.plays.played.events + 1 → Reaches s others w' o new after)
     → Reaches schedule (drop i events) w old now held → Reaches schedule (drop (i + 1) events) w' old new after
 plays_next schedule events event i w w' old now new held after all within same plays r =
-    let next : (r : Reaches schedule (event ∷ drop (i + 1) events) w old now held) × (i + 1 ≡ length r.played.events + 1) = next_is schedule events event i w old now held all within same r in
+    let next : (r : Reaches schedule (event ∷ drop (i + 1) events) w old now held) × (i + 1 ≡ length r.plays.played.events + 1) = next_is schedule events event i w old now held all within same r in
     plays schedule (drop (i + 1) events) old next.0 next.1
 
 -- it isn't done
 pub stops_next : (schedule : Schedule) (events : List Event) (event : Event) (i : ℕ) (w w' : Kept AnyService) (old now new : Option (List ℕ)) (held after : List ℕ) (end : RunEnd) → events ≡ schedule.events
     → i < length events → event ≡ get_or events i event
-    → ((s : Schedule) (others : List Event) (o : Option (List ℕ)) (before : Reaches s (event ∷ others) w o now held) → i + 1 ≡ length before.played.events + 1 → StopsPlaying s w' o new after end)
+    → ((s : Schedule) (others : List Event) (o : Option (List ℕ)) (before : Reaches s (event ∷ others) w o now held) → i + 1 ≡ length before.plays.played.events + 1 → StopsPlaying s w' o new after end)
     → Reaches schedule (drop i events) w old now held → StopsPlaying schedule w' old new after end
 stops_next schedule events event i w w' old now new held after end all within same stops r =
-    let next : (r : Reaches schedule (event ∷ drop (i + 1) events) w old now held) × (i + 1 ≡ length r.played.events + 1) = next_is schedule events event i w old now held all within same r in
+    let next : (r : Reaches schedule (event ∷ drop (i + 1) events) w old now held) × (i + 1 ≡ length r.plays.played.events + 1) = next_is schedule events event i w old now held all within same r in
     stops schedule (drop (i + 1) events) old next.0 next.1
 
 -- all are played
@@ -108,8 +105,8 @@ none_left schedule events i w old now held past r = subst (λ es. Reaches schedu
 moments : (schedule : Schedule) (others : List Event) (p : IsPlayedTo schedule others) → length p.events ≡ length p.trace
 moments schedule others p = ap length (sym p.legal.events_are) ∙ as_many_events p.trace
 
--- how the world stands is put behind the lines so far
-closed : (schedule : Schedule) (others : List Event) (n : ℕ) (w : Kept AnyService) (old now : Option (List ℕ)) (held after : List ℕ) (r : Reaches schedule others w old now held) → n ≡ length r.played.trace
+-- how the world stands is put after the lines so far
+closed : (schedule : Schedule) (others : List Event) (n : ℕ) (w : Kept AnyService) (old now : Option (List ℕ)) (held after : List ℕ) (r : Plays schedule others w old now held) → n ≡ length r.played.trace
     → after ≡ held ++ (client_lines 1 w.clients ++ (flat_map log_line w.log.entries ++ end_line n)) → IsOnItsWay old now after (report schedule r.played.trace)
 closed schedule others n w old now held after r at grown =
     let trace : List Moment = r.played.trace in
@@ -122,7 +119,7 @@ closed schedule others n w old now held after r at grown =
     (subst (IsOnItsWay old now (held ++ closing_lines (reached schedule trace) (length trace)))
     (append_assoc (header schedule) (event_lines (clients_of schedule.server schedule.clients) trace) (closing_lines (reached schedule trace) (length trace))) way)
 
-pub closes_all : (schedule : Schedule) (n : ℕ) (w : Kept AnyService) (old now : Option (List ℕ)) (held after : List ℕ) → Reaches schedule [] w old now held → n ≡ length schedule.events
+pub closes_all : (schedule : Schedule) (n : ℕ) (w : Kept AnyService) (old now : Option (List ℕ)) (held after : List ℕ) → Plays schedule [] w old now held → n ≡ length schedule.events
     → after ≡ held ++ (client_lines 1 w.clients ++ (flat_map log_line w.log.entries ++ end_line n)) → Holds old now after (ReportsAll schedule)
 closes_all schedule n w old now held after r at grown =
     let number : n ≡ length r.played.trace = at ∙ ap length (r.played.split ∙ append-nil r.played.events) ∙ moments schedule [] r.played in
@@ -131,7 +128,7 @@ closes_all schedule n w old now held after r at grown =
 pub closes_till : (schedule : Schedule) (number n : ℕ) (why : EventWhy) (w : Kept AnyService) (old now : Option (List ℕ)) (held after : List ℕ) → StandsAt schedule number why w old now held → n ≡ number - 1
     → after ≡ held ++ (client_lines 1 w.clients ++ (flat_map log_line w.log.entries ++ end_line n)) → Holds old now after (ReportsTill schedule number why)
 closes_till schedule number n why w old now held after s at grown =
-    let r : Reaches schedule (s.event ∷ s.others) w old now held = s.reaches in
+    let r : Plays schedule (s.event ∷ s.others) w old now held = s.reaches.plays in
     let count : length r.played.events ≡ length r.played.trace = moments schedule (s.event ∷ s.others) r.played in
     let from : number ≡ length r.played.events + 1 = s.number_is in
     let last : n ≡ length r.played.trace = omega (arith, at, count, from) in (
@@ -143,7 +140,7 @@ closes_till schedule number n why w old now held after s at grown =
 -- .. and where memory runs out at that
 pub front_till : (schedule : Schedule) (number : ℕ) (why : EventWhy) (w : Kept AnyService) (old now : Option (List ℕ)) (held : List ℕ) → StandsAt schedule number why w old now held
     → Holds old now held (ReportsFront schedule)
-front_till schedule number why w old now held s = holds_front schedule (s.event ∷ s.others) w old now held s.reaches
+front_till schedule number why w old now held s = holds_front schedule (s.event ∷ s.others) w old now held s.reaches.plays
 
 -- any other end
 pub others_stop : (schedule : Schedule) (w : Kept AnyService) (old now : Option (List ℕ)) (held : List ℕ) (end : RunEnd) → ((number : ℕ) (why : EventWhy) → end ≡ BadEvent number why → ⊥)
@@ -187,9 +184,6 @@ front_of_end schedule (TooLong Events) front text e f = absurd e
 front_of_end schedule (BadLine line why) front text e f = absurd e
 front_of_end schedule Usage front text e f = absurd e
 front_of_end schedule ReadFault front text e f = absurd e
-
-whole_front : (text : List ℕ) → IsFrontOf text text
-whole_front text = ([], append-nil text)
 
 -- what is held at the end, but where the sink failed
 held_at : (schedule : Schedule) (old now : Option (List ℕ)) (held : List ℕ) (end : RunEnd) → (end ≡ WriteFault → ⊥) → HoldsAtEnd schedule old now held end → Holds old now held (EndsPlaying schedule end)
@@ -248,7 +242,7 @@ all_fails schedule old now new held k out =
     (f.0, f.1, front_of_all schedule f.0 k.0 k.2 f.2)
 
 -- a text that was read, and what holds of its schedule
-pub spelled_as : (Is : Schedule → Type 0) (left : Option (List ℕ)) (text : List ℕ) (schedule : Schedule) → IfSome left (λ whole. text ≡ whole) → read_text text ≡ Ok schedule → Is schedule
+spelled_as : (Is : Schedule → Type 0) (left : Option (List ℕ)) (text : List ℕ) (schedule : Schedule) → IfSome left (λ whole. text ≡ whole) → read_text text ≡ Ok schedule → Is schedule
     → IfSome left (λ whole. Spells whole Is)
 spelled_as Is None text schedule same spelled is = tt
 spelled_as Is (Some whole) text schedule same spelled is = (schedule, ap read_text (sym same) ∙ spelled, is)
@@ -260,71 +254,75 @@ too_long text h =
     let past : nat_le (length text) 8388608 ≡ false = grind arith in
     ap (λ b. if b then read_lines no_objection 1 Empty (lines_of text) else Err (reading.TooLong limits.Text)) past
 
--- the reading of a source that is too long
-pub source_stops : (left : Option (List ℕ)) (old new : Option (List ℕ)) (end : ReadEnd) → (end ≡ reads.TooLong → IfSome left (λ text. 8388608 < length text))
-    → IfSome left (λ text. StopsRun text old new (end_of_read end))
-source_stops None old new end h = tt
-source_stops (Some text) old new reads.NoMemory h = tt
-source_stops (Some text) old new reads.Fault h = tt
-source_stops (Some text) old new reads.TooLong h = too_long text (h refl)
+long_is_refused : (left : Option (List ℕ)) → IfSome left (λ text. 8388608 < length text) → IfSome left (λ text. read_text text ≡ Err (reading.TooLong limits.Text))
+long_is_refused None h = tt
+long_is_refused (Some text) h = too_long text h
+
+-- the reading of the source ends the run
+pub source_stops : (input out : Stream) (end : ReadEnd) → out.Untouched → HasNotFailed out → (end ≡ reads.TooLong → IfSome input.before (λ text. 8388608 < length text))
+    → (end ≡ reads.Fault → HasFailed input) → (end ≡ reads.TooLong → HasNotFailed input) → (end ≡ reads.NoMemory → HasNotFailed input) → RunStops input out (end_of_read end)
+source_stops input out reads.NoMemory same kept long fault past memory = (inl same, memory refl, kept)
+source_stops input out reads.Fault same kept long fault past memory = (fault refl, same)
+source_stops input out reads.TooLong same kept long fault past memory =
+    record { refused = long_is_refused input.before (long refl); unwritten = same; input_faultless = past refl; out_faultless = kept }
+
+refused_as : (why : reading) (left : Option (List ℕ)) (text : List ℕ) → IfSome left (λ whole. text ≡ whole) → read_text text ≡ Err why → IfSome left (λ whole. read_text whole ≡ Err why)
+refused_as why None text same refused = tt
+refused_as why (Some whole) text same refused = ap read_text (sym same) ∙ refused
+
+refuses : (input out : Stream) (text : List ℕ) (why : reading) → out.Untouched → HasNotFailed out → HasNotFailed input → IfSome input.before (λ whole. text ≡ whole) → read_text text ≡ Err why
+    → Refuses input out why
+refuses input out text why untouched kept well same refused =
+    record { refused = refused_as why input.before text same refused; unwritten = untouched; input_faultless = well; out_faultless = kept }
 
 -- the reading of a text ends the run
-pub reading_stops : (left : Option (List ℕ)) (text : List ℕ) (old new : Option (List ℕ)) (end : RunEnd) → IfSome left (λ whole. text ≡ whole) → StopsReading text end → IfSome left (λ whole. StopsRun whole old new end)
-reading_stops None text old new end same s = tt
-reading_stops (Some whole) text old new NoMemory same s = tt
-reading_stops (Some whole) text old new (BadLine line why) same s = ap read_text (sym same) ∙ s
-reading_stops (Some whole) text old new (TooLong Text) same s = ap read_text (sym same) ∙ s
-reading_stops (Some whole) text old new (TooLong Events) same s = ap read_text (sym same) ∙ s
-reading_stops (Some whole) text old new (TooLong Packets) same s = absurd s
-reading_stops (Some whole) text old new (BadEvent number why) same s = absurd s
-reading_stops (Some whole) text old new Usage same s = tt
-reading_stops (Some whole) text old new ReadFault same s = tt
-reading_stops (Some whole) text old new WriteFault same s = tt
+pub reading_stops : (input out : Stream) (text : List ℕ) (end : RunEnd) → out.Untouched → HasNotFailed out → HasNotFailed input → IfSome input.before (λ whole. text ≡ whole) → StopsReading text end
+    → RunStops input out end
+reading_stops input out text NoMemory untouched kept well same s = (inl untouched, well, kept)
+reading_stops input out text (BadLine line why) untouched kept well same s = refuses input out text (reading.BadLine line why) untouched kept well same s
+reading_stops input out text (TooLong Text) untouched kept well same s = refuses input out text (reading.TooLong limits.Text) untouched kept well same s
+reading_stops input out text (TooLong Events) untouched kept well same s = refuses input out text (reading.TooLong limits.Events) untouched kept well same s
+reading_stops input out text (TooLong Packets) untouched kept well same s = absurd s
+reading_stops input out text (BadEvent number why) untouched kept well same s = absurd s
+reading_stops input out text Usage untouched kept well same s = absurd s
+reading_stops input out text ReadFault untouched kept well same s = absurd s
+reading_stops input out text WriteFault untouched kept well same s = absurd s
+
+-- the playing reports
+pub playing_reports : (input out : Stream) (text : List ℕ) (schedule : Schedule) (Is : Schedule → List ℕ → Type 0) → IsAtEnd input.after → HasNotFailed input → IfSome input.before (λ whole. text ≡ whole)
+    → read_text text ≡ Ok schedule → HasNotFailed out → Wrote out.before out.after (Is schedule) → Reports input out Is
+playing_reports input out text schedule Is at well same spelled kept s =
+    record { written = spelled_as (λ x. Wrote out.before out.after (Is x)) input.before text schedule same spelled s; end = at; input_faultless = well; out_faultless = kept }
+
+-- .. or a prefix of its report was written
+playing_keeps : (input out : Stream) (text : List ℕ) (schedule : Schedule) → IsAtEnd input.after → IfSome input.before (λ whole. text ≡ whole) → read_text text ≡ Ok schedule
+    → Wrote out.before out.after (ReportsFront schedule) → KeepsFront input out
+playing_keeps input out text schedule at same spelled s = inr (at, spelled_as (λ x. Wrote out.before out.after (ReportsFront x)) input.before text schedule same spelled s)
 
 -- the playing ends the run
-pub playing_stops : (left : Option (List ℕ)) (text : List ℕ) (schedule : Schedule) (old new : Option (List ℕ)) (end : RunEnd) → IfSome left (λ whole. text ≡ whole)
-    → read_text text ≡ Ok schedule → Wrote old new (EndsPlaying schedule end) → IfSome left (λ whole. StopsRun whole old new end)
-playing_stops None text schedule old new end same spelled s = tt
-playing_stops (Some whole) text schedule old new (BadEvent number why) same spelled s = (schedule, ap read_text (sym same) ∙ spelled, s)
-playing_stops (Some whole) text schedule old new (TooLong Packets) same spelled s = (schedule, ap read_text (sym same) ∙ spelled, s)
-playing_stops (Some whole) text schedule old new (TooLong Text) same spelled s = absurd s.2
-playing_stops (Some whole) text schedule old new (TooLong Events) same spelled s = absurd s.2
-playing_stops (Some whole) text schedule old new (BadLine line why) same spelled s = absurd s.2
-playing_stops (Some whole) text schedule old new Usage same spelled s = tt
-playing_stops (Some whole) text schedule old new NoMemory same spelled s = tt
-playing_stops (Some whole) text schedule old new ReadFault same spelled s = tt
-playing_stops (Some whole) text schedule old new WriteFault same spelled s = tt
+pub playing_stops : (input out : Stream) (text : List ℕ) (schedule : Schedule) (end : RunEnd) → IsAtEnd input.after → HasNotFailed input → IfSome input.before (λ whole. text ≡ whole)
+    → read_text text ≡ Ok schedule → CountsFaults out.faults_before out.faults_after (Err end) → Wrote out.before out.after (EndsPlaying schedule end) → RunStops input out end
+playing_stops input out text schedule NoMemory at well same spelled c s = (playing_keeps input out text schedule at same spelled s, well, c)
+playing_stops input out text schedule WriteFault at well same spelled c s = (playing_keeps input out text schedule at same spelled s, well, c)
+playing_stops input out text schedule (BadEvent number why) at well same spelled c s = playing_reports input out text schedule (λ x. ReportsTill x number why) at well same spelled c s
+playing_stops input out text schedule (TooLong Packets) at well same spelled c s = playing_reports input out text schedule ReportsToLimit at well same spelled c s
+playing_stops input out text schedule (TooLong Text) at well same spelled c s = absurd s.2
+playing_stops input out text schedule (TooLong Events) at well same spelled c s = absurd s.2
+playing_stops input out text schedule (BadLine line why) at well same spelled c s = absurd s.2
+playing_stops input out text schedule Usage at well same spelled c s = absurd s.2
+playing_stops input out text schedule ReadFault at well same spelled c s = absurd s.2
 
--- .. with a front of the report
-pub playing_keeps : {Out : Type 0} (taken : Out → Option (List ℕ)) (out out' : Out) (left after : Option (List ℕ)) (text : List ℕ) (schedule : Schedule) (end : RunEnd) → IsAtEnd after
-    → IfSome left (λ whole. text ≡ whole) → read_text text ≡ Ok schedule → Wrote (taken out) (taken out') (EndsPlaying schedule end) → KeepsFront taken out out' left after
-playing_keeps taken out out' left after text schedule end at same spelled s =
-    inr (at, spelled_as (λ x. Wrote (taken out) (taken out') (ReportsFront x)) left text schedule same spelled (s.0, s.1, front_of_end schedule end s.0 s.0 s.2 (whole_front s.0)))
+-- a result with the count of the sink's failed calls
+pub ok_counts : {P Q : Type 0} (r : Result (Unit {0}) RunEnd) (before after : ℕ) → CountsFaults before after r → (after ≡ before → P → Q) → OnOk r P → OnOk r Q
+ok_counts (Ok x) before after c f p = f c p
+ok_counts (Err e) before after c f p = tt
 
-pub playing_keeps_out : {Out : Type 0} (taken : Out → Option (List ℕ)) (out out' : Out) (schedule : Schedule) (end : RunEnd) → Wrote (taken out) (taken out') (EndsPlaying schedule end) → KeepsOut out out' end
-playing_keeps_out taken out out' schedule Usage s = absurd s.2
-playing_keeps_out taken out out' schedule ReadFault s = absurd s.2
-playing_keeps_out taken out out' schedule (BadLine line why) s = absurd s.2
-playing_keeps_out taken out out' schedule (TooLong Text) s = absurd s.2
-playing_keeps_out taken out out' schedule (TooLong Events) s = absurd s.2
-playing_keeps_out taken out out' schedule (TooLong Packets) s = tt
-playing_keeps_out taken out out' schedule NoMemory s = tt
-playing_keeps_out taken out out' schedule WriteFault s = tt
-playing_keeps_out taken out out' schedule (BadEvent number why) s = tt
+pub err_counts : {P Q : RunEnd → Type 0} (r : Result (Unit {0}) RunEnd) (before after : ℕ) → CountsFaults before after r → ((end : RunEnd) → CountsFaults before after (Err end) → P end → Q end)
+    → IfErr r P → IfErr r Q
+err_counts (Ok x) before after c f p = tt
+err_counts (Err e) before after c f p = f e c p
 
-pub playing_reads_out : (left : Option (List ℕ)) (end : RunEnd) → IsAtEnd left → IsReadOut left end
-playing_reads_out left (BadEvent number why) at = at
-playing_reads_out left (TooLong Packets) at = at
-playing_reads_out left (TooLong Text) at = tt
-playing_reads_out left (TooLong Events) at = tt
-playing_reads_out left Usage at = tt
-playing_reads_out left NoMemory at = tt
-playing_reads_out left ReadFault at = tt
-playing_reads_out left WriteFault at = tt
-playing_reads_out left (BadLine line why) at = tt
-
--- neither of these is an end of the playing
-pub not_played : (schedule : Schedule) (old new : Option (List ℕ)) (end : RunEnd) → Wrote old new (EndsPlaying schedule end)
-    → (end ≡ Usage → ⊥) × (end ≡ ReadFault → ⊥)
-not_played schedule old new end s =
-    ((λ e. absurd (subst (λ x. Wrote old new (EndsPlaying schedule x)) e s).2), (λ e. absurd (subst (λ x. Wrote old new (EndsPlaying schedule x)) e s).2))
+-- .. and of an error that `?` hands on
+pub counts_of_error : (r : Result (Unit {0}) RunEnd) (end : RunEnd) (before after : ℕ) → IsErrAnd r (λ e. e ≡ end) → CountsFaults before after (Err end) → CountsFaults before after r
+counts_of_error (Ok x) end before after p c = absurd p
+counts_of_error (Err e) end before after p c = subst (λ x. CountsFaults before after (Err x)) (sym p) c

@@ -1,5 +1,6 @@
 -- The status by the text: what each status says of it, and that the text settles the status.
 use Rattle.std.proofs.Common.{◌≡◌, ◌∙◌, ◌⊎◌, inl, inr, ℕ, Bool, true, false, ◌==◌, ◌||◌, eqb-true, Option, None, Some, List, Ok, Err, refl, sym, ap, subst, IfSome, Result, append-nil, arith}
+use Rattle.std.specs.Io.KnownBytes.{Appends}
 use Rattle.ft_model.specs.Grammar.{read_text}
 use Rattle.ft_model.specs.Grammar.{Refusal as reading}
 use Rattle.ft_model.specs.Legal.{IsLegalFor}
@@ -10,32 +11,48 @@ use Rattle.ft_model.specs.declared.schedule.LineWhy.{LineWhy}
 use Rattle.ft_model.specs.declared.schedule.Limit.{Limit}
 use Rattle.ft_model.specs.declared.schedule.Limit.TheVariants as limits
 use Rattle.sample_servers.specs.AnyService.{any_machine}
-use Rattle.replay_tool.specs.Ends.{code_of, is_code, CountsFaults}
-use Rattle.replay_tool.specs.Causes.{IsInOrder, HasBadLine, HasBadEvent, IsPastLimit, IsSettled, IsBadLineTold, IsReportedTill, IsLimitTold, IsWriteFault}
+use Rattle.replay_tool.specs.Ends.{code_of, is_code}
+use Rattle.replay_tool.specs.Causes.{IsInOrder, HasBadLine, HasBadEvent, IsPastLimit, IsSettled}
 use Rattle.replay_tool.specs.Causes.IsPastLimit.{by_text, by_packets}
-use Rattle.std.specs.Io.KnownBytes.{Appends, IsAtEnd}
-use Rattle.ft_io.specs.Faults.{Rose}
 use Rattle.replay_tool.specs.ErrText.{text_of}
 use Rattle.replay_tool.specs.OnItsWay.{Wrote, WroteFront}
+use Rattle.replay_tool.specs.Outcome.{IsTold}
 use Rattle.replay_tool.specs.Played.{Spells, ReportsAll, ReportsTill, ReportsToLimit}
-use Rattle.replay_tool.specs.Runs.{StopsRun, KeepsOut, IsReadOut, LimitKeepsOut}
+use Rattle.replay_tool.specs.Runs.{Reports, RunStops}
+use Rattle.replay_tool.specs.Stream.{Stream, HasFailed, HasNotFailed}
 use Rattle.replay_tool.specs.declared.status.TooMuch.TheVariants.{Text, Events, Packets}
 use Rattle.replay_tool.specs.declared.status.RunEnd.{RunEnd}
 use Rattle.replay_tool.specs.declared.status.RunEnd.TheVariants.{Usage, NoMemory, ReadFault, WriteFault, BadLine, BadEvent, TooLong}
 
--- what holds where the source tells its text
-pub where_told : {P Q : List ℕ → Type 0} (left : Option (List ℕ)) → ((text : List ℕ) → P text → Q text) → IfSome left P → IfSome left Q
-where_told None f p = tt
-where_told (Some text) f p = f text p
+-- where a source tells its text, for each text
+pub of_told : {P : List ℕ → Type 0} (left : Option (List ℕ)) → ((text : List ℕ) → left ≡ Some text → P text) → IfSome left P
+of_told None f = tt
+of_told (Some text) f = f text refl
 
-pub bad_line : (text : List ℕ) (old new : Option (List ℕ)) (end : RunEnd) → code_of end ≡ 6 → StopsRun text old new end → HasBadLine text
-bad_line text old new (BadLine line why) e s = record { line = line; why = why; refused = s }
-bad_line text old new (BadEvent number why) e s = cc
-bad_line text old new (TooLong what) e s = cc
-bad_line text old new Usage e s = cc
-bad_line text old new NoMemory e s = cc
-bad_line text old new ReadFault e s = cc
-bad_line text old new WriteFault e s = cc
+when_told : (P : List ℕ → Type 0) (left : Option (List ℕ)) (text : List ℕ) → left ≡ Some text → IfSome left P → P text
+when_told P left text e p = subst (λ l. IfSome l P) e p
+
+pub bad_line : (text : List ℕ) (input out : Stream) (end : RunEnd) → input.before ≡ Some text → code_of end ≡ 6 → RunStops input out end → HasBadLine text
+bad_line text input out (BadLine line why) told e s = record { line = line; why = why; refused = when_told (λ t. read_text t ≡ Err (reading.BadLine line why)) input.before text told s.refused }
+bad_line text input out (BadEvent number why) told e s = cc
+bad_line text input out (TooLong what) told e s = cc
+bad_line text input out Usage told e s = cc
+bad_line text input out NoMemory told e s = cc
+bad_line text input out ReadFault told e s = cc
+bad_line text input out WriteFault told e s = cc
+
+refused_event : (schedule : Schedule) (number : ℕ) (why : EventWhy) (old new : Option (List ℕ)) → Wrote old new (ReportsTill schedule number why) → IsRefused any_machine schedule
+refused_event schedule number why old new w =
+    let r : ReportsTill schedule number why w.0 = w.2 in
+    record { played = r.played.events; event = r.event; others = r.others; why = why; trace = r.played.trace; events = r.played.split; legal = r.played.legal; within = r.played.within; refused = r.refused }
+
+past_packets : (schedule : Schedule) (old new : Option (List ℕ)) → Wrote old new (ReportsToLimit schedule) → IsPastPackets any_machine schedule
+past_packets schedule old new w =
+    let r : ReportsToLimit schedule w.0 = w.2 in
+    record { played = r.played.events; event = r.event; others = r.others; moment = r.moment; earlier = r.played.trace; events = r.played.split; legal = r.legal; within = r.played.within; over = r.over }
+
+spelled_at : (input out : Stream) (text : List ℕ) (Is : Schedule → List ℕ → Type 0) → input.before ≡ Some text → Reports input out Is → Spells text (λ schedule. Wrote out.before out.after (Is schedule))
+spelled_at input out text Is told r = when_told (λ t. Spells t (λ schedule. Wrote out.before out.after (Is schedule))) input.before text told r.written
 
 -- the one end of that status, for any goal that it answers
 only_event : {P : Type 0} (end : RunEnd) → code_of end ≡ 7 → ((number : ℕ) (why : EventWhy) → end ≡ BadEvent number why → P) → P
@@ -47,31 +64,26 @@ only_event NoMemory e f = cc
 only_event ReadFault e f = cc
 only_event WriteFault e f = cc
 
-refused_event : (schedule : Schedule) (number : ℕ) (why : EventWhy) (old new : Option (List ℕ)) → Wrote old new (ReportsTill schedule number why) → IsRefused any_machine schedule
-refused_event schedule number why old new w =
-    let r : ReportsTill schedule number why w.0 = w.2 in
-    record { played = r.played.events; event = r.event; others = r.others; why = why; trace = r.played.trace; events = r.played.split; legal = r.played.legal; within = r.played.safe.within; refused = r.refused }
+has_bad_event : (text : List ℕ) (input out : Stream) (number : ℕ) (why : EventWhy) → input.before ≡ Some text → Reports input out (λ schedule. ReportsTill schedule number why) → HasBadEvent text
+has_bad_event text input out number why told s =
+    let t : Spells text (λ schedule. Wrote out.before out.after (ReportsTill schedule number why)) = spelled_at input out text (λ schedule. ReportsTill schedule number why) told s in
+    record { schedule = t.0; spelled = t.1; refused = refused_event t.0 number why out.before out.after t.2 }
 
-past_packets : (schedule : Schedule) (old new : Option (List ℕ)) → Wrote old new (ReportsToLimit schedule) → IsPastPackets any_machine schedule
-past_packets schedule old new w =
-    let r : ReportsToLimit schedule w.0 = w.2 in
-    record { played = r.played.events; event = r.event; others = r.others; moment = r.moment; earlier = r.played.trace; events = r.played.split; legal = r.legal; within = r.played.safe.within; over = r.over }
+pub bad_event : (text : List ℕ) (input out : Stream) (end : RunEnd) → input.before ≡ Some text → code_of end ≡ 7 → RunStops input out end → HasBadEvent text
+bad_event text input out end told e s = only_event end e (λ number why is. has_bad_event text input out number why told (subst (RunStops input out) is s))
 
-pub bad_event : (text : List ℕ) (old new : Option (List ℕ)) (end : RunEnd) → code_of end ≡ 7 → StopsRun text old new end → HasBadEvent text
-bad_event text old new end e s = only_event end e (λ number why is.
-    let t : Spells text (λ schedule. Wrote old new (ReportsTill schedule number why)) = subst (StopsRun text old new) is s in
-    record { schedule = t.0; spelled = t.1; refused = refused_event t.0 number why old new t.2 })
-
-pub past_limit : (text : List ℕ) (old new : Option (List ℕ)) (end : RunEnd) → code_of end ≡ 8 → StopsRun text old new end → IsPastLimit text
-past_limit text old new (TooLong Text) e s = by_text limits.Text s
-past_limit text old new (TooLong Events) e s = by_text limits.Events s
-past_limit text old new (TooLong Packets) e s = by_packets s.0 s.1 (past_packets s.0 old new s.2)
-past_limit text old new (BadLine line why) e s = cc
-past_limit text old new (BadEvent number why) e s = cc
-past_limit text old new Usage e s = cc
-past_limit text old new NoMemory e s = cc
-past_limit text old new ReadFault e s = cc
-past_limit text old new WriteFault e s = cc
+pub past_limit : (text : List ℕ) (input out : Stream) (end : RunEnd) → input.before ≡ Some text → code_of end ≡ 8 → RunStops input out end → IsPastLimit text
+past_limit text input out (TooLong Text) told e s = by_text limits.Text (when_told (λ t. read_text t ≡ Err (reading.TooLong limits.Text)) input.before text told s.refused)
+past_limit text input out (TooLong Events) told e s = by_text limits.Events (when_told (λ t. read_text t ≡ Err (reading.TooLong limits.Events)) input.before text told s.refused)
+past_limit text input out (TooLong Packets) told e s =
+    let t : Spells text (λ schedule. Wrote out.before out.after (ReportsToLimit schedule)) = spelled_at input out text ReportsToLimit told s in
+    by_packets t.0 t.1 (past_packets t.0 out.before out.after t.2)
+past_limit text input out (BadLine line why) told e s = cc
+past_limit text input out (BadEvent number why) told e s = cc
+past_limit text input out Usage told e s = cc
+past_limit text input out NoMemory told e s = cc
+past_limit text input out ReadFault told e s = cc
+past_limit text input out WriteFault told e s = cc
 
 ok_or_err : {A B : Type 0} (a : A) (b : B) → Ok a ≡ Err b → ⊥
 ok_or_err a b e = cc
@@ -116,132 +128,69 @@ never_zero (BadLine line why) e = cc
 never_zero (BadEvent number why) e = cc
 never_zero (TooLong what) e = cc
 
-usage_of : (end : RunEnd) → code_of end ≡ 2 → end ≡ Usage
-usage_of Usage e = refl
-usage_of NoMemory e = cc
-usage_of ReadFault e = cc
-usage_of WriteFault e = cc
-usage_of (BadLine line why) e = cc
-usage_of (BadEvent number why) e = cc
-usage_of (TooLong what) e = cc
-
-read_of : (end : RunEnd) → code_of end ≡ 4 → end ≡ ReadFault
-read_of Usage e = cc
-read_of NoMemory e = cc
-read_of ReadFault e = refl
-read_of WriteFault e = cc
-read_of (BadLine line why) e = cc
-read_of (BadEvent number why) e = cc
-read_of (TooLong what) e = cc
-
-write_of : (end : RunEnd) → code_of end ≡ 5 → end ≡ WriteFault
-write_of Usage e = cc
-write_of NoMemory e = cc
-write_of ReadFault e = cc
-write_of WriteFault e = refl
-write_of (BadLine line why) e = cc
-write_of (BadEvent number why) e = cc
-write_of (TooLong what) e = cc
-
--- a status that reports in full, or up to a refused event
-pub in_order : (text : List ℕ) (old new : Option (List ℕ)) → Spells text (λ schedule. Wrote old new (ReportsAll schedule)) → IsInOrder text
-in_order text old new r = record { schedule = r.0; spelled = r.1; whole = in_whole r.0 r.2.0 r.2.2 }
+-- a run that is done
+pub in_order : (text : List ℕ) (input out : Stream) → input.before ≡ Some text → Reports input out ReportsAll → IsInOrder text
+in_order text input out told r =
+    let t : Spells text (λ schedule. Wrote out.before out.after (ReportsAll schedule)) = spelled_at input out text ReportsAll told r in
+    record { schedule = t.0; spelled = t.1; whole = in_whole t.0 t.2.0 t.2.2 }
   where
     in_whole : (schedule : Schedule) (written : List ℕ) → ReportsAll schedule written → IsWhole any_machine schedule
-    in_whole schedule written a = record { trace = a.played.trace; legal = subst (λ es. IsLegalFor any_machine schedule es a.played.trace) (sym (a.played.split ∙ append-nil a.played.events)) a.played.legal; within = a.played.safe.within }
+    in_whole schedule written a = record { trace = a.played.trace; legal = subst (λ es. IsLegalFor any_machine schedule es a.played.trace) (sym (a.played.split ∙ append-nil a.played.events)) a.played.legal; within = a.played.within }
 
--- what is told of an end, with a status
-abbrev pub IsTold : (code : ℕ) (end : RunEnd) (before after : ℕ) (old new : Option (List ℕ)) → Type 0
-IsTold code end before after old new = ((code ≡ code_of end) × Appends old new (text_of end)) ⊎ ((code ≡ 5) × Rose before after × WroteFront old new (text_of end))
+-- what `tell` says of an end and a status
+abbrev pub TellsEnd : (end : RunEnd) (err : Stream) (code : ℕ) → Type 0
+TellsEnd end err code =
+    ((code ≡ code_of end) × Appends err.before err.after (text_of end) × HasNotFailed err) ⊎ ((code ≡ 5) × HasFailed err × WroteFront err.before err.after (text_of end))
 
--- a status other than 5 is that of the end, whose text is told
-pub told_whole : {P : Type 0} (n code : ℕ) (end : RunEnd) (before after : ℕ) (old new : Option (List ℕ)) → (n == 5) ≡ false → IsTold code end before after old new → code ≡ n
-    → (code_of end ≡ n → Appends old new (text_of end) → P) → P
-told_whole n code end before after old new other (inl t) e f = f (sym t.0 ∙ e) t.1
-told_whole n code end before after old new other (inr t) e f =
-    let five : (5 == 5) ≡ false = subst (λ k. (k == 5) ≡ false) (sym e ∙ t.0) other in
-    absurd cc
+pub told_as : (end : RunEnd) (err : Stream) (code : ℕ) → TellsEnd end err code → (end ≡ WriteFault → err.Untouched × (code ≡ 5)) → IsTold (Err end) err code
+told_as WriteFault err code t untold = ((untold refl).1, (untold refl).0)
+told_as Usage err code t untold = t
+told_as NoMemory err code t untold = t
+told_as ReadFault err code t untold = t
+told_as (BadLine line why) err code t untold = t
+told_as (BadEvent number why) err code t untold = t
+told_as (TooLong what) err code t untold = t
 
-pub memory_of : (end : RunEnd) → code_of end ≡ 3 → end ≡ NoMemory
-memory_of Usage e = cc
-memory_of NoMemory e = refl
-memory_of ReadFault e = cc
-memory_of WriteFault e = cc
-memory_of (BadLine line why) e = cc
-memory_of (BadEvent number why) e = cc
-memory_of (TooLong what) e = cc
+-- the ends that a run has
+pub no_usage : (input out : Stream) (end : RunEnd) → RunStops input out end → code_of end ≡ 2 → ⊥
+no_usage input out Usage s e = s
+no_usage input out NoMemory s e = cc
+no_usage input out ReadFault s e = cc
+no_usage input out WriteFault s e = cc
+no_usage input out (BadLine line why) s e = cc
+no_usage input out (BadEvent number why) s e = cc
+no_usage input out (TooLong what) s e = cc
 
-pub line_keeps : {Out : Type 0} (old new : Out) (end : RunEnd) → code_of end ≡ 6 → KeepsOut old new end → new ≡ old
-line_keeps old new (BadLine line why) e k = k
-line_keeps old new Usage e k = cc
-line_keeps old new NoMemory e k = cc
-line_keeps old new ReadFault e k = cc
-line_keeps old new WriteFault e k = cc
-line_keeps old new (BadEvent number why) e k = cc
-line_keeps old new (TooLong what) e k = cc
+no_read_fault : (input out : Stream) (end : RunEnd) → RunStops input out end → (HasFailed input → ⊥) → code_of end ≡ 4 → ⊥
+no_read_fault input out ReadFault s still e = still s.0
+no_read_fault input out Usage s still e = cc
+no_read_fault input out NoMemory s still e = cc
+no_read_fault input out WriteFault s still e = cc
+no_read_fault input out (BadLine line why) s still e = cc
+no_read_fault input out (BadEvent number why) s still e = cc
+no_read_fault input out (TooLong what) s still e = cc
 
-pub event_read_out : (left : Option (List ℕ)) (end : RunEnd) → code_of end ≡ 7 → IsReadOut left end → IsAtEnd left
-event_read_out left end e r = only_event end e (λ number why is. subst (IsReadOut left) is r)
+no_write_fault : (input out : Stream) (end : RunEnd) → RunStops input out end → (HasFailed out → ⊥) → code_of end ≡ 5 → ⊥
+no_write_fault input out WriteFault s still e = still s.2
+no_write_fault input out Usage s still e = cc
+no_write_fault input out NoMemory s still e = cc
+no_write_fault input out ReadFault s still e = cc
+no_write_fault input out (BadLine line why) s still e = cc
+no_write_fault input out (BadEvent number why) s still e = cc
+no_write_fault input out (TooLong what) s still e = cc
 
-pub limit_keeps : {Out : Type 0} (taken : Out → Option (List ℕ)) (old new : Out) (text left : Option (List ℕ)) (end : RunEnd) → code_of end ≡ 8 → KeepsOut old new end → IsReadOut left end
-    → IfSome text (λ t. StopsRun t (taken old) (taken new) end) → LimitKeepsOut taken old new text left
-limit_keeps taken old new text left (TooLong Text) e k r s = inl k
-limit_keeps taken old new text left (TooLong Events) e k r s = inl k
-limit_keeps taken old new text left (TooLong Packets) e k r s = inr (r, s)
-limit_keeps taken old new text left (BadLine line why) e k r s = cc
-limit_keeps taken old new text left Usage e k r s = cc
-limit_keeps taken old new text left NoMemory e k r s = cc
-limit_keeps taken old new text left ReadFault e k r s = cc
-limit_keeps taken old new text left WriteFault e k r s = cc
-limit_keeps taken old new text left (BadEvent number why) e k r s = cc
+-- what a status of `tell` can't be
+pub never_done : (end : RunEnd) (err : Stream) (code : ℕ) → TellsEnd end err code → code ≡ 0 → ⊥
+never_done end err code (inl t) e = never_zero end (sym t.0 ∙ e)
+never_done end err code (inr t) e = omega (arith, t.0, e)
 
-pub line_told : (text : List ℕ) (old new err err' : Option (List ℕ)) (end : RunEnd) → code_of end ≡ 6 → StopsRun text old new end → Appends err err' (text_of end) → IsBadLineTold err err' text
-line_told text old new err err' (BadLine line why) e s t = (record { line = line; why = why; refused = s }, t)
-line_told text old new err err' (BadEvent number why) e s t = cc
-line_told text old new err err' (TooLong what) e s t = cc
-line_told text old new err err' Usage e s t = cc
-line_told text old new err err' NoMemory e s t = cc
-line_told text old new err err' ReadFault e s t = cc
-line_told text old new err err' WriteFault e s t = cc
+pub never_usage : (input out : Stream) (end : RunEnd) (err : Stream) (code : ℕ) → RunStops input out end → TellsEnd end err code → code ≡ 2 → ⊥
+never_usage input out end err code s (inl t) e = no_usage input out end s (sym t.0 ∙ e)
+never_usage input out end err code s (inr t) e = omega (arith, t.0, e)
 
-pub event_told : (text : List ℕ) (old new err err' : Option (List ℕ)) (end : RunEnd) → code_of end ≡ 7 → StopsRun text old new end → Appends err err' (text_of end) → IsReportedTill old new err err' text
-event_told text old new err err' end e s t =
-    only_event end e (λ number why is. (number, why, subst (StopsRun text old new) is s, subst (λ x. Appends err err' (text_of x)) is t))
-
-pub limit_told : (text : List ℕ) (old new err err' : Option (List ℕ)) (end : RunEnd) → code_of end ≡ 8 → StopsRun text old new end → Appends err err' (text_of end) → IsLimitTold old new err err' text
-limit_told text old new err err' (TooLong what) e s t = (what, s, t)
-limit_told text old new err err' (BadLine line why) e s t = cc
-limit_told text old new err err' (BadEvent number why) e s t = cc
-limit_told text old new err err' Usage e s t = cc
-limit_told text old new err err' NoMemory e s t = cc
-limit_told text old new err err' ReadFault e s t = cc
-limit_told text old new err err' WriteFault e s t = cc
-
-failed : (end : RunEnd) (out out' before after : ℕ) (old new : Option (List ℕ)) (untold : Type 0) (code : ℕ) → out' ≡ out → (code_of end == 5) ≡ false → code ≡ 5 → IsTold code end before after old new
-    → IsWriteFault out out' before after untold old new
-failed end out out' before after old new untold code same other e (inl t) =
-    let five : (5 == 5) ≡ false = subst (λ k. (k == 5) ≡ false) (sym t.0 ∙ e) other in
-    absurd cc
-failed end out out' before after old new untold code same other e (inr t) = inr (same, t.1, (end, t.2))
-
--- a sink failed
-pub write_fault : (code : ℕ) (end : RunEnd) (out out' before after : ℕ) (old new : Option (List ℕ)) (untold : Type 0) → code ≡ 5 → CountsFaults out out' (Err end) → (end ≡ WriteFault → untold × (code ≡ 5))
-    → IsTold code end before after old new → IsWriteFault out out' before after untold old new
-write_fault code WriteFault out out' before after old new untold e counts quiet t = inl (counts, (quiet refl).0)
-write_fault code Usage out out' before after old new untold e counts quiet t = failed Usage out out' before after old new untold code counts refl e t
-write_fault code NoMemory out out' before after old new untold e counts quiet t = failed NoMemory out out' before after old new untold code counts refl e t
-write_fault code ReadFault out out' before after old new untold e counts quiet t = failed ReadFault out out' before after old new untold code counts refl e t
-write_fault code (BadLine line why) out out' before after old new untold e counts quiet t = failed (BadLine line why) out out' before after old new untold code counts refl e t
-write_fault code (BadEvent number why) out out' before after old new untold e counts quiet t = failed (BadEvent number why) out out' before after old new untold code counts refl e t
-write_fault code (TooLong what) out out' before after old new untold e counts quiet t = failed (TooLong what) out out' before after old new untold code counts refl e t
-
--- where a source tells its text, for each text
-pub of_told : {P : List ℕ → Type 0} (left : Option (List ℕ)) → ((text : List ℕ) → left ≡ Some text → P text) → IfSome left P
-of_told None f = tt
-of_told (Some text) f = f text refl
-
-pub when_told : (P : List ℕ → Type 0) (left : Option (List ℕ)) (text : List ℕ) → left ≡ Some text → IfSome left P → P text
-when_told P left text e p = subst (λ l. IfSome l P) e p
+pub is_told_code : (end : RunEnd) (err : Stream) (code : ℕ) → TellsEnd end err code → is_code code ≡ true
+is_told_code end err code (inl t) = ap is_code t.0 ∙ codes_of end
+is_told_code end err code (inr t) = ap is_code t.0
 
 module _
     (whole_or_refused : (schedule : Schedule) → IsWhole any_machine schedule → IsRefused any_machine schedule → ⊥)
@@ -305,11 +254,12 @@ module _
       }
 
   -- where no count of faults rises, the status is that of the end
-  pub settles_end : (old new : Option (List ℕ)) (end : RunEnd) → code ≡ code_of end → StopsRun text old new end
-      → (end ≡ Usage → ⊥) → (end ≡ ReadFault → ⊥) → (end ≡ WriteFault → ⊥) → IsSettled text code
-  settles_end old new end is s usage read write =
-      settles (ap is_code is ∙ codes_of end) (λ e. usage (usage_of end (sym is ∙ e))) (λ e. read (read_of end (sym is ∙ e))) (λ e. write (write_of end (sym is ∙ e)))
+  pub settles_end : (input out : Stream) (end : RunEnd) → input.before ≡ Some text → code ≡ code_of end → RunStops input out end
+      → (HasFailed input → ⊥) → (HasFailed out → ⊥) → IsSettled text code
+  settles_end input out end told is s input_still out_still =
+      settles (ap is_code is ∙ codes_of end) (λ e. no_usage input out end s (sym is ∙ e)) (λ e. no_read_fault input out end s input_still (sym is ∙ e))
+      (λ e. no_write_fault input out end s out_still (sym is ∙ e))
       (λ e. absurd (never_zero end (sym is ∙ e)))
-      (λ e. bad_line text old new end (sym is ∙ e) s)
-      (λ e. bad_event text old new end (sym is ∙ e) s)
-      (λ e. past_limit text old new end (sym is ∙ e) s)
+      (λ e. bad_line text input out end told (sym is ∙ e) s)
+      (λ e. bad_event text input out end told (sym is ∙ e) s)
+      (λ e. past_limit text input out end told (sym is ∙ e) s)

@@ -5,6 +5,8 @@ pub mod OnItsWay
 pub mod Played
 pub mod Standing
 pub mod Playing
+pub mod Stream
 pub mod Runs
+pub mod SeedRuns
+pub mod Outcome
 pub mod Causes
-pub mod SeedFaults

@@ -1,40 +1,31 @@
 -- What a run has played of a schedule, and the texts that report it.
-use Rattle.std.specs.Prelude.{◌≡◌, ◌⊎◌, ℕ, ◌+◌, ◌<◌, ◌≤◌, false, Some, IfSome, Ok, List, [], ◌∷◌, ◌++◌, length}
-use Rattle.std.specs.List.{AllByRecursion}
+use Rattle.std.specs.Prelude.{◌≡◌, ◌⊎◌, ℕ, ◌+◌, ◌<◌, ◌≤◌, Some, Ok, List, [], ◌∷◌, ◌++◌, length}
 use Rattle.sample_servers.specs.AnyService.{any_machine}
 use Rattle.ft_model.specs.Grammar.{read_text}
-use Rattle.ft_model.specs.Lawful.{is_fenced}
 use Rattle.ft_model.specs.Legal.{start_of, refusal, IsLegalFor}
-use Rattle.ft_model.specs.Masked.{Masked}
 use Rattle.ft_model.specs.Outcome.{packets_sent}
 use Rattle.ft_model.specs.Report.{header, event_lines, report}
-use Rattle.ft_model.specs.Resets.{ResetsNoLogged}
 use Rattle.ft_model.specs.Schedule.{kind_of, clients_of}
 use Rattle.ft_model.specs.World.{World as Seen, Moment, world_after}
 use Rattle.ft_model.specs.declared.event.Event.{Event}
 use Rattle.ft_model.specs.declared.event.EventWhy.{EventWhy}
 use Rattle.ft_model.specs.declared.schedule.Schedule.{Schedule}
+use Rattle.seed_run.specs.Safe.{IsSafe}
 use Rattle.replay_tool.specs.OnItsWay.{IsFrontOf}
 
 -- the world at the end of a trace of a schedule
 abbrev pub reached : Schedule → List Moment → Seen
 reached schedule trace = world_after (start_of schedule) trace
 
--- What holds of each trace that is played: crashes can't be seen from outside, with restarts that are exact; no RST was sent to a connection that the log
--- keeps; no server is fenced; and the packets stay within their limit.
-pub record IsSafe (schedule : Schedule) (trace : List Moment) : Type 0 where
-  pub masked : Masked (any_machine (kind_of schedule.service)) (start_of schedule) trace
-  pub resets : AllByRecursion (ResetsNoLogged (reached schedule trace).log) (reached schedule trace).packets
-  pub fenced : IfSome (reached schedule trace).node (λ node. is_fenced node.stage ≡ false)
-  pub within : packets_sent schedule trace ≤ 200000
-
--- Played up to here: all events of a schedule except these last ones, by a legal trace, with the service that the schedule names.
+-- Played up to here: all events of a schedule except these last ones, by a legal and safe trace within the limit of packets, with the service that the
+-- schedule names.
 pub record IsPlayedTo (schedule : Schedule) (others : List Event) : Type 0 where
   pub events : List Event
   pub trace : List Moment
   pub split : schedule.events ≡ events ++ others
   pub legal : IsLegalFor any_machine schedule events trace
-  pub safe : IsSafe schedule trace
+  pub safe : IsSafe (any_machine (kind_of schedule.service)) (start_of schedule) trace
+  pub within : packets_sent schedule trace ≤ 200000
 
 -- the report up to the lines on clients and log
 abbrev pub lines_so_far : Schedule → List Moment → List ℕ

@@ -1,5 +1,5 @@
 -- Playing a schedule, event after event: the state in between, and where it ends early.
-use Rattle.std.specs.Prelude.{◌≡◌, ℕ, ◌+◌, Some, List, ◌∷◌, Option, length}
+use Rattle.std.specs.Prelude.{◌≡◌, ℕ, ◌+◌, ◌<◌, Some, List, ◌∷◌, Option, length}
 use Rattle.ft_model.specs.Legal.{refusal}
 use Rattle.ft_model.specs.Outcome.{packets_sent}
 use Rattle.ft_model.specs.Report.{packet_count}
@@ -16,12 +16,21 @@ use Rattle.replay_tool.specs.declared.status.TooMuch.TheVariants.{Packets}
 use Rattle.replay_tool.specs.declared.status.RunEnd.{RunEnd}
 use Rattle.replay_tool.specs.declared.status.RunEnd.TheVariants.{NoMemory, WriteFault, BadEvent, TooLong}
 
+-- how many bytes of a report are held back before they are written
+abbrev pub piece : ℕ
+piece = 65536
+
 -- All events but these are played: the world is at that point, and the lines so far are being written to the sink, which had taken `old`.
-pub record Reaches (schedule : Schedule) (others : List Event) (w : Kept AnyService) (old now : Option (List ℕ)) (held : List ℕ) : Type 0 where
+pub record Plays (schedule : Schedule) (others : List Event) (w : Kept AnyService) (old now : Option (List ℕ)) (held : List ℕ) : Type 0 where
   pub played : IsPlayedTo schedule others
   pub stands : StandsAfter any_machine schedule played.events played.trace w
   pub counted : packets_sent schedule played.trace ≡ packet_count played.trace
   pub text : IsOnItsWay old now held (lines_so_far schedule played.trace)
+
+-- .. and less than a piece of them is held back. So while the next event is played, at most that and the event's own lines are held back
+pub record Reaches (schedule : Schedule) (others : List Event) (w : Kept AnyService) (old now : Option (List ℕ)) (held : List ℕ) : Type 0 where
+  pub plays : Plays schedule others w old now held
+  pub held_back : length held < piece
 
 -- the text that an end of the playing leaves
 abbrev pub EndsPlaying : Schedule → RunEnd → List ℕ → Type 0
@@ -41,8 +50,8 @@ pub record StandsAt (schedule : Schedule) (number : ℕ) (why : EventWhy) (w : K
   pub event : Event
   pub others : List Event
   pub reaches : Reaches schedule (event ∷ others) w old now held
-  pub number_is : number ≡ length reaches.played.events + 1
-  pub refused : refusal (reached schedule reaches.played.trace) event ≡ Some why
+  pub number_is : number ≡ length reaches.plays.played.events + 1
+  pub refused : refusal (reached schedule reaches.plays.played.trace) event ≡ Some why
 
 -- an event isn't done
 abbrev pub StopsPlaying : Schedule → Kept AnyService → (old now : Option (List ℕ)) → List ℕ → RunEnd → Type 0

@@ -2,14 +2,17 @@
 //! a seed makes, and writes a summary.
 #![tactic(auto)]
 
+pub use program::run_ftreplay;
 pub use status::Status;
 pub use top::replay;
 
 mod laws;
 mod lines;
 mod play;
+mod program;
 mod report;
 mod run;
+mod schedules;
 mod seeds;
 mod status;
 mod telling;

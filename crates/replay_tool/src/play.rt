@@ -1,14 +1,12 @@
 //! Playing a schedule: each event is done in the world, and its lines are appended to the report before the next one.
 
-ghost use Rattle.std.specs.Prelude.{◌≡◌, ℕ, ◌+◌, ◌≤◌, List, [], ◌∷◌, ◌++◌, Option, Err, length, OnOk, OnErr, IfErr};
+ghost use Rattle.std.specs.Prelude.{◌≡◌, ℕ, ◌+◌, ◌≤◌, List, [], ◌∷◌, ◌++◌, Option, Err, length, OnOk, OnErr, IfOk, IfErr};
 ghost use Rattle.std.specs.List.{flat_map};
 ghost use Rattle.ft_model.specs.Playable.{IsPlayable};
-ghost use Rattle.ft_model.specs.Report.{header, client_lines, log_line, end_line};
+ghost use Rattle.ft_model.specs.Report.{client_lines, log_line, end_line};
 ghost use Rattle.ft_model.specs.declared.event.Event.{Event as Asked};
 ghost use Rattle.ft_model.specs.declared.schedule.Schedule.{Schedule as Written};
 ghost use Rattle.net_schedule.specs.Keeping.{kept};
-ghost use Rattle.net_schedule.specs.Stepping.{StandsAfter};
-ghost use Rattle.sample_servers.specs.AnyService.{any_machine};
 ghost use Rattle.replay_tool.specs.OnItsWay.{Wrote, Holds};
 ghost use Rattle.replay_tool.specs.Ends.{CountsFaults};
 ghost use Rattle.replay_tool.specs.Played.{ReportsAll};
@@ -37,12 +35,13 @@ fn play_event<O: Sink>(
     out: &mut O,
 ) -> Result<(), RunEnd>
     requires { IsStanding (kept world.old) }
+    ensures stands { OnOk result (IsStanding (kept world.new)) }
     ensures done { OnOk result ((schedule : Written) (others : List Asked) (old : Option (List ℕ))
         (before : Reaches schedule (event.now ∷ others) (kept world.old) old (O.taken out.old) report.old.held.items)
-        → n ≡ length before.played.events + 1 → Reaches schedule others (kept world.new) old (O.taken out.new) report.new.held.items) }
+        → n ≡ length before.plays.played.events + 1 → Reaches schedule others (kept world.new) old (O.taken out.new) report.new.held.items) }
     ensures stops { IfErr result (λ end. (schedule : Written) (others : List Asked) (old : Option (List ℕ))
         (before : Reaches schedule (event.now ∷ others) (kept world.old) old (O.taken out.old) report.old.held.items)
-        → n ≡ length before.played.events + 1 → StopsPlaying schedule (kept world.new) old (O.taken out.new) report.new.held.items end) }
+        → n ≡ length before.plays.played.events + 1 → StopsPlaying schedule (kept world.new) old (O.taken out.new) report.new.held.items end) }
     ensures faults { CountsFaults (O.fault_count out.old) (O.fault_count out.new) result }
 {
     legal_traces_are_safe();
@@ -57,7 +56,7 @@ fn play_event<O: Sink>(
     Ok(())
 }
 
-/// Plays the events in order, from the world in which the schedule starts.
+/// Plays the events in order.
 fn play_events<O: Sink>(
     alloc: Global,
     schedule: &Schedule,
@@ -65,14 +64,15 @@ fn play_events<O: Sink>(
     report: &mut Report,
     out: &mut O,
 ) -> Result<(), RunEnd>
-    requires start { StandsAfter any_machine schedule.now [] [] (kept world.old) }
-    requires header { report.old.held.items ≡ header schedule.now }
+    requires stands { IsStanding (kept world.old) }
     requires few { length schedule.now.events ≤ 100000 }
-    ensures done { OnOk result (Reaches schedule.now [] (kept world.new) (O.taken out.old) (O.taken out.new) report.new.held.items) }
-    ensures stops { IfErr result (StopsPlaying schedule.now (kept world.new) (O.taken out.old) (O.taken out.new) report.new.held.items) }
+    ensures done { OnOk result ((old : Option (List ℕ)) → Reaches schedule.now schedule.now.events (kept world.old) old (O.taken out.old) report.old.held.items
+        → Reaches schedule.now [] (kept world.new) old (O.taken out.new) report.new.held.items) }
+    ensures stops { IfErr result (λ end. (old : Option (List ℕ))
+        → Reaches schedule.now schedule.now.events (kept world.old) old (O.taken out.old) report.old.held.items
+        → StopsPlaying schedule.now (kept world.new) old (O.taken out.new) report.new.held.items end) }
     ensures faults { CountsFaults (O.fault_count out.old) (O.fault_count out.new) result }
 {
-    legal_traces_are_safe();
     let events = schedule.events.as_slice();
     for i in 0..events.len() {
         play_event(alloc, i as u32 + 1, &events[i], world, report, out)?;
@@ -99,6 +99,30 @@ fn close(
     Ok(())
 }
 
+/// The world in which a schedule starts, with the header of its report.
+fn start<O: Sink>(
+    alloc: Global,
+    schedule: &Schedule,
+    report: &mut Report,
+    out: &mut O,
+) -> Result<World<AnyService>, RunEnd>
+    requires playable { IsPlayable schedule.now }
+    requires clients { length schedule.now.clients ≤ 16 }
+    requires empty { report.old.held.items ≡ [] }
+    ensures reaches { IfOk result (λ world.
+        Reaches schedule.now schedule.now.events (kept world) (O.taken out.old) (O.taken out.new) report.new.held.items) }
+    ensures stops { IfErr result (HoldsAtEnd schedule.now (O.taken out.old) (O.taken out.new) report.new.held.items) }
+    ensures no_fault { OnOk result (O.fault_count out.new ≡ O.fault_count out.old) }
+    ensures faults { IfErr result (λ end. CountsFaults (O.fault_count out.old) (O.fault_count out.new) (Err end)) }
+{
+    playable_schedules_start();
+    legal_traces_are_safe();
+    write_header(alloc, schedule, &mut report.held)?;
+    let world = World::new(alloc, schedule)?;
+    flush_piece(report, out)?;
+    Ok(world)
+}
+
 /// Plays a schedule, and leaves in the report what is still to be written.
 fn play_whole<O: Sink>(
     alloc: Global,
@@ -114,10 +138,7 @@ fn play_whole<O: Sink>(
     ensures stops { IfErr result (HoldsAtEnd schedule.now (O.taken out.old) (O.taken out.new) report.new.held.items) }
     ensures faults { CountsFaults (O.fault_count out.old) (O.fault_count out.new) result }
 {
-    playable_schedules_start();
-    legal_traces_are_safe();
-    write_header(alloc, schedule, &mut report.held)?;
-    let mut world = World::new(alloc, schedule)?;
+    let mut world = start(alloc, schedule, report, out)?;
     match play_events(alloc, schedule, &mut world, report, out) {
         Ok(()) => {
             close(

@@ -1,12 +1,13 @@
 //! A report that is being written to a sink: it is held in one buffer, and written in pieces.
 
-ghost use Rattle.std.specs.Prelude.{◌≡◌, ℕ, List, [], Option, OnOk, OnErr};
+ghost use Rattle.std.specs.Prelude.{◌≡◌, ◌<◌, ℕ, List, [], Option, OnOk, OnErr, length};
 ghost use Rattle.replay_tool.specs.OnItsWay.{IsOnItsWay, WroteFront, CountsFailed};
+ghost use Rattle.replay_tool.specs.Playing.{piece};
 
 use ft_io::{Failed, Sink, write_all};
 use std::alloc::Global;
 
-/// How many bytes are held, at least, before they are written.
+/// How many bytes are held before they are written: fewer are held back, more are not.
 const PIECE: usize = 65_536;
 
 /// What is still to be written of a report, and the lines of one event, or of the end, until they are complete.
@@ -44,8 +45,9 @@ pub(crate) fn flush<O: Sink>(report: &mut Report, out: &mut O) -> Result<(), Fai
     Ok(())
 }
 
-/// Writes what is held, where it is a piece.
+/// Writes what is held, where it is a piece. So less than a piece is held back.
 pub(crate) fn flush_piece<O: Sink>(report: &mut Report, out: &mut O) -> Result<(), Failed>
+    ensures held_back { OnOk result (length report.new.held.items < piece) }
     ensures ok { OnOk result ((old : Option (List ℕ)) (text : List ℕ) → IsOnItsWay old (O.taken out.old) report.old.held.items text
         → IsOnItsWay old (O.taken out.new) report.new.held.items text) }
     ensures err { OnErr result ((old : Option (List ℕ)) (text : List ℕ) → IsOnItsWay old (O.taken out.old) report.old.held.items text

@@ -1,16 +1,12 @@
-//! A run, from its words to the end of its report.
+//! A run of a schedule, from its text to the end of its report.
 
-ghost use Rattle.std.specs.Prelude.{◌≡◌, ◌≤◌, false, map, string_bytes, length, Ok, IfSome, IfOk, IfErr, OnOk, OnErr, IsErrOf};
-ghost use Rattle.std.specs.Io.KnownBytes.{IsAtEnd};
-ghost use Rattle.ft_io.specs.Faults.{Rose};
+ghost use Rattle.std.specs.Prelude.{◌≡◌, ◌≤◌, length, Ok, IfOk, IfErr, OnOk};
 ghost use Rattle.ft_io.specs.Source.{ConsumesAtMost};
 ghost use Rattle.ft_model.specs.Grammar.{read_text};
 ghost use Rattle.ft_model.specs.Playable.{IsPlayable};
-ghost use Rattle.replay_tool.specs.Ends.{CountsFaults};
-ghost use Rattle.replay_tool.specs.OnItsWay.{Wrote};
-ghost use Rattle.replay_tool.specs.Played.{Spells, ReportsAll};
-ghost use Rattle.replay_tool.specs.Runs.{StopsReading, StopsRun, KeepsOut, KeepsFront, IsReadOut};
-ghost use Rattle.replay_tool.specs.Words.{is_run as is_run_lem};
+ghost use Rattle.replay_tool.specs.Played.{ReportsAll};
+ghost use Rattle.replay_tool.specs.Runs.{Reports, RunStops, StopsReading};
+ghost use Rattle.replay_tool.specs.Stream.{stream};
 
 use crate::play::play;
 use crate::status::RunEnd;
@@ -21,16 +17,6 @@ use std::alloc::Global;
 
 /// The most bytes of a schedule's text.
 const TEXT_LIMIT: usize = 8_388_608;
-
-/// Whether the words are the one word `run`.
-fn is_run(words: &[String]) -> bool
-    ensures { result ≡ is_run_lem (map string_bytes words.now) }
-{
-    match words {
-        [word] => word.as_str() == "run",
-        _ => false,
-    }
-}
 
 /// The schedule that a text spells: it can be played.
 fn read(alloc: Global, text: &[u8]) -> Result<Schedule, RunEnd>
@@ -48,26 +34,13 @@ fn read(alloc: Global, text: &[u8]) -> Result<Schedule, RunEnd>
 /// Reads a schedule to its end, plays it and writes its report.
 pub(crate) fn run<I: Source, O: Sink>(
     alloc: Global,
-    words: &[String],
     input: &mut I,
     out: &mut O,
 ) -> Result<(), RunEnd>
-    ensures done { OnOk result (IfSome (I.left input.old) (λ text. Spells text (λ schedule. Wrote (O.taken out.old) (O.taken out.new) (ReportsAll schedule)))) }
-    ensures end { OnOk result (IsAtEnd (I.left input.new)) }
-    ensures stops { IfErr result (λ end. IfSome (I.left input.old) (λ text. StopsRun text (O.taken out.old) (O.taken out.new) end)) }
-    ensures front { OnErr result (KeepsFront O.taken out.old out.new (I.left input.old) (I.left input.new)) }
-    ensures keeps_out { IfErr result (KeepsOut out.old out.new) }
-    ensures read_out { IfErr result (IsReadOut (I.left input.new)) }
-    ensures usage { IsErrOf result RunEnd.Usage → is_run_lem (map string_bytes words.now) ≡ false }
-    ensures untouched { IsErrOf result RunEnd.Usage → input.new ≡ input.old }
-    ensures refused { is_run_lem (map string_bytes words.now) ≡ false → IsErrOf result RunEnd.Usage }
-    ensures read_fault { IsErrOf result RunEnd.ReadFault → Rose (I.fault_count input.old) (I.fault_count input.new) }
-    ensures faults { CountsFaults (O.fault_count out.old) (O.fault_count out.new) result }
+    ensures done { OnOk result (Reports (stream I.left I.fault_count input.old input.new) (stream O.taken O.fault_count out.old out.new) ReportsAll) }
+    ensures stops { IfErr result (RunStops (stream I.left I.fault_count input.old input.new) (stream O.taken O.fault_count out.old out.new)) }
     ensures taken { ConsumesAtMost 8388609 (I.left input.old) (I.left input.new) }
 {
-    if !is_run(words) {
-        return Err(RunEnd::Usage);
-    }
     let text = read_to_limit(alloc, input, TEXT_LIMIT)?;
     let schedule = read(alloc, &text)?;
     play(alloc, &schedule, out)

@@ -144,7 +144,8 @@ fn code(end: RunEnd) -> u8
 
 /// Writes the text of an end, and returns its status: 5 where that write failed. Where the sink of the report failed, no text is written.
 pub(crate) fn tell<E: Sink>(err: &mut E, end: RunEnd) -> Status
-    ensures told { ((result.code ≡ code_of end) × Appends (E.taken err.old) (E.taken err.new) (text_of end))
+    ensures told { ((result.code ≡ code_of end) × Appends (E.taken err.old) (E.taken err.new) (text_of end)
+        × (E.fault_count err.new ≡ E.fault_count err.old))
         ⊎ ((result.code ≡ 5) × Rose (E.fault_count err.old) (E.fault_count err.new)
         × WroteFront (E.taken err.old) (E.taken err.new) (text_of end)) }
     ensures untold { end ≡ RunEnd.WriteFault → (err.new ≡ err.old) × (result.code ≡ 5) }

@@ -1,4 +1,4 @@
--- What a run's world gives to the code behind any number of events.
+-- What a run's world gives to the code after any number of events.
 use Rattle.std.proofs.Common.{◌≡◌, ◌∙◌, refl, sym, ap, subst, ℕ, zero, suc, ◌+◌, ◌*◌, ◌≤◌, Bool, Some, List, [], ◌∷◌, ◌++◌, map, length, slice_get, arith}
 use Rattle.std.proofs.lemmas.List.{length-map}
 use Rattle.ft_io.specs.declared.Key.{Key}
@@ -24,7 +24,7 @@ use Rattle.ft_model.proofs.FaithfulOver.{client_there}
 abbrev keys_in : List Client → List Key
 keys_in cs = map (λ c. c.key) cs
 
--- addresses in a row, from this one behind the network's on
+-- addresses in a row, from this one after the network's on
 abbrev AreInRow : ℕ → List Key → Type 0
 AreInRow i [] = Unit {0}
 AreInRow i (key ∷ keys) = (key.ip ≡ 3221225984 + i) × AreInRow (i + 1) keys

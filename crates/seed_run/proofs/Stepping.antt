@@ -1,4 +1,4 @@
--- One drawn event more: where the world and the counts stand behind it.
+-- One drawn event more: where the world and the counts come after it.
 use Rattle.std.proofs.Common.{◌≡◌, ◌∙◌, refl, sym, ap, subst, ℕ, ◌+◌, ◌<◌, ◌≤◌, None, is_some, slice_get, List, [], ◌∷◌, ◌++◌, length, length-append, add-one, arith}
 use Rattle.std.proofs.lemmas.List.{append_cancel_left}
 use Rattle.seq_arith.specs.Offset.{one_if}
@@ -24,7 +24,7 @@ use Rattle.seed_run.proofs.Boots.{HasNextBoot, boot_after}
 use Rattle.seed_run.proofs.Clients.{AllKeep, all_keep, start_keeps}
 use Rattle.net_schedule.proofs.Goings.{both_up}
 
--- the world behind the events
+-- the world after the events
 abbrev pub world_of : (asked : Asked) → List Moment → World
 world_of asked trace = world_after (start_of_run asked) trace
 
@@ -72,7 +72,7 @@ abbrev pub counted : Progress → Dice → StepOut → Event → Progress
 counted p dice answer event =
     record { dice = dice; packets = p.packets + answer.count; boots = p.boots + one_if (is_boot event); crashes = p.crashes + one_if (is_crash event) }
 
--- a step leads behind one event more
+-- a step leads after one event more
 module _ (asked : Asked) (n : ℕ) (w w' : Kept AnyService) (p : Progress) (s : StandsBehind asked n w p) (event : Event) (dice : Dice)
     (e : record { event = event; state = dice.draws.state } ≡ next_event p.dice.draws.state p.packets w.clients (record { is_up = is_some w.node; boots = p.boots })) where
   state : ℕ

@@ -3,12 +3,12 @@ use Rattle.std.proofs.Common.{◌≡◌, ◌∙◌, refl, sym, ap, subst, ℕ, z
 use Rattle.sample_servers.specs.AnyService.{any_machine}
 use Rattle.sample_servers.specs.declared.any_service.AnyService.{AnyService}
 use Rattle.ft_model.specs.Client.{Client}
-use Rattle.ft_model.specs.Masked.{Masked}
 use Rattle.ft_model.specs.World.{World, Moment, Joint, client_at}
 use Rattle.ft_model.proofs.Lists.{none_is_some, some_is}
 use Rattle.net_schedule.specs.Standing.{Kept}
 use Rattle.net_schedule.specs.Stepping.{StandsAfter}
 use Rattle.seed_run.specs.Generated.{schedule_of, after_draws}
+use Rattle.seed_run.specs.Safe.{IsSafe}
 use Rattle.seed_run.specs.Summary.{first_line, client_result, client_results, count_events, is_boot, is_crash}
 use Rattle.seed_run.specs.Runs.{start_of_run, packets_of_run, IsSummary, StandsBehind}
 use Rattle.seed_run.specs.declared.asked.Asked.{Asked}
@@ -42,7 +42,7 @@ results_more n (d ∷ cs) (suc i) c e =
     ∙ ap (λ k. client_result n d ++ client_results (n + 1) (take i cs) ++ client_result k c) (omega arith))
 
 pub summed : (asked : Asked) (w : Kept AnyService) (p : Progress) (text : List ℕ)
-    → ((kind : ℕ) (start : World) (trace : List Moment) → Joint (any_machine kind) start trace → Masked (any_machine kind) start trace)
+    → ((kind : ℕ) (start : World) (trace : List Moment) → Joint (any_machine kind) start trace → IsSafe (any_machine kind) start trace)
     → text ≡ first_line asked.seed asked.clients asked.events p.packets p.boots p.crashes ++ client_results 1 w.clients
     → StandsBehind asked asked.events w p → IsSummary asked text
 summed asked w p text law e s =
@@ -51,7 +51,7 @@ summed asked w p text law e s =
       trace = s.trace;
       run = record {
         generated = generated asked s.trace _ s.stands.legal s.drawn;
-        masked = law 1 (start_of_run asked) s.trace s.stands.legal.joint;
+        safe = law 1 (start_of_run asked) s.trace s.stands.legal.joint;
         count = s.events;
         within = subst (λ k. k ≤ 200000) s.packets s.within;
       };

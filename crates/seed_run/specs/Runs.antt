@@ -5,11 +5,11 @@ use Rattle.ft_io.specs.Sink.{AppendsFront}
 use Rattle.sample_servers.specs.AnyService.{any_machine}
 use Rattle.sample_servers.specs.declared.any_service.AnyService.{AnyService}
 use Rattle.ft_model.specs.Legal.{Legal}
-use Rattle.ft_model.specs.Masked.{Masked}
 use Rattle.ft_model.specs.World.{World, Moment, world_after, events_of}
 use Rattle.net_schedule.specs.Standing.{Kept}
 use Rattle.net_schedule.specs.Stepping.{StandsAfter}
 use Rattle.seed_run.specs.Generated.{schedule_of, start_for, after_draws, state_behind, AreDrawn}
+use Rattle.seed_run.specs.Safe.{IsSafe}
 use Rattle.seed_run.specs.Summary.{summary, count_events, is_boot, is_crash}
 use Rattle.seed_run.specs.declared.asked.Asked.{Asked}
 use Rattle.seed_run.specs.declared.progress.Progress.{Progress}
@@ -27,10 +27,10 @@ pub record IsGenerated (asked : Asked) (trace : List Moment) : Type 0 where
   pub legal : Legal any_machine (schedule_of asked.seed asked.clients (events_of trace)) trace
   pub drawn : AreDrawn (after_draws asked.seed asked.clients) (start_of_run asked) trace
 
--- all events that were asked for are played within the limit of packets, and crashes can't be seen from outside
+-- all events that were asked for are played, safely and within the limit of packets
 pub record IsRun (asked : Asked) (trace : List Moment) : Type 0 where
   pub generated : IsGenerated asked trace
-  pub masked : Masked (any_machine 1) (start_of_run asked) trace
+  pub safe : IsSafe (any_machine 1) (start_of_run asked) trace
   pub count : length trace ≡ asked.events
   pub within : packets_of_run asked trace ≤ 200000
 

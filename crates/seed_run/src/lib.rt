@@ -6,6 +6,7 @@ pub use run::{SeedEnd, seed};
 
 mod asked;
 mod dice;
+pub mod laws;
 mod progress;
 mod run;
 mod schedule;

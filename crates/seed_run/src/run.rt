@@ -8,11 +8,11 @@ ghost use Rattle.seed_run.specs.Runs.{IsSummary, IsPastLimit, IsSummarized, Ends
 
 use crate::asked::Asked;
 use crate::dice::Dice;
+use crate::laws::joint_traces_are_safe;
 use crate::progress::Progress;
 use crate::schedule::schedule_for;
 use crate::summary::summarize;
 use ft_io::{Failed, NoMemory, Sink, write_all};
-use ft_model::headline::every_joint_trace_is_masked;
 use net_schedule::World;
 use sample_servers::AnyService;
 use seq_arith::Generator;
@@ -55,7 +55,7 @@ fn play_asked(alloc: Global, asked: Asked) -> Result<Vec<u8>, SeedEnd>
     ensures no_usage { IsErrOf result SeedEnd.Usage → ⊥ }
     ensures no_fault { IsErrOf result SeedEnd.WriteFault → ⊥ }
 {
-    every_joint_trace_is_masked::<AnyService>();
+    joint_traces_are_safe();
     let mut generator = Generator::new(asked.seed);
     let schedule = schedule_for(alloc, &mut generator, asked.clients)?;
     let mut world: World<AnyService> = World::new(alloc, &schedule)?;
@@ -71,6 +71,9 @@ pub fn seed<O: Sink>(alloc: Global, words: &[String], out: &mut O) -> Result<(),
     ensures usage { IsErrOf result SeedEnd.Usage → asked_lem (map string_bytes words.now) ≡ None }
     ensures other_words { asked_lem (map string_bytes words.now) ≡ None → IsErrOf result SeedEnd.Usage }
     ensures usage_keeps_out { IsErrOf result SeedEnd.Usage → out.new ≡ out.old }
+    ensures no_memory_keeps_out { IsErrOf result SeedEnd.NoMemory → out.new ≡ out.old }
+    ensures limit_keeps_out { IsErrOf result SeedEnd.PacketLimit → out.new ≡ out.old }
+    ensures no_fault { OnOk result (O.fault_count out.new ≡ O.fault_count out.old) }
     ensures write_fault { IsErrOf result SeedEnd.WriteFault → Rose (O.fault_count out.old) (O.fault_count out.new) }
     ensures never_falls { O.fault_count out.old ≤ O.fault_count out.new }
 {

@@ -1,6 +1,6 @@
 use Rattle.std.proofs.Common.{◌∙◌, ◌++◌, ap, sym, subst}
 use Rattle.net_schedule.specs.Keeping.{kept}
-use Rattle.replay_tool.specs.Playing.{Reaches, StopsPlaying}
+use Rattle.replay_tool.specs.Playing.{Plays, StopsPlaying}
 use Rattle.replay_tool.proofs.Playing.{event_played, stands_on, goes_out, goes_out_in_part, holds_front, step_ends}
 use Rattle.replay_tool.proofs.play.play_event.Goals as goal
 use Rattle.ft_io.proofs.Outcomes.{of_error}
@@ -13,14 +13,14 @@ pub returns-in-Err-clause-stops : goal.returns-in-Err-clause-stops
 returns-in-Err-clause-stops g c = λ schedule others old before at.
     subst (StopsPlaying schedule (kept c.step.new.self) old (g.O.Sink.taken c.args.out.now) c.args.report.now.held.items) (sym c.end_of_step.ensures)
     (step_ends schedule others c.args.event.now c.args.n (kept c.args.world.now) (kept c.step.new.self) old (g.O.Sink.taken c.args.out.now) c.args.report.now.held.items c.in-Err.end before at
-    (c.in-Err.ensures.ends schedule before.played.events before.played.trace before.stands) c.in-Err.ensures.keeps)
+    (c.in-Err.ensures.ends schedule before.plays.played.events before.plays.played.trace before.plays.stands) c.in-Err.ensures.keeps)
 
 pub returns-in_err-write_played-clause-stops : goal.returns-in_err-write_played-clause-stops
 returns-in_err-write_played-clause-stops g c =
     of_error c.from_residual.result c.from_residual.ensures.1
     (λ end is. λ schedule others old before at.
     subst (StopsPlaying schedule (kept c.step.new.self) old (g.O.Sink.taken c.args.out.now) c.args.report.now.held.items) (sym is)
-    (holds_front schedule _ (kept c.args.world.now) old (g.O.Sink.taken c.args.out.now) c.args.report.now.held.items before))
+    (holds_front schedule _ (kept c.args.world.now) old (g.O.Sink.taken c.args.out.now) c.args.report.now.held.items before.plays))
 
 pub returns-in_err-extend_from_slice-clause-stops : goal.returns-in_err-extend_from_slice-clause-stops
 returns-in_err-extend_from_slice-clause-stops g c =
@@ -28,7 +28,7 @@ returns-in_err-extend_from_slice-clause-stops g c =
     (λ end is. λ schedule others old before at.
     subst (StopsPlaying schedule (kept c.step.new.self) old (g.O.Sink.taken c.args.out.now) c.extend_from_slice.new.self.items) (sym is)
     (holds_front schedule _ (kept c.args.world.now) old (g.O.Sink.taken c.args.out.now) c.extend_from_slice.new.self.items
-    (subst (Reaches schedule _ (kept c.args.world.now) old (g.O.Sink.taken c.args.out.now)) (sym c.in_err-extend_from_slice.ensures.items) before)))
+    (subst (Plays schedule _ (kept c.args.world.now) old (g.O.Sink.taken c.args.out.now)) (sym c.in_err-extend_from_slice.ensures.items) before.plays)))
 
 pub returns-in_err-flush_piece-clause-stops : goal.returns-in_err-flush_piece-clause-stops
 returns-in_err-flush_piece-clause-stops g c =
@@ -37,8 +37,8 @@ returns-in_err-flush_piece-clause-stops g c =
     subst (StopsPlaying schedule (kept c.step.new.self) old (g.O.Sink.taken c.flush_piece.new.out) c.flush_piece.new.report.held.items) (sym is)
     (goes_out_in_part schedule others (kept c.step.new.self) old (g.O.Sink.taken c.args.out.now) (g.O.Sink.taken c.flush_piece.new.out) c.extend_from_slice.new.self.items
     (event_played c.legal_traces_are_safe.ensures schedule others c.args.event.now c.args.n (kept c.args.world.now) (kept c.step.new.self) old (g.O.Sink.taken c.args.out.now) c.args.report.now.held.items
-    c.extend_from_slice.new.self.items c.clear.new.self.items c.write_played.new.lines.items c.in-Ok.answer before at
-    (c.in-Ok.ensures.done schedule before.played.events before.played.trace before.stands) c.in_ok-write_played.ensures c.clear.ensures.items
+    c.extend_from_slice.new.self.items c.clear.new.self.items c.write_played.new.lines.items c.in-Ok.answer before.plays at
+    (c.in-Ok.ensures.done schedule before.plays.played.events before.plays.played.trace before.plays.stands) c.in_ok-write_played.ensures c.clear.ensures.items
     (c.in_ok-extend_from_slice.ensures.items ∙ ap (λ l. c.args.report.now.held.items ++ l) c.deref.ensures.value))
     c.in_err-flush_piece.ensures.err))
 
@@ -46,7 +46,11 @@ pub returns-clause-done : goal.returns-clause-done
 returns-clause-done g c = λ schedule others old before at.
     goes_out schedule others (kept c.step.new.self) old (g.O.Sink.taken c.args.out.now) (g.O.Sink.taken c.flush_piece.new.out) c.extend_from_slice.new.self.items c.flush_piece.new.report.held.items
     (event_played c.legal_traces_are_safe.ensures schedule others c.args.event.now c.args.n (kept c.args.world.now) (kept c.step.new.self) old (g.O.Sink.taken c.args.out.now) c.args.report.now.held.items
-    c.extend_from_slice.new.self.items c.clear.new.self.items c.write_played.new.lines.items c.in-Ok.answer before at
-    (c.in-Ok.ensures.done schedule before.played.events before.played.trace before.stands) c.in_ok-write_played.ensures c.clear.ensures.items
+    c.extend_from_slice.new.self.items c.clear.new.self.items c.write_played.new.lines.items c.in-Ok.answer before.plays at
+    (c.in-Ok.ensures.done schedule before.plays.played.events before.plays.played.trace before.plays.stands) c.in_ok-write_played.ensures c.clear.ensures.items
     (c.in_ok-extend_from_slice.ensures.items ∙ ap (λ l. c.args.report.now.held.items ++ l) c.deref.ensures.value))
-    c.in_ok-flush_piece.ensures.ok
+    c.in_ok-flush_piece.ensures.ok c.in_ok-flush_piece.ensures.held_back
+
+pub returns-clause-stands : goal.returns-clause-stands
+returns-clause-stands g c =
+    stands_on (kept c.args.world.now) (kept c.step.new.self) c.args.event.now c.in-Ok.answer c.requires (c.in-Ok.ensures.done c.requires.schedule c.requires.events c.requires.trace c.requires.stands)

@@ -25,4 +25,4 @@ summarize-requires-clause-totals c = totals c.args.asked c.args.asked.events (ke
 
 pub returns-clause-done : goal.returns-clause-done
 returns-clause-done c =
-    summed c.args.asked (kept c.play.new.world) c.play.new.self c.in_ok-summarize.field-0.items c.every_joint_trace_is_masked.ensures c.in_ok-summarize.ensures c.in_ok-play.ensures.done
+    summed c.args.asked (kept c.play.new.world) c.play.new.self c.in_ok-summarize.field-0.items c.joint_traces_are_safe.ensures c.in_ok-summarize.ensures c.in_ok-play.ensures.done

@@ -1,0 +1,20 @@
+-- How a generated run ends: what was written of its summary.
+use Rattle.std.specs.Prelude.{Result, Ok, Err}
+use Rattle.seed_run.specs.Runs.{IsSummarized, IsSummarizedInPart, IsPastLimit}
+use Rattle.seed_run.specs.declared.asked.Asked.{Asked}
+use Rattle.replay_tool.specs.Stream.{Stream, HasFailed, HasNotFailed}
+use Rattle.replay_tool.specs.declared.status.TooMuch.TheVariants.{Packets}
+use Rattle.replay_tool.specs.declared.status.RunEnd.{RunEnd}
+use Rattle.replay_tool.specs.declared.status.RunEnd.TheVariants.{NoMemory, WriteFault, TooLong}
+
+-- it ends early: nothing was written to out, unless its calls failed, and then a prefix of the summary
+abbrev pub SeedStops : Asked → (out : Stream) → RunEnd → Type 0
+SeedStops asked out NoMemory = out.Untouched
+SeedStops asked out WriteFault = IsSummarizedInPart asked out.before out.after × HasFailed out
+SeedStops asked out (TooLong Packets) = IsPastLimit asked × out.Untouched
+SeedStops asked out _ = ⊥
+
+-- by its end
+abbrev pub SeedDoes : Asked → (out : Stream) → Result (Unit {0}) RunEnd → Type 0
+SeedDoes asked out (Ok _) = IsSummarized asked out.before out.after × HasNotFailed out
+SeedDoes asked out (Err end) = SeedStops asked out end

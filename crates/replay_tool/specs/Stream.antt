@@ -1,0 +1,29 @@
+-- A stream before and after a call.
+use Rattle.std.specs.Prelude.{◌≡◌, ℕ, List, Option}
+use Rattle.ft_io.specs.Faults.{Rose}
+
+-- Its content, which is what a source has left or a sink has taken; how many of its calls have failed; and what it is for it to be the same, so that nothing
+-- was asked of it
+pub record Stream : Type 1 where
+  pub before : Option (List ℕ)
+  pub after : Option (List ℕ)
+  pub faults_before : ℕ
+  pub faults_after : ℕ
+  pub Untouched : Type 0
+
+abbrev pub stream : {S : Type 0} → (content : S → Option (List ℕ)) → (fault_count : S → ℕ) → (old new : S) → Stream
+stream content fault_count old new = record {
+  before = content old;
+  after = content new;
+  faults_before = fault_count old;
+  faults_after = fault_count new;
+  Untouched = new ≡ old;
+}
+
+-- one of its calls failed
+abbrev pub HasFailed : Stream → Type 0
+HasFailed s = Rose s.faults_before s.faults_after
+
+-- none of them did
+abbrev pub HasNotFailed : Stream → Type 0
+HasNotFailed s = s.faults_after ≡ s.faults_before
