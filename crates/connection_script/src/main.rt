@@ -1,9 +1,10 @@
-//! `connection_script`: plays the first path, brings connections into each of their situations and hands hostile datagrams to them there, and
-//! fills the stream of one. It prints a line for each finding. Statuses: 0, 1 where a rule is broken, 3 without memory.
+//! `connection_script`: plays the first path, brings connections into each of their situations and hands hostile datagrams to them there, fills the stream of
+//! one, and brings the output of two to its limits. It prints a line for each finding. Statuses: 0, 1 where a rule is broken, 3 without memory.
 #![tactic(auto)]
 
 use ft_io::NoMemory;
 use hostile::{Tally, attack};
+use limits::{make_all, make_unacknowledged};
 use meter::{Filled, fill_all};
 use path::{letters, play_path};
 use segment_codec::Head;
@@ -16,6 +17,7 @@ use wrapped_conn::{ConnStage, TurnOut};
 
 mod dice;
 mod hostile;
+mod limits;
 mod meter;
 mod path;
 mod peers;
@@ -83,6 +85,15 @@ fn tell_filled(rt: &impl Print, filled: Filled) -> io::Result<()> {
     tell_segment(rt, "one byte more", filled.beyond)
 }
 
+fn tell_limits(rt: &impl Print, unacknowledged: [u32; 5], all: [u32; 3]) -> io::Result<()> {
+    let [a, b, c, d, e] = unacknowledged;
+    println!(rt;
+        "nothing acknowledged: {a} {b} {c} {d} reads, and {e} with one byte acknowledged"
+    )?;
+    let [a, b, c] = all;
+    println!(rt; "15728640 bytes made: {a} reads, {b} with one request more, {c} with two")
+}
+
 fn without_memory(rt: &impl Eprint) -> io::Result<ExitCode> {
     eprintln!(rt; "connection_script: no memory")?;
     Ok(ExitCode::from(3))
@@ -104,5 +115,12 @@ fn main(rt: HostRuntime) -> io::Result<ExitCode> {
         return without_memory(&rt);
     };
     tell_filled(&rt, filled)?;
+    let Ok(unacknowledged) = make_unacknowledged(rt.alloc()) else {
+        return without_memory(&rt);
+    };
+    let Ok(all) = make_all(rt.alloc()) else {
+        return without_memory(&rt);
+    };
+    tell_limits(&rt, unacknowledged, all)?;
     Ok(ExitCode::from(u8::from(!whole)))
 }

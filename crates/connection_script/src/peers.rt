@@ -73,7 +73,7 @@ pub(crate) fn take_packet(
     conn.on_packet(alloc, packet, out)
 }
 
-/// The client's next segment: it begins behind all that is taken, and acknowledges all that is sent.
+/// The client's next segment: it begins after all that is taken, and acknowledges all that is sent.
 pub(crate) fn say(
     alloc: Global,
     conn: &mut Conn<AnyService>,
@@ -85,14 +85,30 @@ pub(crate) fn say(
     requires short { length text.now ≤ 1460 }
     ensures { OnOk result (IsSound conn.new) }
 {
-    let inside = conn.inside();
+    let sent = conn.inside().sent;
+    say_acked(alloc, conn, flags, text, sent, out)
+}
+
+/// .. or only this many units.
+pub(crate) fn say_acked(
+    alloc: Global,
+    conn: &mut Conn<AnyService>,
+    flags: u8,
+    text: &[u8],
+    acked: u32,
+    out: &mut TurnOut,
+) -> Result<(), NoMemory>
+    requires sound { IsSound conn.old }
+    requires short { length text.now ≤ 1460 }
+    ensures { OnOk result (IsSound conn.new) }
+{
     let head = Head {
         src: CLIENT.ip,
         dst: SERVER.ip,
         sport: CLIENT.port,
         dport: SERVER.port,
-        seq: CISN.add(1).add(inside.taken),
-        ack: SISN.add(1).add(inside.sent),
+        seq: CISN.add(1).add(conn.inside().taken),
+        ack: SISN.add(1).add(acked),
         flags,
         window: 65_535,
         mss: None,

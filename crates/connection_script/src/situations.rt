@@ -17,7 +17,7 @@ pub(crate) enum Situation {
     Started,
     /// Five bytes are taken, and none is logged.
     Unlogged,
-    /// The client's FIN is taken behind them.
+    /// The client's FIN is taken after them.
     FinTaken,
     /// Both FINs are through, and the server's was first.
     ServerFirst,
@@ -63,7 +63,7 @@ fn unlogged(alloc: Global, closes: bool, out: &mut TurnOut) -> Result<Conn<AnySe
     Ok(conn)
 }
 
-/// The client closes first, the server behind its echo: it reads the end once the echo is written.
+/// The client closes first, the server after its echo: it reads the end once the echo is written.
 fn client_first(alloc: Global, out: &mut TurnOut) -> Result<Conn<AnyService>, NoMemory>
     ensures { IfOk result (λ c. IsSound c) }
 {
