@@ -1,0 +1,105 @@
+//! Connections that follow from a seed.
+
+ghost use Rattle.std.specs.Prelude.{◌<◌};
+
+use ft_io::NoMemory;
+use seq_arith::Generator;
+use std::alloc::Global;
+
+/// A number below a bound.
+pub(crate) fn below(generator: &mut Generator, bound: u32) -> u32
+    requires { 0 < bound }
+    ensures { result < bound }
+{
+    generator.draw() % bound
+}
+
+/// The pieces of each part of a request.
+#[derive(Drop)]
+pub(crate) struct Parts {
+    alloc: Global,
+    parts: Vec<Vec<Vec<u8>>>,
+    // The part to which pieces are added.
+    last: usize,
+}
+
+impl Parts {
+    /// No parts yet.
+    pub(crate) fn new(alloc: Global) -> Parts {
+        Parts {
+            alloc,
+            parts: Vec::new(alloc),
+            last: 0,
+        }
+    }
+
+    /// Begins a part without pieces.
+    pub(crate) fn begin(&mut self, at: u32) -> Result<(), NoMemory> {
+        self.last = at as usize;
+        match self.parts.get_mut(self.last) {
+            Some(part) => part.clear(),
+            None => self.parts.push(Vec::new(self.alloc))?,
+        }
+        Ok(())
+    }
+
+    /// Adds a piece to the last part, of this weight.
+    pub(crate) fn add(&mut self, weight: u32, piece: &[u8]) -> Result<(), NoMemory> {
+        if let Some(part) = self.parts.get_mut(self.last) {
+            for _ in 0..weight {
+                part.push(piece.to_vec(self.alloc)?)?;
+            }
+        }
+        Ok(())
+    }
+}
+
+/// Draws what a client says on a connection: one to five requests, of which one in eight is damaged at one place.
+pub(crate) fn draw_connection(
+    alloc: Global,
+    generator: &mut Generator,
+    parts: &Parts,
+) -> Result<Vec<u8>, NoMemory> {
+    let mut text = Vec::new(alloc);
+    for _ in 0..1 + below(generator, 5) {
+        draw_request(generator, parts, &mut text)?;
+    }
+    if below(generator, 8) == 0 {
+        return damaged(alloc, generator, text.as_slice());
+    }
+    Ok(text)
+}
+
+/// Appends a request: a piece of each part.
+fn draw_request(
+    generator: &mut Generator,
+    parts: &Parts,
+    text: &mut Vec<u8>,
+) -> Result<(), NoMemory> {
+    for part in &parts.parts {
+        let count = part.len().min(10_000) as u32;
+        if count > 0 {
+            if let Some(piece) = part.get(below(generator, count) as usize) {
+                text.extend_from_slice(piece)?;
+            }
+        }
+    }
+    Ok(())
+}
+
+/// A text that lacks a byte at some place, or has another there, or one more, or a line end.
+fn damaged(alloc: Global, generator: &mut Generator, text: &[u8]) -> Result<Vec<u8>, NoMemory> {
+    let at = below(generator, text.len().min(100_000) as u32 + 1) as usize;
+    let kind = below(generator, 4);
+    let byte = below(generator, 256) as u8;
+    let (front, back) = text.split_at(at.min(text.len()));
+    let mut changed = front.to_vec(alloc)?;
+    if kind == 3 {
+        changed.extend_from_slice(b"\r\n")?;
+    } else if kind > 0 {
+        changed.push(byte)?;
+    }
+    let skipped = if kind < 2 { 1 } else { 0 };
+    changed.extend_from_slice(&back[back.len().min(skipped)..])?;
+    Ok(changed)
+}

@@ -1,0 +1,7 @@
+pub mod Text
+pub mod Request
+pub mod Answer
+pub mod Reader
+pub mod Web
+pub mod Laws
+pub mod Messages
