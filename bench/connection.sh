@@ -1,29 +1,29 @@
 #!/usr/bin/env bash
-# Segments a second of connection_bench, in which eight clients one after another, each with a key of its own, have a wrapped connection with a
-# log behind it echo 8 MiB, beside those of endpoint_echo, which echoes the same 64 MiB between two endpoints, in one run: segments of 1,460
+# Segments a second of wrapped connections, by node_bench: eight clients one after another, each with a key of its own, have a wrapped connection with a
+# log behind it echo 8 MiB, beside those of endpoint_bench, in which two endpoints echo the same 64 MiB, in one run: segments of 1,460
 # bytes and of 64. Of each the least processor time of 7 turns, taken in turn. A segment counts once: it is written, handed over, read, and
 # its text echoed or compared. The connection also sends segments without text, and each segment's text passes as a message to the log and is
 # answered, and so does its read. So the two are set beside each other by the segments with text, as many in both; all are told too.
 #     bench/connection.sh [OLDER]
-# With OLDER, an older connection_bench or a checkout that has one, that one and this one echo 1 GiB, in 8 runs of 8 connections with segments of 1,460 bytes,
+# With OLDER, an older node_bench or a checkout that has one, that one and this one echo 1 GiB, in 8 runs of 8 connections with segments of 1,460 bytes,
 # 21 times in turn, and the least times are compared. Status 1 where this one takes over 5 % longer.
 set -eu
 before=${1:+$(realpath "$1")}
 . "$(dirname "$0")/common.sh"
-build connection_bench 1460 1460
-echo_program="$PWD/crates/endpoint_echo/out/endpoint_echo"
-connections="$PWD/crates/connection_bench/out/connection_bench"
+build node_bench connection 1460 1460
+endpoints="$PWD/crates/endpoint_bench/out/endpoint_bench"
+connections="$PWD/crates/node_bench/out/node_bench"
 eight_runs() { for _ in {1..8}; do "$@"; done; }
 are_ended() { [ "$(grep -c '^ended 8 connections$' "$work/out")" = "$1" ] || { echo "not ended"; exit 1; }; }
 all_ended() { are_ended 8; }
 
 if [ -n "$before" ]; then
-    before=$(older connection_bench "$before" 1460 1460)
+    before=$(older node_bench "$before" connection 1460 1460)
     machine
-    compare_least "spent eight_runs" all_ended "$before" "$connections" 16777216 1460
+    compare_least "spent eight_runs" all_ended "$before" "$connections" connection 16777216 1460
     exit
 fi
-build endpoint_echo 1460 1460
+build endpoint_bench echo 1460 1460
 
 # how many segments both sides sent in all
 segments() { awk '/segments/ { n += $2 } END { print n }' "$work/out"; }
@@ -33,10 +33,10 @@ machine
 for text in 1460 64; do
     least_bare=999999 least_wrapped=999999
     for _ in 1 2 3 4 5 6 7; do
-        a=$(spent "$echo_program" "$all" "$text")
+        a=$(spent "$endpoints" echo "$all" "$text")
         bare=$(segments)
         grep -q "^echoed $all bytes\$" "$work/out" || { echo "not echoed"; exit 1; }
-        b=$(spent "$connections" "$each" "$text")
+        b=$(spent "$connections" connection "$each" "$text")
         wrapped=$(segments)
         messages=$(awk '/messages/ { print $2 }' "$work/out")
         are_ended 1

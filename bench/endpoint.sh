@@ -1,23 +1,23 @@
 #!/usr/bin/env bash
-# Segments a second of endpoint_echo, which echoes 64 MiB between two endpoints in memory, beside packets a second of a plain C loop of a
+# Segments a second of two endpoints in memory, by endpoint_bench, which echo 64 MiB, beside packets a second of a plain C loop of a
 # packet's checks (gcc -O2), in one run: segments of 1,460 bytes beside packets of 1,500 bytes, and of 64 beside 40. Of each the least
 # processor time of 7 turns, taken in turn. A segment counts once: it is written, handed over, read, and its text echoed or compared. Then the same echo in
 # segments of 1,460 bytes with a whole window under way: in order, with each two segments swapped, and with one packet of 100 lost; beside the first of these.
 #     bench/endpoint.sh [OLDER]
-# With OLDER, an older endpoint_echo or a checkout that has one, that one and this one echo 1 GiB (one byte less, in segments of 1,460 bytes) 21 times in turn,
+# With OLDER, an older endpoint_bench or a checkout that has one, that one and this one echo 1 GiB (one byte less, in segments of 1,460 bytes) 21 times in turn,
 # and the least times are compared. Status 1 where this one takes over 5 % longer.
 set -eu
 before=${1:+$(realpath "$1")}
 . "$(dirname "$0")/common.sh"
-build endpoint_echo 1460 1460
-echo_program="$PWD/crates/endpoint_echo/out/endpoint_echo"
+build endpoint_bench echo 1460 1460
+program="$PWD/crates/endpoint_bench/out/endpoint_bench"
 is_echoed() { grep -q "^echoed $all bytes\$" "$work/out" || { echo "not echoed"; exit 1; }; }
 
 if [ -n "$before" ]; then
     all=1073741823
-    before=$(older endpoint_echo "$before" 1460 1460)
+    before=$(older endpoint_bench "$before" echo 1460 1460)
     machine
-    compare_least spent_in_user is_echoed "$before" "$echo_program" "$all" 1460
+    compare_least spent_in_user is_echoed "$before" "$program" echo "$all" 1460
     exit
 fi
 all=67108864
@@ -28,7 +28,7 @@ for row in "1460 1500 6000" "64 40 120000"; do
     read -r text bytes rounds <<<"$row"
     least_echo=999999 least_c=999999
     for _ in 1 2 3 4 5 6 7; do
-        a=$(spent_in_user "$echo_program" "$all" "$text")
+        a=$(spent_in_user "$program" echo "$all" "$text")
         segments=$(awk '/segments/ { n += $2 } END { print n }' "$work/out")
         is_echoed
         b=$(spent_in_user "$work/packets" "$bytes" "$rounds")
@@ -45,7 +45,7 @@ done
 declare -A least segments ticks
 for _ in 1 2 3 4 5 6 7; do
     for way in window swapped lossy; do
-        a=$(spent_in_user "$echo_program" "$all" 1460 "$way")
+        a=$(spent_in_user "$program" echo "$all" 1460 "$way")
         is_echoed
         segments[$way]=$(awk '/segments/ { n += $2 } END { print n }' "$work/out")
         ticks[$way]=$(awk '/ticks/ { n = $1 } END { print n + 0 }' "$work/out")

@@ -1,5 +1,5 @@
 /* What bench/journal.sh has beside `ftnode logger --journal`:
- *     journal serve PORT [FILE]       a logger of one connection, which keeps its log in FILE by the same calls: the messages of a round that changed the log behind
+ *     journal serve PORT [FILE]       a logger of one connection, which keeps its log in FILE by the same calls: the messages of a round that changed the log after
  *                                     the closed gate, fdatasync, the gate's byte, fdatasync, and then the answers
  *     journal ask PORT AHEAD COUNT    sends Data of 1,460 bytes, AHEAD of them under way, until COUNT are in the log, and prints how many microseconds that took
  *     journal make FILE BYTES         writes a journal of so many bytes or a few more: a Data of 1,460 bytes and its Read by turns, 256 messages in a block
@@ -59,7 +59,7 @@ static void sync_data(int file)
         fail("fdatasync");
 }
 
-/* the block of a round, with the closed gate behind it, and where it goes */
+/* the block of a round, with the closed gate after it, and where it goes */
 static uint8_t block[4 + ROUND * MOST + 1];
 static size_t filled;
 static off_t end = MAGIC;
@@ -190,7 +190,7 @@ static void ask(unsigned short port, uint32_t ahead, uint32_t count)
         }
         n = recv(here, said, sizeof said, 0);
         if (n < 0) { /* something was lost: once more from what is logged */
-            fprintf(stderr, "silence behind %u of %u\n", stable, count);
+            fprintf(stderr, "silence after %u of %u\n", stable, count);
             sent = stable;
         } else if (n == 31 && said[3] == STABLE && sum(said, 31) == 0xFFFF && number(said + 22) / TEXT > stable)
             stable = number(said + 22) / TEXT;

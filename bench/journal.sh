@@ -76,7 +76,7 @@ measure_messages() {
     done
 }
 
-# a client sends SIZE bytes, and the file is measured behind its end
+# a client sends SIZE bytes, and the file is measured after that
 measure_file() { # SERVICE
     local size=8000000
     start_one with

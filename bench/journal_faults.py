@@ -71,7 +71,7 @@ class Logger:
 
 
 def wanted_of(content):
-    """What a logger with one turn ends with, and the file behind it, by the model."""
+    """What a logger with one turn ends with, and the file after it, by the model."""
     try:
         found = reading(content)
     except Wrong as wrong:
@@ -109,7 +109,7 @@ def no_files():
     (room / "folder").mkdir()
     (room / "target").write_bytes(journal)
     (room / "link").symlink_to("target")
-    for name in (room / "folder", room / "link", "/dev/null", room / "none" / "journal", ""):
+    for name in (room / "folder", room / "link", "/dev/null", room / "none" / "journal"):
         expect(f"`{name}`", ended(name), (11, FAULT))
     os.link(room / "target", room / "second")
     expect("a second name", ended(room / "second"), (11, FAULT))
@@ -126,13 +126,14 @@ def wrong_words():
     path = str(room / "words")
     server = ["server", "--local", "127.0.0.1:7361", "--logger", "127.0.0.1:7360", "--service", "echo", "--boot", "1", "--isn", "1", "--turns", "1"]
     option = ["--journal", path]
-    for line in (words(option * 2, 1), words(["--journal", "-x"], 1), words(["--journal"], 1), server + option, words([*option, "--boot", "1"], 1)):
+    names = [["--journal", "-x"], ["--journal=-x"], ["--journal", ""], ["--journal="], ["--journal"]]
+    for line in (words(option * 2, 1), *(words(name, 1) for name in names), server + option, words([*option, "--boot", "1"], 1)):
         run = subprocess.run([program, *line], capture_output=True, text=True, timeout=60)
         expect(" ".join(line), (run.returncode, run.stdout + run.stderr, Path(path).exists()), (2, USAGE, False))
 
 
 def two_loggers():
-    """The second one is refused, and the first one runs on. A port that is taken is a fault of the link, behind the opening."""
+    """The second one is refused, and the first one runs on. A port that is taken is a fault of the link, after the opening."""
     path = room / "shared"
     first = Logger(path)
     expect("the first", first.asked(hello(3)).name, "Summary")

@@ -1,5 +1,5 @@
 /* Writes the lines of the turns in which one client sends a byte and hears its echo, with fprintf: CYCLES of them, ROUNDS times, the lines that
- * `lines_bench write CYCLES ROUNDS` writes. */
+ * `wire_bench lines write CYCLES ROUNDS` writes. */
 #include <stdio.h>
 #include <stdlib.h>
 

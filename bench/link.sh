@@ -1,10 +1,10 @@
 #!/usr/bin/env bash
-# One send and one receive of a datagram on this machine's loopback, through link_bench's UDP socket beside a C loop of sendto and recvfrom
+# One send and one receive of a datagram on this machine's loopback, by wire_bench's UDP socket beside a C loop of sendto and recvfrom
 # (gcc -O2), in one run: for 100 and for 1,400 bytes, the least processor time, of program and system, of 7 turns each, taken in turn.
 set -eu
 . "$(dirname "$0")/common.sh"
-build link_bench 100 1
-ours="$PWD/crates/link_bench/out/link_bench"
+build wire_bench link 100 1
+ours="$PWD/crates/wire_bench/out/wire_bench"
 gcc -O2 -Wall -o "$work/link" bench/link.c
 
 rounds=200000
@@ -12,7 +12,7 @@ machine
 for bytes in 100 1400; do
     least_ours=999999 least_c=999999
     for _ in 1 2 3 4 5 6 7; do
-        a=$(spent "$ours" "$bytes" "$rounds")
+        a=$(spent "$ours" link "$bytes" "$rounds")
         mv "$work/out" "$work/said"
         b=$(spent "$work/link" "$bytes" "$rounds")
         [ "$(cut -d' ' -f1 "$work/said")" = "$(cat "$work/out")" ] || { echo "the two differ"; exit 1; }

@@ -8,18 +8,18 @@
 # connections. Then the memory that a live connection holds, by the most that runs with 64 connections and with one hold.
 set -eu
 . "$(dirname "$0")/common.sh"
-build node_bench 1 1 64 1 0
+build node_bench node 1 1 64 1 0
 program="$PWD/crates/node_bench/out/node_bench"
 gcc -O2 -Wall -o "$work/packets" bench/packets.c
 gcc -O2 -Wall -shared -fPIC -o "$work/refuse.so" bench/refuse.c -ldl
 
 # how often a run asks for memory, and how much it holds at most, in KiB
 asked() {
-    REFUSED=0 LD_PRELOAD=$work/refuse.so "$program" "$@" >"$work/out" 3>"$work/calls"
+    REFUSED=0 LD_PRELOAD=$work/refuse.so "$program" node "$@" >"$work/out" 3>"$work/calls"
     wc -c <"$work/calls"
 }
 
-held() { command time -f %M "$program" "$@" 2>&1 >/dev/null; }
+held() { command time -f %M "$program" node "$@" 2>&1 >/dev/null; }
 
 least() { echo $(($1 < $2 ? $1 : $2)); }
 
@@ -27,10 +27,10 @@ least() { echo $(($1 < $2 ? $1 : $2)); }
 row() {
     local what=$1 clients=$2 size=$3 all=$4 rounds=$(($4 / $2)) whole=999999 opened=999999 c=999999 more turns
     for _ in 1 2 3 4 5; do
-        whole=$(least "$whole" "$(spent "$program" 1 "$clients" "$size" "$rounds" 0)")
+        whole=$(least "$whole" "$(spent "$program" node 1 "$clients" "$size" "$rounds" 0)")
         [ "$(head -2 "$work/out" | tr '\n' ' ')" = "$5 " ] || { cat "$work/out"; exit 1; }
         turns=$(awk '/turns/ { print $1 }' "$work/out")
-        opened=$(least "$opened" "$(spent "$program" 1 "$clients" "$size" 0 0)")
+        opened=$(least "$opened" "$(spent "$program" node 1 "$clients" "$size" 0 0)")
         c=$(least "$c" "$(spent "$work/packets" $((40 + size)) $((all / 64 * 20)))")
     done
     more=$(($(asked 1 "$clients" "$size" $((rounds / 5)) 0) - $(asked 1 "$clients" "$size" $((rounds / 10)) 0)))
@@ -43,8 +43,8 @@ row() {
 ticks() {
     local clients=$1 rounds=$2 whole=999999 opened=999999 more
     for _ in 1 2 3 4 5; do
-        whole=$(least "$whole" "$(spent "$program" 1 "$clients" 64 0 "$rounds")")
-        opened=$(least "$opened" "$(spent "$program" 1 "$clients" 64 0 0)")
+        whole=$(least "$whole" "$(spent "$program" node 1 "$clients" 64 0 "$rounds")")
+        opened=$(least "$opened" "$(spent "$program" node 1 "$clients" 64 0 0)")
     done
     more=$(($(asked 1 "$clients" 64 0 200) - $(asked 1 "$clients" 64 0 100)))
     awk -v clients="$clients" -v n="$rounds" -v a=$((whole - opened)) -v more="$more" 'BEGIN {

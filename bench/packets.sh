@@ -1,23 +1,23 @@
 #!/usr/bin/env bash
-# Packets and messages by packet_bench and message_bench beside plain C loops of the same checks and updates (gcc -O2), in one run: packets
+# Packets and messages by wire_bench beside plain C loops of the same checks and updates (gcc -O2), in one run: packets
 # read and summed, for 40 and for 1,500 bytes; three fields of a packet set in place, of the same packets; and messages read and written, a
 # Data of 1,460 bytes and the length of a read. Of each the least processor time of 7 turns, taken in turn.
 set -eu
 . "$(dirname "$0")/common.sh"
-build packet_bench 40 1
-build message_bench read data 1
+build wire_bench packets 40 1
+program=$PWD/crates/wire_bench/out/wire_bench
 gcc -O2 -Wall -o "$work/packets" bench/packets.c
 gcc -O2 -Wall -o "$work/messages" bench/messages.c
 
-# what is timed, our program, the C program, their words, and how many calls they make
+# what is timed, the first word of ours and the C program of that name, their other words, and how many calls they make
 row() {
-    local what=$1 ours="$PWD/crates/$2/out/$2" c="$work/$3" words=$4 calls=$5 least_ours=999999 least_c=999999 a b
+    local what=$1 word=$2 words=$3 calls=$4 least_ours=999999 least_c=999999 a b
     for _ in 1 2 3 4 5 6 7; do
         # shellcheck disable=SC2086
-        a=$(spent_in_user "$ours" $words)
+        a=$(spent_in_user "$program" "$word" $words)
         mv "$work/out" "$work/said"
         # shellcheck disable=SC2086
-        b=$(spent_in_user "$c" $words)
+        b=$(spent_in_user "$work/$word" $words)
         cmp -s "$work/said" "$work/out" || { echo "the two differ"; exit 1; }
         ((a < least_ours)) && least_ours=$a
         ((b < least_c)) && least_c=$b
@@ -28,11 +28,11 @@ row() {
 }
 
 machine
-row "packets of 40 bytes read" packet_bench packets "40 200000" $((64 * 200000))
-row "packets of 1500 bytes read" packet_bench packets "1500 20000" $((64 * 20000))
-row "fields of packets of 40 bytes set" packet_bench packets "40 300000 set" $((3 * 64 * 300000))
-row "fields of packets of 1500 bytes set" packet_bench packets "1500 300000 set" $((3 * 64 * 300000))
-row "Data of 1460 bytes read" message_bench messages "read data 20000" $((64 * 20000))
-row "Data of 1460 bytes written" message_bench messages "write data 20000" $((64 * 20000))
-row "lengths of reads read" message_bench messages "read cut 200000" $((64 * 200000))
-row "lengths of reads written" message_bench messages "write cut 200000" $((64 * 200000))
+row "packets of 40 bytes read" packets "40 200000" $((64 * 200000))
+row "packets of 1500 bytes read" packets "1500 20000" $((64 * 20000))
+row "fields of packets of 40 bytes set" packets "40 300000 set" $((3 * 64 * 300000))
+row "fields of packets of 1500 bytes set" packets "1500 300000 set" $((3 * 64 * 300000))
+row "Data of 1460 bytes read" messages "read data 20000" $((64 * 20000))
+row "Data of 1460 bytes written" messages "write data 20000" $((64 * 20000))
+row "lengths of reads read" messages "read cut 200000" $((64 * 200000))
+row "lengths of reads written" messages "write cut 200000" $((64 * 200000))

@@ -2,7 +2,7 @@
 # Times `ftreplay run` on schedules of 10,000 and 100,000 events, and prints the best of five runs of each, their ratio, and the
 # memory that a run took, beside what its packets, schedule and report are: eight clients send their scripts byte by byte, each byte is logged, echoed and acknowledged
 # before the next, and at each 1,000th event the server crashes and restarts from the log (bench/crash_schedule.awk). Then the same with one client and no crash.
-# Then the lines of the larger report, but for its opening and its end, as lines_bench writes them from events and packets as bytes, beside a C
+# Then the lines of the larger report, but for its opening and its end, as wire_bench writes them from events and packets as bytes, beside a C
 # loop of fprintf of the same lines (gcc -O2); and the reading of a schedule of 8 MiB. Of each the least processor time of 7 turns.
 set -eu
 . "$(dirname "$0")/common.sh"
@@ -80,13 +80,14 @@ done
 echo 'one client, without a crash'
 { time_schedule 999; time_schedule 9999; } | compare
 
-build lines_bench write 9 1
-lines=$PWD/crates/lines_bench/out/lines_bench
+build wire_bench lines write 9 1
+wire=$PWD/crates/wire_bench/out/wire_bench
+lines() { "$wire" lines "$@"; }
 gcc -O2 -Wall -o "$schedules/lines" bench/lines.c
-"$lines" write 9999 1 >"$schedules/ours"
+lines write 9999 1 >"$schedules/ours"
 "$schedules/lines" 9999 1 >"$schedules/theirs"
 sed -n '/^event 11 /,/^client /p' "$schedules/report" | sed '$d' >"$schedules/reported"
-cmp -s "$schedules/ours" "$schedules/reported" || { echo "lines_bench and the report differ"; exit 1; }
+cmp -s "$schedules/ours" "$schedules/reported" || { echo "wire_bench and the report differ"; exit 1; }
 cmp -s "$schedules/ours" "$schedules/theirs" || { echo "the two loops differ"; exit 1; }
 
 # the least of 7 turns of each of two commands, taken in turn
@@ -101,7 +102,7 @@ least_of_two() {
     echo "$first $second"
 }
 
-read -r made written < <(least_of_two "$lines write 9999 0" "$lines write 9999 20")
+read -r made written < <(least_of_two "lines write 9999 0" "lines write 9999 20")
 read -r none printed < <(least_of_two "$schedules/lines 9999 0" "$schedules/lines 9999 20")
 awk -v n=$((20 * $(wc -l <"$schedules/ours"))) -v a=$((written - made)) -v b=$((printed - none)) 'BEGIN {
     printf "lines: %d a second, %.0f ns each; fprintf %d a second, %.0f ns each; %.2f times as many\n", n / a * 1000, a / n * 1e6, n / b * 1000, b / n * 1e6, b / a
@@ -116,7 +117,7 @@ awk 'BEGIN {
     printf "#"
 }' >"$schedules/large"
 awk -v left=$((8388608 - $(wc -c <"$schedules/large"))) 'BEGIN { for (i = 0; i < left; i++) printf "." }' >>"$schedules/large"
-reading() { "$lines" read "$1" <"$schedules/large"; }
+reading() { lines read "$1" <"$schedules/large"; }
 [ "$(reading 1)" = 100000 ] || { echo "the schedule is refused"; exit 1; }
 read -r once often < <(least_of_two "reading 1" "reading 11")
 awk -v a=$((often - once)) 'BEGIN { printf "reading of 8 MiB: %.1f ms, %.0f MB/s\n", a / 10, 83.88608 / a * 1000 }'

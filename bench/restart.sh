@@ -1,22 +1,22 @@
 #!/usr/bin/env bash
-# The restart, by restart_bench: an entry whose output is all acknowledged is fetched from a log by messages as bytes, replayed and spliced. Echo, with
+# The restart, by node_bench: an entry whose output is all acknowledged is fetched from a log by messages as bytes, replayed and spliced. Echo, with
 # 15,000,000 bytes in reads of 2,048, and Meter, with 1 MiB in reads of 1 byte: the bytes of input and the messages, questions and answers together, a
 # second. Of each the least processor time of 5 runs with 40 restarts, less that of 5 runs that only fill the log, taken in turn. Then the most memory
 # that a run with one restart holds, less what a run without it holds: the largest difference of three.
 set -eu
 . "$(dirname "$0")/common.sh"
-build restart_bench echo 1000 1 1
-ours="$PWD/crates/restart_bench/out/restart_bench"
+build node_bench restart echo 1000 1 1
+ours="$PWD/crates/node_bench/out/node_bench"
 
-held() { command time -f %M "$ours" "$@" 2>&1 >/dev/null; }
+held() { command time -f %M "$ours" restart "$@" 2>&1 >/dev/null; }
 
 rounds=40
 machine
 while read -r service bytes size; do
     with=999999 without=999999
     for _ in 1 2 3 4 5; do
-        a=$(spent "$ours" "$service" "$bytes" "$size" 0)
-        b=$(spent "$ours" "$service" "$bytes" "$size" "$rounds")
+        a=$(spent "$ours" restart "$service" "$bytes" "$size" 0)
+        b=$(spent "$ours" restart "$service" "$bytes" "$size" "$rounds")
         ((a < without)) && without=$a
         ((b < with)) && with=$b
     done

@@ -3,8 +3,8 @@
 # runs. Echo, Line and Meter read 256 MiB of lines of 64 bytes, and Transfer reads 1 MiB of requests for 2,047 bytes each.
 set -eu
 . "$(dirname "$0")/common.sh"
-build service_bench echo <crates/service_bench/stdin
-program=$PWD/crates/service_bench/out/service_bench
+build endpoint_bench service echo <crates/endpoint_bench/stdin
+program=$PWD/crates/endpoint_bench/out/endpoint_bench
 inputs=$work
 
 yes 'a line of sixty-three bytes, and with its line feed sixty-four.' | head -c 268435456 >"$inputs/lines"
@@ -20,7 +20,7 @@ time_service() {
     best=
     for _ in 1 2 3; do
         start=$(date +%s%N)
-        written=$("$program" "$name" <"$input")
+        written=$("$program" service "$name" <"$input")
         nanoseconds=$(($(date +%s%N) - start))
         if [ -z "$best" ] || [ "$nanoseconds" -lt "$best" ]; then
             best=$nanoseconds

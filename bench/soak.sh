@@ -1,19 +1,22 @@
 #!/usr/bin/env bash
-# A server that is killed again and again under many clients: CLIENTS clients of the kernel, each in a network namespace and behind a tools/bridge.py of its own,
-# send BYTES bytes each to an echo of ftnode and compare what comes back. Meanwhile the server is killed (kill -9) KILLS times, each time that another part of all
-# bytes has come back, and is started again with the next boot number PAUSE seconds later. Beside it as many clients send the same to an echo server of the
-# kernel over paths (bench/relay.py) with the same loss, without window scaling and selective acknowledgements; nothing is killed there, and the pauses that ftnode's
-# clients had are added to the time. Both run at each loss. Printed are resets, bytes lost, the longest time in which a client got nothing, and the time.
+# A server that is killed again and again under many clients, and a logger with it where KILL says so: CLIENTS clients of the kernel, each in a network namespace and
+# behind a tools/bridge.py of its own, send BYTES bytes each to an echo of ftnode and compare what comes back. Meanwhile the server is killed (kill -9) KILLS times,
+# each time that another part of all bytes has come back, and in turn with it the logger as often. Each is started again PAUSE seconds later: the server with the
+# next boot number, the logger with its journal. As many clients send the same to an echo server of the kernel over paths (bench/relay.py) with the same loss,
+# without window scaling and selective acknowledgements; nothing is killed there, and the pauses that ftnode's clients had are added to the time. Both run at each
+# loss. Printed are resets, bytes lost, the longest time in which a client got nothing, and the time.
 # The goal: no reset, no byte lost, and all clients done within three times. Status 0 where it is met, 1 where it is missed, 2 where it can't run.
 #     sudo bench/soak.sh [PROGRAM]        a built ftnode, else this checkout's
-# CLIENTS (16, at most 64: a log takes no more), KILLS (100), BYTES (400000), LOSS ("0 1 5", in percent), PAUSE (0.2), RATE (4000: bytes that a client sends
-# in a second, so that about one kill a second comes; 0: as fast as it can) and LIMIT (400) may stand in the environment. It takes eleven minutes. Neither half of a
-# loss takes longer than LIMIT seconds and half a minute, so three losses end within 43 minutes. It makes network namespaces and TUN devices, and removes them
-# in the end.
+# CLIENTS (16, at most 64: a log takes no more), KILLS (100), KILL ("server", or "server logger": then the logger has a journal), BYTES (400000), LOSS ("0 1 5", in
+# percent), PAUSE (0.2), RATE (4000, or 2000 with the logger: bytes that a client sends in a second, so that about one kill a second comes; 0: as fast as it can) and
+# LIMIT (400) may stand in the environment. It takes eleven minutes, or 22 with the logger. Neither half of a loss takes longer than LIMIT seconds and half a minute,
+# so three losses end within 43 minutes. It makes network namespaces and TUN devices, and removes them in the end.
 set -eu
 program=${1:+$(realpath "$1")}
 . "$(dirname "$0")/common.sh"
-clients=${CLIENTS:-16} kills=${KILLS:-100} bytes=${BYTES:-400000} losses=${LOSS:-0 1 5} pause=${PAUSE:-0.2} rate=${RATE:-4000} limit=${LIMIT:-400}
+clients=${CLIENTS:-16} kills=${KILLS:-100} bytes=${BYTES:-400000} losses=${LOSS:-0 1 5} pause=${PAUSE:-0.2} limit=${LIMIT:-400}
+read -ra victims <<<"${KILL:-server}"
+rate=${RATE:-$((4000 / ${#victims[@]}))}
 server=10.79.1.1 port=7 logger=10.79.1.2:7008 outside=soak_$$ pids=() spaces=()
 for ((k = 1; k <= clients; k++)); do spaces+=("soak_${k}_$$"); done
 
@@ -22,6 +25,7 @@ missing() { echo "soak.sh: not run: $1" >&2; exit 2; }
 [ -c /dev/net/tun ] || missing "there is no /dev/net/tun: the kernel has no TUN devices"
 command -v ip >/dev/null || missing "the command ip is missing (package iproute2)"
 ((clients >= 1 && clients <= 64)) || missing "a log takes 1 to 64 clients"
+case ${victims[*]} in server | 'server logger') ;; *) missing "KILL is 'server' or 'server logger'" ;; esac
 if [ -z "$program" ]; then
     build ftnode logger --local 127.0.0.1:7040 --turns 1
     program=$PWD/crates/ftnode/out/ftnode
@@ -69,32 +73,61 @@ start_server() { # BOOT
     start "server.$1" "$program" server --local "$server:$port" --logger "$logger" --service echo --boot "$1" --isn "$((100000 * $1))" --turns 1000000
     server_process=$last
 }
-server_runs() { kill -0 "$server_process" 2>/dev/null || { echo "server $boot ended by itself: $(cat "$work/server.$boot" "$work/server.$boot.err")" && false; }; }
+start_logger() { # LIFE
+    local journal=()
+    ((${#victims[@]} == 1)) || journal=(--journal "$work/journal")
+    start "logger.$1" "$program" logger --local "$logger" --turns 1000000 "${journal[@]}"
+    logger_process=$last
+}
 now() { echo "${EPOCHREALTIME//[!0-9]/}"; } # microseconds
 
-# the server is killed, and the next one started; `away` is how long there has been none, in microseconds
-kill_server() {
-    local begun
+# whether this process still runs; it is counted where it ended by itself
+runs() { # NAME PROCESS
+    kill -0 "$2" 2>/dev/null || { echo "$1 ended by itself: $(cat "$work/$1" "$work/$1.err")" && ended_early=$((ended_early + 1)); }
+}
+still_run() {
+    runs "server.$boot" "$server_process"
+    runs "logger.$life" "$logger_process"
+}
+
+# leaves a process out of those that are ended at last: its number may soon be another's
+forget() { # PROCESS
+    local pid left=()
+    for pid in "${pids[@]}"; do [ "$pid" = "$1" ] || left+=("$pid"); done
+    pids=("${left[@]}")
+}
+
+# what is due is killed and started again; `away` is how long it wasn't there, in microseconds
+kill_next() {
+    local begun victim=${victims[killed % ${#victims[@]}]} process
     begun=$(now)
-    server_runs || ended_early=$((ended_early + 1))
-    { kill -9 "$server_process"; wait "$server_process"; } 2>/dev/null || true
-    unset "pids[-1]"
+    still_run
+    process=$server_process
+    [ "$victim" = server ] || process=$logger_process
+    { kill -9 "$process"; wait "$process"; } 2>/dev/null || true
+    forget "$process"
     sleep "$pause"
-    boot=$((boot + 1))
-    start_server "$boot"
+    if [ "$victim" = server ]; then
+        boot=$((boot + 1))
+        start_server "$boot"
+    else
+        life=$((life + 1))
+        start_logger "$life"
+    fi
+    killed=$((killed + 1))
     away=$((away + $(now) - begun))
 }
 
 # the clients, and the kills that they ask for; their `end` line is in `told`
 run_clients() { # KILLS
     local word rest asking
-    told='' boot=1 away=0 ended_early=0 last_kill=0
+    told='' boot=1 life=1 killed=0 away=0 ended_early=0 last_kill=0
     mkfifo "$work/events"
     bench/soak_clients.py ask "$server" "$port" "$bytes" "$rate" "$1" "$limit" "${spaces[@]}" >"$work/events" &
     asking=$!
     while read -r word rest; do
         case $word in
-            kill) last_kill=$rest && kill_server ;;
+            kill) last_kill=$rest && kill_next ;;
             end) told=$rest ;;
             *) echo "$word $rest" ;;
         esac
@@ -105,15 +138,16 @@ run_clients() { # KILLS
 
 through_ftnode() { # LOSS
     add_spaces
-    start logger "$program" logger --local "$logger" --turns 1000000
+    rm -f "$work/journal"
+    start_logger 1
     for ((k = 1; k <= clients; k++)); do
         ip -n "$outside" addr add "$(client_ip "$k")/32" dev lo
         start "bridge$k" tools/bridge.py --client "$(client_ip "$k")" --server "$server:$port" --netns "${spaces[k - 1]}" --device "soak${k}_$$" --loss "$1" --seed "$k"
     done
     for ((k = 1; k <= clients; k++)); do wait_for_up "bridge$k"; done
     start_server 1
-    run_clients "$kills"
-    server_runs || ended_early=$((ended_early + 1))
+    run_clients $((kills * ${#victims[@]}))
+    still_run
     finish
 }
 
@@ -144,11 +178,11 @@ show() { # NAME
 soak_at() { # LOSS
     echo "$1 % lost, load $(cut -d' ' -f1 /proc/loadavg):"
     through_ftnode "$1"
-    local ours=$told gone=$away restarts=$((boot - 1)) early=$ended_early
-    show "ftnode, $restarts kills, the last at $last_kill s"
+    local ours=$told gone=$away restarts=$killed early=$ended_early
+    show "ftnode, $((boot - 1)) kills of the server and $((life - 1)) of the logger, the last at $last_kill s"
     through_kernel "$1"
     show "kernel, no kill"
-    echo "$ours $told" | awk -v away="$gone" -v clients="$clients" -v early="$early" -v all="$((restarts == kills))" '{
+    echo "$ours $told" | awk -v away="$gone" -v clients="$clients" -v early="$early" -v all="$((restarts == kills * ${#victims[@]}))" '{
         seconds = away / 1e6; times = $1 / ($7 + seconds); met = $2 + $3 + $4 + early == 0 && $6 == clients && all && times <= 3
         printf "pauses of %.1f s in all; %.2f times as long as the kernel with them; goal %s\n", seconds, times, met ? "met" : "MISSED"
         exit !met
@@ -156,7 +190,7 @@ soak_at() { # LOSS
 }
 
 machine
-echo "$clients clients, $bytes bytes each way, $rate bytes a second each, $kills kills, each for $pause s"
+echo "$clients clients, $bytes bytes each way, $rate bytes a second each, $kills kills of each of: ${victims[*]}, each for $pause s"
 missed=0
 for each in $losses; do soak_at "$each"; done
 exit $missed

@@ -1,5 +1,5 @@
 //! Gives messages to one log, or to a head and a tail, for `bench/twin.sh`: `twin_bench WHO COUNT BURST`. WHO is `one` or `pair`. COUNT messages, at
-//! most 100,000, are Data of 100 bytes, one behind another in one entry. To a pair BURST of them come, and then all that the head forwarded
+//! most 100,000, are Data of 100 bytes, one after another in one entry. To a pair BURST of them come, and then all that the head forwarded
 //! comes to the tail in order, and all that the tail confirmed to the head. It prints how many messages there were, how many Forwards, and how
 //! many answers.
 #![tactic(auto)]
@@ -77,7 +77,7 @@ fn spelled(m: &Msg<'_>) -> Datagram
     Datagram { bytes, len }
 }
 
-/// The message of a place: Hello, Open, and then Data of 100 bytes, one behind another.
+/// The message of a place: Hello, Open, and then Data of 100 bytes, one after another.
 #[tactic(auto, unfolding(seq_arith::specs::MessageGrammar::has_length, seq_arith::specs::MessageGrammar::is_sound))]
 fn message(i: u32) -> Datagram
     requires { i < 100002 }

@@ -1,5 +1,0 @@
-use Rattle.wrapped_conn.specs.Sound.{IsSound}
-use Rattle.connection_bench.proofs.exchange.Exchange.end.Given as goal
-
-abbrev pub invariant-loop : goal.invariant-loop
-invariant-loop l = IsSound l.self.server.conn

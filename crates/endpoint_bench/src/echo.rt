@@ -1,0 +1,85 @@
+//! A client and a server endpoint in memory: `echo BYTES WRITE [WAY]` has the client write so many bytes in writes of WRITE bytes, the server echo
+//! them, and the client compare the echo and close. One segment is under way at a time; with a WAY a window of them is, which come in order
+//! (`window`), with each two swapped (`swapped`), or with one packet of 100 lost (`lossy`). It prints the segments that each side sent and the
+//! bytes that came back, and the ticks, if there were any. It fails where the echo differs or doesn't come to its end.
+
+use crate::exchange::{Exchange, Way};
+use ft_io::NoMemory;
+use std::alloc::Global;
+use std::io;
+
+/// What the words ask for.
+#[derive(Clone, Copy, Debug)]
+struct Work {
+    bytes: u32,
+    /// The bytes of a write, at most those of a segment.
+    write: usize,
+    way: Way,
+}
+
+fn way_of(word: &str) -> Option<Way> {
+    match word.as_bytes() {
+        b"window" => Some(Way::Window),
+        b"swapped" => Some(Way::Swapped),
+        b"lossy" => Some(Way::Lossy),
+        _ => None,
+    }
+}
+
+fn work_of(words: &[&str]) -> Option<Work> {
+    let (bytes, write, way) = match words {
+        [bytes, write] => (bytes, write, Way::Single),
+        [bytes, write, way] => (bytes, write, way_of(way)?),
+        _ => return None,
+    };
+    let bytes: u32 = bytes.parse().ok()?;
+    let write: usize = write.parse().ok()?;
+    let fits = (1..1 << 30).contains(&bytes) && (1..=1_460).contains(&write);
+    fits.then_some(Work { bytes, write, way })
+}
+
+fn run(alloc: Global, work: Work) -> Result<Exchange, NoMemory> {
+    let mut exchange = Exchange::new(alloc, work.bytes, work.write, work.way)?;
+    exchange.run();
+    Ok(exchange)
+}
+
+/// Plays the echo of these words, and prints what came of it. Its status.
+pub(crate) fn play<R: AllocGlobal + Print + Eprint>(rt: &R, words: &[&str]) -> io::Result<u8> {
+    let Some(work) = work_of(words) else {
+        eprintln!(rt;
+            "echo BYTES WRITE [window|swapped|lossy], of 1 to 1073741823 bytes and writes of 1 to 1460"
+        )?;
+        return Ok(2);
+    };
+    let Ok(exchange) = run(rt.alloc(), work) else {
+        eprintln!(rt; "no memory is left")?;
+        return Ok(3);
+    };
+    tell(rt, &exchange)?;
+    if exchange.is_whole() {
+        return Ok(0);
+    }
+    eprintln!(rt; "the echo differs")?;
+    Ok(1)
+}
+
+/// Prints what each side sent, and what came back.
+fn tell(rt: &impl Print, exchange: &Exchange) -> io::Result<()> {
+    let (client, server) = (&exchange.client, &exchange.server);
+    println!(rt;
+        "client {} segments, {:?}",
+        client.segments,
+        client.state().name
+    )?;
+    println!(rt;
+        "server {} segments, {:?}",
+        server.segments,
+        server.state().name
+    )?;
+    println!(rt; "echoed {} bytes", exchange.echoed)?;
+    if exchange.ticks > 0 {
+        println!(rt; "{} ticks", exchange.ticks)?;
+    }
+    Ok(())
+}

@@ -1,0 +1,94 @@
+//! Eight connections with an echo service, one after another: `connection BYTES WRITE` has each client, a plain endpoint with a key of its own,
+//! write so many bytes in writes of WRITE bytes and compare what comes back, and then close. The server's side is a wrapped connection with a log
+//! after it. Segments and messages pass as bytes. It prints the segments of the clients, of the connections and the messages to the log, how many
+//! bytes came back, and how many connections came to their end.
+
+use crate::logger::Logger;
+use crate::{STREAM, without_memory};
+use client::Work;
+use exchange::Exchange;
+use ft_io::NoMemory;
+use std::alloc::Global;
+use std::io;
+
+mod client;
+mod exchange;
+mod pattern;
+mod server;
+
+/// How many connections there are.
+const CONNECTIONS: u16 = 8;
+
+/// The first client's port.
+const PORT: u16 = 40_000;
+
+/// What came to pass.
+#[derive(Clone, Copy, Debug)]
+struct Totals {
+    client_segments: u64,
+    server_segments: u64,
+    messages: u64,
+    echoed: u64,
+    /// How many connections echoed all and came to their end.
+    whole: u16,
+}
+
+impl Totals {
+    fn add(&mut self, exchange: &Exchange) {
+        self.client_segments = self
+            .client_segments
+            .saturating_add(exchange.client.segments);
+        self.server_segments = self
+            .server_segments
+            .saturating_add(exchange.server.segments);
+        self.echoed = self
+            .echoed
+            .saturating_add(u64::from(exchange.client.echoed));
+        self.whole = self.whole.saturating_add(u16::from(exchange.is_whole()));
+    }
+}
+
+fn work_of(words: &[&str]) -> Option<Work> {
+    let [bytes, write] = words else {
+        return None;
+    };
+    let bytes: u32 = bytes.parse().ok()?;
+    let write: usize = write.parse().ok()?;
+    let fits = (1..=STREAM).contains(&bytes) && (1..=1_460).contains(&write);
+    fits.then_some(Work { bytes, write })
+}
+
+fn run(alloc: Global, work: Work) -> Result<Totals, NoMemory> {
+    let mut logger = Logger::new(alloc)?;
+    let mut totals = Totals {
+        client_segments: 0,
+        server_segments: 0,
+        messages: 0,
+        echoed: 0,
+        whole: 0,
+    };
+    for i in 0..CONNECTIONS {
+        let mut exchange = Exchange::open(alloc, work, PORT + i, &mut logger)?;
+        exchange.run(alloc, &mut logger)?;
+        totals.add(&exchange);
+    }
+    totals.messages = logger.messages;
+    Ok(totals)
+}
+
+/// Plays the connections of these words, and prints what came of them. Its status.
+pub(crate) fn play<R: AllocGlobal + Print + Eprint>(rt: &R, words: &[&str]) -> io::Result<u8> {
+    let Some(work) = work_of(words) else {
+        eprintln!(rt; "connection BYTES WRITE, of 1 to 16777216 bytes and writes of 1 to 1460")?;
+        return Ok(2);
+    };
+    let Ok(totals) = run(rt.alloc(), work) else {
+        return without_memory(rt);
+    };
+    println!(rt; "clients {} segments", totals.client_segments)?;
+    println!(rt; "connections {} segments", totals.server_segments)?;
+    println!(rt; "log {} messages", totals.messages)?;
+    println!(rt; "echoed {} bytes", totals.echoed)?;
+    println!(rt; "ended {} connections", totals.whole)?;
+    Ok(u8::from(totals.whole < CONNECTIONS))
+}

@@ -1,0 +1,84 @@
+//! A connection that is restarted from a log: `restart SERVICE BYTES READ ROUNDS`. A log takes an entry of BYTES bytes, at most 2^24, in Data of
+//! 1,460 bytes and Reads of READ bytes, all of whose output is acknowledged. In each of ROUNDS rounds a server that starts anew fetches the entry,
+//! replays it and splices the connection. SERVICE is `echo` or `meter`. Each message is spelled, read and answered as bytes. It prints how many
+//! questions the restarts asked, how many connections they restored, and where the last one goes on.
+
+ghost use Rattle.std.specs.Prelude.{◌≤◌, ◌^◌, IfSome};
+
+use crate::logger::Logger;
+use crate::{STREAM, without_memory};
+use entry::fill;
+use ft_io::NoMemory;
+use restored::{Restored, restart};
+use std::alloc::Global;
+use std::io;
+
+mod entry;
+mod restored;
+
+/// The most bytes of a read.
+const READ: u16 = 2_048;
+
+/// The most rounds.
+const ROUNDS: u16 = 1_000;
+
+/// What the words ask for.
+#[derive(Clone, Copy)]
+struct Work {
+    kind: u8,
+    bytes: u32,
+    read: u16,
+    rounds: u16,
+}
+
+fn work_of(words: &[&str]) -> Option<Work>
+    ensures bytes { IfSome result (λ work. work.bytes ≤ 2 ^ 24) }
+    ensures read { IfSome result (λ work. work.read ≤ 2048) }
+{
+    let [service, bytes, read, rounds] = words else {
+        return None;
+    };
+    let kind = if *service == "meter" { 4 } else { 1 };
+    let bytes: u32 = bytes.parse().ok()?;
+    let read: u16 = read.parse().ok()?;
+    let rounds: u16 = rounds.parse().ok()?;
+    let fits = bytes <= STREAM && (1..=READ).contains(&read) && rounds <= ROUNDS;
+    fits.then_some(Work {
+        kind,
+        bytes,
+        read,
+        rounds,
+    })
+}
+
+fn run(alloc: Global, work: Work) -> Result<Restored, NoMemory>
+    requires bytes { work.bytes ≤ 2 ^ 24 }
+    requires read { work.read ≤ 2048 }
+{
+    let mut logger = Logger::new(alloc)?;
+    fill(alloc, &mut logger, work.bytes, work.read)?;
+    let mut restored = Restored::NONE;
+    for round in 0..work.rounds {
+        let boot = u64::from(round) + 2;
+        restart(alloc, &mut logger, work.kind, boot, &mut restored)?;
+    }
+    Ok(restored)
+}
+
+/// Plays the restarts of these words, and prints what came of them. Its status.
+pub(crate) fn play<R: AllocGlobal + Print + Eprint>(rt: &R, words: &[&str]) -> io::Result<u8> {
+    let Some(work) = work_of(words) else {
+        eprintln!(rt;
+            "restart SERVICE BYTES READ ROUNDS, of at most 16777216 bytes, reads of 1 to 2048, and at most 1000 rounds"
+        )?;
+        return Ok(2);
+    };
+    let Ok(restored) = run(rt.alloc(), work) else {
+        return without_memory(rt);
+    };
+    println!(rt;
+        "{} questions, {} connections, {} bytes pending, delta {}",
+        restored.questions, restored.connections, restored.pending, restored.delta
+    )?;
+    Ok(0)
+}

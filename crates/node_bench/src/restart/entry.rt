@@ -1,0 +1,82 @@
+//! The entry that the log holds before the restarts.
+
+ghost use Rattle.std.specs.Prelude.{◌≤◌, ◌+◌, ◌^◌, length};
+
+use crate::STREAM;
+use crate::logger::{BOOT, Logger};
+use ft_io::{Key, NoMemory};
+use logger_wire::{Body, Msg};
+use std::alloc::Global;
+
+const KEY: Key = Key {
+    ip: 0xC000_0201,
+    port: 40_000,
+};
+
+/// The most bytes of a Data.
+const DATA: u32 = 1_460;
+
+/// Logs a connection with so many bytes, in reads of this size, whose client has acknowledged all output.
+pub(crate) fn fill(
+    alloc: Global,
+    logger: &mut Logger,
+    bytes: u32,
+    read: u16,
+) -> Result<(), NoMemory>
+    requires bytes { bytes ≤ 2 ^ 24 }
+    requires read { read ≤ 2048 }
+{
+    logger.open(alloc, KEY)?;
+    let text = [b'a'; 1_460];
+    for i in 0..bytes.div_ceil(DATA) {
+        let offset = i * DATA;
+        let len = DATA.min(bytes.saturating_sub(offset));
+        give_bytes(alloc, logger, offset, &text[..len as usize])?;
+    }
+    cut(alloc, logger, bytes, read)
+}
+
+/// Gives the reads.
+fn cut(alloc: Global, logger: &mut Logger, bytes: u32, read: u16) -> Result<(), NoMemory>
+    requires bytes { bytes ≤ 2 ^ 24 }
+    requires read { read ≤ 2048 }
+{
+    let mut left = bytes;
+    for i in 0..bytes {
+        let len = left.min(u32::from(read));
+        if len == 0 {
+            return Ok(());
+        }
+        give_read(alloc, logger, i, len)?;
+        left -= len;
+    }
+    Ok(())
+}
+
+#[tactic(auto, unfolding(seq_arith::specs::MessageGrammar::has_length, seq_arith::specs::MessageGrammar::is_sound))]
+fn give_bytes(alloc: Global, logger: &mut Logger, offset: u32, bytes: &[u8]) -> Result<(), NoMemory>
+    requires few { length bytes.now ≤ 1460 }
+    requires within { offset + length bytes.now ≤ 2 ^ 24 }
+{
+    let body = Body::DataMsg {
+        key: KEY,
+        offset,
+        acked: STREAM,
+        fin: 0,
+        bytes,
+    };
+    logger.say(alloc, &Msg { boot: BOOT, body })
+}
+
+#[tactic(auto, unfolding(seq_arith::specs::MessageGrammar::has_length, seq_arith::specs::MessageGrammar::is_sound))]
+fn give_read(alloc: Global, logger: &mut Logger, index: u32, len: u32) -> Result<(), NoMemory>
+    requires index { index ≤ 2 ^ 24 }
+    requires len { len ≤ 2048 }
+{
+    let body = Body::ReadMsg {
+        key: KEY,
+        index,
+        length: len as u16,
+    };
+    logger.say(alloc, &Msg { boot: BOOT, body })
+}

@@ -1,0 +1,136 @@
+//! A restart from the log.
+
+ghost use Rattle.std.specs.Prelude.{◌≤◌};
+
+use crate::logger::Logger;
+use ft_io::{Addr, NoMemory};
+use logger_wire::{Body, Msg, read_msg};
+use reincarnate::{Asked, Entries, Fetching, LostIn, Replayed};
+use sample_servers::AnyService;
+use seq_arith::Seq;
+use std::alloc::Global;
+
+/// The server's initial number, and its address.
+const ISN: Seq = Seq(900_000);
+
+const LOCAL: Addr = Addr {
+    ip: 0xC000_0264,
+    port: 7,
+};
+
+/// More questions than any log here needs.
+const QUESTIONS: u32 = 100_000;
+
+/// What the restarts so far have come to.
+#[derive(Clone, Copy)]
+pub(crate) struct Restored {
+    pub(crate) questions: u32,
+    pub(crate) connections: u32,
+    pub(crate) pending: usize,
+    pub(crate) delta: u32,
+}
+
+impl Restored {
+    pub(crate) const NONE: Restored = Restored {
+        questions: 0,
+        connections: 0,
+        pending: 0,
+        delta: 0,
+    };
+}
+
+fn lost(_lost: LostIn) -> NoMemory {
+    NoMemory
+}
+
+/// Restarts a server of this boot number from the log.
+pub(crate) fn restart(
+    alloc: Global,
+    logger: &mut Logger,
+    kind: u8,
+    boot: u64,
+    restored: &mut Restored,
+) -> Result<(), NoMemory>
+    requires { 1 ≤ boot }
+{
+    let asked = Asked::new(boot);
+    let hello = asked.question();
+    logger.say(alloc, &hello)?;
+    restored.questions = restored.questions.saturating_add(1);
+    let count = match read_msg(logger.answer()) {
+        Ok(
+            Msg {
+                body: Body::SummaryMsg { count },
+                ..
+            },
+        ) => count.min(64),
+        _ => 0,
+    };
+    let mut fetching: Fetching<AnyService> = match asked.on_summary(alloc, kind, count) {
+        Ok(fetching) => fetching,
+        Err(end) => return Err(lost(end)),
+    };
+    fetch(alloc, logger, &mut fetching, restored)?;
+    if fetching.question().is_some() {
+        return Ok(());
+    }
+    join_all(alloc, boot, fetching.finish(), restored)
+}
+
+/// Asks and answers until nothing is missing.
+fn fetch(
+    alloc: Global,
+    logger: &mut Logger,
+    fetching: &mut Fetching<AnyService>,
+    restored: &mut Restored,
+) -> Result<(), NoMemory> {
+    for _ in 0..QUESTIONS {
+        let Some(question) = fetching.question() else {
+            return Ok(());
+        };
+        logger.say(alloc, &question)?;
+        restored.questions = restored.questions.saturating_add(1);
+        if let Ok(message) = read_msg(logger.answer()) {
+            fetching.on_answer(alloc, &message)?;
+        }
+    }
+    Ok(())
+}
+
+/// Splices each connection that is restored.
+fn join_all(
+    alloc: Global,
+    boot: u64,
+    mut entries: Entries<AnyService>,
+    restored: &mut Restored,
+) -> Result<(), NoMemory>
+    requires { 1 ≤ boot }
+{
+    for _ in 0..64u32 {
+        let Some(replayed) = entries.next() else {
+            return Ok(());
+        };
+        join(alloc, boot, replayed, restored)?;
+    }
+    Ok(())
+}
+
+fn join(
+    alloc: Global,
+    boot: u64,
+    replayed: Replayed<AnyService>,
+    restored: &mut Restored,
+) -> Result<(), NoMemory>
+    requires { 1 ≤ boot }
+{
+    let pending = replayed.pending().len();
+    match replayed.splice(alloc, boot, LOCAL, ISN) {
+        Ok(spliced) => {
+            restored.connections = restored.connections.saturating_add(1);
+            restored.pending = pending;
+            restored.delta = spliced.south().delta();
+            Ok(())
+        }
+        Err(end) => Err(lost(end)),
+    }
+}

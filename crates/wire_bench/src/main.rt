@@ -1,0 +1,54 @@
+//! What passes on the wire, read and written many times. The first word says what:
+//!
+//! - `wire_bench packets BYTES ROUNDS [set]`, for `bench/packets.sh`: packets ([`packets`]);
+//! - `wire_bench messages WHAT KIND ROUNDS`, for `bench/packets.sh`: messages ([`messages`]);
+//! - `wire_bench lines write CYCLES ROUNDS`, `wire_bench lines read ROUNDS`, for `bench/replay.sh`: the lines of a report, and a schedule ([`lines`]);
+//! - `wire_bench link BYTES ROUNDS`, for `bench/link.sh`: datagrams of a UDP socket ([`link`]).
+//!
+//! Several such commands may follow one another, with the word `then` between them.
+#![tactic(auto)]
+
+use anyhow::{Result, bail};
+use ft_io::{ReadSource, WriteSink};
+use std::net::Net;
+use std::time::Clock;
+use std::{env, io};
+
+mod cycle;
+mod lines;
+mod link;
+mod messages;
+mod packets;
+
+fn main(rt: HostRuntime) -> Result<()> {
+    let words: Vec<String> = env::args(&rt)?.skip(1).collect(rt.alloc())?;
+    let words: Vec<&str> = words.iter().map(|word| word.as_str()).collect(rt.alloc())?;
+    for command in words.as_slice().split(|word| *word == "then") {
+        play(&rt, command)?;
+    }
+    Ok(())
+}
+
+/// Does what the words of one command ask for.
+fn play<R: AllocGlobal + Input + Print + Net + Clock>(rt: &R, command: &[&str]) -> Result<()> {
+    match command {
+        ["packets", words @ ..] => {
+            println!(rt; "{}", packets::total(rt.alloc(), words)?)?;
+        }
+        ["messages", words @ ..] => {
+            println!(rt; "{}", messages::total(rt.alloc(), words)?)?;
+        }
+        ["lines", "write", words @ ..] => {
+            lines::write(rt.alloc(), words, &mut WriteSink::new(io::writer(rt)))?;
+        }
+        ["lines", "read", words @ ..] => {
+            let events = lines::read(rt.alloc(), words, &mut ReadSource::new(rt.reader()))?;
+            println!(rt; "{events}")?;
+        }
+        ["link", words @ ..] => {
+            println!(rt; "{} bytes", link::came(rt, words)?)?;
+        }
+        _ => bail!("wire_bench packets|messages|lines|link WORD.."),
+    }
+    Ok(())
+}

@@ -1,0 +1,114 @@
+//! Messages, read or written many times: `messages WHAT KIND ROUNDS`, where WHAT is `read` or `write` and KIND `data`, a Data of 1,460 bytes, or
+//! `cut`, the length of a read. There are 64 messages, each ROUNDS times. It gives what their numbers and lengths add up to, or the checksums of
+//! what is written.
+
+ghost use Rattle.std.specs.Prelude.{◌≡◌, ◌<◌, ◌≤◌, length};
+ghost use Rattle.logger_wire.specs.Value.{IsSendable};
+
+use anyhow::{Context, Result, bail};
+use ft_io::Key;
+use logger_wire::{Body, Msg, read_msg, write_msg};
+use std::alloc::{AllocError, Global};
+
+const MESSAGES: u32 = 64;
+
+const KEY: Key = Key {
+    ip: 0xC000_0201,
+    port: 40_000,
+};
+
+/// What the messages of these words add up to.
+pub(crate) fn total(alloc: Global, words: &[&str]) -> Result<u64> {
+    let [what, kind, rounds] = words else {
+        bail!("messages WHAT KIND ROUNDS");
+    };
+    let rounds: u32 = rounds.parse().context("ROUNDS")?;
+    let is_data = *kind == "data";
+    let text = [b'a'; 1460];
+    if *what == "write" {
+        return Ok(write_all(is_data, &text, rounds));
+    }
+    let messages = make(alloc, is_data, &text)?;
+    Ok(read_all(messages.as_slice(), if is_data { 1491 } else { 28 }, rounds))
+}
+
+/// The ith Data with this text, or the ith length of a read.
+#[tactic(auto, unfolding(seq_arith::specs::MessageGrammar::has_length, seq_arith::specs::MessageGrammar::is_sound))]
+fn message(is_data: bool, i: u32, text: &[u8]) -> Msg<'_>
+    requires few { i < 64 }
+    requires size { length text.now ≡ 1460 }
+    ensures { IsSendable result }
+{
+    if is_data {
+        return Msg {
+            boot: 1,
+            body: Body::DataMsg {
+                key: KEY,
+                offset: i,
+                acked: 0,
+                fin: 0,
+                bytes: text,
+            },
+        };
+    }
+    Msg {
+        boot: 1,
+        body: Body::ReadMsg {
+            key: KEY,
+            index: i,
+            length: 5,
+        },
+    }
+}
+
+/// The messages, one after the other.
+fn make(alloc: Global, is_data: bool, text: &[u8]) -> Result<Vec<u8>, AllocError>
+    requires { length text.now ≡ 1460 }
+{
+    let mut out = [0u8; 2048];
+    let mut messages = Vec::new(alloc);
+    for i in 0..MESSAGES {
+        let len = write_msg(&message(is_data, i, text), &mut out);
+        messages.extend_from_slice(&out[..len.min(2048)])?;
+    }
+    Ok(messages)
+}
+
+fn write_all(is_data: bool, text: &[u8], rounds: u32) -> u64
+    requires { length text.now ≡ 1460 }
+{
+    let mut out = [0u8; 2048];
+    let mut total = 0u64;
+    for _ in 0..rounds {
+        for i in 0..MESSAGES {
+            let len = write_msg(&message(is_data, i, text), &mut out);
+            let check = u64::from(u16::from_be_bytes([out[6], out[7]]));
+            total = total.wrapping_add(len as u64).wrapping_add(check);
+        }
+    }
+    total
+}
+
+fn read_all(messages: &[u8], len: usize, rounds: u32) -> u64
+    requires { 0 < len }
+{
+    let mut total = 0u64;
+    for _ in 0..rounds {
+        for message in messages.chunks_exact(len) {
+            total = total.wrapping_add(match read_msg(message) {
+                Ok(msg) => told(&msg.body),
+                Err(_) => 0,
+            });
+        }
+    }
+    total
+}
+
+/// Its number, and how many bytes or which length it brings.
+fn told(body: &Body<'_>) -> u64 {
+    match body {
+        Body::DataMsg { offset, bytes, .. } => u64::from(*offset) + bytes.len() as u64 % 65_536,
+        Body::ReadMsg { index, length, .. } => u64::from(*index) + u64::from(*length),
+        _ => 0,
+    }
+}
