@@ -1,9 +1,9 @@
 #!/usr/bin/env bash
-# A logger that survives its own death: a kernel's TCP client, through tools/bridge.py, and ftnode's own client each send 2,000,000 bytes to an echo of ftnode whose
-# logger keeps a journal. Meanwhile the server and the logger are killed (kill -9) 30 times each, at random moments, each by itself, and started again: the
-# server with the next boot number, the logger with the same words. All bytes have to come back to both clients, and behind the end the journal has to be opened once more.
-# The moments and the bytes are drawn from a seed, which is printed. It makes two network namespaces and a TUN device, and removes them in the end. A run takes about
-# 50 seconds. It needs root, and a built ftnode:
+# A logger that survives its own death: a kernel's TCP client, through tools/bridge.py, and ftnode's own client each send 2,000,000 bytes to an echo of ftnode
+# whose logger keeps a journal. Meanwhile the server and the logger are killed (kill -9) 30 times each, at random moments, each by itself, and started again: the
+# server with the next boot number, the logger with the same words. All bytes have to come back to both clients, and at the end the journal has to be opened
+# once more. The moments and the bytes are drawn from a seed, which is printed. It makes two network namespaces and a TUN device, and removes them in the end. A
+# run takes about 50 seconds. It needs root, and a built ftnode:
 #     sudo examples/logger_crash.sh [PROGRAM] [RUNS] [SEED]
 # PROGRAM is crates/ftnode/out/ftnode and RUNS 10 where nothing is said; the first run has the seed SEED, or a random one, and each other the next number.
 set -u
@@ -44,7 +44,8 @@ kill_again() { # NAME START SEED
     echo "$1 $number ended by itself, with $?" >>"$room/early"
 }
 
-# Both transfers are slowed down to 45 kB a second, so that they last longer than the kills: the kernel's client sends so, and what ftnode's client writes is read so.
+# Both transfers are slowed down to 45 kB a second, so that they last longer than the kills: the kernel's client sends so slowly, and what ftnode's client writes is
+# read so slowly.
 start_own_client() {
     mkfifo "$room/pipe"
     ip netns exec "$outside" "$program" client --local "$own_client:7009" --server "$server" --isn 1000 --turns 1000000 \
@@ -62,8 +63,10 @@ draw_bytes() { # SEED
 
 # How far the transfers were when the last kill of each process came, as a share of all bytes.
 shares() {
-    awk -v bytes="$bytes" '{ printf(NR == 1 ? "%d %% and %d %%" : ", %d %% and %d %%", 100 * $1 / bytes, 100 * $2 / bytes); if ($1 >= bytes && $2 >= bytes) late = 1 }
-        END { exit late }' "$room/server.killed" "$room/logger.killed"
+    awk -v bytes="$bytes" '{
+        printf(NR == 1 ? "%d %% and %d %%" : ", %d %% and %d %%", 100 * $1 / bytes, 100 * $2 / bytes)
+        if ($1 >= bytes && $2 >= bytes) late = 1
+    } END { exit late }' "$room/server.killed" "$room/logger.killed"
 }
 
 transfer() { # SEED: 0 where all bytes came to both clients, under all kills
