@@ -33,7 +33,7 @@ impl Dice {
         Seq(self.roll(65_536) * 65_536).add(self.roll(65_536))
     }
 
-    /// This number, one a little in front of it or behind it, or any other.
+    /// This number, one a little before it or after it, or any other.
     pub(crate) fn near(&mut self, number: Seq) -> Seq {
         match self.roll(4) {
             0 => self.anywhere(),

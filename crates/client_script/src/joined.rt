@@ -71,7 +71,7 @@ impl Way {
     }
 }
 
-/// The server: an endpoint whose user writes a text, closes behind it, and keeps what comes.
+/// The server: an endpoint whose user writes a text, closes after it, and keeps what comes.
 #[derive(Drop)]
 struct Server {
     endpoint: Endpoint,

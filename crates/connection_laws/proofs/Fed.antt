@@ -1,4 +1,4 @@
--- The north wrapper feeds TCP: what it calls is what the laws of TCP ask of a user, for the service behind what is swallowed.
+-- The north wrapper feeds TCP: what it calls is what the laws of TCP ask of a user, for the service after what is swallowed.
 use Rattle.std.proofs.Common.{◌≡◌, ℕ, ◌≤◌, ◌+◌, ◌-◌, ◌^◌, ◌⊎◌, inl, inr, ⊎_elim, Bool, true, false, true≢false, List, [], ◌∷◌, ◌++◌, length, length-append, length-take, length-drop, take, drop, map, sum, min, max, refl, sym, ap, subst, arith, drop-drop, ◌∙◌}
 use Rattle.std.specs.Prelude.{◌==◌, ◌&&◌, ◌||◌, if◌then◌else◌}
 use Rattle.std.proofs.lemmas.Bool.{false≢true}
@@ -123,7 +123,7 @@ end_written : (f : Bool) (una len sent more : ℕ) → (f ≡ true → more ≡ 
 end_written true una len sent more h = omega (arith, h refl)
 end_written false una len sent more h = omega arith
 
--- behind a FIN nothing is written
+-- after a FIN nothing is written
 room_none : (c r : Bool) (n : ℕ) → c ≡ true → (if c || r then 0 else n) ≡ 0
 room_none true r n h = refl
 room_none false r n h = absurd (false≢true h)
@@ -186,7 +186,7 @@ given_all : (logged closed : Bool) (made given released : ℕ) → closed ≡ (l
 given_all true closed made given released e all c = let m : made ≡ released = all refl in grind (arith, e, m, c)
 given_all false closed made given released e all c = absurd (true≢false (sym c ∙ e))
 
--- what is written, behind what is swallowed
+-- what is written, after what is swallowed
 pub record IsShut {State : Type 0} (service : Machine State) (q : Point) (given : ℕ) (s : Sending) : Type 0 where
   pub closed_is : s.closed ≡ ((answered_run service q).closed && made service q == given)
   pub all_or_full : (given ≡ released service q) ⊎ (length s.held ≡ 65535)

@@ -25,7 +25,7 @@ fin_end : (f : Bool) (sent m : ℕ) → f ≡ false → sent ≡ m → sent + 1 
 fin_end true sent m h e = absurd (false≢true (sym h))
 fin_end false sent m h e = omega (arith, e)
 
--- the FIN goes out once, behind all bytes
+-- the FIN goes out once, after all bytes
 fin_test : (b o c f u : Bool) (sent m : ℕ) → (b && (o && c && not f && (sent == m) && u)) ≡ true → (f ≡ false) × (sent ≡ m)
 fin_test true true true false u sent m h = (refl, grind (arith, h))
 fin_test true true true true u sent m h = absurd (false≢true h)

@@ -1,4 +1,4 @@
--- What is held at a point at which an endpoint stands: it stands behind the bytes taken, as it does in the endpoint.
+-- What is held at a point at which an endpoint stands: it comes after the bytes taken, as it does in the endpoint.
 use Rattle.std.proofs.Common.{ℕ, ◌+◌, Bool, length, sym, subst}
 use Rattle.seq_arith.specs.Coming.{Early, early_from, StandsBehind}
 use Rattle.seq_arith.proofs.Coming.{behind_from}

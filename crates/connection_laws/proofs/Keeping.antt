@@ -1,4 +1,4 @@
--- What news leave of TCP's send buffer: the bytes behind what is acknowledged, and where they end.
+-- What news leave of TCP's send buffer: the bytes after what is acknowledged, and where they end.
 use Rattle.std.proofs.Common.{◌≡◌, ℕ, ◌≤◌, ◌+◌, ◌-◌, Bool, true, false, List, length, length-drop, drop, refl, sym, ap, subst, arith, ◌∙◌}
 use Rattle.std.specs.Prelude.{ℤ, nat_abs, if◌then◌else◌}
 use Rattle.seq_arith.specs.Arrival.{is_new_ack}

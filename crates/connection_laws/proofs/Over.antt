@@ -13,7 +13,7 @@ use Rattle.endpoint_laws.specs.Ending.{IsNamed, IsNamedRightly}
 use Rattle.connection_laws.specs.Turning.{StandsInside}
 use Rattle.connection_laws.specs.Feeding.{Feeds}
 
--- all output and the FIN behind it are acknowledged where TCP's FIN is
+-- all output and the FIN after it are acknowledged where TCP's FIN is
 acked_is : (f : Bool) (u una sent len may given : ℕ) → (if f then sent - 1 else una + len) + u ≡ given → given ≤ may → (f ≡ true → given ≡ may) → (f ≡ true → 1 ≤ sent)
     → una ≤ sent → nat_lt may (una + u) ≡ (f && una == sent)
 acked_is true u una sent len may given until low all some order = let a : given ≡ may = all refl in let b : 1 ≤ sent = some refl in grind (arith, until, a, b, order)

@@ -1,4 +1,4 @@
--- Where all output and the FIN behind it were sent before the turn, and nothing of it is sent again, nothing but a segment without data leaves.
+-- Where all output and the FIN after it were sent before the turn, and nothing of it is sent again, nothing but a segment without data leaves.
 use Rattle.std.proofs.Common.{◌≡◌, ℕ, ◌≤◌, ◌+◌, ◌-◌, Bool, true, false, not, [], ◌∷◌, ◌++◌, length, min, refl, ap, arith}
 use Rattle.std.specs.Prelude.{◌==◌, ◌&&◌, ◌||◌, nat_lt, nat_le, if◌then◌else◌}
 use Rattle.std.proofs.lemmas.Bool.{and_right}

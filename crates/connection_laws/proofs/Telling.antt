@@ -48,7 +48,7 @@ off_or : (a c : Bool) → c ≡ false → (a || c) ≡ a
 off_or true c h = refl
 off_or false c h = h
 
--- the bytes that wait are those behind what is fetched or read
+-- the bytes that wait are those after what is fetched or read
 bytes_by : (all fetched read unread north : ℕ) → all ≡ read + unread + fetched → max fetched north ≡ read + fetched → all ≡ max fetched north + unread
 bytes_by all fetched read unread north a b = omega (arith, a, b)
 

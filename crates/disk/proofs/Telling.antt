@@ -1,4 +1,4 @@
--- Calls that are told behind one another.
+-- Calls that are told after one another.
 use Rattle.std.proofs.Common.{◌≡◌, ◌∙◌, ap, refl, Option, None, Some, List, [], ◌∷◌, ◌++◌, append_assoc, Result, Ok, Err, OnErr}
 use Rattle.ft_io.specs.Told.{Tells}
 use Rattle.disk.specs.declared.calls.DiskCall.{DiskCall}
@@ -19,7 +19,7 @@ pub at_err : {T E P : Type 0} (r : Result T E) → P → OnErr r P
 at_err (Ok x) p = tt
 at_err (Err e) p = p
 
--- calls on the disk alone, one part behind another
+-- calls on the disk alone, one part after another
 pub on_disk_append : (xs ys : List DiskCall) → on_disk (xs ++ ys) ≡ on_disk xs ++ on_disk ys
 on_disk_append [] ys = refl
 on_disk_append (x ∷ xs) ys = ap (λ l. OnDisk x ∷ l) (on_disk_append xs ys)

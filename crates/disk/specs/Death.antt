@@ -7,8 +7,8 @@ use Rattle.disk.specs.declared.calls.DeskCall.TheVariants.{OnLink, OnDisk}
 use Rattle.disk.specs.declared.death.Death.{Death}
 use Rattle.disk.specs.Left.{with_byte, seen_after}
 
--- What stands on the disk after a call, where `file` is what a read gave before it and `held` what stood on the disk. Of an append that stands behind all that
--- a read gave, a front is on the disk; one behind a torn end isn't. A byte that was put is there or not. A cut is done. A sync that failed did nothing.
+-- What stands on the disk after a call, where `file` is what a read gave before it and `held` what stood on the disk. Of an append that comes after all that
+-- a read gave, a front is on the disk; one after a torn end isn't. A byte that was put is there or not. A cut is done. A sync that failed did nothing.
 abbrev pub held_after : Death → List ℕ → List ℕ → DiskCall → List ℕ
 held_after death file held (Appended bytes failed) = if length held == length file then held ++ take death.kept bytes else held
 held_after death file held (Put at byte failed) = if death.is_put then with_byte at byte held else held

@@ -14,8 +14,8 @@ seen_after file (Put at byte failed) = with_byte at byte file
 seen_after file (Cut at failed) = take at file
 seen_after file (Synced failed) = file
 
--- What a death during a call or behind it may leave, of a file that may hold these contents before. Behind a file's end, from an append to the next sync, anything
--- may stand. A byte that is put is the old one or the new one. From a cut to the next sync anything may stand behind it.
+-- What a death during a call or after it may leave, of a file that may hold these contents before. After a file's end, from an append to the next sync, anything
+-- may stand. A byte that is put is the old one or the new one. From a cut to the next sync anything may come after it.
 abbrev pub MayLeave : List ℕ → (List ℕ → Type 0) → DiskCall → List ℕ → Type 0
 MayLeave file Held (Appended bytes failed) c = (d : List ℕ) × Held d × (take (length file) c ≡ d)
 MayLeave file Held (Put at byte failed) c = (d : List ℕ) × Held d × ((c ≡ d) ⊎ (c ≡ with_byte at byte d))

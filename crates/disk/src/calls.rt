@@ -5,7 +5,7 @@ use ft_io::{LinkCall, Octets};
 /// A call that changes a file, as it is told. True where it failed: then it may be done in part.
 #[derive(Debug, Drop)]
 pub enum DiskCall {
-    /// These bytes were to go behind the end.
+    /// These bytes were to go after the end.
     Appended(Octets, bool),
     /// This byte was to take the place of the one at this place, from 0.
     Put(u64, u8, bool),

@@ -19,7 +19,7 @@ pub struct Death {
     pub is_put: bool,
 }
 
-/// Puts a byte in the place of another, or behind the end.
+/// Puts a byte in the place of another, or after the end.
 fn put_byte(bytes: &mut Vec<u8>, at: u64, byte: u8) -> Result<(), NoMemory>
     ensures { OnOk result (bytes.new.items ≡ with_byte at byte bytes.old.items) }
 {

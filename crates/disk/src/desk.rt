@@ -62,7 +62,7 @@ pub trait Desk: Disk {
         ensures no_refusal { (Self.beside self.new).refusals ≡ (Self.beside self.old).refusals }
         ensures left { Self.left self.new ≡ Self.left self.old };
 
-    /// Waits a while for a datagram and moves it to the front of `buf`, its first bytes where it is longer. What stands behind them, and all of `buf` where none
+    /// Waits a while for a datagram and moves it to the front of `buf`, its first bytes where it is longer. What comes after them, and all of `buf` where none
     /// was given, is left open.
     fn recv(&mut self, buf: &mut [u8]) -> Result<Heard, Failed>
         requires { 2048 ≤ length buf.old }

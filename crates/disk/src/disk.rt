@@ -42,7 +42,7 @@ pub trait Disk {
         ensures never_falls { fault_count self.old ≤ fault_count self.new }
         ensures beside { beside self.new ≡ beside self.old };
 
-    /// Puts bytes behind the end.
+    /// Puts bytes after the end.
     fn append(&mut self, bytes: &[u8]) -> Result<(), Failed>
         ensures told { Tells (told self.old) (told self.new) (OnDisk (Appended bytes.now (is_err result)) ∷ []) }
         ensures cause { OnErr result (Rose (fault_count self.old) (fault_count self.new)) }

@@ -80,7 +80,7 @@ fn open_named<R: Files<File = File>>(files: &R, path: &str) -> io::Result<File> 
     Ok(file)
 }
 
-/// A link or a device that stands at the name isn't opened. The file isn't opened to append: then Linux would put each byte behind the end, wherever it is to go.
+/// A link or a device that stands at the name isn't opened. The file isn't opened to append: then Linux would put each byte after the end, wherever it is to go.
 fn open_or_make<R: Files<File = File>>(files: &R, path: &str) -> io::Result<File> {
     let made = OpenOptions::new()
         .read(true)
@@ -148,7 +148,7 @@ impl Disk for FileDisk {
     }
 
     fn put(&mut self, at: u64, byte: u8) -> Result<(), Failed> {
-        // Behind the end the system would leave a hole.
+        // After the end the system would leave a hole.
         let at = at.min(self.len);
         let done = self.file.write_all_at(&[byte], at);
         self.len = self.len.max(at.saturating_add(1));
@@ -156,7 +156,7 @@ impl Disk for FileDisk {
     }
 
     fn cut(&mut self, at: u64) -> Result<(), Failed> {
-        // A length behind the end would make the file longer.
+        // A length after the end would make the file longer.
         self.len = at.min(self.len);
         let done = self.file.set_len(self.len);
         self.counted(done)

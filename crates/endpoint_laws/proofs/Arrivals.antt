@@ -149,7 +149,7 @@ no_probe m none = record {
   syn_acked = λ h. absurd (false≢true (sym none ∙ h));
 }
 
--- what is acknowledged anew is let go, and a FIN stays behind the rest
+-- what is acknowledged anew is let go, and a FIN stays after the rest
 held_kept : (una len sent una' len' sent' : ℕ) → una ≤ sent → una ≤ una' → una' + len' ≡ max una' (una + len) → sent' ≡ sent → 1 ≤ sent
     → len ≡ sent - 1 - una → len' ≡ sent' - 1 - una'
 held_kept una len sent una' len' sent' order rises held same some last = omega (arith, order, rises, held, same, some, last)

@@ -29,7 +29,7 @@ use Rattle.seq_arith.proofs.Coming.{stays_behind, comes_within, behind_within, b
 use Rattle.ft_io.proofs.Booleans.{left_true}
 use Rattle.ft_io.proofs.Choices.{holds_either_way}
 
--- what is held stands behind the bytes taken
+-- what is held comes after the bytes taken
 abbrev pub HoldsBehind : Receiving → Type 0
 HoldsBehind r = StandsBehind (taken r) (receive_edge r) r.fin r.early
 

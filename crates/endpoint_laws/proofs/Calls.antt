@@ -14,7 +14,7 @@ use Rattle.endpoint_laws.specs.Turn.{Call, called, used, MayCall, MayUse}
 use Rattle.endpoint_laws.specs.Turn.Call.{Reads, Writes, Closes}
 use Rattle.endpoint_laws.proofs.Bounding.{bounded_by_read, bounded_by_more}
 
--- a FIN is sent last, behind all that was written, by a user who has closed
+-- a FIN is sent last, after all that was written, by a user who has closed
 abbrev pub FinIsLast : Sending → Type 0
 FinIsLast s = s.fin_sent ≡ true → (s.closed ≡ true) × (1 ≤ s.sent) × (length s.held ≡ s.sent - 1 - s.una)
 
@@ -171,7 +171,7 @@ used_on m n u a b = record {
   begun = λ h. b.begun (a.begun h);
 }
 
--- what is read goes on behind what was read before
+-- what is read goes on after what was read before
 read_on : (n read fetched : ℕ) (all unread : List ℕ) → drop (read + fetched) all ≡ unread → drop (read + n + fetched) all ≡ drop n unread
 read_on n read fetched all unread h =
     let places : read + n + fetched ≡ read + fetched + n = omega arith
@@ -237,7 +237,7 @@ used_call Closes m may = record {
   begun = begun_closing m.name;
 }
 
--- behind a FIN nothing is written, and else the stream has room
+-- after a FIN nothing is written, and else the stream has room
 written_within : (f c r : Bool) (una len sent bytes : ℕ) → una + len ≤ 2 ^ 24 + one_if f → (f ≡ true → c ≡ true)
     → bytes ≤ (if c || r then 0 else 65535 - len) → (if f then sent - 1 else una + len) + bytes ≤ 2 ^ 24 → una + len + bytes ≤ 2 ^ 24 + one_if f
 written_within true true r una len sent bytes written ends room few = omega (arith, written, room)

@@ -170,7 +170,7 @@ over_of Closing o c f a ended h = absurd (false≢true (sym ended))
 over_of LastAck o c f a ended h = absurd (false≢true (sym ended))
 over_of TimeWait o c f a ended h = absurd (false≢true (sym ended))
 
--- what every step keeps: the state, and of the own FIN that only a user who has closed sends it, and only behind the SYN's acknowledgement
+-- what every step keeps: the state, and of the own FIN that only a user who has closed sends it, and only after the SYN's acknowledgement
 pub record Follows (name : StateName) (fin : Bool) (s : Sending) : Type 0 where
   pub placed : IsPlaced name s.syn_acked s.closed fin (fin_acked s)
   pub ends : s.fin_sent ≡ true → s.closed ≡ true

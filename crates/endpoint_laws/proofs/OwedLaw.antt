@@ -107,7 +107,7 @@ allowed_by false ack false less h none = absurd (false≢true h)
 at_syn : (z : ℤ) → int_eq z (pos 0) ≡ true → int_lt z (pos 0) ≡ false
 at_syn z h = grind (arith, ints)
 
--- the checks behind the first, of an acceptable segment, ..
+-- the checks after the first, of an acceptable segment, ..
 acceptable_owed : (e : Tcb) (p : Segment) → IsBounded e → IsUsual e p → e.owed ≡ false → is_refused e p ≡ false → accepts e p ≡ true
     → (check_rst (waiting_again e p) p).owed ≡ owes_acceptable e p
 unfolding check_rst check_syn waiting_again

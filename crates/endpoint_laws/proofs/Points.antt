@@ -64,7 +64,7 @@ after_has_written : (bytes : List ℕ) (closed : Bool) (news : News) (before : P
 unfolding reference
 after_has_written bytes closed news before n = refl
 
--- the bytes that a user has written: what is held, behind as many others as were acknowledged
+-- the bytes that a user has written: what is held, after as many others as were acknowledged
 abbrev written : Sending → List ℕ
 written s = replicate (bytes_end s - length s.held) 0 ++ s.held
 

@@ -147,7 +147,7 @@ no_fin_yet true true t u v h = absurd (false≢true (sym h))
 no_fin_yet true false t u v h = refl
 no_fin_yet false c t u v h = refl
 
--- no room behind all output
+-- no room after all output
 within_all : (ends : Bool) (una len edge sent all : ℕ) → len ≡ 65535 → una + len ≤ all → edge ≤ una + 65535 → sent ≤ una + len
     → (nat_lt all (max sent (min (all + one_if ends) edge)) && nat_le sent all) ≡ false
 within_all true una len edge sent all full w reach flight = grind arith
@@ -170,7 +170,7 @@ first_fin o c f ends una len edge sent all n =
     ∙ sym (within_all ends una len edge sent all w.full w.written n.reach (sent_within f sent una len w.unsent n.flight)))
     n.written
 
--- .. and where it is, it stands behind all bytes
+-- .. and where it is, it comes after all bytes
 all_place : (o c f : Bool) (una len edge sent all : ℕ) → all ≡ (if f then sent - 1 else una + len) → una ≤ sent → sent ≤ una + len + one_if f
     → (o ≡ false → sent ≡ 0) → (o ≡ false → edge ≡ 0) → (f ≡ true → 1 ≤ sent)
     → (nat_lt all (max sent (min (all + one_if c) edge)) && nat_le sent all) ≡ true
@@ -294,7 +294,7 @@ opening_is : {State : Type 0} {service : Machine State} {news : News} {before af
     → opening_segment u ≡ model.syn_ack u.local after
 opening_is {after = after} {u = u} f = opening_at after u (tells f) f.begun
 
--- text at a place behind what is acknowledged, within what is held
+-- text at a place after what is acknowledged, within what is held
 shorter_front : (n k : ℕ) (xs : List ℕ) → take n (take (n + k) xs) ≡ take n xs
 shorter_front n k xs = take-take n (n + k) xs (omega arith)
 
@@ -314,7 +314,7 @@ text_is {service = service} {after = after} {u = u} f place offset n h within =
     ∙ ap (take n) (drop-drop place u.sending.una out) ∙ ap (λ k. take n (drop k out)) h in
     λ i. record { head = head_is f (number_at (sym f.sends.sisn i) (h i)) 16 i; payload = behind i }
 
--- the FIN behind all bytes
+-- the FIN after all bytes
 fin_is : {State : Type 0} {service : Machine State} {news : News} {before after : Point} {u : Tcb} → Flushes service news before after u
     → (place : ℕ) → u.sending.una + place ≡ released service after → fin_at u place ≡ model.fin_segment service u.local after
 unfolding fin_at

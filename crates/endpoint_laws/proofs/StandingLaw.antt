@@ -62,12 +62,12 @@ announced_is p e r =
 pub room_is : (p : Point) (e : Tcb) → ReceivesAt p e → room p ≡ announced_edge e.receiving - next e.receiving
 room_is p e r = omega (arith, announced_is p e r, next_is p e r)
 
--- an offset counted from a stream's beginning, and from some bytes behind it
+-- an offset counted from a stream's beginning, and from some bytes after it
 near_moves : (cisn irs number fetched : ℕ) → number < 2 ^ 32 → irs ≡ (cisn + fetched) % 2 ^ 32 → fetched ≤ 2 ^ 24 → IsNearFirst (offset_of irs number)
     → offset_of cisn number ≡ offset_of irs number +ℤ pos fetched
 near_moves cisn irs number fetched fits is few near = omega (arith, ints, offset_leads cisn number fits, offset_leads irs number fits)
 
--- an offset counted from some bytes behind a stream's beginning, as far as numbers tell
+-- an offset counted from some bytes after a stream's beginning, as far as numbers tell
 pub record Moved (z moved : ℤ) (fetched : ℕ) : Type 0 where
   turns : ℕ
   is : (z +ℤ pos (turns * 2 ^ 32)) ≡ (moved +ℤ pos fetched)
@@ -205,7 +205,7 @@ uses_of : (e : Tcb) (segment : Segment) → counts e segment ≡ true → uses e
 uses_of e segment h =
     used_of (has_ack segment) (has_syn segment) (has_rst segment) (uses e segment) (e.sending.syn_acked || int_le (pos 0) (ack_at e segment)) h
 
--- what comes is the same, counted from some bytes behind a stream's beginning
+-- what comes is the same, counted from some bytes after a stream's beginning
 abbrev brought : Tcb → Segment → Came
 brought e segment =
     if counts e segment then came e.receiving (first e segment) (text_of segment) (fin_of segment) else nothing_came e.receiving.early e.receiving.fin
@@ -225,7 +225,7 @@ came_is p e segment m =
     (λ h i. nothing_came (m.receives.early i) (m.receives.fin i))
     ∙ sym (part_of_if (came_from k) (counts e segment) brings (nothing_came r.early r.fin))
 
--- bytes are put behind all that were taken, and so behind those that aren't read
+-- bytes are put after all that were taken, and so after those that aren't read
 grown_rest : (all unread more : List ℕ) (read fetched : ℕ) → drop (read + fetched) all ≡ unread → length all ≡ read + length unread + fetched
     → drop (read + fetched) (all ++ more) ≡ unread ++ more
 grown_rest all unread more read fetched rest long = drop-append-le (read + fetched) all more (omega (arith, long)) ∙ ap (λ xs. xs ++ more) rest

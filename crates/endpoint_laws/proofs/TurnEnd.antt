@@ -165,7 +165,7 @@ runs_flushed u h =
     let v : Tcb = after_full u in
     runs_timed (is_timed v) v.sending (λ r. right_true (has_begun v.name || is_syn_sent v.name) (must_run v.sending) r) h
 
--- the target, and whether the timer must run, at the point: behind a full buffer the rest of the output waits, which has no room
+-- the target, and whether the timer must run, at the point: after a full buffer the rest of the output waits, which has no room
 target_by : (f c : Bool) (una len sent : ℕ) → (f ≡ true → (c ≡ true) × (1 ≤ sent)) → (if f then sent - 1 else una + len) + one_if c ≡ (if f then sent else una + len + one_if c)
 target_by true true una len sent last = omega (arith, (last refl).1)
 target_by true false una len sent last = absurd (false≢true (last refl).0)

@@ -77,7 +77,7 @@ text_steps s shut =
     in sent_of_if (sends_fin texted) (with_fin_sent texted) texted ∙
     probed_text s.syn_acked s.closed s.fin_sent s.una (length s.held) (send_edge s) s.sent (omega (arith, shut))
 
--- behind a FIN nothing is sent
+-- after a FIN nothing is sent
 probed_fin : (o c : Bool) (una len edge sent n : ℕ)
     → (if o && c && not true && (sent + 1 + (if o && not true then n else 0) == una + len) && nat_lt (sent + 1 + (if o && not true then n else 0)) edge
     then sent + 1 + (if o && not true then n else 0) + 1

@@ -115,7 +115,7 @@ fn anywhere(dice: &mut Dice) -> Seq {
     Seq(dice.roll(65_536) * 65_536).add(dice.roll(65_536))
 }
 
-/// A number at most so many in front of this one or behind it.
+/// A number at most so many before this one or after it.
 fn near(dice: &mut Dice, number: Seq, most: u8) -> Seq {
     let most = u32::from(most);
     Seq(number.0.wrapping_sub(most)).add(dice.roll(2 * most + 1))
@@ -232,7 +232,7 @@ impl Target {
         65_535 - (self.scene.endpoint.readable() % 65_536) as u16
     }
 
-    /// The peer's next number: behind all bytes taken, and behind its FIN in the states that follow it.
+    /// The peer's next number: after all bytes taken, and after its FIN in the states that follow it.
     fn next(&self) -> Seq {
         let fin = is_behind_fin(self.name());
         let taken = self.scene.peer_isn.add(1).add(self.read);

@@ -66,7 +66,7 @@ impl Way {
     }
 }
 
-/// A user who writes a text, closes behind it, and keeps what comes.
+/// A user who writes a text, closes after it, and keeps what comes.
 #[derive(Drop)]
 struct User {
     text: Vec<u8>,

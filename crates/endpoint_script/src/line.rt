@@ -39,7 +39,7 @@ pub(crate) fn read_line(line: &str, ways: usize) -> Result<Line<'_>, Why> {
     }
 }
 
-/// The name of a case: all that stands behind the keyword.
+/// The name of a case: all that comes after the keyword.
 fn name(rest: &str) -> Result<&str, Why> {
     let name = rest.trim();
     if name.is_empty() {

@@ -59,7 +59,7 @@ impl From<io::Error> for RunEnd {
     }
 }
 
-/// The first script of a text, and what stands behind the line that ends it.
+/// The first script of a text, and what comes after the line that ends it.
 fn first_script(text: &[u8]) -> (&[u8], Option<&[u8]>) {
     match memmem::find(text, SEAM) {
         Some(at) => (

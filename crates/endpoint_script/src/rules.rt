@@ -117,7 +117,7 @@ pub(crate) fn own_byte(place: u32) -> u8 {
     65 + (place % 26) as u8
 }
 
-/// Whether a segment resets, by RFC 9293, 3.10.7.3 and 3.10.7.4. `first` is the number behind the own SYN, `next` the peer's next one.
+/// Whether a segment resets, by RFC 9293, 3.10.7.3 and 3.10.7.4. `first` is the number after the own SYN, `next` the peer's next one.
 pub(crate) fn resets(before: Seen, first: Seq, next: Seq, head: Head) -> bool {
     let is_rst = has(head.flags, RST);
     match before.state.name {
@@ -137,7 +137,7 @@ pub(crate) fn check_reset(before: Seen, after: Seen, resets: bool) -> Kept {
     require(!after.state.reset || is_closed, Rule::Room)
 }
 
-/// Of a segment without ACK, or with SYN or RST, no text is taken, nor behind the peer's FIN; and no acknowledgement is used, but of the
+/// Of a segment without ACK, or with SYN or RST, no text is taken, nor after the peer's FIN; and no acknowledgement is used, but of the
 /// SYN that answers the own.
 pub(crate) fn check_used(before: Seen, after: Seen, flags: u8) -> Kept {
     let is_used = flags & (SYN | RST | ACK) == ACK;
@@ -173,7 +173,7 @@ fn check_rst(p: PacketRef<'_>, count: usize) -> Kept {
     require(at_ack || behind, Rule::RstFields)
 }
 
-/// Text leaves as it was written, and the FIN stands behind it.
+/// Text leaves as it was written, and the FIN comes after it.
 fn check_text(known: Known, p: PacketRef<'_>) -> Kept {
     let mut place = p.head.seq.minus(known.isn.add(1));
     for byte in p.payload {

@@ -28,7 +28,7 @@ pub(crate) enum Why {
     Text,
     /// No way of this name stands above, or one stands there already.
     Way,
-    /// It may not stand here: outside a way and a case, or a beginning behind another step.
+    /// It may not stand here: outside a way and a case, or a beginning after another step.
     Place,
     /// No endpoint was opened.
     NoEndpoint,
@@ -79,7 +79,7 @@ impl<'a> Words<'a> {
         self.next().ok_or(Why::Missing)
     }
 
-    /// The word behind this one, which must come next.
+    /// The word after this one, which must come next.
     pub(crate) fn behind(&mut self, key: &str) -> Result<&'a str, Why> {
         if self.word()? != key {
             return Err(Why::Word);
@@ -87,7 +87,7 @@ impl<'a> Words<'a> {
         self.word()
     }
 
-    /// The word behind this one, where it comes next.
+    /// The word after this one, where it comes next.
     pub(crate) fn optional(&mut self, key: &str) -> Result<Option<&'a str>, Why> {
         let mut ahead = *self;
         if ahead.next() != Some(key) {
@@ -188,7 +188,7 @@ pub(crate) fn state_name(word: &str) -> Result<StateName, Why> {
     }
 }
 
-/// A state, and `reset` behind it where the peer has reset the connection.
+/// A state, and `reset` after it where the peer has reset the connection.
 pub(crate) fn state(words: &mut Words<'_>) -> Result<State, Why> {
     let name = state_name(words.word()?)?;
     match words.next() {

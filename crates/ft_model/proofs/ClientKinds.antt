@@ -23,7 +23,7 @@ suits_either kind events.Tick move e = none_is_some move e
 suits_either kind (events.Deliver n) move e = none_is_some move e
 suits_either kind (events.Flip n bit) move e = none_is_some move e
 
--- A client that has sent its SYN, and a RST with another number than the one behind it.
+-- A client that has sent its SYN, and a RST with another number than the one after it.
 abbrev pub refusal : Segment
 refusal = client_segment 4 5 0 0 []
 

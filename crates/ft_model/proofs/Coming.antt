@@ -138,7 +138,7 @@ fin_stands : (whole : List ℕ) (ends : Type 0) (first : ℤ) (text : List ℕ) 
 fin_stands whole ends first text has_fin says e =
     ⊎_elim (λ s. let f = s.3 e in (f.0, ap (λ z. nat_abs (z +ℤ pos (length text))) s.1 ∙ f.1)) (λ s. absurd (true≢false (sym e ∙ s.1))) says
 
--- behind the stream's end there is nothing to take
+-- after the stream's end there is nothing to take
 past_end : (whole : List ℕ) (n : ℕ) (xs : List ℕ) → IsPrefix xs (drop n whole) → n ≡ length whole → n + length xs ≡ length whole
 past_end whole n xs p e = omega (arith, ap length p.1, length-append xs p.0, length-drop n whole, e)
 

@@ -33,7 +33,7 @@ IsCut part whole = (k : ℕ) × (n : ℕ) × (part ≡ take n (drop k whole))
 abbrev pub Grows : Point → Point → Type 0
 Grows before after = length before.taken ≤ length after.taken
 
--- a Data of what was held: its bytes are taken, at its offset, and a FIN stands behind all that is taken
+-- a Data of what was held: its bytes are taken, at its offset, and a FIN comes after all that is taken
 pub record IsFurther (before after : Point) (part : Part) : Type 0 where
   pub stands : IsPrefix part.bytes (drop part.offset after.taken)
   pub fin : part.fin ≡ true → (after.fin ≡ true) × (Grows before after → part.offset + length part.bytes ≡ length after.taken)

@@ -167,7 +167,7 @@ chosen_true : {A : Type 0} (b : Bool) (x y : A) → (if b then Some x else None)
 chosen_true true x y e = refl
 chosen_true false x y e = none_is_some y e
 
--- a chunk of at most so many, from a place that has something behind it
+-- a chunk of at most so many, from a place that has something after it
 chunk_within : (most at : ℕ) (xs : List ℕ) → 1 ≤ most → at < length xs
     → (1 ≤ length (take most (drop at xs))) × (length (take most (drop at xs)) ≤ most) × (at + length (take most (drop at xs)) ≤ length xs)
 chunk_within most at xs some below =

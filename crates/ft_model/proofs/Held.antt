@@ -1,4 +1,4 @@
--- What a live connection of a joint trace holds stands behind what it has taken.
+-- What a live connection of a joint trace holds comes after what it has taken.
 use Rattle.std.proofs.Common.{◌≡◌, ℕ, Some, List, [], ◌∷◌}
 use Rattle.std.specs.List.{AllByRecursion}
 use Rattle.ft_io.specs.declared.Key.{Key}

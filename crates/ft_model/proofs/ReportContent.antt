@@ -105,7 +105,7 @@ word_flags flags =
     (all_append P _ _ (word_letter (flags / 2 % 2 == 1) 83 (omega arith))
     (word_letter (flags / 1 % 2 == 1) 70 (omega arith)))))))))
 
--- a word's proof, and those of the words behind it
+-- a word's proof, and those of the words after it
 infixr 10 ◌⊕◌
 abbrev ◌⊕◌ : {A B : Type 0} → A → B → A × B
 word ⊕ others = (word, others)

@@ -167,14 +167,14 @@ leads_key key h =
     leads_on P _ (58 ∷ decimal key.port)
     (leads_on P (decimal (key.ip / 2 ^ 24)) _ (leads_digit (decimal (key.ip / 2 ^ 24)) (digits_decimal (key.ip / 2 ^ 24) small) (decimal_nonempty (key.ip / 2 ^ 24) small)))
 
--- a text is cut behind its number
+-- a text is cut after its number
 number_cut : (m n : ℕ) (r s : List ℕ) → Fits m → Fits n → decimal m ++ 32 ∷ r ≡ decimal n ++ 32 ∷ s → r ≡ s
 number_cut m n r s p q e =
     let same : (decimal m ≡ decimal n) × (32 ∷ r ≡ 32 ∷ s) =
     cut IsDigit (λ c. c < 48) (λ c digit other. omega arith) (decimal m) (decimal n) (32 ∷ r) (32 ∷ s) (digits_decimal m p) (digits_decimal n q) (omega arith) (omega arith) e in
     ap (drop 1) same.1
 
--- the line of a client at the end is no client's line of the header: behind the number it has a word
+-- the line of a client at the end is no client's line of the header: after the number it has a word
 phase_apart : (m n : ℕ) (phase : Phase) (accepted : List ℕ) (asked : ClientLine) (t u : List ℕ) → Fits m → Fits n → FitsClient asked
     → phase_line m phase accepted ++ t ≡ schedule_line n asked ++ u → ⊥
 unfolding phase_line schedule_line
@@ -234,7 +234,7 @@ ends (c ∷ clients) entries n =
 pub closing_ends : (w : World) (n : ℕ) → IsClosing (closing_lines w n)
 closing_ends w n = ends w.clients w.log.entries n
 
--- behind the header stands an event's line, or how the run ends
+-- after the header stands an event's line, or how the run ends
 pub no_client : (clients : List Client) (trace : List Moment) (r : List ℕ) → NoClient r → NoClient (event_lines clients trace ++ r)
 no_client clients [] r h = h
 no_client clients (m ∷ earlier) r h = let at = events_lead clients m earlier r in other_mark (event_lines clients (m ∷ earlier) ++ r) (λ f. omega (arith, at, f))

@@ -44,7 +44,7 @@ hex_same (x ∷ xs) (y ∷ ys) p q e =
     let f : encode_lower (x ∷ xs) ≡ encode_lower (y ∷ ys) = sym (hex_text_cons x xs) ∙ e ∙ hex_text_cons y ys in
     let same : Ok (x ∷ xs) ≡ Ok (y ∷ ys) = sym (decode_of-encode_lower (x ∷ xs) p) ∙ ap decode_of f ∙ decode_of-encode_lower (y ∷ ys) q in cc
 
--- numbers joined by commas are the first one, and each other one behind a comma
+-- numbers joined by commas are the first one, and each other one after a comma
 pub joined_behind : (x : ℕ) (xs : List ℕ) → join_with_byte 44 (map decimal (x ∷ xs)) ≡ decimal x ++ behind_commas xs
 joined_behind x [] = sym (append-nil (decimal x))
 joined_behind x (y ∷ ys) = ap (λ t. decimal x ++ 44 ∷ t) (joined_behind y ys)

@@ -17,7 +17,7 @@ use Rattle.ft_model.proofs.ReportTurns.{HasFront, TellsPackets, turns_same, even
 use Rattle.ft_model.proofs.ReportHeader.{IsClosing, closing_ends, no_client, IsSameHeader, header_cut}
 use Rattle.ft_model.proofs.Lists.{all_front}
 
--- the report of a trace behind its header
+-- the report of a trace after its header
 abbrev behind : Schedule → List Moment → List ℕ
 behind schedule trace = closing_lines (world_after (start_of schedule) trace) (length trace)
 

@@ -47,7 +47,7 @@ events_told (m ∷ earlier) = ap (λ l. l ++ m.event ∷ []) (events_told earlie
 pub events_same : (trace also : List Moment) → turns_of trace ≡ turns_of also → events_of trace ≡ events_of also
 events_same trace also e = events_told trace ∙ (ap events_in e ∙ sym (events_told also))
 
--- the lines of the newest turn stand behind those of the others
+-- the lines of the newest turn come after those of the others
 turn_lines : List Client → Moment → List Moment → List ℕ → List ℕ
 turn_lines clients m earlier r = event_line (length earlier + 1) m.event ++ (packet_lines clients (packet_count earlier + 1) m.sent ++ r)
 
@@ -112,7 +112,7 @@ same_length clients P front tells (m ∷ earlier) (n ∷ older) r s p q size nr 
     (no_packet (turn_lines clients m earlier r) (turn_mark clients m earlier r)) (no_packet (turn_lines clients n older s) (turn_mark clients n older s)) behind in
     newest_cut clients P front tells m n earlier older r s p q less before.0 nr ns before.1
 
--- where there are more turns, an event's line stands behind the others
+-- where there are more turns, an event's line comes after the others
 abbrev Further : List Client → List Moment → List Moment → List ℕ → Type 0
 Further clients whole older s = (t : List ℕ) × (event_lines clients whole ++ s ≡ event_lines clients older ++ t) × IsEvent t
 

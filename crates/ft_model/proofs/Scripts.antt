@@ -44,7 +44,7 @@ pub record FitsScript (script : List ℕ) (isn : ℕ) (segment : Segment) : Type
   pub syn : has_syn segment ≡ true → segment.head.seq ≡ isn
   pub text : Carries script isn segment ⊎ IsBare segment
 
--- what is taken of a client is a front of its script, and what is held is the script's and stands behind that
+-- what is taken of a client is a front of its script, and what is held is the script's and comes after that
 pub record HasTaken (script : List ℕ) (isn : ℕ) (p : Point) : Type 0 where
   pub fronts : Fronts script (Unit {0}) p.taken p.fin p.early
   pub behind : HoldsBehind p

@@ -25,7 +25,7 @@ use Rattle.ft_model.proofs.Services.{GoesOn, reads_go_on}
 use Rattle.ft_model.proofs.Authored.{CarriesOutput, logged_run}
 use Rattle.ft_io.proofs.Choices.{holds_if}
 
--- what is held behind so many bytes is the run's output, and a FIN that is held stands where the run has closed
+-- what is held after so many bytes is the run's output, and a FIN that is held stands where the run has closed
 pub record HoldsOf {State : Type 0} (run : Run State) (n : ℕ) (early : Early) : Type 0 where
   pub held : Agrees early.text (drop n run.output)
   pub held_fin : IfSome early.fin (λ offset. (run.closed ≡ true) × (offset ≡ length run.output))

@@ -1,4 +1,4 @@
--- Each segment that a live connection sends is the SYN-ACK, a part of the output, the FIN behind it, or bare.
+-- Each segment that a live connection sends is the SYN-ACK, a part of the output, the FIN after it, or bare.
 use Rattle.std.proofs.Common.{◌≡◌, ℕ, zero, suc, ◌+◌, ◌-◌, Bool, true, false, not, ◌≤◌, nat_lt, min, max, arith, ◌==◌, ◌||◌, refl, sym, subst, List, [], ◌∷◌, if◌then◌else◌}
 use Rattle.std.specs.List.{AllByRecursion}
 use Rattle.ft_io.specs.declared.Addr.{Addr}

@@ -100,7 +100,7 @@ body_sound start boot body up h k =
     and_from (nat_le 1 boot && messages.all_in_range boot (length (behind_of body)) (fields_of (kind_of body)) (numbers_of body)) _
     (and_from (nat_le 1 boot) _ (le-leb 1 boot up) (ranges_hold start boot body h k)) (lens_low start boot body h)
 
--- and so many bytes stand behind the fields
+-- and so many bytes come after the fields
 pub has_size : (front fewest most n : ℕ) → fewest ≤ n → n ≤ most → (nat_le (front + fewest) (front + n) && nat_le (front + n) (front + most)) ≡ true
 has_size front fewest most n low high =
     and_from (nat_le (front + fewest) (front + n)) (nat_le (front + n) (front + most)) (le-leb _ _ (omega (arith, low))) (le-leb _ _ (omega (arith, high)))

@@ -1,4 +1,4 @@
-//! Keeping a block behind those that a journal has.
+//! Keeping a block after those that a journal has.
 
 ghost use Rattle.std.specs.Prelude.{◌≡◌, ◌≤◌, ◌<◌, ◌+◌, ◌-◌, ◌^◌, length, List, IfOk, OnOk, OnErr, IsErrOf};
 ghost use Rattle.ft_io.specs.Faults.{Rose};
@@ -45,10 +45,10 @@ impl From<Failed> for KeepEnd {
     }
 }
 
-/// A gate behind which a block stands. No bit of it is that of a closed one, so damage hardly makes one the other.
+/// A gate after which a block stands. No bit of it is that of a closed one, so damage hardly makes one the other.
 pub const OPEN: u8 = 209;
 
-/// A gate behind which nothing stands that counts.
+/// A gate after which nothing stands that counts.
 pub const CLOSED: u8 = 46;
 
 /// A journal's file that ends with a closed gate. The file itself is the caller's, who passes the same one to each call.
@@ -58,7 +58,7 @@ pub struct Journal {
     pub end: u64,
 }
 
-/// What goes behind a closed gate to keep a body there: the body with its length, and the next closed gate.
+/// What goes after a closed gate to keep a body there: the body with its length, and the next closed gate.
 fn block_of(alloc: Global, body: &[u8]) -> Result<Vec<u8>, AllocError>
     requires { length body.now < 2 ^ 32 }
     ensures { IfOk result (λ block. block.items ≡ sized body.now) }

@@ -13,14 +13,14 @@ pub fn a_death_leaves_before_or_after()
         → Stands bodies left ⊎ Stands (bodies ++ body ∷ []) left }
 {}
 
-/// Once a block is kept, a death leaves nothing else than the file that has it, with nothing behind its closed gate.
+/// Once a block is kept, a death leaves nothing else than the file that has it, with nothing after its closed gate.
 pub fn what_is_kept_stays()
     ensures { (bodies : List (List ℕ)) (body left : List ℕ)
         → LeftBy (at_rest bodies) (λ c. c ≡ at_rest bodies) (keeping (length (front bodies)) body) left
         → left ≡ at_rest (bodies ++ body ∷ []) }
 {}
 
-/// What a death has left behind the closed gate is cut off. At any moment of this another death leaves the same blocks, and afterwards nothing stands there.
+/// What a death has left after the closed gate is cut off. At any moment of this another death leaves the same blocks, and afterwards nothing stands there.
 pub fn mending_keeps_the_blocks()
     ensures any_moment { (file left : List ℕ) (bodies : List (List ℕ)) (done : List DiskCall) → Stands bodies file
         → IsFrontOf (mending (length (front bodies))) done → LeftBy file (λ c. c ≡ file) done left → Stands bodies left }

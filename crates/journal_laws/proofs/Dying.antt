@@ -1,4 +1,4 @@
--- What a death at a moment leaves: in the course of a round, behind others, and of a whole life.
+-- What a death at a moment leaves: in the course of a round, after others, and of a whole life.
 use Rattle.std.proofs.Common.{◌≡◌, ◌∙◌, ◌⊎◌, inl, inr, ℕ, ◌≤◌, refl, sym, ap, ap₂, subst, Option, None, Some, List, [], ◌∷◌, ◌++◌, length, map, append_assoc, append-nil, arith, Bool}
 use Rattle.std.proofs.lemmas.List.{map-append}
 use Rattle.std.specs.List.{AllByRecursion}
@@ -275,7 +275,7 @@ rounds_tell start (last ∷ earlier) =
           ∙ ap (map spelling) (sym (answers-append start.log first (said_by (received_in last))) ∙ ap (answers_to start.log) (sym all))));
     }
 
--- behind calls that were told whole
+-- after calls that were told whole
 comes_behind : (start at next : Log) (calls rest : List DeskCall) → Tells start at calls → ComesBack at next rest → ComesBack start next (calls ++ rest)
 comes_behind start at next calls rest t back =
     let first = messages_in calls in
@@ -311,7 +311,7 @@ in_rounds file Held start (last ∷ earlier) done left r all f l =
           (in_round (seen_by file (disk_calls calls)) (LeftBy file Held (disk_calls calls)) at last left (rests_on file Held start earlier all.1 r) all.0 some.0 some.2 now)
     ]
 
--- behind the bind
+-- after the bind
 in_life : (file : List ℕ) (Held : List ℕ → Type 0) (start : Place) (local : Addr) (rounds : List Round) (done : List DeskCall) (left : List ℕ) → Rests file Held start
     → AllByRecursion (λ round. IsRound (received_in round)) rounds → IsFront (OnLink (Bound local) ∷ calls_of start rounds) done → LeftBy file Held (disk_calls done) left
     → Outlives start.log done left

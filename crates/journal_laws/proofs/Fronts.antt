@@ -7,7 +7,7 @@ use Rattle.disk.specs.declared.calls.DiskCall.{DiskCall}
 use Rattle.disk.specs.declared.calls.DeskCall.{DeskCall}
 use Rattle.journal_laws.specs.Moments.{IsFront}
 
--- in the first part, or behind it
+-- in the first part, or after it
 abbrev pub Within : (xs ys done : List DeskCall) → Type 0
 Within xs ys done = IsFront xs done ⊎ ((rest : List DeskCall) × (done ≡ xs ++ rest) × IsFront ys rest)
 

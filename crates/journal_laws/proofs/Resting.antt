@@ -1,4 +1,4 @@
--- Behind each round the file is at rest, and has the log.
+-- After each round the file is at rest, and has the log.
 use Rattle.std.proofs.Common.{◌≡◌, ◌∙◌, inl, inr, ℕ, ◌*◌, ◌≤◌, Bool, true, false, refl, sym, ap, ap₂, subst, List, [], ◌∷◌, ◌++◌, length, drop, Result, Ok, Err, append_assoc, append-nil, length-append, arith, if◌then◌else◌}
 use Rattle.std.proofs.lemmas.List.{drop_at}
 use Rattle.std.specs.List.{AllByRecursion}
@@ -49,7 +49,7 @@ committed file Held bodies end (byte ∷ body) is rest =
     subst (λ n. IsAtRest (seen_by file (keeping n (byte ∷ body))) (LeftBy file Held (keeping n (byte ∷ body))) (bodies ++ (byte ∷ body) ∷ [])) (sym is)
     (stays file Held bodies (byte ∷ body) rest)
 
--- what waits behind a round's receives
+-- what waits after a round's receives
 if_true : {X : Type 0} (b : Bool) (x y : X) → b ≡ true → (if b then x else y) ≡ x
 if_true true x y h = refl
 if_true false x y h = cc
@@ -124,7 +124,7 @@ disk_calls_of_round at round =
     (disk_calls-append (on_disk calls) (on_link (answers_in at.log round)) ∙ ap₂ (λ a b. a ++ b) (disk_calls_of_disk calls) (disk_calls_of_link (answers_in at.log round)))
     ∙ append-nil calls)
 
--- calls behind which a file is at rest, from one that is at rest
+-- calls after which a file is at rest, from one that is at rest
 rests_more : (file : List ℕ) (Held : List ℕ → Type 0) (calls more : List DiskCall) (bodies : List (List ℕ)) → IsAtRest (seen_by (seen_by file calls) more) (LeftBy (seen_by file calls) (LeftBy file Held calls) more) bodies
     → IsAtRest (seen_by file (calls ++ more)) (LeftBy file Held (calls ++ more)) bodies
 rests_more file Held calls more bodies rest =

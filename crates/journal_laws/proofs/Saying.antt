@@ -1,4 +1,4 @@
--- What calls received and handed on, part by part, and the log behind it.
+-- What calls received and handed on, part by part, and the log after it.
 use Rattle.std.proofs.Common.{◌≡◌, ◌∙◌, Bool, refl, sym, ap, ap₂, Option, None, Some, List, [], ◌∷◌, ◌++◌, map, append_assoc, append-nil, Result, Ok, Err}
 use Rattle.std.proofs.lemmas.List.{map-append}
 use Rattle.std.specs.Option.{option_to_list}

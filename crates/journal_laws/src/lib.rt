@@ -40,7 +40,7 @@ pub fn what_was_answered_is_there()
         → Outlives start.log done left }
 {}
 
-/// What a logger told that stopped in a round, or behind its last one, it told at a moment of a life. So the law before this one holds of every end.
+/// What a logger told that stopped in a round, or after its last one, it told at a moment of a life. So the law before this one holds of every end.
 pub fn an_unanswered_round_is_a_moment()
     ensures { (start : Place) (local : Addr) (rounds : List Round) (received : List Received) (cut : List DeskCall) → AllByRecursion (λ round. IsRound (received_in round)) rounds
         → IsUnanswered (place_after start rounds) received cut

@@ -1,4 +1,4 @@
--- Blocks in a file: where one ends, and what stands behind it.
+-- Blocks in a file: where one ends, and what comes after it.
 use Rattle.std.proofs.Common.{◌≡◌, ◌∙◌, ℕ, zero, suc, ◌<◌, ◌≤◌, ◌-◌, List, [], ◌∷◌, ◌++◌, length, take, drop, get_or, refl, sym, ap, ap₂, arith, append_assoc}
 use Rattle.std.specs.Int.{bytes_high_first, to_be_bytes, from_be_bytes, w32}
 use Rattle.std.proofs.lemmas.List.{length-take-le, take-append-drop}

@@ -20,7 +20,7 @@ at_end bytes left None none end is = absurd (none_is_some (sym is))
     none_is_some e = cc
 at_end bytes left (Some xs) none end is = subst HasNoBlock (sym (ap (λ (ys : List ℕ). bytes ++ ys) (sym (same_some is) ∙ end) ∙ append-nil bytes)) none
 
--- .. nor behind that
+-- .. nor after that
 pub quiet_on : {A : Type 0} (old mid new : Option (List A)) → Tells old mid [] → Tells mid new [] → Tells old new []
 quiet_on old mid new a b = tells_on old mid new [] [] a b
 

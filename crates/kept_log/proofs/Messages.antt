@@ -1,4 +1,4 @@
--- Messages one behind the other: each tells its own length, so bytes say one list of them.
+-- Messages one after the other: each tells its own length, so bytes say one list of them.
 use Rattle.std.proofs.Common.{◌≡◌, ◌∙◌, ◌⊎◌, inl, inr, ℕ, ◌<◌, ◌≤◌, ◌+◌, Bool, true, false, not, List, [], ◌∷◌, ◌++◌, length, take, drop, get_or, refl, sym, ap, subst, arith, length-append}
 use Rattle.std.specs.Prelude.{Option, None, Some, Result, Ok, Err, IsOk, nat_eq, nat_lt, ◌==◌, ◌||◌, slice_index, if◌then◌else◌}
 use Rattle.std.proofs.lemmas.Bool.{ltb-false, not-false, eqb-false, eqb-true}

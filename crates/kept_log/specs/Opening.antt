@@ -21,7 +21,7 @@ use Rattle.kept_log.specs.declared.opening.OpenEnd.TheVariants.{NoMemory, Failed
 abbrev pub making : ℕ → List DiskCall
 making len = Appended (drop len (at_rest [])) false ∷ Synced false ∷ []
 
--- the calls that cut off what a death has left behind the closed gate: none where nothing stands there
+-- the calls that cut off what a death has left after the closed gate: none where nothing stands there
 abbrev pub cutting : ℕ → List ℕ → List DiskCall
 cutting end [] = []
 cutting end (byte ∷ tail) = mending end
@@ -33,7 +33,7 @@ pub record IsBegun (file : List ℕ) (bodies : List (List ℕ)) (calls : List Di
   pub none : bodies ≡ []
   pub calls_are : calls ≡ making (length file)
 
--- blocks, the closed gate, and behind it no more than the longest block that a death may have left there
+-- blocks, the closed gate, and after it no more than the longest block that a death may have left there
 pub record IsWhole (file : List ℕ) (bodies : List (List ℕ)) (calls : List DiskCall) : Type 0 where
   pub tail : List ℕ
   pub is : file ≡ front bodies ++ 46 ∷ tail
@@ -44,7 +44,7 @@ pub record IsWhole (file : List ℕ) (bodies : List (List ℕ)) (calls : List Di
 abbrev pub Finds : List ℕ → List (List ℕ) → List DiskCall → Type 0
 Finds file bodies calls = IsBegun file bodies calls ⊎ IsWhole file bodies calls
 
--- these bytes begin with no block whose body is messages, nor are they a closed gate with so few bytes behind it
+-- these bytes begin with no block whose body is messages, nor are they a closed gate with so few bytes after it
 pub record HasNoBlock (bytes : List ℕ) : Type 0 where
   pub no_end : (tail : List ℕ) → bytes ≡ 46 ∷ tail → length tail ≤ 381701 → ⊥
   pub no_block : (body rest : List ℕ) (messages : List Message) → bytes ≡ 209 ∷ (counted body ++ rest) → length body ≤ 381696 → Says body messages → ⊥

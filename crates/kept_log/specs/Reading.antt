@@ -40,14 +40,14 @@ Takes bytes rest before after takes.Closed = (tail : List ℕ) × (bytes ≡ 46 
 Takes bytes rest before after takes.Short = HasNoBlock bytes × (rest ≡ bytes) × (after ≡ before)
 Takes bytes rest before after takes.Wrong = (more : List ℕ) → HasNoBlock (bytes ++ more)
 
--- .. and where more was read in place of `Short`, of a file of which this was left before and behind it. `Wrong` where that is no block, whatever follows
+-- .. and where more was read in place of `Short`, of a file of which this was left before and after it. `Wrong` where that is no block, whatever follows
 abbrev pub Steps : (old new : Option (List ℕ)) (bytes rest : List ℕ) (before after : Log) → Taken → Type 0
 Steps old new bytes rest before after (takes.Block len) = Takes bytes rest before after (takes.Block len) × (new ≡ old)
 Steps old new bytes rest before after takes.Closed = Takes bytes rest before after takes.Closed × (new ≡ old)
 Steps old new bytes rest before after takes.Short = (more : List ℕ) × Consumes old new more × (rest ≡ bytes ++ more) × (after ≡ before)
 Steps old new bytes rest before after takes.Wrong = (left : List ℕ) → old ≡ Some left → HasNoBlock (bytes ++ left)
 
--- where a reading stands behind blocks: of what stood behind the magic this is left, in the window and in the file
+-- where a reading comes after blocks: of what stood after the magic this is left, in the window and in the file
 pub record IsAt (first : List ℕ) (old new : Option (List ℕ)) (window : List ℕ) (place : ℕ) (log : Log) : Type 0 where
   pub bodies : List (List ℕ)
   pub has_log : HasLog bodies place log
@@ -68,7 +68,7 @@ abbrev pub Reaches : (first : List ℕ) (old new : Option (List ℕ)) (window : 
 Reaches first old new window log (reaches.Closed end) = IsAt first old new window end log × (end ≤ 2 ^ 62) × ((tail : List ℕ) × (window ≡ 46 ∷ tail))
 Reaches first old new window log (reaches.Wrong at) = (left : List ℕ) → old ≡ Some left → IsBrokenAt at (first ++ left)
 
--- what was found behind the magic, where these bytes were read already
+-- what was found after the magic, where these bytes were read already
 abbrev pub FindsBehind : (first : List ℕ) → Option (List ℕ) → Log → Found → Type 0
 FindsBehind first left log (finds.New len) = ⊥
 FindsBehind first left log (finds.Whole end tail) =

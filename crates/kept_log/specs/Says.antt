@@ -1,4 +1,4 @@
--- What bytes say that are messages, one behind the other: each tells its own length.
+-- What bytes say that are messages, one after the other: each tells its own length.
 use Rattle.std.specs.Prelude.{◌≡◌, ◌≤◌, ℕ, List, [], ◌∷◌, ◌++◌, length, Ok}
 use Rattle.std.specs.List.{AllByRecursion}
 use Rattle.seq_arith.specs.Message.{Message}

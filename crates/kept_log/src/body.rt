@@ -24,7 +24,7 @@ fn first_length(bytes: &[u8]) -> Option<usize>
     if n <= bytes.len() { Some(n) } else { None }
 }
 
-/// Takes what a block's body says into the log. False where it isn't messages, one behind the other: then some of them may be in the log.
+/// Takes what a block's body says into the log. False where it isn't messages, one after the other: then some of them may be in the log.
 pub fn take_body(alloc: Global, body: &[u8], store: &mut LogStore) -> Result<bool, NoMemory>
     ensures said { IfOk result (λ all. all ≡ true → Waits store.old body.now store.new) }
     ensures wrong { IfOk result (λ all. all ≡ false → (messages : List Message) → Says body.now messages → ⊥) }

@@ -50,7 +50,7 @@ impl Model for KeptLog {
 
 impl KeptLog {
     /// Opens the journal in a file that was opened just now, and takes what it has into a log. A file of at most 8 bytes that is a front of the magic is made
-    /// a journal; what a death has left behind the closed gate is cut off. A file that is damaged stays as it is.
+    /// a journal; what a death has left after the closed gate is cut off. A file that is damaged stays as it is.
     pub fn open<D: Disk>(alloc: Global, disk: &mut D) -> Result<KeptLog, OpenEnd>
         ensures opened { IfOk result (λ k. IsOpened (D.left disk.old) (D.told disk.old) (D.told disk.new) k.end k.log) }
         ensures none_waits { IfOk result (λ k. k.round ≡ []) }

@@ -23,7 +23,7 @@ pub fn a_journal_is_not_damaged()
         → Finds file bodies calls → AreKept bodies messages → IsDamaged at file → ⊥ }
 {}
 
-/// The calls of an opening put the file at rest: a death behind them leaves its blocks, with nothing behind the closed gate. Where the file was a journal before,
+/// The calls of an opening put the file at rest: a death after them leaves its blocks, with nothing after the closed gate. Where the file was a journal before,
 /// a death at any moment of them leaves the same blocks.
 pub fn an_opening_keeps_the_blocks()
     ensures rests { (file left : List ℕ) (bodies : List (List ℕ)) (calls : List DiskCall)
@@ -41,7 +41,7 @@ pub fn a_life_keeps_its_rounds()
         → Stands (with_rounds bodies rounds) left ⊎ Stands (with_round (with_rounds bodies rounds) last) left }
 {}
 
-/// A file that stands for blocks is opened with them, where a death has left no more behind the closed gate than the longest block has.
+/// A file that stands for blocks is opened with them, where a death has left no more after the closed gate than the longest block has.
 pub fn what_stands_is_opened()
     ensures { (file : List ℕ) (bodies : List (List ℕ)) → Stands bodies file → length file ≤ length (front bodies) + 381702
         → (calls : List DiskCall) × IsWhole file bodies calls }

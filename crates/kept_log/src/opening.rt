@@ -66,7 +66,7 @@ fn make<D: Disk>(disk: &mut D, len: usize) -> Result<(), Failed>
     disk.sync()
 }
 
-/// Cuts off so many bytes behind the closed gate.
+/// Cuts off so many bytes after the closed gate.
 fn cut_tail<D: Disk>(disk: &mut D, end: u64, tail: usize) -> Result<(), Failed>
     requires { end ≤ 2 ^ 62 }
     ensures cut { OnOk result ((torn : List ℕ) → length torn ≡ tail → Tells (D.told disk.old) (D.told disk.new) (on_disk (cutting end torn))) }

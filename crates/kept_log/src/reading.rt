@@ -20,13 +20,13 @@ use std::alloc::Global;
 /// The bytes that one read may move.
 const CHUNK: usize = 65_536;
 
-/// The most bytes that a death leaves behind the closed gate: the longest block.
+/// The most bytes that a death leaves after the closed gate: the longest block.
 pub const MOST_TORN: usize = 381_701;
 
 /// A place that no file has.
 pub const BEYOND: u64 = 1 << 62;
 
-/// What was taken from the front of a file's bytes, or read behind them.
+/// What was taken from the front of a file's bytes, or read after them.
 #[derive(Clone, Copy, Debug, PartialEq, Eq)]
 pub enum Taken {
     /// A block whose body has so many bytes.
@@ -53,7 +53,7 @@ pub enum Reached {
 pub enum Found {
     /// So many bytes of the magic: the file was being made.
     New(usize),
-    /// The place of the closed gate, and how many bytes stand behind it.
+    /// The place of the closed gate, and how many bytes come after it.
     Whole(u64, usize),
     /// The place of the first byte of the first block that isn't one.
     Wrong(u64),
@@ -106,7 +106,7 @@ fn step<D: Disk>(
 }
 
 #[tactic(auto, using(crate::proofs::Files::quiet_on, crate::proofs::Files::rose_later, crate::proofs::Files::none_told))]
-/// Takes all blocks of a file into the log. The window has what was read behind the magic.
+/// Takes all blocks of a file into the log. The window has what was read after the magic.
 fn read_blocks<D: Disk>(
     alloc: Global,
     disk: &mut D,
@@ -182,7 +182,7 @@ fn read_front<D: Disk>(disk: &mut D, window: &mut Window, chunk: &mut [u8]) -> R
     Ok(())
 }
 
-/// Reads what stands behind the magic. The window has the first bytes of it.
+/// Reads what comes after the magic. The window has the first bytes of it.
 #[tactic(auto, using(crate::proofs::Files::quiet_on, crate::proofs::Files::rose_later, crate::proofs::Files::none_told))]
 fn read_rest<D: Disk>(
     alloc: Global,

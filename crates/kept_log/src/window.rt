@@ -10,7 +10,7 @@ use journal::KeepEnd;
 use std::alloc::{AllocError, Global};
 use std::marker::Model;
 
-/// Bytes that lie behind those that are used up.
+/// Bytes that lie after those that are used up.
 #[derive(Drop)]
 pub struct Window {
     bytes: Vec<u8>,
@@ -50,7 +50,7 @@ impl Window {
         self.at += n;
     }
 
-    /// Moves the bytes to the front, and others behind them.
+    /// Moves the bytes to the front, and others after them.
     fn add(&mut self, bytes: &[u8]) -> Result<(), AllocError>
         ensures { OnOk result (self.new ≡ self.old ++ bytes.now) }
     {

@@ -27,7 +27,7 @@ pub(crate) fn bytes_text(alloc: Global, bytes: &[u8]) -> Result<String, NoMemory
     Ok(format!(in alloc; "{len} bytes {number}")?)
 }
 
-/// A call that changes a file, behind a semicolon.
+/// A call that changes a file, after a semicolon.
 fn disk_call(alloc: Global, call: &DiskCall) -> Result<String, NoMemory> {
     let (text, failed) = match call {
         DiskCall::Appended(bytes, failed) => {

@@ -116,7 +116,7 @@ happens_beside service before after (events.Fin client) sent others w h = (event
 happens_beside service before after (events.Ack client window) sent others w h = (events.Ack client window, moves before after client sent others h)
 happens_beside service before after (events.Reset client) sent others w h = (events.Reset client, moves before after client sent others h)
 
--- one more moment behind a joint trace
+-- one more moment after a joint trace
 pub shown_calm : {State : Type 0} (service : Machine State) (start before after : World) (event : Event) (sent : List Packet) → IsShown service start before
     → Happens service before event sent after → after.packets ≡ before.packets ++ sent → IsShown service start after
 shown_calm service start before after event sent shown h grown =

@@ -1,4 +1,4 @@
--- A header with its checksum and a body behind it are the one spelling of a message, and it is read.
+-- A header with its checksum and a body after it are the one spelling of a message, and it is read.
 use Rattle.std.proofs.Common.{◌≡◌, ℕ, ◌≤◌, ◌+◌, ◌-◌, List, [], ◌∷◌, ◌++◌, length, length-append, length-drop, length-take-le, take, drop, ap, refl, sym, arith, append_assoc, append-nil, zero-add, ◌∙◌}
 use Rattle.std.specs.Prelude.{Ok}
 use Rattle.std.proofs.lemmas.List.{drop-drop, drop-take, take-append-drop}
@@ -71,7 +71,7 @@ put_apart : (at : ℕ) (new out : List ℕ) → put at new out ≡ (take at out 
 unfolding put
 put_apart at new out = refl
 
--- what stands behind a header, and behind the message
+-- what comes after a header, and after the message
 behind_header : (len : ℕ) (out : List ℕ) → 16 ≤ len → drop 16 (take len out) ++ drop len out ≡ drop 16 out
 behind_header len out long =
     let count : 16 + (len - 16) ≡ len = omega arith
@@ -112,7 +112,7 @@ pub nothing_body : (out : List ℕ) → put 16 (body_bytes bodies.HelloMsg) out 
 unfolding body_bytes put
 nothing_body out = rw (append-nil (take 16 out)) (take-append-drop 16 out)
 
--- bytes behind the fields are summed where they come from
+-- bytes after the fields are summed where they come from
 pub behind_summed : (kind : Kind) (boot len at : ℕ) (behind out blank : List ℕ) → 16 ≤ at → at + length behind ≤ length out
     → blank ≡ put 0 (header kind len 0 boot) (put at behind out) → take at blank ++ behind ≡ take (at + length behind) blank
 behind_summed kind boot len at behind out blank long within blank_is =
@@ -132,7 +132,7 @@ behind_summed kind boot len at behind out blank long within blank_is =
     in let part : take (length behind) (drop at blank) ≡ behind = ap (take (length behind)) (after ∙ stands) ∙ take-append_seam behind rest
     in sym (take-add at (length behind) blank ∙ ap (λ xs. take at blank ++ xs) part)
 
--- a header in front of a body that was put behind it
+-- a header in front of a body that was put after it
 pub written : (kind : Kind) (boot len : ℕ) (body : Body) (out : List ℕ) → len ≡ message_length body → len ≤ length out
     → framed kind boot len (put 16 (body_bytes body) out) ≡ put 0 (sealed kind boot (body_bytes body)) out
 unfolding framed

@@ -1,4 +1,4 @@
--- What a write at a place of a slice leaves, and writes one behind the other. With the first bytes written out, writes at constant places compute.
+-- What a write at a place of a slice leaves, and writes one after the other. With the first bytes written out, writes at constant places compute.
 use Rattle.std.proofs.Common.{◌≡◌, ℕ, zero, suc, ◌≤◌, ◌+◌, ◌-◌, Bool, true, false, List, [], ◌∷◌, ◌++◌, length, length-append, length-take-le, take, drop, get_or, ap, refl, sym, subst, arith, append_assoc, append-nil, ◌∙◌}
 use Rattle.std.proofs.lemmas.List.{take_rest, drop-drop, drop_all}
 use Rattle.std.proofs.Math.Seq.{take-append_seam, drop-append-add}
@@ -45,7 +45,7 @@ front_is (suc n) (byte ∷ bytes) h = ap (λ xs. byte ∷ xs) (front_is n bytes 
 pub by_cells : (n : ℕ) (P : List ℕ → Type 0) (bytes : List ℕ) → n ≤ length bytes → P (front n bytes) → P bytes
 by_cells n P bytes long holds = subst P (front_is n bytes long) holds
 
--- two strings put one behind the other are one
+-- two strings put one after the other are one
 pub put_put : (at next : ℕ) (a b out : List ℕ) → next ≡ at + length a → next + length b ≤ length out → put next b (put at a out) ≡ put at (a ++ b) out
 unfolding put
 put_put at next a b out is within =

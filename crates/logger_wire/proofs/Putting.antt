@@ -87,7 +87,7 @@ pub part_put : (p : Part) (out : List ℕ) → 31 + length p.bytes ≤ length ou
 unfolding number_bytes body_bytes
 part_put p out long = put_put 16 31 (part_numbers p) p.bytes out refl long
 
--- a key and where bytes or lengths start, and these behind them
+-- a key and where bytes or lengths start, and these after them
 abbrev start_numbers : Key → ℕ → List ℕ
 start_numbers key start = numbers_bytes (fields_of kinds.Bytes) (numbers_of (bodies.BytesMsg key start))
 

@@ -25,7 +25,7 @@ flag_again zero h = refl
 flag_again (suc zero) h = refl
 flag_again (suc (suc n)) h = absurd (omega (arith, leb-true (suc (suc n)) 1 h))
 
--- the flags among a kind's numbers, and how many of the bytes behind them are left over where a length has two
+-- the flags among a kind's numbers, and how many of the bytes after them are left over where a length has two
 abbrev flags_in : Kind → List ℕ → List ℕ
 flags_in kinds.Entry numbers = slice_index numbers 7 ∷ slice_index numbers 8 ∷ []
 flags_in kinds.Data numbers = slice_index numbers 4 ∷ []
@@ -137,7 +137,7 @@ lens_length [] even = refl
 lens_length (high ∷ []) even = absurd (omega arith)
 lens_length (high ∷ low ∷ bytes) even = omega (arith, lens_length bytes (omega arith))
 
--- as many bytes stand behind the fields as were read there
+-- as many bytes come after the fields as were read there
 same_behind : (kind : Kind) (numbers behind : List ℕ) → length behind ≤ most_behind kind → left_over_in kind behind ≡ 0
     → length (behind_of (body_in kind numbers behind)) ≡ length behind
 same_behind kinds.Hello numbers behind few even = omega arith

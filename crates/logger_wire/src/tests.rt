@@ -1,5 +1,5 @@
 //! Three messages whose bytes were written down by hand and summed by another program, and tables of the edges of every length and range.
-//! A row of a table gives a message's fields in hexadecimal and how many bytes stand behind them; its sum is summed by `Sum16`, whose
+//! A row of a table gives a message's fields in hexadecimal and how many bytes come after them; its sum is summed by `Sum16`, whose
 //! tests are its crate's.
 
 ghost use Rattle.std.specs.Prelude.{◌<◌, ◌≤◌};
@@ -29,7 +29,7 @@ enum Outcome {
     Changed,
 }
 
-/// What it shows, the kind, the fields in hexadecimal, the count of bytes behind them, and what becomes of it.
+/// What it shows, the kind, the fields in hexadecimal, the count of bytes after them, and what becomes of it.
 type Row = (&'static str, u8, &'static str, usize, Outcome);
 
 const FIELD: Outcome = Outcome::Refused(BadMsg::Field);
@@ -50,7 +50,7 @@ fn value_of(digit: u8) -> u8
 }
 
 /// Makes a message with its right length and sum, and says how long it is. Its fields are given by hexadecimal digits, and each of
-/// the bytes behind them is 7.
+/// the bytes after them is 7.
 fn make(kind: u8, boot: u64, digits: &[u8], fill: usize, out: &mut [u8; 2048]) -> usize
     ensures { result ≤ 2048 }
 {

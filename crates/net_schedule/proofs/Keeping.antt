@@ -1,4 +1,4 @@
--- The packets that the network keeps, as those of the definitions: what is put behind them, and each by its number.
+-- The packets that the network keeps, as those of the definitions: what is put after them, and each by its number.
 use Rattle.std.proofs.Common.{◌≡◌, ◌∙◌, sym, ap, ap₂, subst, refl, ℕ, zero, suc, Option, Some, None, option_map, List, [], ◌∷◌, ◌++◌, map, drop, slice_get, append-nil, append_assoc, length, ◌≤◌, arith, length-append}
 use Rattle.std.specs.Option.{option_to_list}
 use Rattle.std.proofs.lemmas.List.{map-append, length-map}
@@ -21,7 +21,7 @@ use Rattle.net_schedule.specs.Carried.{Carried, carried, with_packet, with_wires
 abbrev pack : List Way → List (List ℕ) → Carried
 pack ways bytes = record { ways = ways; bytes = bytes }
 
--- what is sent behind what was kept
+-- what is sent after what was kept
 pub sent_kept : (keys : List Key) (kept : Carried) (ps qs : List Packet) → kept ≡ carried keys (map wire_of ps) → with_wires keys kept (map wire_of qs) ≡ carried keys (map wire_of (ps ++ qs))
 sent_kept keys kept ps qs e =
     ap (λ k. with_wires keys k (map wire_of qs)) e
@@ -32,7 +32,7 @@ sent_kept keys kept ps qs e =
 pub none_kept : (keys : List Key) (kept : Carried) (ps : List Packet) → kept ≡ carried keys (map wire_of ps) → kept ≡ carried keys (map wire_of (ps ++ []))
 none_kept keys kept ps e = e ∙ ap (λ qs. carried keys (map wire_of qs)) (sym (append-nil ps))
 
--- a packet behind others is a wire behind theirs
+-- a packet after others is a wire after theirs
 pub one_wire : (keys : List Key) (kept : Carried) (wires : List Wire) (w : Wire) → with_packet (with_wires keys kept wires) (way_along keys w) w.bytes ≡ with_wires keys kept (wires ++ w ∷ [])
 one_wire keys kept wires w =
     ap₂ pack

@@ -216,7 +216,7 @@ fn pending_output_is_given(rt: HostRuntime) -> Result<(), Fail> {
     Ok(())
 }
 
-/// The read of length 0 is made once, and TCP is closed behind the output.
+/// The read of length 0 is made once, and TCP is closed after the output.
 #[test]
 fn an_ended_wrapper_closes(rt: HostRuntime) -> Result<(), Fail> {
     let alloc = rt.alloc();

@@ -31,7 +31,7 @@ pub record Speaks (u : Tcb) (c : Client) (written edge : ℕ) : Type 0 where
   pub held : u.sending.held ≡ drop u.sending.una (take written c.script)
   pub within : written ≤ length c.script
 
--- a part of the script behind what is acknowledged
+-- a part of the script after what is acknowledged
 part_is : (place una n written : ℕ) (script : List ℕ) → una + place + n ≤ written
     → take n (drop place (drop una (take written script))) ≡ take n (drop (una + place) script)
 part_is place una n written script fits =

@@ -6,7 +6,7 @@ use ft_io::{Key, NoMemory};
 use seq_arith::Sum16;
 use std::alloc::Global;
 
-/// What stands behind a message's header.
+/// What comes after a message's header.
 #[derive(Drop)]
 pub(crate) struct Fields {
     bytes: Vec<u8>,
@@ -59,7 +59,7 @@ impl Fields {
     }
 }
 
-/// The checksum of both, one behind the other.
+/// The checksum of both, one after the other.
 fn sum_of(front: &[u8], rest: &[u8]) -> u16
     requires front { length front.now ≤ 16 }
     requires rest { length rest.now ≤ 1475 }

@@ -16,7 +16,7 @@ unfolding encode_with
 encode_append t [] ys = refl
 encode_append t (x ∷ xs) ys = rw (encode_append t xs ys) refl
 
--- a part is written, and what is behind it is left
+-- a part is written, and what is after it is left
 pub part_written : (line new rest part behind digits whole : List ℕ) (n : ℕ) → new ≡ line ++ digits → digits ≡ encode_lower part → part ≡ take n rest → behind ≡ drop n rest
     → line ++ encode_lower rest ≡ whole → new ++ encode_lower behind ≡ whole
 part_written line new rest part behind digits whole n written is front back e =

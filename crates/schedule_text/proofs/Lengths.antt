@@ -19,7 +19,7 @@ nothing_joined [] line e = sym (append-nil line)
 nothing_joined (high ∷ []) line e = sym (append-nil line)
 nothing_joined (high ∷ low ∷ lens) line e = absurd (omega arith)
 
--- the first length, and the others behind commas
+-- the first length, and the others after commas
 pub joined_more : (lens old mid new others : List ℕ) (high low n : ℕ) → lens ≡ high ∷ low ∷ others → n ≡ 256 * high + low → mid ≡ old ++ decimal n → new ≡ mid ++ behind_commas (lens_in others)
     → new ≡ old ++ join_with_byte 44 (map decimal (lens_in lens))
 joined_more lens old mid new others high low n is number first behind =

@@ -12,7 +12,7 @@ use Rattle.std.proofs.lemmas.List.Sums.{prefix_len-le-length}
 use Rattle.ft_model.specs.Words.{is, is_empty, lines_of, words_of, without_empty_last}
 use Rattle.ft_io.proofs.Booleans.{not_true}
 
--- what is left of the pieces behind the first one, of a list that begins at the first mark
+-- what is left of the pieces after the first one, of a list that begins at the first mark
 abbrev pub pieces_behind : (ℕ → Bool) → List ℕ → List (List ℕ)
 pieces_behind p [] = []
 pieces_behind p (x ∷ xs) = slice_split p xs
@@ -68,7 +68,7 @@ pub words_of_indented : (xs : List ℕ) → words_of xs ≡ words_of (drop (posi
 words_of_indented [] = refl
 words_of_indented (x ∷ xs) = skip_by x xs (is 32 x) refl (words_of_indented xs)
 
--- the pieces behind a word are those of what begins with the space behind it, but for an empty one
+-- the pieces after a word are those of what begins with the space after it, but for an empty one
 behind_word : (xs : List ℕ) → filter (λ piece. not (is_empty piece)) (pieces_behind (is 32) (drop (position_or_len (is 32) xs) xs)) ≡ words_of (drop (position_or_len (is 32) xs) xs)
 unfolding words_of
 behind_word xs = seam (is 32) (λ ys. filter (λ piece. not (is_empty piece)) (pieces_behind (is 32) ys) ≡ words_of ys) refl (λ y ys e. rw e refl) xs

@@ -1,4 +1,4 @@
--- A text's lines one after the other: what the rest spells behind what was read.
+-- A text's lines one after the other: what the rest spells after what was read.
 use Rattle.std.proofs.Common.{◌≡◌, ℕ, ◌+◌, List, [], ◌∷◌, length, refl, sym, ◌∙◌, arith}
 use Rattle.std.specs.Prelude.{Result, Ok, Err}
 use Rattle.ft_model.specs.Words.{lines_of, without_empty_last}
@@ -9,7 +9,7 @@ use Rattle.schedule_text.specs.Reading.{Gives}
 use Rattle.schedule_text.specs.declared.end.ScheduleEnd.{ScheduleEnd}
 use Rattle.schedule_text.specs.declared.end.ScheduleEnd.TheVariants.{NoMemory, BadLine, TooLong}
 
--- an accepted line leaves the lines behind it
+-- an accepted line leaves the lines after it
 pub goes_on : (n : ℕ) (draft later : Draft) (rest line behind : List ℕ) → lines_of rest ≡ line ∷ lines_of behind → after_line no_objection n draft line ≡ Ok later → read_lines no_objection n draft (lines_of rest) ≡ read_lines no_objection (n + 1) later (lines_of behind)
 unfolding read_lines
 goes_on n draft later rest line behind e f = rw (e, f) refl
@@ -21,7 +21,7 @@ stops n draft rest line behind whole NoMemory e f g = tt
 stops n draft rest line behind whole (BadLine at why) e f g = sym f ∙ rw (e, g) refl
 stops n draft rest line behind whole (TooLong what) e f g = sym f ∙ rw (e, g) refl
 
--- behind the last line there is what was read
+-- after the last line there is what was read
 pub ends : (n : ℕ) (draft : Draft) (rest : List ℕ) → length rest ≡ 0 → read_lines no_objection n draft (lines_of rest) ≡ schedule_of n draft
 unfolding read_lines lines_of without_empty_last
 ends n draft [] h = refl

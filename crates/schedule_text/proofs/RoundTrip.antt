@@ -39,7 +39,7 @@ no_space : (word : List ℕ) → AllByRecursion IsPlain word → All (λ c. is 3
 no_space [] h = All-nil (λ c. is 32 c ≡ false)
 no_space (c ∷ word) h = All-cons (λ c. is 32 c ≡ false) c word (ne_eqb c 32 (λ e. omega (arith, e, h.0.0))) (no_space word h.1)
 
--- a word alone, and a word with a space behind it
+-- a word alone, and a word with a space after it
 one_word : (word : List ℕ) → IsPlainWord word → words_of word ≡ word ∷ []
 unfolding words_of
 one_word [] h = absurd (omega (arith, h.0))
@@ -182,7 +182,7 @@ read_back s (Reset client) h =
     by_words s (codes "reset") (decimal client ∷ []) verb.Reset (Reset client)
     (lit (codes "reset") refl, (numbered client (omega (arith, h.1)), tt)) refl (rw (alone_read client h.0 h.1) refl)
 
--- the words of a line, each behind a space, are a space and the joined words
+-- the words of a line, each after a space, are a space and the joined words
 spaced_joined : (word : List ℕ) (words : List (List ℕ)) → spaced (word ∷ words) ≡ 32 ∷ join_with_byte 32 (word ∷ words)
 spaced_joined word [] = ap (λ rest. 32 ∷ rest) (append-nil word)
 spaced_joined word (v ∷ words) = ap (λ rest. 32 ∷ (word ++ rest)) (spaced_joined v words)

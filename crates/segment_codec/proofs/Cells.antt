@@ -67,7 +67,7 @@ tests_fail bytes s t u v a b c d w x y z fail sum = (
   ),
 )
 
--- a payload from behind the forty bytes
+-- a payload from after the forty bytes
 payload_far : (bytes : List ℕ) → 40 ≤ payload_at bytes → drop (payload_at bytes) bytes ≡ drop (payload_at bytes - 40) (drop 40 bytes)
 payload_far bytes far =
     let whole : 40 + (payload_at bytes - 40) ≡ payload_at bytes = omega arith

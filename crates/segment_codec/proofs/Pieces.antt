@@ -51,7 +51,7 @@ numbers_put out head words long is few small =
     ∙ by_cells 40 (λ b. put 36 (four 0) (put 34 (two head.window) (put 32 (16 * (5 + length (mss_option head.mss) / 4) ∷ head.flags ∷ []) (put 28 (four head.ack) (put 24 (four head.seq) b))))
     ≡ put 24 (numbers head) b) out long refl
 
--- two strings put one behind the other are one
+-- two strings put one after the other are one
 put_put : (at next : ℕ) (a b out : List ℕ) → next ≡ at + length a → next + length b ≤ length out → put next b (put at a out) ≡ put at (a ++ b) out
 unfolding put
 put_put at next a b out is within =
@@ -95,7 +95,7 @@ checksums_spelled segment = refl
 pub headed : (segment : Segment) (whole packet : List ℕ) → whole ≡ spelled segment 0 0 → packet ≡ with_checksums whole → packet ≡ spelling segment
 headed segment whole packet whole_is packet_is = packet_is ∙ ap with_checksums whole_is ∙ checksums_spelled segment
 
--- a payload that was put in its place, and what stands behind it
+-- a payload that was put in its place, and what comes after it
 pub payload_put : (start : ℕ) (payload out : List ℕ) → start + length payload ≤ length out → drop start (take (start + length payload) (put start payload out)) ≡ payload
 unfolding put
 payload_put start payload out within =

@@ -205,7 +205,7 @@ none_taken : (n : ℕ) (held : List (Option ℕ)) (o : Option ℕ) → stands_at
 unfolding with_fin_taken stood
 none_taken n held o e = if_false (stands_at (n + 0) o) _ (stood [] held o false) e
 
--- .. behind a gap it isn't
+-- .. after a gap it isn't
 no_end : (n edge : ℕ) (first : ℤ) (text : List ℕ) (has_fin : Bool) → int_lt (pos n) first ≡ true → (has_fin && ends_at (n + 0) edge first text) ≡ false
 no_end n edge first text has_fin h =
     let past : int_eq (first +ℤ pos (length text)) (pos (n + 0)) ≡ false = grind (arith, ints, h) in

@@ -1,4 +1,4 @@
--- Where a FIN that is taken or held comes from: it was so before, or the segment brings it, and it stands behind the segment's text.
+-- Where a FIN that is taken or held comes from: it was so before, or the segment brings it, and it comes after the segment's text.
 use Rattle.std.proofs.Common.{◌≡◌, ℕ, ◌+◌, ◌<◌, Bool, true, false, ◌==◌, ◌&&◌, refl, sym, ap, ◌∙◌, true≢false, inl, inr, ◌⊎◌, ⊎_elim, Option, Some, None, is_some, List, length, eqb-true}
 use Rattle.std.specs.Prelude.{ℤ, pos, ◌+ℤ◌}
 use Rattle.std.proofs.lemmas.Bool.{and_parts}

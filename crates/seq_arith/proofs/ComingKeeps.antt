@@ -1,4 +1,4 @@
--- What is held stays behind what is taken, and both keep to the receive edge, whatever a segment brings.
+-- What is held stays after what is taken, and both keep to the receive edge, whatever a segment brings.
 use Rattle.std.proofs.Common.{◌≡◌, ℕ, zero, suc, ◌+◌, ◌-◌, ◌<◌, ◌≤◌, Bool, true, false, ◌==◌, ◌&&◌, not, min, refl, sym, ap, ◌∙◌, subst, true≢false, Option, Some, None, List, [], ◌∷◌, ◌++◌, length, take, drop, length-append, length-drop, length-take, drop-drop, arith, eqb-true}
 use Rattle.std.specs.Prelude.{ℤ, pos, negsuc, ◌+ℤ◌, nat_abs, nat_le, int_lt, int_le, IfSome, if◌then◌else◌}
 use Rattle.std.proofs.Math.Seq.{take-nil, drop-nil}
@@ -70,7 +70,7 @@ gap_in_front [] = refl
 gap_in_front (None ∷ held) = refl
 gap_in_front (Some x ∷ held) = gap_in_front held
 
--- behind a gap nothing continues what is taken
+-- after a gap nothing continues what is taken
 pub behind_gap : (held : List (Option ℕ)) → front_run held ≡ [] → behind_front_run held ≡ held
 unfolding front_run behind_front_run
 behind_gap [] e = refl
@@ -100,7 +100,7 @@ below_fin : (n m bound offset : ℕ) → (0 < m → n + 0 + m ≤ bound) → bou
 below_fin n zero bound offset p q h = omega (arith, h)
 below_fin n (suc m) bound offset p q h = omega (arith, p (omega arith), q)
 
--- text in order leaves a FIN behind it
+-- text in order leaves a FIN after it
 fin_behind : (o : Option ℕ) (n edge m : ℕ) (held : List (Option ℕ)) → (0 < m → n + 0 + m ≤ bounded_by o edge)
     → IfSome o (λ offset. (n < offset) × (offset < edge) × (holds_some (drop (offset - n) held) ≡ false)) → IfSome o (Past (n + m) edge (drop m held))
 fin_behind None n edge m held p h = tt
@@ -199,7 +199,7 @@ fin_holds n edge place has_fin c h =
     record { text = h.text; held_fin = f.past; unended = h.unended })
     (λ t. h)
 
--- a FIN stays behind the bytes that continue what is taken
+-- a FIN stays after the bytes that continue what is taken
 fin_run : (o : Option ℕ) (end more edge : ℕ) (held : List (Option ℕ)) → more ≡ end + length (front_run held) → IfSome o (Past end edge held)
     → IfSome o (Past more edge (behind_front_run held))
 fin_run None end more edge held e h = tt
@@ -366,7 +366,7 @@ comes_bare n edge fin early first s =
     (ap (take (text_edge n edge fin early - (n + ahead n first))) (drop-nil (below n first)) ∙ take-nil (text_edge n edge fin early - (n + ahead n first)))
     refl
 
--- what is held stays behind what is taken
+-- what is held stays after what is taken
 pub stays_behind : (n edge : ℕ) (fin : Bool) (early : Early) (first : ℤ) (text : List ℕ) (has_fin : Bool) → n ≤ edge → StandsBehind n edge fin early
     → StandsBehind (n + length (comes n edge fin early first text has_fin).added) edge (comes n edge fin early first text has_fin).fin (comes n edge fin early first text has_fin).early
 stays_behind n edge true early first text has_fin low s =

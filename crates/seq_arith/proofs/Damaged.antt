@@ -102,7 +102,7 @@ unfolding flipped
 flip_is_seen bit bytes within was is =
     sums_no_more (word_sum false bytes) _ (flipped_apart false bytes (bit / 8) (bit % 8) (omega arith) (omega arith)) was is
 
--- a write in front of what is dropped, and behind it
+-- a write in front of what is dropped, and after it
 drop_set : (n i v : ℕ) (bytes : List ℕ) → n ≤ i → drop n (slice_set bytes i v) ≡ slice_set (drop n bytes) (i - n) v
 drop_set n i v bytes h =
     let there : i ≡ n + (i - n) = omega arith in ap (λ at. drop n (slice_set bytes at v)) there ∙ drop-set-add n bytes (i - n) v
@@ -136,7 +136,7 @@ pseudo_header_stays bytes i v behind =
     in let long : length (slice_set bytes i v) ≡ length bytes = length-set bytes i v
     in cc (addresses, long)
 
--- what the TCP checksum sums of a packet with a bit behind the IP header inverted
+-- what the TCP checksum sums of a packet with a bit after the IP header inverted
 pub flip_behind : (bit : ℕ) (bytes : List ℕ) → 160 ≤ bit → bit < 8 * length bytes → checksum (tcp_text bytes) ≡ 0 → checksum (tcp_text (flipped bit bytes)) ≡ 0 → ⊥
 unfolding flipped
 flip_behind bit bytes behind within was is =

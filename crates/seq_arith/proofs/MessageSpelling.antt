@@ -77,7 +77,7 @@ flag_back : (b : Bool) → nat_eq (flag b) 1 ≡ b
 flag_back false = refl
 flag_back true = refl
 
--- a body's numbers and what stands behind them say that body
+-- a body's numbers and what comes after them say that body
 pub body_back : (body : Body) → list_all (λ len. nat_le len 2048) (lens_of body) ≡ true → body_in (kind_of body) (numbers_of body) (behind_of body) ≡ body
 body_back bodies.HelloMsg small = refl
 body_back (bodies.SummaryMsg count) small = refl
@@ -140,7 +140,7 @@ room kinds.Ended = omega arith
 room kinds.Stale = omega arith
 room kinds.Full = omega arith
 
--- what a spelling is behind its header, and behind its fields
+-- what a spelling is after its header, and after its fields
 abbrev fields_part : Message → List ℕ
 fields_part message = numbers_bytes (fields_of (kind_of message.body)) (numbers_of message.body)
 

@@ -44,7 +44,7 @@ whole bytes ok =
       tcp = same_from _ _ fail.1.1.1.1.1.1.1.1.1.0;
     }
 
--- a word stays where it was in a part, and where bytes come behind it
+-- a word stays where it was in a part, and where bytes come after it
 word_in_part : (bytes : List ℕ) (at n : ℕ) → at + 1 < n → word_at (take n bytes) at ≡ word_at bytes at
 unfolding word_at
 word_in_part bytes at n h =

@@ -1,4 +1,4 @@
--- Sums of words: of strings one behind the other, and of one word replaced.
+-- Sums of words: of strings one after the other, and of one word replaced.
 use Rattle.std.proofs.Common.{◌≡◌, ℕ, suc, zero, ◌<◌, ◌+◌, ◌-◌, ◌*◌, ◌/◌, ◌%◌, Bool, true, false, not, List, [], ◌∷◌, ◌++◌, length, drop, get_or, ap, refl, sym, arith, ◌∙◌, length-append, zero-add}
 use Rattle.std.specs.Prelude.{nat_eq}
 use Rattle.std.proofs.Math.Bool.{beq}

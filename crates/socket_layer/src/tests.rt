@@ -108,7 +108,7 @@ impl Socket for TwoLists {
     }
 }
 
-/// Answers what came with as much of it as there is room for, and closes behind the peer's end.
+/// Answers what came with as much of it as there is room for, and closes after the peer's end.
 fn echo<S: Socket>(socket: &mut S) -> usize
     ensures { S.has_end socket.new ≡ S.has_end socket.old }
 {

@@ -211,7 +211,7 @@ taken_within n from (suc count) items h =
     let whole : from + (n - from) ≡ n = omega (arith, h) in
     ap (λ k. take (suc count) (drop from (take k items))) (sym whole) ∙ ap (take (suc count)) (drop-take from (n - from) items) ∙ take-take (suc count) (n - from) (drop from items) h
 
--- what a look copies: a front of `out` was given to it, and what is behind that stays
+-- what a look copies: a front of `out` was given to it, and what is after that stays
 pub peek_is : (items out new : List ℕ) (n from most count : ℕ) → n ≤ length items → most ≡ min (n - from) (length out)
     → count ≡ min (length items - from) (length (take most out)) → new ≡ take count (drop from items) ++ drop count (take most out)
     → new ++ drop most out ≡ take count (drop from (take n items)) ++ drop count out

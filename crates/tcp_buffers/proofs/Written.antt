@@ -26,7 +26,7 @@ length_written (suc k) (x ∷ bytes) (y ∷ area) some = ap suc (length_written 
 pub suc_plus : (n at : ℕ) → suc n + at ≡ suc (n + at)
 suc_plus n at = omega arith
 
--- bytes written behind others leave those as they are
+-- bytes written after others leave those as they are
 pub take_written : (n at : ℕ) (bytes items : List ℕ) → n ≤ length items → take n (written (n + at) bytes items) ≡ take n items
 unfolding written
 take_written zero at bytes items h = refl
@@ -43,7 +43,7 @@ drop_written (suc n) at (x ∷ bytes) [] h = absurd (omega (arith, h))
 drop_written (suc n) at (x ∷ bytes) (y ∷ items) h =
     ap (λ k. drop (suc n) (written k (x ∷ bytes) (y ∷ items))) (suc_plus n at) ∙ drop_written n at (x ∷ bytes) items (omega (arith, h))
 
--- bytes written at the front are there, and what is behind them stays
+-- bytes written at the front are there, and what is after them stays
 pub written_front : (bytes area : List ℕ) → written 0 bytes area ≡ bytes ++ drop (length bytes) area
 unfolding written
 written_front [] area = refl

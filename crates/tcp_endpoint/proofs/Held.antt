@@ -16,7 +16,7 @@ use Rattle.tcp_endpoint.proofs.Steps.{text_step, fin_step, fin_then, in_steps, s
 abbrev pub put : ℕ → List ℕ → Queue → Queue
 put ahead bytes q = if ahead == 0 then pushed bytes q else record q { early = held_with ahead bytes q.early }
 
--- the gap before what is held stays, whatever is held behind it
+-- the gap before what is held stays, whatever is held after it
 gap_stays : (at : ℕ) (bytes : List ℕ) (held : List (Option ℕ)) → 0 < at → front_run held ≡ [] → front_run (laid at bytes held) ≡ []
 unfolding laid front_run
 gap_stays at [] held h gap = gap
@@ -141,7 +141,7 @@ pub keeps_none : (q : Queue) (limit : ℕ) → q ≡ empty_queue → limit ≤ 2
 keeps_none q limit e near =
     subst (λ k. Keeps 0 k false None limit) (sym e) (record { within = omega arith; queued = omega arith; near = near; behind = nothing_behind 0 (min 65535 limit) false (omega arith) })
 
--- a FIN behind no text
+-- a FIN after no text
 fin_alone : (n edge : ℕ) (fin : Bool) (early : Early) (place : ℤ) (has_fin : Bool) → StandsBehind n edge fin early
     → comes n edge fin early place [] has_fin ≡ fin_step n edge fin early place has_fin
 fin_alone n edge fin early place has_fin b =

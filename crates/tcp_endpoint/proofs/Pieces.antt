@@ -1,4 +1,4 @@
--- Packets as pieces of one string: what a packet that is put behind them changes, and where each of them stands.
+-- Packets as pieces of one string: what a packet that is put after them changes, and where each of them stands.
 use Rattle.std.proofs.Common.{◌≡◌, ℕ, ◌<◌, ◌≤◌, ◌+◌, ◌-◌, List, [], ◌∷◌, ◌++◌, length, take, drop, refl, sym, ap, arith, ◌∙◌, length-append, length-drop, suc, zero}
 use Rattle.std.specs.Prelude.{Some, slice_get, slice_index, slice_set}
 use Rattle.std.proofs.lemmas.List.{take_at, drop_at, drop_all, take_all, take-append-le, drop-append-le, take-append-drop, drop-take, drop-drop, take-take, length-take-le}

@@ -52,7 +52,7 @@ rebased_fin n edge place has_fin c =
     both true = refl
     both false = refl
 
--- the end of the stream is looked for behind the bytes added
+-- the end of the stream is looked for after the bytes added
 rebased_end : (n : ℕ) (added : List ℕ) (c : Came) → c.added ≡ [] → with_fin_taken n (record c { added = added }) ≡ record (with_fin_taken (n + length added) c) { added = added }
 unfolding with_fin_taken
 rebased_end n added c none =

@@ -2,7 +2,7 @@
 //!
 //! - `# ..` is printed as it stands;
 //! - `read TEXT` reads a schedule, in which `%XX` stands for a byte. Its head and its events are printed as a report has them, or else why it is refused;
-//! - `many COUNT LINE` reads a schedule of a service and a server, behind which this line stands so often, each with a line feed; printed is how many events it
+//! - `many COUNT LINE` reads a schedule of a service and a server, after which this line stands so often, each with a line feed; printed is how many events it
 //!   has, or why it is refused;
 //! - `script WORD` reads a client's script;
 //! - `packet WAY HEX` prints the line of packet 7, which says these bytes; WAY is `up` or `down`, between client 1 and the server, or `out` or `in`,
@@ -106,7 +106,7 @@ fn read_many(alloc: Global, rest: &str, out: &mut Vec<u8>) -> Result<(), NoMemor
     }
 }
 
-/// A head, and behind it a line so often.
+/// A head, and after it a line so often.
 fn many(alloc: Global, count: u32, line: &[u8]) -> Result<Vec<u8>, NoMemory> {
     let mut text = Vec::from_slice(alloc, HEAD)?;
     for _ in 0..count {

@@ -1,4 +1,4 @@
--- A header with its checksum and what is behind it are the one spelling of a datagram, and it is read.
+-- A header with its checksum and what is after it are the one spelling of a datagram, and it is read.
 use Rattle.std.proofs.Common.{◌≡◌, ◌∙◌, ℕ, ◌+◌, List, ◌++◌, length, take, drop, ap, refl, sym, append_assoc}
 use Rattle.std.specs.Prelude.{Ok}
 use Rattle.std.proofs.lemmas.List.{drop-drop}

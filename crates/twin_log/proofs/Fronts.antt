@@ -1,4 +1,4 @@
--- What was written at the front of some room, and what is behind it.
+-- What was written at the front of some room, and what is after it.
 use Rattle.std.proofs.Common.{◌≡◌, ◌∙◌, ℕ, zero, suc, ◌+◌, ◌<◌, ◌≤◌, sym, ap, arith, refl, subst, append_assoc, get_or, List, [], ◌∷◌, ◌++◌, length, length-append, take, drop}
 use Rattle.std.specs.Prelude.{slice_get, Some}
 use Rattle.ft_io.proofs.Choices.{same_some}

@@ -3,7 +3,7 @@
 //!
 //! - `pair` begins with a new head and a new tail, and `# ..` is printed as it stands;
 //! - `PART server HEX` and `PART other HEX` give a datagram that came from that side, and `PART sent N` gives what the other part sent as its Nth
-//!   datagram, from 1. What goes out is printed behind the part, in order, each datagram as `server HEX` or `other HEX`; `-` where nothing does;
+//!   datagram, from 1. What goes out is printed after the part, in order, each datagram as `server HEX` or `other HEX`; `-` where nothing does;
 //! - `PART log` prints the part's number, and its log's boot number and count of entries;
 //! - `stop 1` stops the head and `stop 2` the tail, and the other is told, unless one has stopped before;
 //! - `random COUNT LENGTH SEED` plays COUNT lists of LENGTH deliveries that are drawn from SEED, each with a new pair, and prints how many datagrams
@@ -31,7 +31,7 @@ fn part_of(name: &str) -> Option<Part> {
     }
 }
 
-/// What goes out, as a line behind the part's name.
+/// What goes out, as a line after the part's name.
 fn sent_line(alloc: Global, name: &str, out: &TwinOut) -> Result<String, NoMemory> {
     let mut line = format!(in alloc; "{name}")?;
     if out.len() == 0 {

@@ -47,7 +47,7 @@ impl Pair {
         }
     }
 
-    /// The next place in order of what was sent to a part, behind so many that are lost, and at most `last`.
+    /// The next place in order of what was sent to a part, after so many that are lost, and at most `last`.
     pub(crate) fn pass(&mut self, part: Part, lost: usize, last: usize) -> usize {
         let passed = match part {
             Part::Head => &mut self.passed.0,

@@ -148,7 +148,7 @@ tick_goes e s =
 pub sound_ticked : {S : Type 0} (c : ConnState S) → IsSound c → IsSound (record c { endpoint = after_tick c.endpoint })
 sound_ticked c s = sound_with c (after_tick c.endpoint) s (tick_goes c.endpoint s.parts.tcp)
 
--- what is sent, in outer units, is behind what earlier incarnations sent
+-- what is sent, in outer units, is after what earlier incarnations sent
 units_behind : (iss delta sisn sent : ℕ) → sisn < 2 ^ 32 → distance ((iss + delta) % 2 ^ 32) sisn + sent < 2 ^ 32
     → distance ((number_at iss sent + delta) % 2 ^ 32) ((sisn + 1) % 2 ^ 32) ≡ distance ((iss + delta) % 2 ^ 32) sisn + sent
 units_behind iss delta sisn sent fits few = omega (arith, fits, few)

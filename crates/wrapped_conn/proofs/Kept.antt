@@ -87,7 +87,7 @@ not_listen Closing h = refl
 not_listen LastAck h = refl
 not_listen TimeWait h = refl
 
--- what is held stands behind the bytes taken
+-- what is held comes after the bytes taken
 abbrev HoldsBehind : Receiving → Type 0
 HoldsBehind r = StandsBehind (taken r) (receive_edge r) r.fin r.early
 

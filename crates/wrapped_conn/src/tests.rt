@@ -32,7 +32,7 @@ enum News<'a> {
     Tick,
 }
 
-/// What comes, the segments that leave then, one behind the other, and what is told to the logger.
+/// What comes, the segments that leave then, one after the other, and what is told to the logger.
 type Turn<'a> = (News<'a>, &'a [u8], &'a [u8]);
 
 /// One turn. Nothing is done where the bytes aren't accepted.
@@ -81,7 +81,7 @@ fn take_packet(
     conn.on_packet(alloc, packet, out)
 }
 
-/// Whether an outbox holds just these packets, one behind the other.
+/// Whether an outbox holds just these packets, one after the other.
 fn holds(out: &Outbox, packets: &[u8]) -> bool {
     let mut rest = packets;
     for i in 0..out.len() {
@@ -364,7 +364,7 @@ fn reset(rt: HostRuntime) -> Result<(), Fail> {
     Ok(())
 }
 
-/// The end of the text comes before its beginning, with the FIN: both are held. As the gap is filled, they go to the logger behind the
+/// The end of the text comes before its beginning, with the FIN: both are held. As the gap is filled, they go to the logger after the
 /// segment's own text.
 #[test]
 fn held(rt: HostRuntime) -> Result<(), Fail> {

@@ -1,4 +1,4 @@
--- What a failed turn took stands behind what was kept, and there was room for it under the limit.
+-- What a failed turn took comes after what was kept, and there was room for it under the limit.
 use Rattle.std.proofs.Common.{◌++◌, arith, length-append}
 use Rattle.std.proofs.KnownBytes.{Consumes-trans}
 use Rattle.ft_io.proofs.reading.read_to_limit.Goals as goal

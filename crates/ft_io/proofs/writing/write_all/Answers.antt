@@ -1,4 +1,4 @@
--- Each call moves a front of what is left behind what was done; a call that fails leaves the sink as it was.
+-- Each call moves a front of what is left after what was done; a call that fails leaves the sink as it was.
 use Rattle.std.proofs.Common.{◌≡◌, ℕ, ◌-◌, List, ◌++◌, length, take, drop, sym, ap, ◌∙◌, subst, append_assoc, take-append-drop, Result, Ok, Err, OnErr}
 use Rattle.std.proofs.lemmas.List.{take_rest}
 use Rattle.std.proofs.Math.Seq.{take-append_seam}

@@ -4,7 +4,7 @@ use Rattle.ft_model.specs.Grammar.{no_objection, read_lines}
 use Rattle.ft_model.specs.declared.line.Draft.TheVariants.{Empty}
 use Rattle.schedule_text.proofs.read.read_schedule.Given as goal
 
--- the lines that are left, behind what was read, spell what the whole text spells
+-- the lines that are left, after what was read, spell what the whole text spells
 abbrev pub invariant-loop-rest : goal.invariant-loop-rest
 invariant-loop-rest l =
     (read_lines no_objection l.number l.draft (lines_of l.rest) ≡ read_lines no_objection 1 Empty (lines_of l.text))

@@ -6,7 +6,7 @@ use Rattle.segment_codec.specs.Written.{segment_with}
 use Rattle.segment_codec.proofs.Pieces.{payload_put, behind_put, front_written}
 use Rattle.segment_codec.proofs.writing.write_packet.Goals as goal
 
--- the payload stands behind the room for the headers
+-- the payload comes after the room for the headers
 stands : (c : goal.After-slice_known-3-1) → drop (40 + length (mss_option c.args.head.now.mss)) (take (c.payload_start-start.result + length c.args.payload.now) c.put_bytes.new.bytes) ≡ c.args.payload.now
 stands c =
     let start : ℕ = c.payload_start-start.result in let len : ℕ = start + length c.args.payload.now in

@@ -1,4 +1,4 @@
--- The bytes that were left are those that the read moved, and behind them those that it left.
+-- The bytes that were left are those that the read moved, and after them those that it left.
 use Rattle.std.proofs.Common.{◌≡◌, ℕ, ◌+◌, ◌<◌, min, List, [], ◌++◌, length, take, drop, sym, ap, ◌∙◌, arith, length-drop, take-append-drop, drop_of_length-le}
 use Rattle.std.proofs.lemmas.List.{drop-drop}
 use Rattle.ft_io.proofs.mem_source.MemSourceSource.read.Goals as goal
