@@ -61,6 +61,7 @@ through_python() {
         ip=10.78.0.1
         for space in "$here" "$there"; do
             ip netns add "$space"
+            ip -n "$space" link set lo up
             ip link set "$space" netns "$space"
             ip -n "$space" addr add "$ip/24" dev "$space"
             ip -n "$space" link set "$space" mtu 1500 up
@@ -68,7 +69,7 @@ through_python() {
         done
         ip netns exec "$there" python3 -m http.server --directory "$work/served" --bind 10.78.0.2 80 >"$work/python" 2>&1 &
         pids+=("$!")
-        for _ in {1..100}; do ip netns exec "$there" curl --silent --head --output "$work/head" http://10.78.0.2/ && break; sleep 0.1; done
+        for _ in {1..100}; do ip netns exec "$there" curl --silent --max-time 1 --head --output "$work/head" http://10.78.0.2/ && break; sleep 0.1; done
         download "$here" "http://10.78.0.2/bytes"
     )
 }
