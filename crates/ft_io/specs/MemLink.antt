@@ -8,7 +8,7 @@ use Rattle.ft_io.specs.NumberedCalls.{Calls, no_call, after_call, IsNextListed}
 
 -- a link in memory, as its callers see it
 pub record LinkState : Type 0 where
-  -- what its receives are still to give
+  -- what its receives will give, in order
   pub arrivals : List Arrival
   -- its binds
   pub binds : Calls
@@ -40,7 +40,7 @@ failing_binds link numbers = record link { binds = no_call numbers }
 abbrev pub BindFails : LinkState → Type 0
 BindFails link = IsTrue link.bind_fails ⊎ IsNextListed link.binds
 
--- all its calls, and nothing once an allocation has failed in one
+-- the record of its calls; there is none once an allocation has failed in a call
 abbrev pub told_of : LinkState → Option (List LinkCall)
 told_of link = cond (link.starved == 0) (Some link.calls) None
 

@@ -4,7 +4,7 @@ use Rattle.ft_io.specs.NumberedCalls.{Calls, no_call}
 
 -- a source in memory, as its callers see it
 pub record SourceState : Type 0 where
-  -- the bytes that it is still to give
+  -- the bytes that aren't read yet
   pub left : List ℕ
   -- its reads
   pub calls : Calls

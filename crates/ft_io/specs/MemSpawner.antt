@@ -25,7 +25,7 @@ abbrev pub fresh_spawner : List ℤ → List ℕ → SpawnerState
 fresh_spawner listed fails =
     record { statuses = listed; attempts = no_call fails; started = 0; calls = []; faults = 0; starved = 0 }
 
--- all its calls, and nothing once an allocation has failed in one
+-- the record of its calls; there is none once an allocation has failed in a call
 abbrev pub told_of : SpawnerState → Option (List SpawnCall)
 told_of spawner = cond (spawner.starved == 0) (Some spawner.calls) None
 

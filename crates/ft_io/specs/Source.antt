@@ -1,4 +1,4 @@
--- What a source is still to give: `Some` bytes where its content is specified, and `None` where it isn't.
+-- The bytes of a source that aren't read yet: `Some` bytes where its content is specified, and `None` where it isn't.
 use Rattle.std.specs.Prelude.{ℕ, ◌≤◌, List, length}
 use Rattle.std.specs.declared.option.Option.{Option}
 use Rattle.std.specs.Io.KnownBytes.{Consumes}

@@ -1,8 +1,8 @@
--- What an object of the outside has recorded of its calls: `Some` list of them, the oldest first, where it records them, and `None` where it doesn't.
+-- The record of the calls on a link or a spawner: `Some` list of them, the oldest first, or `None` where calls aren't recorded.
 use Rattle.std.specs.Prelude.{◌≡◌, List, ◌++◌, ⊤, None, Some}
 use Rattle.std.specs.declared.option.Option.{Option}
 
--- these calls were recorded after those before; or nothing is recorded any more, and that stays so
+-- these calls were appended to the record; or there is no record any more, and none begins again
 abbrev pub Tells : {A : Type 0} → Option (List A) → Option (List A) → List A → Type 0
 Tells old None calls = ⊤
 Tells None (Some now) calls = ⊥

@@ -1,5 +1,5 @@
-//! The outside of FT-TCP as traits: sources of bytes and sinks for bytes, a network of datagrams, and programs that run alongside this one. Each trait has a
-//! form in memory, whose content contracts can specify, and a real one over std, of which contracts know only how many calls failed. The crate also has what
+//! Input and output of FT-TCP as traits: sources of bytes and sinks for bytes, a network of datagrams, and programs that run alongside this one. Each trait has
+//! a form in memory, whose content contracts can specify, and a real one over std, of which contracts know only how many calls failed. The crate also has what
 //! every program does with the traits: it reads an input to its end under a limit, and writes a complete text.
 #![tactic(auto)]
 
@@ -56,6 +56,6 @@ pub struct Key {
     pub port: u16,
 }
 
-/// A call on the outside failed. Nothing was taken or given by it.
+/// An input or output call failed. It moved no bytes.
 #[derive(Clone, Copy, Debug, PartialEq, Eq)]
 pub struct Failed;

@@ -1,4 +1,4 @@
-//! A link in memory, for tests. It gives the datagrams that it was made with and records its calls. It fails where it is told to, and where an allocation
+//! A link in memory, for tests. It gives the datagrams that it was made with and records its calls. It fails where it was made to fail, and where an allocation
 //! fails; from then on it records nothing.
 
 ghost use Rattle.std.specs.Prelude.{◌≡◌, ◌≤◌, ◌<◌, ◌⊎◌, length, false, true, Some, None, IfSome, IfOk, OnOk, OnErr};
@@ -16,12 +16,12 @@ use crate::{Addr, Failed, Heard, Link, LinkCall, Octets};
 use std::alloc::Global;
 use std::marker::Model;
 
-/// What a receive is to give.
+/// What a receive will give.
 #[derive(Debug, Drop)]
 pub enum Arrival {
     /// A datagram from `from`.
     Datagram { from: Addr, bytes: Octets },
-    /// Silence.
+    /// No datagram: the receive times out.
     Nothing,
 }
 
@@ -63,7 +63,7 @@ impl Model for MemLink {
 }
 
 impl MemLink {
-    /// A link at which these datagrams arrive, one at each receive, and silence after them. The sends and the receives fail whose numbers, each counted from 1,
+    /// A link at which these datagrams arrive, one at each receive, and none after them. The sends and the receives fail whose numbers, each counted from 1,
     /// are in `send_fails` and `recv_fails`, and every bind where `bind_fails`. A receive that fails uses up no arrival. Nothing is allocated yet.
     pub fn new(
         alloc: Global,
@@ -89,7 +89,7 @@ impl MemLink {
         }
     }
 
-    /// The same, but the binds fail whose numbers, counted from 1, are in `bind_fails`. So a repeated bind can be seen.
+    /// The same, but the binds fail whose numbers, counted from 1, are in `bind_fails`. So a test can see that a bind is retried.
     pub fn with_bind_fails(
         alloc: Global,
         arrivals: Vec<Arrival>,
@@ -209,7 +209,7 @@ impl Link for MemLink {
     }
 
     fn bind(&mut self, at: Addr) -> Result<(), Failed>
-        // It fails exactly where it is to, or where an allocation fails.
+        // It fails exactly where it was made to fail, or where an allocation fails.
         ensures bound { OnOk result ((BindFails self.old → ⊥)
             × (self.new ≡ noted (binding self.old) (Bound at))) }
         ensures failed { OnErr result ((BindFails self.old

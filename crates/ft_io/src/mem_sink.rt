@@ -1,5 +1,5 @@
-//! A sink that stores what it takes in memory, for tests and for schedules. Its content is specified. It fails where it is told to, and where an allocation
-//! fails.
+//! A sink that stores what it takes in memory, for tests and for schedules. Its content is specified. It fails where it was made to fail, and where an
+//! allocation fails.
 
 ghost use Rattle.std.specs.Prelude.{◌≡◌, ◌≤◌, ◌<◌, ◌⊎◌, length, Some, IfOk, OnOk, OnErr, IsErr};
 ghost use Rattle.std.specs.Io.KnownBytes.{WriteAppends};

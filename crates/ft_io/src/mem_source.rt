@@ -1,4 +1,4 @@
-//! A source over bytes in memory, for tests and for schedules. Its content is specified. It fails where it is told to.
+//! A source over bytes in memory, for tests and for schedules. Its content is specified. It fails where it was made to fail.
 
 ghost use Rattle.std.specs.Prelude.{◌≡◌, ◌≤◌, ◌<◌, ◌↔◌, length, min, take, Some, IfOk, OnOk, OnErr, IsErr};
 ghost use Rattle.std.specs.Io.KnownBytes.{ReadConsumes, IsAtEnd};

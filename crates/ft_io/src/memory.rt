@@ -1,8 +1,8 @@
-//! Allocation failure, which any call that allocates may answer with.
+//! Allocation failure, which any call that allocates may return.
 
 use std::alloc::{AllocError, AllocFailed};
 
-/// An allocation failed. Unless a call says otherwise, it left everything as it was before.
+/// An allocation failed. Unless its documentation says otherwise, the call then changed nothing.
 #[derive(Clone, Copy, Debug, PartialEq, Eq)]
 pub struct NoMemory;
 

@@ -1,4 +1,4 @@
-//! Calls numbered from 1, some of which a list makes fail: this is how the forms in memory fail on purpose.
+//! Calls numbered from 1, some of which fail because a list names them: so the forms in memory fail on purpose.
 
 ghost use Rattle.std.specs.Prelude.{◌≡◌, ◌↔◌, IsTrue, Contains};
 ghost use Rattle.ft_io.specs.NumberedCalls.{no_call, after_call, IsNextListed};

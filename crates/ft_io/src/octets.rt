@@ -1,4 +1,4 @@
-//! A list of bytes that a public type owns. Contracts see only the bytes, and neither capacity nor place.
+//! A list of bytes that a public type owns. Contracts see only the bytes, neither capacity nor address.
 
 ghost use Rattle.std.specs.Prelude.{◌≡◌, ◌==◌, List, ℕ, length};
 

@@ -1,4 +1,4 @@
-//! Std's processes as a spawner: the real outside. It records no calls. Contracts know how many children were started, and how many calls failed.
+//! Std's processes as a spawner. It records no calls. Contracts know how many children were started, and how many calls failed.
 
 ghost use Rattle.std.specs.Prelude.{◌≡◌, ◌≤◌, None};
 ghost use Rattle.ft_io.specs.ProcessSpawner.{fresh_spawner};

@@ -19,7 +19,7 @@ pub enum ReadEnd {
     NoMemory,
     /// A read failed.
     Fault,
-    /// The source had more bytes than the limit.
+    /// The source has more bytes than the limit.
     TooLong,
 }
 

@@ -9,7 +9,7 @@ use crate::Failed;
 
 /// A source of bytes: a file, standard input, or bytes in memory.
 pub trait Source {
-    /// The bytes that it is still to give, or `None` where its content isn't specified.
+    /// The bytes that aren't read yet, or `None` where its content isn't specified.
     ghost left: { Self → Option (List ℕ) };
 
     /// What `faults` returns.

@@ -1,5 +1,5 @@
-//! Std's readers and writers as sources and sinks: the real outside. Their content isn't specified: what a read gave, and how much a failed write took, depends
-//! on the system. Contracts know how many calls failed.
+//! Std's readers and writers as sources and sinks. Their content isn't specified: what a read gave, and how much a failed write took, depends on the system.
+//! Contracts know how many calls failed.
 
 ghost use Rattle.std.specs.Prelude.{◌≡◌, ◌≤◌, None, IfOk, length};
 

@@ -1,5 +1,4 @@
-//! Std's UDP socket as a link: the real outside. It records no calls: what is sent and what arrives depends on the system. Contracts know how many calls
-//! failed.
+//! Std's UDP socket as a link. It records no calls: what is sent and what arrives depends on the system. Contracts know how many calls failed.
 
 ghost use Rattle.std.specs.Prelude.{◌≡◌, ◌≤◌, IfSome, None, length};
 ghost use Rattle.ft_io.specs.Link.{HasAtMost};
@@ -11,26 +10,26 @@ use std::marker::Model;
 use std::net::{IpAddr, Ipv4Addr, Net, SocketAddr, UdpSocket};
 use std::time::{Clock, Duration, Instant};
 
-/// How many milliseconds after a send, or after one `Heard::Nothing`, the next is due, whatever arrives. A timer that advanced only in silence would stop while
-/// datagrams arrive.
+/// The receive timeout, in milliseconds: `Heard::Nothing` is due this long after the last send and after the last `Heard::Nothing`, whatever arrives. A timer
+/// that advanced only in silence would stop while datagrams arrive.
 const PATIENCE: u64 = 20;
 
-/// How many milliseconds after one `Heard::Nothing` the next is due at the latest, however much is sent in the meantime. It is the minimum retransmission
-/// timeout of RFC 6298 (2.4).
+/// The longest time from one `Heard::Nothing` to the next, in milliseconds, however much is sent in the meantime. It is the minimum retransmission timeout of
+/// RFC 6298 (2.4).
 const LONGEST: u64 = 1_000;
 
-/// By how many milliseconds the socket's timeout may differ from what is left of the patience before it is set again. So it is set some five times in 20
+/// The socket's timeout is set again only where it differs from the time that is left by at least this many milliseconds. So it is set some five times in 20
 /// milliseconds, however many datagrams arrive.
 const LEEWAY: u64 = 4;
 
 /// The shortest timeout that is set, in milliseconds. A timeout of 0 would wait forever.
 const SHORTEST: u64 = 1;
 
-/// A UDP socket. A call before the first bind that succeeded is a fault. So are a datagram from an address that isn't IPv4 and a monotonic clock that can't be
-/// read. A receive gives `Heard::Nothing` as soon as 20 milliseconds have passed since the last one that did, since the bind, and since the last send, whatever
-/// arrives. Otherwise it waits for a datagram at most until then. What is waiting in the socket then stays there for the next receive. Sends put it off for at
-/// most a second: a process that answers what arrives isn't kept waiting by its peer, so its retransmission timer needn't advance. After a receive that timed
-/// out both times begin with the next one.
+/// A UDP socket. A call before the first successful bind is a fault. So are a datagram from an address that isn't IPv4, and a monotonic clock that can't be
+/// read. A receive returns the next datagram, or `Heard::Nothing` once 20 milliseconds have passed since the bind, the last send and the last `Heard::Nothing`,
+/// whatever arrives. A datagram that waits in the socket then stays there for the next receive. Sends put `Heard::Nothing` off for at most a second: a process
+/// that answers what arrives doesn't wait for its peer, so its retransmission timer needn't advance. After a receive that timed out both times begin with the
+/// next receive.
 #[derive(Drop)]
 pub struct UdpLink<'a, R: Net + Clock> {
     system: &'a R,
@@ -109,7 +108,7 @@ impl<'a, R: Net + Clock> Link for UdpLink<'a, R> {
     }
 }
 
-/// A bound socket, and its patience.
+/// A bound socket, and when its receives time out.
 #[derive(Drop)]
 struct Bound {
     socket: UdpSocket,
@@ -117,9 +116,9 @@ struct Bound {
     timeout: Duration,
     /// When the last `Heard::Nothing` was given. After a timeout it counts from the next receive.
     since: Option<Instant>,
-    /// When the patience began, with that or with a later send.
+    /// When the timeout began: then, or with a later send.
     patient_since: Option<Instant>,
-    /// Whether something was sent since the last receive. The patience then begins with the next one.
+    /// Whether something was sent since the last receive. The timeout then begins with the next one.
     has_sent: bool,
 }
 
@@ -138,7 +137,7 @@ impl Bound {
         })
     }
 
-    /// Receives a datagram or nothing. `None` where the socket fails.
+    /// Receives a datagram, or times out. `None` where the socket fails.
     fn hear(&mut self, now: Instant, buf: &mut [u8]) -> Option<Heard>
         ensures { IfSome result (λ heard. HasAtMost heard (length buf.new)) }
     {

@@ -1,4 +1,4 @@
-//! A list of words that a public type owns. Contracts see only the bytes of each, and neither capacity nor place.
+//! A list of words that a public type owns. Contracts see only the bytes of each, neither capacity nor address.
 
 ghost use Rattle.std.specs.Prelude.{◌≡◌, List, ℕ, map, IfOk, string_bytes};
 

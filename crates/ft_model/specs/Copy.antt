@@ -1,5 +1,6 @@
 -- The law Copy: which part of a segment is sent to the logger, and which part of the held text that is taken because of it (FT-TCP, INFOCOM 2001: the south
--- side wrapper). Nothing is stored for retransmission: the client gets no acknowledgement, so it retransmits. Whether the segment was acceptable plays no part.
+-- side wrapper). Nothing is stored for retransmission: the client gets no acknowledgement, so it retransmits. Whether the segment was acceptable doesn't
+-- matter.
 use Rattle.std.specs.Prelude.{ℕ, ℤ, Bool, false, zero, suc, pos, negsuc, ◌+◌, ◌-◌, ◌&&◌, ◌||◌, not, nat_lt, nat_le, max, min, List, [], ◌∷◌, ◌++◌, length, take, drop, if◌then◌else◌}
 use Rattle.ft_io.specs.declared.Key.{Key}
 use Rattle.seq_arith.specs.Arrival.{int_eq, below}

@@ -55,6 +55,6 @@ first_told (Comes segment) before after = length before.lengths
 first_told (Logged kept) before after = length before.lengths
 first_told Begins before after = length before.lengths
 
--- Reads: a Read is sent in the turn that makes it, and all unanswered ones are sent again at each tick, by index
+-- Reads: a Read is sent in the turn that makes it, and all unanswered ones are retransmitted at each tick, by index
 unfoldable pub reads_told : News → Point → Point → List Body
 reads_told news before after = read_messages after.key (first_told news before after) (drop (first_told news before after) after.lengths)

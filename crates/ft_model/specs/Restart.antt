@@ -128,7 +128,7 @@ entry_in f = record {
 abbrev pub run_of : {State : Type 0} → Machine State → Entry → Run State
 run_of service e = reference service e.bytes e.lengths
 
--- where the output continues: after what the client acknowledged of it. A FIN is sent again even where it was acknowledged
+-- where the output continues: after what the client acknowledged of it. A FIN is retransmitted even where it was acknowledged
 abbrev pub resumed_at : {State : Type 0} → Machine State → Entry → ℕ
 resumed_at service e = min e.acknowledged (length (run_of service e).output)
 

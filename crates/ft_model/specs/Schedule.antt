@@ -16,7 +16,7 @@ kind_of Line = 2
 kind_of Transfer = 3
 kind_of Meter = 4
 
--- the first n letters of the alphabet, over and over
+-- n letters: those from `a` to `z`, repeated
 unfoldable pub letters : ℕ → List ℕ
 letters zero = []
 letters (suc n) = letters n ++ (97 + n % 26) ∷ []

@@ -138,7 +138,7 @@ unfoldable pub full_segments : {State : Type 0} → Machine State → Addr → N
 full_segments service server news before after =
     syn_acks server news before after ++ (resent service server news before after ++ (new_texts service server before after ++ new_fin service server before after))
 
--- Acknowledgement: one bare segment, exactly where one is owed and no other is sent
+-- Acknowledgement: one bare segment, exactly where an ACK is pending and no other segment is sent
 abbrev pub or_bare : Bool → Segment → List Segment → List Segment
 or_bare owed bare [] = if owed then bare ∷ [] else []
 or_bare owed bare (segment ∷ segments) = segment ∷ segments

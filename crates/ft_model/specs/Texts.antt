@@ -85,7 +85,7 @@ service_text Line = codes "line"
 service_text Transfer = codes "transfer"
 service_text Meter = codes "meter"
 
--- what a client has to say: nothing, bytes, or `n` letters
+-- the bytes that a client sends: none, these, or `n` letters
 unfoldable pub script_text : Script → List ℕ
 script_text (Bytes bytes) = if length bytes == 0 then codes "-" else codes "hex:" ++ encode_lower bytes
 script_text (Fill n) = codes "fill:" ++ decimal n

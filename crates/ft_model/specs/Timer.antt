@@ -27,8 +27,8 @@ must_run service p = not p.syn_acked || nat_lt p.una (max p.sent (target service
 abbrev pub is_renewed : Point → Point → Bool
 is_renewed before after = nat_lt before.una after.una || (after.syn_acked && not before.syn_acked)
 
--- what the timer did before no longer counts: it didn't run, or something new was acknowledged. Whether it runs now is a separate question, so this holds also
--- of a timer that stays stopped
+-- the timer's past no longer counts: it didn't run, or something new was acknowledged. Whether it runs now is a separate question, so this holds also of a
+-- timer that stays stopped
 abbrev pub is_set_anew : Point → Point → Bool
 is_set_anew before after = before.rest == 0 || is_renewed before after
 

@@ -27,7 +27,7 @@ ghost use Rattle.ft_model.specs.declared.schedule.Schedule.{Schedule};
 
 use server_trait::Service;
 
-/// A turn is determined by the server's state and its input: two lawful turns from one state with one input send the same packets in the same order, and lead
+/// A turn is determined by the server's state and its input: two lawful turns from the same state with the same input send the same packets in order, and lead
 /// to the same state.
 pub fn turns_are_determined<S: Service>()
     ensures { (kind : ℕ) (before after other : Node) (input : Input) (sent also : List Packet)
@@ -72,8 +72,8 @@ pub fn new_fins_are_closed<S: Service>()
 {}
 
 /// At a zero receive window the acknowledgement of a segment at the next number is used, whatever the segment carries. Nothing of it is taken where what is
-/// held is after a gap (`HoldsBehind`), and it is owed an answer where it has a length. Without this rule neither side of a connection whose windows are both
-/// full could continue.
+/// held is after a gap (`HoldsBehind`), and it is answered where it has a length. Without this rule neither side of a connection whose windows are both full
+/// could continue.
 pub fn shut_windows_pass_acknowledgements()
     ensures used { (p : Point) (segment : Segment) → room p ≡ 0 → first_of p.cisn segment ≡ pos (taken_units p) → uses p segment ≡ true }
     ensures not_taken { (p : Point) (segment : Segment) → HoldsBehind p → room p ≡ 0 → (taken_after (Comes segment) p ≡ p.taken) × (fin_after (Comes segment) p ≡ p.fin) }

@@ -31,12 +31,12 @@ impl ServiceKind {
     }
 }
 
-/// What a client has to say.
+/// The bytes that a client sends.
 #[derive(Debug, Drop)]
 pub enum Script {
     /// These bytes.
     Bytes(Octets),
-    /// `len` bytes, the letters from `a` to `z` again and again.
+    /// `len` bytes: the letters from `a` to `z`, repeated.
     Fill { len: u32 },
 }
 
@@ -52,7 +52,7 @@ impl Script {
     }
 }
 
-/// The letters from `a` to `z` again and again.
+/// The letters from `a` to `z`, repeated.
 #[tactic(auto, using(crate::proofs::Letters::letters_none, crate::proofs::Letters::letters_more))]
 fn letters(alloc: Global, len: u32) -> Result<Vec<u8>, NoMemory>
     ensures { IfOk result (λ text. text.items ≡ letters_lem len) }
@@ -166,7 +166,7 @@ pub enum LineWhy {
     Character,
     /// A first word that begins no line, or a service that doesn't exist.
     Word,
-    /// A line that may not come here.
+    /// A line that isn't allowed at this place.
     Place,
     /// Too few words, or too many.
     Count,

@@ -19,8 +19,8 @@ ghost use Rattle.ft_model.specs.WorkedRuns.ResetWhileRestarting;
 ghost use Rattle.ft_model.specs.WorkedRuns.UnloggedRead;
 ghost use Rattle.ft_model.specs.WorkedRuns.UnloggedRead.{meter};
 
-/// Where TCP's own acknowledgement is passed on, a crash loses bytes: the log has none of them, the Data that carries them is fenced off, and
-/// the client may not send them again. The law Acknowledgement refuses the turn.
+/// Where TCP's own acknowledgement is passed on, a crash loses bytes: the log has none of them, the Data that carries them is fenced off, and the client
+/// needn't retransmit them. The law Acknowledgement refuses the turn.
 pub fn passed_acknowledgements_lose_bytes()
     ensures wrong_once { IsWrongOnce echo FirstPath.start EarlyAcknowledgement.later EarlyAcknowledgement.wrong EarlyAcknowledgement.earlier }
     ensures not_masked { Masked echo FirstPath.start (EarlyAcknowledgement.later ++ EarlyAcknowledgement.wrong ∷ EarlyAcknowledgement.earlier) → ⊥ }

@@ -46,8 +46,8 @@ pub fn zero_window_is_lawful()
     ensures { Lawful echo server 1 5000 (hello (booted server 1 5000)) ZeroWindow.probe_turns }
 {}
 
-/// The acknowledgement and the window of a bare segment at the right edge are used and it is owed no answer. A RST there gets a challenge ACK. Past the edge
-/// nothing is used, and an answer is owed.
+/// The acknowledgement and the window of a bare segment at the right edge are used, and it gets no answer. A RST there gets a challenge ACK. Past the edge
+/// nothing is used, and an ACK is sent.
 pub fn right_edge_is_lawful()
     ensures at_it { Lawful echo server 1 5000 (hello (booted server 1 5000)) RightEdge.edge_turns }
     ensures past_it { Lawful echo server 1 5000 (hello (booted server 1 5000)) RightEdge.beyond_turns }
@@ -88,7 +88,7 @@ pub fn wrong_windows_are_refused()
     ensures never { CongestionWindow.IsUnlawful (FirstPath.node_live (CongestionWindow.repeated 2)) CongestionWindow.acknowledgement_comes CongestionWindow.never_again }
 {}
 
-/// A segment that comes during a restart is held off with window 0, and taken afterwards.
+/// A segment that comes during a restart is answered with window 0, and taken afterwards.
 pub fn segment_while_restarting_is_lawful()
     ensures { Lawful echo server 2 900000 (hello (booted server 2 900000)) SegmentWhileRestarting.restart_turns }
 {}
@@ -139,7 +139,7 @@ pub fn fin_probe_is_lawful()
     ensures { Lawful echo server 1 5000 (hello (booted server 1 5000)) ZeroWindow.fin_turns }
 {}
 
-/// A tick sends the unanswered Reads again by index, and not out of order.
+/// A tick retransmits the unanswered Reads by index, and not out of order.
 pub fn turned_reads_are_refused()
     ensures { IsUnlawful (FirstPath.node_live FirstPath.twice_read_point) Tick_comes FirstPath.reads_turned }
 {}

@@ -41,7 +41,7 @@ pub enum Body<'a> {
     SummaryMsg {
         count: u16,
     },
-    /// The entry at this place is asked for.
+    /// Asks for the entry at this index.
     ListMsg {
         index: u16,
     },
@@ -58,7 +58,7 @@ pub enum Body<'a> {
         reads: u32,
         acked: u32,
     },
-    /// The logged bytes from this offset on are asked for.
+    /// Asks for logged bytes from this offset on.
     BytesMsg {
         key: Key,
         offset: u32,
@@ -69,7 +69,7 @@ pub enum Body<'a> {
         offset: u32,
         bytes: &'a [u8],
     },
-    /// The logged lengths of reads from this one on are asked for.
+    /// Asks for logged lengths of reads, from this one on.
     CutsMsg {
         key: Key,
         first: u32,
@@ -80,14 +80,14 @@ pub enum Body<'a> {
         first: u32,
         lens: &'a [u8],
     },
-    /// A connection is to be opened.
+    /// Asks for an entry for a new connection.
     OpenMsg {
         key: Key,
         cisn: u32,
         sisn: u32,
         mss: u16,
     },
-    /// It has an entry, with these numbers.
+    /// The connection has an entry, with these numbers.
     OpenedMsg {
         key: Key,
         cisn: u32,
@@ -140,7 +140,7 @@ pub enum Body<'a> {
     },
 }
 
-/// Length `i`, counted from 0, of those that `LensMsg` lends.
+/// Length `i`, counted from 0, of the lengths that a `LensMsg` borrows, in bytes.
 #[tactic(auto, using(std::proofs::lemmas::List::take_rest, crate::proofs::Lens::len_found))]
 pub fn len_at(lens: &[u8], i: usize) -> u16
     requires { 2 * i + 1 < length lens.now }

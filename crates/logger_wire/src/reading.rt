@@ -1,5 +1,5 @@
-//! Reading a message in place: one match on the kind, and each field at its constant place. The bytes or lengths after the fields are lent as a part of the
-//! message.
+//! Reading a message in place: one match on the kind, and each field at its constant place. The message borrows the bytes or lengths after the fields from the
+//! buffer.
 
 ghost use Rattle.std.specs.Prelude.{◌≡◌, ◌≤◌, ◌<◌, ◌+◌, ◌^◌, true, length, IfOk, nat_le};
 ghost use Rattle.std.specs.List.{list_all};

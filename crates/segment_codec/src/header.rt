@@ -1,5 +1,5 @@
-//! The headers of a packet in its one spelling: no option but the segment size, don't fragment, 64 hops, and zero for all that isn't kept. The checksums are
-//! computed with zero in their places.
+//! The headers of a packet in its one spelling: no option but the segment size, "don't fragment", a time to live of 64, and zero for the rest. The checksums
+//! are computed with zero in their places.
 
 ghost use Rattle.std.specs.Prelude.{◌≡◌, ◌<◌, ◌≤◌, ◌+◌, ◌/◌, ◌^◌, IfSome, length, drop, Ok};
 ghost use Rattle.seq_arith.specs.PacketGrammar.{mss_option, reading, spelling};
@@ -47,7 +47,7 @@ fn header_words(mss: Option<u16>) -> u16
     }
 }
 
-/// Version 4, a header of five words, the total length, don't fragment, 64 hops, TCP.
+/// Version 4, a header of five words, the total length, "don't fragment", a time to live of 64, TCP.
 fn put_ip_start(out: &mut [u8], len: u16)
     requires { 40 ≤ length out.old }
     ensures { out.new ≡ put 0 (ip_start len) out.old }

@@ -11,7 +11,7 @@ use crate::fields::{ip_checksum, read_long, read_word, tcp_checksum};
 use crate::{Head, PacketRef};
 use seq_arith::{BadPacket, Seq};
 
-/// Reads a packet, or says which test of the grammar it fails first. It passes over the bytes once and copies none.
+/// Reads a packet, or says which test of the grammar it fails first. It reads the bytes once and copies none.
 #[tactic(auto, using(crate::proofs::Refusals::by_parts))]
 pub fn read_packet(bytes: &[u8]) -> Result<PacketRef<'_>, BadPacket>
     ensures { seen result ≡ reading bytes.now }

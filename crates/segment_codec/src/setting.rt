@@ -24,7 +24,7 @@ fn patch_word(head: &mut [u8], at: usize, word: u16)
     put_word(head, 36, patch16(check, old, word));
 }
 
-/// Gives a packet another sequence number. `head` is the packet's first 40 bytes. Whatever follows them stays.
+/// Sets a packet's sequence number. `head` is the packet's first 40 bytes. All that follows them stays.
 pub fn set_seq(head: &mut [u8], seq: Seq)
     requires { length head.old ≡ 40 }
     // Whatever follows the head, if the packet was accepted with it: the packet is read as before, with that field changed.
@@ -39,7 +39,7 @@ pub fn set_seq(head: &mut [u8], seq: Seq)
     patch_word(head, 26, (seq.0 % 65536) as u16);
 }
 
-/// Gives a packet another acknowledgement number, as `set_seq` gives it another sequence number.
+/// Sets a packet's acknowledgement number, as `set_seq` sets its sequence number.
 pub fn set_ack(head: &mut [u8], ack: Seq)
     requires { length head.old ≡ 40 }
     ensures read { (rest : List ℕ) → IsOk (reading (head.old ++ rest)) → reading (head.new ++ rest) ≡ changed (with_ack ack.0) (reading (head.old ++ rest)) }
@@ -51,7 +51,7 @@ pub fn set_ack(head: &mut [u8], ack: Seq)
     patch_word(head, 30, (ack.0 % 65536) as u16);
 }
 
-/// Gives a packet another window, in bytes, as `set_seq` gives it another sequence number.
+/// Sets a packet's window, in bytes, as `set_seq` sets its sequence number.
 pub fn set_window(head: &mut [u8], window: u16)
     requires { length head.old ≡ 40 }
     ensures read { (rest : List ℕ) → IsOk (reading (head.old ++ rest))

@@ -1,5 +1,5 @@
--- The tests that TCP makes on an arriving segment (RFC 9293, 3.10.7.4), over offsets in the receiver's and the sender's streams.
--- `first` is the offset of the segment's number, `len` is SEG.LEN, `next` is RCV.NXT and `window` is RCV.WND.
+-- The tests that TCP makes on an arriving segment (RFC 9293, 3.10.7.4), over offsets in the receiver's and the sender's streams. `first` is SEG.SEQ as an
+-- offset, `len` is SEG.LEN, `next` is RCV.NXT as an offset and `window` is RCV.WND.
 use Rattle.std.specs.Prelude.{ℕ, ℤ, Bool, false, pos, negsuc, ◌+◌, ◌-◌, ◌+ℤ◌, ◌==◌, ◌&&◌, ◌||◌, nat_lt, nat_le, int_lt, int_le, List, take, drop, if◌then◌else◌}
 
 -- equal integers
@@ -17,8 +17,8 @@ is_acceptable next window first len =
     then (if window == 0 then int_eq first (pos next) else lies_in next window first)
     else (if window == 0 then false else (lies_in next window first || lies_in next window (first +ℤ pos (len - 1))))
 
--- a segment of length 0 at exactly the right edge, RCV.NXT + RCV.WND, of an open window. A sender that has filled the window and lost a segment numbers its
--- acknowledgements so. The four cases leave it out
+-- a segment of length 0 at exactly the right edge, RCV.NXT + RCV.WND, of an open window. After a sender has filled the window and a segment was lost, its
+-- acknowledgements have this number. The four cases leave it out
 unfoldable pub is_at_right_edge : ℕ → ℕ → ℤ → ℕ → Bool
 is_at_right_edge next window first len = len == 0 && nat_lt 0 window && int_eq first (pos (next + window))
 

@@ -8,7 +8,7 @@ word_sum odd [] = 0
 word_sum false (byte ∷ bytes) = 256 * byte + word_sum true bytes
 word_sum true (byte ∷ bytes) = byte + word_sum false bytes
 
--- whether a string that begins so ends inside a word
+-- whether a string that begins inside a word or not ends inside one
 abbrev pub odd_after : Bool → List ℕ → Bool
 odd_after odd [] = odd
 odd_after odd (byte ∷ bytes) = odd_after (not odd) bytes

@@ -1,11 +1,11 @@
 -- What the text and the FIN of a segment do to the peer's stream (RFC 9293, 3.10.7.4, seventh and eighth check; segments past RCV.NXT may be held there). `n`
--- bytes of the stream are taken before the segment, `edge` is the receive edge, `fin` says whether the peer's FIN is taken, `early` is what is held, and the
--- segment's text begins at `first`. Each rule is one definition, and they are in order.
+-- bytes of the stream are taken before the segment, `edge` is the window's right edge, `fin` says whether the peer's FIN is taken, `early` is what is held, and
+-- the segment's text begins at `first`. Each rule is one definition, and the rules apply in this order.
 use Rattle.std.specs.Prelude.{◌≡◌, ℕ, ℤ, Bool, true, false, pos, negsuc, ◌+◌, ◌-◌, ◌<◌, ◌≤◌, ◌+ℤ◌, ◌==◌, ◌&&◌, not, min, int_le, int_lt, nat_abs, Option, None, Some, IfSome, option_map, List, [], ◌++◌, length, take, drop, if◌then◌else◌}
 use Rattle.seq_arith.specs.Arrival.{below}
 use Rattle.seq_arith.specs.Early.{held_with, front_run, behind_front_run, holds_some}
 
--- what is held: text after the bytes taken, place by place, and at most one FIN, by its offset in the stream
+-- out-of-order data, which is held: text after the bytes taken, place by place, and at most one FIN, by its offset in the stream
 pub record Early : Type 0 where
   pub text : List (Option ℕ)
   pub fin : Option ℕ
@@ -83,8 +83,8 @@ unfoldable pub comes : (n edge : ℕ) → Bool → Early → ℤ → List ℕ �
 comes n edge fin early first text has_fin =
     with_fin_taken n (continued (with_fin n edge (first +ℤ pos (length text)) has_fin (with_text n edge first text (nothing_came early fin))))
 
--- the invariant of what is held, after n bytes taken: it stays within the receive edge, nothing of it continues the bytes taken, a FIN comes after a gap and
--- after all text, and nothing is held once the FIN is taken
+-- the invariant of what is held, once n bytes are taken: it is below the right edge, nothing of it continues the bytes taken, a FIN comes after a gap and after
+-- all text, and nothing is held once the FIN is taken
 pub record StandsBehind (n edge : ℕ) (fin : Bool) (early : Early) : Type 0 where
   pub text : n + length early.text ≤ edge
   pub gap : front_run early.text ≡ []

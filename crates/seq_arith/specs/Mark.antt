@@ -2,8 +2,8 @@
 use Rattle.std.specs.Prelude.{ℕ, List}
 use Rattle.ft_io.specs.declared.Key.{Key}
 
--- A mark is a service's state at one point of a connection: how many reads led to it, how many bytes they took, how much output the service had made by then,
--- and the form of its state
+-- A mark is a service's state at one point of a connection: how many reads led to it, how many bytes they took, how much output the service had written by
+-- then, and the bytes of its state
 pub record Mark : Type 0 where
   pub reads : ℕ
   pub length : ℕ

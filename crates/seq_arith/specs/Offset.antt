@@ -9,7 +9,7 @@ use Rattle.seq_arith.specs.Packet.{Segment, has_fin, has_syn, has_rst}
 abbrev pub first_of : ℕ → Segment → ℤ
 first_of own segment = offset_of own segment.head.seq
 
--- up to where it acknowledges the other stream
+-- the offset in the other stream up to which it acknowledges
 abbrev pub ack_of : ℕ → Segment → ℤ
 ack_of peer segment = offset_of peer segment.head.ack
 

@@ -19,7 +19,7 @@ pub record Segment : Type 0 where
   pub head : Head
   pub payload : List ℕ
 
--- whether an octet of control bits has a flag, which is given by its value there
+-- whether an octet of control bits has a flag, which is given by its value in that octet
 abbrev pub has : (flags flag : ℕ) → Bool
 has flags flag = flags / flag % 2 == 1
 

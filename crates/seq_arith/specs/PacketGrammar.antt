@@ -99,7 +99,7 @@ mss_option (Some mss) = 2 ∷ 4 ∷ mss / 256 % 256 ∷ mss % 256 ∷ []
 abbrev pub packet_length : Segment → ℕ
 packet_length segment = 40 + length (mss_option segment.head.mss) + length segment.payload
 
--- the spelling with these two checksums: don't fragment, 64 hops, and zero for all that isn't kept
+-- the spelling with these two checksums: the flag "don't fragment", a time to live of 64, and zero in all fields that a head doesn't have
 unfoldable pub spelled : Segment → ℕ → ℕ → List ℕ
 spelled segment ip_check tcp_check =
     (69 ∷ 0 ∷ two (packet_length segment)) ++ (0 ∷ 0 ∷ 64 ∷ 0 ∷ []) ++ (64 ∷ 6 ∷ two ip_check)

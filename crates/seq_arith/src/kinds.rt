@@ -26,21 +26,21 @@ pub enum Kind {
     Hello = 1,
     /// How many entries the log has.
     Summary = 2,
-    /// An entry is asked for.
+    /// Asks for the entry at an index.
     List = 3,
     /// An entry without its bytes and lengths.
     Entry = 4,
-    /// Logged bytes are asked for.
+    /// Asks for logged bytes.
     Bytes = 5,
     /// Logged bytes.
     Part = 6,
-    /// Logged lengths of reads are asked for.
+    /// Asks for logged lengths of reads.
     Cuts = 7,
     /// Logged lengths of reads.
     Lens = 8,
-    /// A connection is to be opened.
+    /// Asks for an entry for a new connection.
     Open = 9,
-    /// It has an entry, with these numbers.
+    /// The connection has an entry, with these numbers.
     Opened = 10,
     /// Bytes to be logged.
     Data = 11,
@@ -60,7 +60,7 @@ pub enum Kind {
     Full = 18,
 }
 
-/// What a number in a message is, which says its size and its range.
+/// What a number in a message means, which determines its size and its range.
 #[derive(Clone, Copy, Debug)]
 pub enum Field {
     /// A count of log entries.
@@ -83,7 +83,7 @@ pub enum Field {
     Units,
     /// The length of a read.
     ReadLength,
-    /// Whether something is so.
+    /// A flag: 0 or 1.
     Flag,
     /// A boot number above the message's own.
     Newer,

@@ -1,5 +1,5 @@
 //! Laws of the words in `specs`, each the clause of a function that does nothing, for the crates above to cite. Most say that a test on numbers or on offsets
-//! stays the same where both its sides move by the same number.
+//! stays the same if both its sides move by the same number.
 
 ghost use Rattle.std.specs.Prelude.{◌≡◌, ◌<◌, ◌≤◌, ◌+◌, ◌-◌, ◌*◌, ◌/◌, ◌%◌, ◌^◌, ℕ, ℤ, pos, ◌+ℤ◌, ◌-ℤ◌, ◌≤ℤ◌, Bool, true, false, List, [], ◌∷◌, ◌++◌, length, take, drop};
 ghost use Rattle.std.specs.Prelude.{nat_abs, Ok, IsErr};
@@ -18,18 +18,18 @@ ghost use Rattle.seq_arith.specs.TwinGrammar.{IsSpellable as IsSpellableTwin, re
 ghost use Rattle.seq_arith.specs.Mark.{MarkMessage};
 ghost use Rattle.seq_arith.specs.MarkGrammar.{IsSpellable as IsSpellableMark, reading as mark_reading, spelling as mark_spelling};
 
-/// A gap stays where both its ends move by the same number.
+/// A gap stays the same if both its ends move by the same number.
 pub fn gap_shifts()
     ensures { (to from d : ℕ) → to < 2 ^ 32 → from < 2 ^ 32
         → gap ((to + d) % 2 ^ 32) ((from + d) % 2 ^ 32) ≡ gap to from }
 {}
 
-/// The gap to the number k further on is k.
+/// The gap from a number to the one k further on is k.
 pub fn gap_is_the_way()
     ensures { (from k : ℕ) → from < 2 ^ 32 → k < 2 ^ 31 → gap ((from + k) % 2 ^ 32) from ≡ pos k }
 {}
 
-/// A gap from k further on is k less, where that is still a gap.
+/// A gap is smaller by k if it begins k further on, as long as it stays in its range.
 pub fn gap_shortens()
     ensures { (to from k : ℕ) → to < 2 ^ 32 → from < 2 ^ 32 → k < 2 ^ 31 → (pos k -ℤ pos (2 ^ 31)) ≤ℤ gap to from
         → gap to ((from + k) % 2 ^ 32) ≡ gap to from -ℤ pos k }
@@ -40,13 +40,13 @@ pub fn number_names_its_offset()
     ensures { (isn k : ℕ) → k < 2 ^ 31 → offset_of isn (number_at isn k) ≡ pos k }
 {}
 
-/// A number names the same offset where the stream and the number move by the same number.
+/// A number names the same offset if the initial number and it move by the same number.
 pub fn offset_shifts()
     ensures { (isn number d : ℕ) → number < 2 ^ 32
         → offset_of ((isn + d) % 2 ^ 32) ((number + d) % 2 ^ 32) ≡ offset_of isn number }
 {}
 
-/// Acceptability stays where the next offset and the segment's move by the same number.
+/// Whether a segment is acceptable stays the same if RCV.NXT and the segment's offset move by the same number.
 pub fn acceptable_shifts()
     ensures { (next window k : ℕ) (first : ℤ) (len : ℕ)
         → is_acceptable (next + k) window (first +ℤ pos k) len ≡ is_acceptable next window first len }
@@ -83,13 +83,13 @@ pub fn una_shifts()
     ensures { (una k ack : ℕ) → una_after (una + k) (ack + k) ≡ una_after una ack + k }
 {}
 
-/// Whether a segment updates the window stays where the receiver's offsets move by j and the sender's by k.
+/// Whether a segment updates the window stays the same if the receiver's offsets move by j and the sender's by k.
 pub fn window_update_shifts()
     ensures { (una : ℕ) (wl1 : ℤ) (wl2 : ℕ) (first : ℤ) (ack j k : ℕ)
         → updates_window (una + k) (wl1 +ℤ pos j) (wl2 + k) (first +ℤ pos j) (ack + k) ≡ updates_window una wl1 wl2 first ack }
 {}
 
-/// What is held stays after what is taken, what is taken stays within the receive edge, and a FIN that is newly taken is below it.
+/// Held data stays after the bytes taken, the bytes taken stay below the right edge, and a FIN that is newly taken is below it.
 pub fn coming_keeps_to_the_edge()
     ensures behind { (n edge : ℕ) (fin : Bool) (early : Early) (first : ℤ) (text : List ℕ) (has_fin : Bool) → StandsBehind n edge fin early
         → StandsBehind (n + length (comes n edge fin early first text has_fin).added) edge (comes n edge fin early first text has_fin).fin
@@ -100,8 +100,7 @@ pub fn coming_keeps_to_the_edge()
         → (comes n edge false early first text has_fin).fin ≡ true → n + length (comes n edge false early first text has_fin).added < edge }
 {}
 
-/// A segment changes nothing once the bytes taken reach the receive edge, once the FIN is taken, and where it has neither text nor FIN. What is held stays
-/// held.
+/// A segment changes nothing once the bytes taken reach the right edge, once the FIN is taken, and where it has neither text nor FIN. What is held stays held.
 pub fn nothing_comes()
     ensures shut { (n : ℕ) (fin : Bool) (early : Early) (first : ℤ) (text : List ℕ) (has_fin : Bool) → StandsBehind n n fin early
         → comes n n fin early first text has_fin ≡ nothing_came early fin }

@@ -24,9 +24,9 @@ pub enum BadMark {
 pub enum MarkKind {
     /// A service's state to be logged.
     Mark = 1,
-    /// The read that the logged state reaches up to, as an answer to a mark.
+    /// Up to which read a state is logged, as an answer to a mark.
     Marked = 2,
-    /// The logged state is asked for.
+    /// Asks for the logged state.
     Ask = 3,
     /// The logged state.
     Held = 4,

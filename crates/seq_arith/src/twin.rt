@@ -26,6 +26,6 @@ pub enum TwinKind {
     Forward = 1,
     /// All messages up to this number are applied, from the tail to the head.
     Got = 2,
-    /// The other logger has stopped. Whoever made sure of that sends this.
+    /// The other logger has stopped. Only someone who has made sure of that may send this.
     Alone = 3,
 }

@@ -1,4 +1,4 @@
--- A service whose state can be kept as bytes, in place of the input that led to it.
+-- A service whose state can be saved as bytes, in place of the input that led to it.
 use Rattle.std.specs.Prelude.{◌≡◌, ℕ, ◌≤◌, true, false, List, [], length, Option, Some, None}
 use Rattle.std.specs.List.{AllByRecursion}
 use Rattle.std.proofs.Common.{arith}
@@ -19,7 +19,7 @@ pub record IsReadBack {State : Type 0} (written : Writing State) (state : State)
   pub short : length (written.form state) ≤ 1100
   pub bytes : AreBytes (written.form state)
 
--- each state that a run comes to before it closes is read back. Once closed, a run has no form to keep
+-- each state that a run reaches before it closes is read back. A closed run is never saved
 abbrev pub ReadsBack : {State : Type 0} → Machine State → Writing State → Type 0
 ReadsBack service written =
     (chunks : List (List ℕ)) → AllByRecursion AreBytes chunks → (fold service chunks).closed ≡ false → IsReadBack written (fold service chunks).state
@@ -28,14 +28,14 @@ ReadsBack service written =
 abbrev pub HasOneForm : {State : Type 0} → Writing State → Type 0
 HasOneForm {State} written = (bytes : List ℕ) (state : State) → AreBytes bytes → written.state_of bytes ≡ Some state → written.form state ≡ bytes
 
--- A service whose states aren't kept: no bytes are the form of any
+-- A service whose states can't be saved: no bytes are the form of any
 abbrev pub no_form : {State : Type 0} → State → List ℕ
 no_form state = []
 
 abbrev pub no_state : {State : Type 0} → ℕ → List ℕ → Option State
 no_state kind bytes = None
 
--- it keeps both laws, since neither says anything of it
+-- it satisfies both laws, since neither says anything of it
 pub unsaved_reads_back : {State : Type 0} (service : ℕ → Machine State) → false ≡ true → (kind : ℕ) → ReadsBack (service kind) (writing no_form (no_state kind))
 unsaved_reads_back service savable kind = absurd (grind (arith, savable))
 

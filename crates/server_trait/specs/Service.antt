@@ -58,7 +58,7 @@ abbrev pub cut : List ℕ → List ℕ → List (List ℕ)
 cut bytes [] = []
 cut bytes (n ∷ lengths) = take n bytes ∷ cut (drop n bytes) lengths
 
--- a length 0, which stands for the end of input, comes only last
+-- a length 0, which means the end of input, comes only last
 abbrev pub EndsAtZero : List ℕ → Type 0
 EndsAtZero [] = Unit {0}
 EndsAtZero (n ∷ []) = Unit {0}

@@ -50,22 +50,22 @@ pub trait Service: Drop {
     ghost writes_bytes: { (kind : ℕ) → WritesBytes (machine (started kind) after) };
 }
 
-/// A service whose state can be kept as bytes, its form, and which continues from them. Any service can be given this trait: one whose states aren't to be
-/// kept isn't savable, and has `no_form` and `no_state`.
+/// A service whose state can be saved as bytes, its form, and restored from them. Any service can implement this trait: one whose states aren't to be saved
+/// isn't savable, and has `no_form` and `no_state`.
 pub trait Saved: Service {
     ghost use Rattle.server_trait.specs.Service.{machine};
     ghost use Rattle.server_trait.specs.Saved.{writing, ReadsBack, HasOneForm};
 
-    /// Whether its states are kept.
+    /// Whether its states can be saved.
     ghost is_savable: { Bool };
 
-    /// The form of a state. A run that has closed isn't kept, so the states that it may have left matter to nobody.
+    /// The form of a state: the bytes that it is saved as. A run that has closed is never saved, so the states after its close need no form.
     ghost form: { Self → List ℕ };
 
-    /// The state of a service of this kind whose form these bytes are, if they are one's.
+    /// The state of a service of this kind whose form these bytes are, if there is one.
     ghost state_of: { ℕ → List ℕ → Option Self };
 
-    /// Whether its states are kept.
+    /// Whether its states can be saved.
     fn savable() -> bool
         ensures { result ≡ is_savable };
 
@@ -74,11 +74,11 @@ pub trait Saved: Service {
         ensures ok { OnOk result (out.new.items ≡ out.old.items ++ form self.now) }
         ensures err { OnErr result (out.new.items ≡ out.old.items) };
 
-    /// The service of this kind whose form these bytes are. `None` says that they are the form of none.
+    /// The service of this kind whose form these bytes are, or `None` if they are the form of none.
     fn load(alloc: Global, kind: u8, bytes: &[u8]) -> Result<Option<Self>, NoMemory>
         ensures { IfOk result (λ loaded. loaded ≡ state_of kind bytes.now) };
 
-    /// Where states are kept, each that a run comes to before it closes is read back, and its form is at most 1,100 bytes.
+    /// Where states can be saved, each state that a run reaches before it closes is read back, and its form is at most 1,100 bytes.
     ghost reads_back: { is_savable ≡ true → (kind : ℕ) → ReadsBack (machine (Self.started kind) Self.after) (writing form (state_of kind)) };
 
     /// Bytes that are read as a state are its form.

@@ -13,7 +13,7 @@ empty_queue = record { unread = []; early = [] }
 abbrev pub fitting : List ℕ → Queue → List ℕ
 fitting bytes q = take (65535 - length q.unread) bytes
 
--- what was held at their places is dropped, and this stays held
+-- what stays held: bytes held at the places of these are dropped
 abbrev pub left_over : List ℕ → Queue → List (Option ℕ)
 left_over bytes q = drop (length (fitting bytes q)) q.early
 

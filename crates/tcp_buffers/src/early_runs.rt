@@ -48,7 +48,7 @@ impl EarlyRuns {
         runs.is_empty()
     }
 
-    /// Adds a run, merged with those that it touches. Returns false, and changes nothing, where there would be more than sixteen.
+    /// Adds a run, merged with those that it touches. Returns false, and changes nothing, if there would be more than sixteen.
     #[tactic(auto, using(crate::proofs::Covered::few_are), unfolding(crate::specs::Runs::covered_more))]
     pub(crate) fn cover(&mut self, start: usize, end: usize) -> bool
         requires { start < end }

@@ -1,4 +1,4 @@
-//! Writing over a queue's bytes and past its end.
+//! Overwriting a queue's bytes, and writing past its end.
 
 ghost use Rattle.std.specs.Prelude.{◌≡◌, ℕ, ◌+◌, ◌<◌, ◌≤◌, List, ◌++◌, length, max, slice_set};
 ghost use Rattle.tcp_buffers.specs.Runs.{written};

@@ -26,7 +26,7 @@ pub struct SendState {
     pub una: Seq,
     /// SND.NXT: the next number to be sent.
     pub nxt: Seq,
-    /// SND.WND: the distance from `una` to the right edge, modulo 2^32. It is 2^31 or more where the peer's edge is before `una`.
+    /// SND.WND: the distance from `una` to the right edge, modulo 2^32. It is 2^31 or more if the peer's right edge is before `una`.
     pub wnd: u32,
     /// SND.WL1: the number of the segment that last moved the edge.
     pub wl1: Seq,

@@ -46,7 +46,7 @@ refusing e p = record e { answer = Some (rst e p p.head.ack 0 4) }
 unfoldable pub refusing_without_ack : Tcb → Segment → Tcb
 refusing_without_ack e p = record e { answer = Some (rst e p 0 ((p.head.seq + length_of p) % 2 ^ 32) 20) }
 
--- a segment without data is owed
+-- an ACK becomes pending
 abbrev pub owing_if : Bool → Tcb → Tcb
 owing_if b e = record e { owed = e.owed || b }
 
@@ -120,7 +120,7 @@ with_ack_used e p = record e {
   again = e.again || is_third_duplicate e.sending (is_bare p) (ack_at e p) p.head.window;
 }
 
--- fifth check, in the other states: an acknowledgement ahead of SND.NXT is owed an answer, and nothing of its segment is used
+-- fifth check, in the other states: an acknowledgement ahead of SND.NXT makes an ACK pending, and nothing of its segment is used
 unfoldable pub with_ack : Tcb → Segment → Tcb
 with_ack e p =
     if is_ahead e.sending.sent (ack_at e p) then owing_if true e else with_text_and_fin (with_fin_acked (with_ack_used e p)) p
@@ -129,7 +129,7 @@ with_ack e p =
 unfoldable pub check_ack : Tcb → Segment → Tcb
 check_ack e p = if has_ack p then (if e.sending.syn_acked then with_ack e p else with_first_ack e p) else e
 
--- fourth check: a SYN gets a challenge ACK. A segment with SEG.LEN above 0 is owed an answer
+-- fourth check: a SYN gets a challenge ACK. A segment with SEG.LEN above 0 makes an ACK pending
 unfoldable pub check_syn : Tcb → Segment → Tcb
 check_syn e p = if has_syn p then owing_if true e else check_ack (owing_if (nat_lt 0 (length_of p)) e) p
 
@@ -150,11 +150,11 @@ unfoldable pub accepts : Tcb → Segment → Bool
 accepts e p = is_acceptable_or_at_edge (next e.receiving) (window e.receiving) (first e p) (length_of p)
 
 -- special allowance: at a zero window a segment at RCV.NXT is processed further, in SYN-RECEIVED only where it acknowledges the SYN. A segment with SYN or
--- without ACK is owed the same ACK whether it is allowed or not. So is one with text or a FIN: neither is taken, since none of it is below the receive edge
+-- without ACK gets the same ACK whether it is allowed or not. So does one with text or a FIN: neither is taken, since none of it is below the right edge
 unfoldable pub is_allowed : Tcb → Segment → Bool
 is_allowed e p = is_allowed_at_zero (next e.receiving) (window e.receiving) (first e p) && (e.sending.syn_acked || int_eq (ack_at e p) (pos 0))
 
--- first check: a segment that is neither acceptable nor allowed is owed an answer, unless it is a RST
+-- first check: a segment that is neither acceptable nor allowed makes an ACK pending, unless it is a RST
 unfoldable pub check_place : Tcb → Segment → Tcb
 check_place e p = if accepts e p || is_allowed e p then check_rst e p else owing_if (not (has_rst p)) e
 

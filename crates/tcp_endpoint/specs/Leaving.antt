@@ -114,7 +114,7 @@ full_out e = answer_out e ++ again_out e ++ probe_out e ++ text_out (with_probe 
 unfoldable pub after_full : Tcb → Tcb
 after_full e = with_fin_out (with_text_sent (with_probe e))
 
--- a segment without data is owed: a rule requires it, or RCV.NXT or the right edge has changed since it was last sent
+-- an ACK is pending: a check requires it, or RCV.NXT or the right edge has changed since it was last sent
 unfoldable pub is_owed : Tcb → Bool
 is_owed e = has_begun e.name && (e.owed || not (e.told_next == next e.receiving) || not (e.told_edge == announced_edge e.receiving))
 
@@ -122,7 +122,7 @@ is_owed e = has_begun e.name && (e.owed || not (e.told_next == next e.receiving)
 unfoldable pub bare_segment : Tcb → Segment
 bare_segment e = segment_at e (in_flight e.sending) 16 []
 
--- the list; or `bare` alone, where the list is empty and a segment without data is owed. The lists are of segments or of packets
+-- the list; or only `bare`, where the list is empty and an ACK is pending. The lists are of segments or of packets
 abbrev pub or_bare : {A : Type 0} → Bool → A → List A → List A
 or_bare owed bare [] = if owed then bare ∷ [] else []
 or_bare owed bare (first ∷ others) = first ∷ others

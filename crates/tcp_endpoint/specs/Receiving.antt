@@ -21,7 +21,7 @@ taken r = r.read + length r.unread
 abbrev pub next : Receiving → ℕ
 next r = taken r + one_if r.fin
 
--- no byte from this offset on is taken: it is 65,535 bytes past what is read, and at most the limit
+-- the right edge of the receive window, as an offset: 65,535 bytes past what is read, and at most the limit. No byte from there on is taken
 abbrev pub receive_edge : Receiving → ℕ
 receive_edge r = min (r.read + 65535) r.limit
 

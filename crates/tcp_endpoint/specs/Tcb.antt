@@ -22,7 +22,7 @@ pub record Tcb : Type 0 where
   pub probe : Bool  -- a probe goes out,
   pub answer : Option Head  -- and this RST answers
 
--- the largest receive edge of an endpoint: the limit that is asked for, and at most 2^30
+-- the largest right edge of an endpoint's receive window, as an offset: the limit that the caller gives, and at most 2^30
 abbrev pub kept_limit : ℕ → ℕ
 kept_limit limit = min limit (2 ^ 30)
 

@@ -238,14 +238,14 @@ impl Endpoint {
         self.name = name;
     }
 
-    /// Notes whether a segment without data is owed.
+    /// Makes an ACK pending, if it is due.
     fn owe(&mut self, is_owed: bool)
         ensures { self.new ≡ owing_if is_owed self.old }
     {
         self.owed = self.owed || is_owed;
     }
 
-    /// RFC 9293, 3.10.7.4, first check: a segment that is neither acceptable nor allowed is owed an answer, unless it is a RST.
+    /// RFC 9293, 3.10.7.4, first check: a segment that is neither acceptable nor allowed makes an ACK pending, unless it is a RST.
     #[tactic(auto, unfolding(crate::specs::Arrival::accepts, crate::specs::Arrival::check_place, crate::specs::Arrival::in_others, crate::specs::Arrival::waiting_again))]
     fn in_others(&mut self, p: PacketRef<'_>)
         requires { length p.payload.now ≤ 65535 }

@@ -36,7 +36,7 @@ pub struct Endpoint {
     pub(crate) told_next: u32,
     /// The edge last advertised, as such an offset.
     pub(crate) told_edge: u32,
-    /// Whether a segment without data is owed in this turn.
+    /// Whether an ACK is pending in this turn.
     pub(crate) owed: bool,
     /// Whether the first unacknowledged segment is due in this turn: the SYN or SYN-ACK, or a retransmission.
     pub(crate) again: bool,
@@ -69,7 +69,7 @@ impl Model for Endpoint {
 }
 
 impl Endpoint {
-    /// A passive open at a local address, with the initial number `isn`. The receive edge never passes `limit` bytes, nor 2^30.
+    /// A passive open at a local address, with the initial number `isn`. At most `limit` bytes of the peer's stream are ever taken, and at most 2^30.
     #[tactic(auto, unfolding(crate::specs::Tcb::listening))]
     pub fn listen(alloc: Global, local: Addr, isn: Seq, limit: u32) -> Result<Endpoint, NoMemory>
         ensures { IfOk result (λ e. e ≡ listening local isn.0 limit) }

@@ -237,7 +237,7 @@ impl Endpoint {
         }
     }
 
-    /// Whether a segment without data is owed.
+    /// Whether an ACK is pending.
     #[tactic(auto, unfolding(crate::specs::Leaving::is_owed))]
     fn is_owed(&self) -> bool
         ensures { result ≡ is_owed self.now }
@@ -248,14 +248,14 @@ impl Endpoint {
                 || self.told_edge != self.receiver.announced_edge())
     }
 
-    /// Whether the segment without data is sent: it is owed, and no other is sent.
+    /// Whether the segment without data is sent: an ACK is pending, and no other segment is sent.
     fn sends_bare(&self, out: &Outbox) -> bool
         ensures { result ≡ ((length out.now == 0) && is_owed self.now) }
     {
         out.is_empty() && self.is_owed()
     }
 
-    /// Sends the segment without data, where it is owed and no other is sent.
+    /// Sends the segment without data, if an ACK is pending and no other segment is sent.
     #[tactic(auto, unfolding(crate::specs::Leaving::bare_segment))]
     fn send_owed(&self, out: &mut Outbox)
         requires count { length out.old ≤ 1028 }

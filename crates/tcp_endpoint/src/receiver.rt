@@ -16,7 +16,7 @@ use seq_arith::Seq;
 use std::marker::Model;
 use tcp_buffers::RecvQueue;
 
-/// The largest receive edge, chosen so that every offset is near to every other.
+/// The largest right edge, as an offset. It is chosen so that every offset is near to every other.
 const MOST: u32 = 1 << 30;
 
 /// What is known of the peer's stream.
@@ -32,7 +32,7 @@ pub(crate) struct Receiver {
     fin: bool,
     /// The offset in the peer's stream of a FIN that is held until the text before it is taken.
     held_fin: Option<u32>,
-    /// The receive edge never passes this offset of the peer's stream.
+    /// The right edge of the window never passes this offset of the peer's stream.
     limit: u32,
 }
 
@@ -113,7 +113,7 @@ impl Receiver {
         self.irs.add(1).add(self.next())
     }
 
-    /// The offset up to which bytes are taken.
+    /// The right edge of the window, as an offset: bytes are taken up to it.
     fn receive_edge(&self) -> u32
         ensures { result ≡ receive_edge self.now }
     {
@@ -201,8 +201,8 @@ impl Receiver {
         seq == self.edge_number()
     }
 
-    /// Whether a segment of length 0 is at exactly the right edge of an open window. A sender that has filled the window and lost a segment numbers its
-    /// acknowledgements so.
+    /// Whether a segment of length 0 is at exactly the right edge of an open window. After a sender has filled the window and a segment was lost, its
+    /// acknowledgements have this number.
     #[tactic(auto, using(crate::proofs::Places::near_of_place), unfolding(seq_arith::specs::Arrival::is_at_right_edge))]
     fn is_at_right_edge(&self, seq: Seq, len: u32) -> bool
         ensures edge { result ≡ is_at_right_edge (next self.now) (window self.now) (offset_of self.now.irs seq.0) len }
@@ -342,7 +342,7 @@ impl Receiver {
         }
     }
 
-    /// Where a text of this length ends, as an offset in the peer's stream. If that is before the stream's beginning, the result is no smaller than the receive
+    /// Where a text of this length ends, as an offset in the peer's stream. If that is before the stream's beginning, the result is no smaller than the right
     /// edge.
     fn end(&self, seq: Seq, len: u32) -> u32
         requires near { IsNearFirst (offset_of self.now.irs seq.0) }

@@ -49,10 +49,10 @@ fn arrive_with(
     endpoint.on_packet(PacketRef { head, payload });
 }
 
-/// What a segment that goes out says: number, acknowledgement, flags, window, how much text.
+/// What a segment that is sent says: number, acknowledgement, flags, window, how much text.
 type Going = (u32, u32, u8, u16, usize);
 
-/// Ends the turn, and says what goes out where it is one segment.
+/// Ends the turn, and returns what is sent, if it is one segment.
 fn flush(endpoint: &mut Endpoint, out: &mut Outbox) -> Option<Going> {
     out.clear();
     endpoint.flush(out);
@@ -114,7 +114,7 @@ fn active_open(rt: HostRuntime) -> Result<(), Fail> {
     Ok(())
 }
 
-/// More text than a packet of IP has: the first 65,535 bytes are looked at, and fill the window.
+/// More text than an IP packet can carry: only the first 65,535 bytes count, and fill the window.
 #[test]
 fn long_text(rt: HostRuntime) -> Result<(), Fail> {
     let mut out = Outbox::new(rt.alloc())?;
@@ -127,7 +127,7 @@ fn long_text(rt: HostRuntime) -> Result<(), Fail> {
     Ok(())
 }
 
-/// Text and a FIN that come early are held until the gap before them is filled. A bare acknowledgement from there is owed nothing.
+/// Out-of-order text and a FIN are held until the gap before them is filled. A bare acknowledgement from there gets no answer.
 #[test]
 fn early_text(rt: HostRuntime) -> Result<(), Fail> {
     let mut out = Outbox::new(rt.alloc())?;
@@ -151,7 +151,7 @@ fn early_text(rt: HostRuntime) -> Result<(), Fail> {
     Ok(())
 }
 
-/// Ends the turn, and says of each segment that goes out where its text begins, counted from the first byte, and how much there is.
+/// Ends the turn, and returns of each segment that is sent where its text begins, counted from the first byte, and how much there is.
 fn texts(
     alloc: Global,
     endpoint: &mut Endpoint,

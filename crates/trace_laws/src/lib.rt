@@ -71,7 +71,7 @@ pub fn moves_are_near<S: Service>()
         → (world_after start (later ++ moment ∷ earlier)).node ≡ Some node → AreNear node.server moves.segment node.stage }
 {}
 
-/// A packet for another address is near in any case: what a stranger sends elsewhere voids nothing.
+/// A packet for another address is near in any case, so what others send elsewhere breaks no premise.
 pub fn packets_for_others_are_near()
     ensures { (server : Addr) (segment : Segment) (stage : Stage) → is_for server segment ≡ false → AreNear server segment stage }
 {}
@@ -101,7 +101,7 @@ pub fn turns_send_what_may_leave<S: Service>()
         → min (target (machine (S.started kind) S.after) after) (send_edge after) ≤ after.sent }
 {}
 
-/// Nearness needs its premise: in a trace with one moment in which a client sends what is no move, a packet is in flight that isn't near to a live connection.
+/// Clients must send only moves: in a trace with one moment in which a client sends something else, a packet is in flight that isn't near to a live connection.
 pub fn far_packets_are_refused()
     ensures wrong_once { IsWrongOnce echo FirstPath.start [] FarPacket.wrong FirstPath.opening_trace }
     ensures up { FarPacket.wrong.world.node ≡ Some (FirstPath.node_live FirstPath.open_point) }
@@ -109,7 +109,7 @@ pub fn far_packets_are_refused()
     ensures not_near { AreNear (FirstPath.node_live FirstPath.open_point).server FarPacket.far (FirstPath.node_live FirstPath.open_point).stage → ⊥ }
 {}
 
-/// So does soundness: in a trace with one moment in which the log keeps a FIN after 2^24 bytes, an entry isn't sound.
+/// The log must keep its limits: in a trace with one moment in which it keeps a FIN after 2^24 bytes, an entry isn't sound.
 pub fn late_fins_are_refused()
     ensures wrong_once { (bytes : List ℕ) → length bytes ≡ 2 ^ 24 → IsWrongOnce echo FirstPath.start [] (LateFin.wrong bytes) FirstPath.opening_trace }
     ensures not_sound { (bytes : List ℕ) → length bytes ≡ 2 ^ 24 → AllByRecursion (IsSound echo) (LateFin.wrong bytes).world.log.entries → ⊥ }

@@ -1,4 +1,4 @@
--- A FIN is lost, and the acknowledgement that the client sends after it arrives. It begins past the next number, takes up no number, and is owed no answer:
+-- A FIN is lost, and the acknowledgement that the client sends after it arrives. It begins past the next number, takes up no number, and gets no answer:
 -- otherwise two ends that each miss a segment would answer each other forever.
 use Rattle.std.specs.Prelude.{pos, true, None, List, [], ◌∷◌}
 use Rattle.seq_arith.specs.Packet.{Segment}

@@ -1,5 +1,5 @@
--- A client acknowledges more than the restarted server has sent. Its acknowledgement is lowered to what was sent, and used in full once the same output is sent
--- again.
+-- A client acknowledges more than the restarted server has sent. Its acknowledgement is lowered to what was sent, and used in full once the same output is
+-- retransmitted.
 use Rattle.std.specs.Prelude.{pos, true, false, None, List, [], ◌∷◌}
 use Rattle.seq_arith.specs.Packet.{Segment}
 use Rattle.seq_arith.specs.Message.{EntryHead}
@@ -23,7 +23,7 @@ bare_entry = fetched_with head [] []
 abbrev pub entry_with_lengths : Fetched
 entry_with_lengths = fetched_with head [] (5 ∷ [])
 
--- the connection after the restart, when the output is sent again, and when it is acknowledged
+-- the connection after the restart, when the output is retransmitted, and when it is acknowledged
 abbrev pub restarted : Point
 restarted = record (blank_point key 1000 5000 536) {
   fetched = 5;

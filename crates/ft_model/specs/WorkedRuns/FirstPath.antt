@@ -212,7 +212,7 @@ text_comes = Packet_comes (client_segment 16 1001 5001 65535 hello_text)
 abbrev pub stable_comes : Input
 stable_comes = Message_comes (record { boot = 1; body = StableMsg (kept_with 5 false 0) })
 
--- the connection when the text was read in two pieces, and the Reads that a tick sends again; out of order is wrong
+-- the connection when the text was read in two pieces, and the Reads that a tick retransmits; out of order is wrong
 abbrev pub twice_read_point : Point
 twice_read_point = record taken_point { lengths = 2 ∷ 3 ∷ [] }
 

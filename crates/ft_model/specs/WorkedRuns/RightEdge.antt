@@ -1,5 +1,5 @@
--- A client has filled the server's window, and its first segment is lost. It numbers what it sends next at the right edge. The acknowledgement and the window
--- of such a segment are used and it is owed no answer. A RST there gets a challenge ACK.
+-- A client has filled the server's window, and its first segment is lost. What it sends next has the number of the right edge. The acknowledgement and the
+-- window of such a segment are used, and it gets no answer. A RST there gets a challenge ACK.
 use Rattle.std.specs.Prelude.{pos, None, List, [], ◌∷◌}
 use Rattle.seq_arith.specs.Packet.{Segment}
 use Rattle.ft_model.specs.Point.{Point}

@@ -1,4 +1,4 @@
--- A segment that arrives while the server fetches: it is held off with window 0, and taken when it is sent again after the restart.
+-- A segment that arrives while the server fetches: it is answered with window 0, and taken when the client retransmits it after the restart.
 use Rattle.std.specs.Prelude.{pos, true, false, None, List, [], ◌∷◌}
 use Rattle.seq_arith.specs.Packet.{Segment}
 use Rattle.seq_arith.specs.Message.{EntryHead}
