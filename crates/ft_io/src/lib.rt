@@ -45,14 +45,18 @@ mod writing;
 /// An IPv4 address and a port, of a server or a logger.
 #[derive(Clone, Copy, Debug, PartialEq, Eq, PartialOrd, Ord, Hash)]
 pub struct Addr {
+    /// The four octets as one number, the first octet the highest.
     pub ip: u32,
+    /// The port: 16 bits.
     pub port: u16,
 }
 
 /// The address and port of a client, which names its connection.
 #[derive(Clone, Copy, Debug, PartialEq, Eq, PartialOrd, Ord, Hash)]
 pub struct Key {
+    /// The four octets as one number, the first octet the highest.
     pub ip: u32,
+    /// The port: 16 bits.
     pub port: u16,
 }
 

@@ -30,6 +30,7 @@ impl Words {
         Ok(Words { words })
     }
 
+    /// The words, in order.
     pub fn as_slice(&self) -> &[String]
         ensures { map string_bytes result.now ≡ self.now }
     {

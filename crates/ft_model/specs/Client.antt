@@ -14,7 +14,7 @@ use Rattle.ft_model.specs.declared.event.Event.TheVariants as events
 use Rattle.ft_model.specs.declared.event.EventWhy.{EventWhy}
 use Rattle.ft_model.specs.declared.event.EventWhy.TheVariants.{State, Range}
 
--- Which of the two kinds a client is, from its start on. A scripted one makes the moves of a schedule, and only those in a legal trace. A live one is a TCP of
+-- Which of the two kinds a client is, from its start on. A scripted one makes exactly the moves that the events of a schedule ask for. A live one is a TCP of
 -- its own
 pub data ClientKind : Type 0 where
   Scripted : ClientKind

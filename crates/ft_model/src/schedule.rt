@@ -67,8 +67,11 @@ fn letters(alloc: Global, len: u32) -> Result<Vec<u8>, NoMemory>
 /// A client: its address and port, its initial number and its script.
 #[derive(Debug, Drop)]
 pub struct ClientLine {
+    /// Its address and port.
     pub key: Key,
+    /// Its initial sequence number, modulo 2^32.
     pub isn: u32,
+    /// The bytes that it sends, at most 2^24.
     pub script: Script,
 }
 
@@ -95,6 +98,7 @@ impl ClientLines {
         ClientLines { lines }
     }
 
+    /// The clients, in order.
     pub fn as_slice(&self) -> &[ClientLine]
         ensures { result.now ≡ self.now }
     {
@@ -134,6 +138,7 @@ impl Events {
         Events { events }
     }
 
+    /// The events, in order.
     pub fn as_slice(&self) -> &[Event]
         ensures { result.now ≡ self.now }
     {
@@ -153,9 +158,13 @@ impl Events {
 /// A run as it is written down: the service, the server's address, the clients, and the events in order.
 #[derive(Debug, Drop)]
 pub struct Schedule {
+    /// The service that the server runs.
     pub service: ServiceKind,
+    /// The server's address and port.
     pub server: Addr,
+    /// At most 16 in a schedule that a text spells.
     pub clients: ClientLines,
+    /// At most 100,000 in a schedule that a text spells.
     pub events: Events,
 }
 

@@ -2,6 +2,7 @@
 
 ghost use Rattle.kept_log.specs.Reading.{HasMagic};
 
+/// The first eight bytes of a journal's file.
 pub const MAGIC: &[u8] = b"ftlog 1\n";
 
 /// What the bytes at a file's front are. They are all of it, or more than the magic has.
@@ -15,6 +16,7 @@ pub enum Magic {
     Missing,
 }
 
+/// Whether these bytes, the beginning of a file, begin with the magic.
 pub fn magic_of(bytes: &[u8]) -> Magic
     ensures { HasMagic bytes.now result }
 {

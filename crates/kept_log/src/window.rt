@@ -28,6 +28,7 @@ impl Model for Window {
 }
 
 impl Window {
+    /// An empty window. Nothing is allocated yet.
     pub fn new(alloc: Global) -> Window
         ensures { result ≡ [] }
     {
@@ -37,12 +38,14 @@ impl Window {
         }
     }
 
+    /// The bytes that are read from the file and not yet used.
     pub fn bytes(&self) -> &[u8]
         ensures { result.now ≡ self.now }
     {
         &self.bytes[self.at..]
     }
 
+    /// Removes the first `n` bytes.
     pub fn skip(&mut self, n: usize)
         requires { n ≤ length self.old }
         ensures { self.new ≡ drop n self.old }

@@ -27,6 +27,7 @@ const VERSION: u8 = 1;
 pub struct Msg<'a> {
     /// At least 1.
     pub boot: u64,
+    /// Its kind, with its fields.
     pub body: Body<'a>,
 }
 

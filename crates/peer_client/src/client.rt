@@ -15,6 +15,7 @@ use std::marker::Model;
 /// The client's state does not allow the move.
 #[derive(Clone, Copy, Debug, PartialEq, Eq)]
 pub struct Refused {
+    /// The first test that the move fails.
     pub why: EventWhy,
 }
 

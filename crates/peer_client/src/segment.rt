@@ -14,18 +14,21 @@ fn has_fin(segment: &PacketRef<'_>) -> bool
     has(segment.head.flags, FIN)
 }
 
+/// Whether a segment has the flag SYN.
 pub fn has_syn(segment: &PacketRef<'_>) -> bool
     ensures { result ≡ syn_lem (segment_of segment.now) }
 {
     has(segment.head.flags, SYN)
 }
 
+/// Whether a segment has the flag RST.
 pub fn has_rst(segment: &PacketRef<'_>) -> bool
     ensures { result ≡ rst_lem (segment_of segment.now) }
 {
     has(segment.head.flags, RST)
 }
 
+/// Whether a segment has the flag ACK.
 pub fn has_ack(segment: &PacketRef<'_>) -> bool
     ensures { result ≡ ack_lem (segment_of segment.now) }
 {

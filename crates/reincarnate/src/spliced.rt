@@ -59,6 +59,7 @@ impl<S: Service> Spliced<S> {
         self.boot
     }
 
+    /// The client's address and port.
     pub fn key(&self) -> Key
         ensures { result ≡ self.now.key }
     {
@@ -72,18 +73,21 @@ impl<S: Service> Spliced<S> {
         self.local
     }
 
+    /// The wrapper between the client and TCP.
     pub fn south(&self) -> &South
         ensures { result.now ≡ self.now.south }
     {
         &self.south
     }
 
+    /// TCP.
     pub fn endpoint(&self) -> &Endpoint
         ensures { result.now ≡ self.now.endpoint }
     {
         &self.endpoint
     }
 
+    /// The wrapper between TCP and the service.
     pub fn north(&self) -> &North<S>
         ensures { result.now ≡ self.now.north }
     {

@@ -21,6 +21,8 @@ mod writing;
 /// A packet whose payload stays in the bytes that it was read from.
 #[derive(Clone, Copy, Debug)]
 pub struct PacketRef<'a> {
+    /// The fields of both headers.
     pub head: Head,
+    /// The text, borrowed from the packet's bytes.
     pub payload: &'a [u8],
 }

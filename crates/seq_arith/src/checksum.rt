@@ -22,6 +22,7 @@ impl Model for Sum16 {
 }
 
 impl Sum16 {
+    /// The sum of no bytes.
     pub fn new() -> Sum16
         ensures { result ≡ nothing_summed }
     {

@@ -6,10 +6,12 @@ ghost use Rattle.seq_arith.specs.Generator.{stepped, drawn};
 /// The linear congruential generator of Knuth's MMIX. A seed is a first state.
 #[derive(Clone, Copy, Debug)]
 pub struct Generator {
+    /// Any 64 bits.
     pub state: u64,
 }
 
 impl Generator {
+    /// A generator whose first state is `seed`.
     pub fn new(seed: u64) -> Generator
         ensures { result.state ≡ seed }
     {

@@ -11,15 +11,23 @@ use ft_io::{Addr, Key};
 /// The fields of the two headers that are kept (RFC 791, 3.1; RFC 9293, 3.1). A packet has no option except, where `mss` is given, the segment size in bytes.
 #[derive(Clone, Copy, Debug, PartialEq, Eq)]
 pub struct Head {
+    /// The source address, the first octet the highest.
     pub src: u32,
+    /// The destination address.
     pub dst: u32,
+    /// The source port.
     pub sport: u16,
+    /// The destination port.
     pub dport: u16,
+    /// SEG.SEQ: the number of the segment's first unit.
     pub seq: Seq,
+    /// SEG.ACK. It counts only with the flag ACK.
     pub ack: Seq,
     /// The control bits, as `FIN` and the others name them.
     pub flags: u8,
+    /// SEG.WND, in bytes, without scaling.
     pub window: u16,
+    /// The maximum segment size option, in bytes, if there is one.
     pub mss: Option<u16>,
 }
 

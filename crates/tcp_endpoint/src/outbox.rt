@@ -58,6 +58,7 @@ impl Outbox {
         self.ends.len()
     }
 
+    /// Whether there is no packet.
     #[tactic(auto, using(crate::proofs::Pieces::length_pieces))]
     pub fn is_empty(&self) -> bool
         ensures { result ≡ (length self.now == 0) }

@@ -47,8 +47,11 @@ pub enum Version {
 /// A request, as far as its fields have been read.
 #[derive(Clone, Copy, Debug, PartialEq, Eq)]
 pub struct Request {
+    /// What it asks to do.
     pub method: Method,
+    /// The page at its target's path.
     pub page: Page,
+    /// HTTP/1.0 or HTTP/1.1.
     pub version: Version,
     /// Whether it has a Host field.
     pub host: bool,

@@ -143,6 +143,7 @@ impl<S: Service> Conn<S> {
         &self.north
     }
 
+    /// How far it has come: live, ending or done.
     pub fn stage(&self) -> ConnStage
         ensures { result ≡ self.now.stage }
     {

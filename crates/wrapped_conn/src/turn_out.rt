@@ -27,6 +27,7 @@ impl TurnOut {
         })
     }
 
+    /// The segments to the client, in order, as packets.
     pub fn segments(&self) -> &Outbox
         ensures { result.now ≡ self.now.segments }
     {
