@@ -1,4 +1,4 @@
--- How a new connection begins: its TCP gets the SYN with the kept numbers, and sends the SYN-ACK (RFC 9293, 3.10.7.2).
+-- How a new connection begins: its TCP receives the SYN with the logged numbers, and sends the SYN-ACK (RFC 9293, 3.10.7.2).
 use Rattle.std.specs.Prelude.{◌≡◌, ◌≤◌, ◌<◌, ◌^◌, List, [], ◌∷◌}
 use Rattle.ft_io.specs.declared.Addr.{Addr}
 use Rattle.seq_arith.specs.Message.{Numbers}
@@ -29,7 +29,7 @@ opened_syn local numbers = forged_syn numbers.key local numbers.cisn 0 numbers.m
 abbrev pub listens_with : Addr → Numbers → Tcb
 listens_with local numbers = listening local numbers.sisn (2 ^ 24)
 
--- output begins at its start, under the initial number that the client knows. What is sent, as the client gets it, is what the law says, and the connection
+-- output begins at its start, under the initial number that the client knows. What is sent, as the client receives it, is what the law says, and the connection
 -- adds nothing
 pub record BeginsInside {State : Type 0} (service : Machine State) (local : Addr) (numbers : Numbers) (q : Point) (calls : List Call) : Type 0 where
   pub stands : StandsInside 0 numbers.sisn 0 q (turned (Comes (opened_syn local numbers)) calls (listens_with local numbers))

@@ -1,4 +1,5 @@
--- A wrapped connection whose TCP is CLOSED, since both FINs are through: TCP sends the client nothing any more, and the connection itself answers.
+-- A wrapped connection whose TCP is CLOSED, since it has taken the client's FIN and its own is acknowledged: TCP sends the client nothing more, and the
+-- connection itself answers.
 use Rattle.std.specs.Prelude.{◌≡◌, ◌^◌, ◌%◌, ◌<◌, ℕ, true, false, ◌+◌, ◌-◌, ◌≤◌, length, max, sum, List, [], None}
 use Rattle.ft_io.specs.declared.Addr.{Addr}
 use Rattle.server_trait.specs.Service.{Machine}
@@ -44,7 +45,7 @@ pub record StandsClosed {State : Type 0} (service : Machine State) (u i delta : 
   pub all_sent : p.sent ≡ target service p
   pub still : p.rest ≡ 0
 
--- what is sent is a segment without data, where the law owes one, and nothing else
+-- what is sent is a segment without data, if an ACK is pending by the law, and nothing else
 abbrev pub SendsAlone : {State : Type 0} → Machine State → Addr → News → (before after : Point) → Type 0
 SendsAlone service server news before after =
     segments_of service server news before after ≡ or_bare (is_owed service news before after) (bare_segment server after) []

@@ -1,6 +1,6 @@
--- What the inner TCP of a wrapped connection sees of it: the same connection under an initial number of its own. Its output continues where the restart
--- continued, its user writes all output except what was acknowledged before, and all that is taken may be acknowledged (FT-TCP, INFOCOM 2001: the restarted TCP
--- counts from a number of its own, and the wrappers hide the difference).
+-- What the inner TCP of a wrapped connection sees: the same connection under an initial number of its own. Its output continues where the restart continued,
+-- its user writes all output except what was acknowledged before, and all that is taken may be acknowledged (FT-TCP, INFOCOM 2001: the restarted TCP counts
+-- from a number of its own, and the wrappers hide the difference).
 use Rattle.std.specs.Prelude.{◌≡◌, ℕ, false, ◌+◌, ◌-◌, ◌%◌, ◌^◌, ◌<◌, ◌≤◌, [], drop, length}
 use Rattle.server_trait.specs.Service.{Machine, Served, Run}
 use Rattle.seq_arith.specs.Coming.{nothing_early}

@@ -11,7 +11,7 @@ use Rattle.ft_model.specs.Segments.{syn_acks, bare_segment, or_bare}
 use Rattle.south_wrap.specs.Patching.{inward, outward, repeats_syn}
 use Rattle.south_wrap.specs.Standing.{south_at}
 
--- a segment is passed in as the south wrapper changes it. A SYN that the kept SYN-ACK answers isn't passed in. TCP gets all other news as it is
+-- a segment is passed in as the south wrapper changes it. A SYN that the logged SYN-ACK answers isn't passed in. TCP gets all other news as it is
 abbrev pub news_inside : (delta : ℕ) → Point → News → News
 news_inside delta before (Comes segment) = if repeats_syn (south_at delta before) segment then Begins else Comes (inward (south_at delta before) segment)
 news_inside delta before news = news
@@ -20,7 +20,7 @@ news_inside delta before news = news
 abbrev pub passed : (delta : ℕ) → Point → List Segment → List Segment
 passed delta after segments = if list_any has_rst segments then [] else map (outward (south_at delta after)) segments
 
--- a segment without data is owed of which TCP doesn't know: the connection was over before, or has become live ..
+-- an ACK is pending of which TCP doesn't know: the connection was over before, or has become live ..
 abbrev pub asks_besides : {State : Type 0} → Machine State → News → Point → Bool
 asks_besides service (Comes segment) before = is_over service before && not (has_rst segment)
 asks_besides service Begins before = true
@@ -30,7 +30,7 @@ asks_besides service _ before = false
 abbrev pub owes_besides : {State : Type 0} → Machine State → News → (before after : Point) → Bool
 owes_besides service news before after = asks_besides service news before || nat_lt before.answered after.answered
 
--- what is sent: the kept SYN-ACK, then what comes out of TCP, or else a segment without data that is owed in addition
+-- what is sent: the logged SYN-ACK, then what comes out of TCP, or else a segment without data for the ACK of which TCP doesn't know
 abbrev pub leaves : {State : Type 0} → Machine State → Addr → News → (before after : Point) → List Segment → List Segment
 leaves service server news before after passed_on =
     or_bare (owes_besides service news before after) (bare_segment server after) (syn_acks server news before after ++ passed_on)

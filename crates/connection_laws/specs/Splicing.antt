@@ -1,4 +1,4 @@
--- How a fresh endpoint is brought to where a restart continues: by segments that are forged to it.
+-- How a fresh endpoint is brought to where a restart continues: by forged segments.
 use Rattle.std.specs.Prelude.{false, ◌≡◌, ◌≤◌, ◌<◌, true, length, sum, ℕ, Bool, ◌+◌, ◌-◌, ◌%◌, ◌^◌, Option, Some, None, [], if◌then◌else◌}
 use Rattle.ft_io.specs.declared.Addr.{Addr}
 use Rattle.ft_io.specs.declared.Key.{Key}

@@ -55,11 +55,11 @@ abbrev pub repeats : News → Point → Bool
 repeats (Comes segment) before = repeats_syn before segment
 repeats _ before = false
 
--- the connection adds a segment without data where one is owed of which TCP doesn't know, and where one is owed and TCP is CLOSED
+-- the connection adds a segment without data where an ACK is pending of which TCP doesn't know, and where one is pending and TCP is CLOSED
 abbrev pub adds : {S : Type 0} → Machine S → News → (before after : Point) → Tcb → Bool
 adds service news before after t = owes_besides service news before after || (is_closed t.name && is_owed service news before after)
 
--- all that is sent, where TCP is t before its flush: what TCP sends, as the client gets it, and the kept SYN-ACK; or else that segment
+-- all that is sent, where TCP is t before its flush: what TCP sends, as the client receives it, and the logged SYN-ACK; or else that segment
 abbrev pub leaves_with : {S : Type 0} → Machine S → Addr → (delta : ℕ) → News → (before after : Point) → Tcb → List Segment
 leaves_with service server delta news before after t =
     or_bare (adds service news before after t) (bare_segment server after)

@@ -62,8 +62,8 @@ pub fn new_connections_begin_by_their_syn<S: Service>()
         → BeginsInside (machine fresh S.after) local numbers after calls }
 {}
 
-/// In the turn that leaves its TCP CLOSED, since both FINs are through, TCP sends nothing, the connection is over, and what is sent is a segment without data
-/// where one is owed.
+/// In the turn that leaves its TCP CLOSED, since it has taken the client's FIN and its own is acknowledged, TCP sends nothing, the connection is over, and what
+/// is sent is a segment without data if an ACK is pending.
 pub fn connections_end_with_their_tcp<S: Service>()
     ensures { (fresh : S) (boot u i delta : ℕ) (news : News) (before after : Point) (calls : List Call) (e : Tcb) (sent : List Packet)
         → StandsInside u i delta before e → IsNamedRightly e → before.reset ≡ false → reset_after news before ≡ false → e.reset ≡ false

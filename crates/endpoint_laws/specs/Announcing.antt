@@ -25,7 +25,7 @@ ReadsOnlyTaken [] e = Unit {0}
 ReadsOnlyTaken (Reads n ∷ calls) e = (n ≤ length e.receiving.unread) × ReadsOnlyTaken calls (called (Reads n) e)
 ReadsOnlyTaken (call ∷ calls) e = ReadsOnlyTaken calls (called call e)
 
--- at the end of each turn of a connection that has begun every segment but a RST acknowledges all that is taken, and where more was taken one such is sent
+-- at the end of each turn of a connection that has begun, every segment but a RST acknowledges all that is taken, and such a segment is sent if more was taken
 abbrev pub AcknowledgesAll : Tcb → List Events → Type 0
 AcknowledgesAll e [] = Unit {0}
 AcknowledgesAll e (turn ∷ turns) =

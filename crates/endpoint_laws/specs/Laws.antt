@@ -1,7 +1,7 @@
--- What a segment and a flush do to an endpoint, in its own words: one definition for each sentence of the model's laws, and not for each check in `Arrival` and
--- `Leaving`. They are of Taken and Sending, of when a segment without data is owed, and of the timer. `Standing` leads from here to the model's own
--- definitions, for passive opens; these hold of active ones too. The endpoint's limit bounds the receive edge in place of 2^24, and the target is the bytes
--- written, and one more once the user has closed.
+-- What a segment and a flush do to an endpoint, in the endpoint's own terms: one definition for each sentence of the model's laws, and not for each check in
+-- `Arrival` and `Leaving`. The laws are Taken and Sending, the one on pending ACKs, and that of the timer. `Standing` leads from here to the model's own
+-- definitions, for passive opens; these hold of active ones too. The endpoint's limit bounds the right edge of its window in place of 2^24, and the target is
+-- the bytes written, and one more once the user has closed.
 use Rattle.std.specs.Prelude.{◌≡◌, ℕ, Bool, true, false, pos, ◌+◌, ◌-◌, ◌*◌, ◌^◌, ◌<◌, ◌≤◌, ◌-ℤ◌, ◌≤ℤ◌, ◌==◌, ◌&&◌, ◌||◌, not, nat_lt, int_lt, int_le, max, min, nat_abs, length, if◌then◌else◌}
 use Rattle.seq_arith.specs.Number.{offset_of}
 use Rattle.seq_arith.specs.Arrival.{int_eq, is_acceptable_or_at_edge, is_usable, una_after, updates_window}
@@ -128,17 +128,17 @@ sent_by_law e =
 abbrev pub acknowledges_less : Tcb → Segment → Bool
 acknowledges_less e p = not e.sending.syn_acked && has_ack p && int_lt (ack_at e p) (pos 0)
 
--- Owed: an acceptable segment that acknowledges less than the SYN gets a RST, and nothing else is owed to it
+-- ACK pending: an acceptable segment that acknowledges less than the SYN gets a RST, and no ACK
 abbrev pub is_refused : Tcb → Segment → Bool
 is_refused e p = accepts e p && not (has_rst p) && not (has_syn p) && acknowledges_less e p
 
--- Owed: to an acceptable segment, a challenge ACK to a SYN and to a RST that isn't at the next number, and an ACK to a segment with a length
+-- ACK pending: among acceptable segments, a SYN, and a RST that isn't at the next number, get a challenge ACK, and a segment with a length gets an ACK
 abbrev pub owes_acceptable : Tcb → Segment → Bool
 owes_acceptable e p =
     if has_rst p then not (int_eq (first e p) (pos (next e.receiving)))
     else (if has_syn p then true else nat_lt 0 (length_of p))
 
--- Owed: to each segment that isn't acceptable, unless it has RST
+-- ACK pending: each segment that isn't acceptable gets an ACK, unless it has RST
 abbrev pub owes : Tcb → Segment → Bool
 owes e p = if accepts e p then owes_acceptable e p else not (has_rst p)
 
@@ -169,7 +169,7 @@ pub record IsTimedBy (s : Sending) (ticks left : ℕ) : Type 0 where
 abbrev pub told : Tcb → ℕ × ℕ
 told e = (e.told_next, e.told_edge)
 
--- Owed: a rule requires a segment without data, or the acknowledgement or the edge differs from the one last advertised
+-- ACK pending: a rule requires one, or the acknowledgement or the right edge differs from the one last sent
 abbrev pub asks : Bool → Tcb → Bool
 asks owed e = owed || not (e.told_next == next e.receiving) || not (e.told_edge == announced_edge e.receiving)
 

@@ -1,6 +1,6 @@
--- An endpoint at a point of `ft_model`, and what its turns are by the laws there. Those laws know only one limit, 2^24 bytes. Where an endpoint's limit is
--- smaller, the peer's stream at its point begins as many bytes further up, as if they had been fetched. So its limit takes the place of 2^24, and where it is
--- 2^24 nothing is fetched. The bytes that the user has read are in the point. The endpoint has forgotten them.
+-- An endpoint at a point of `ft_model`, and what its turns are by the laws there. Those laws have only one limit, 2^24 bytes. If an endpoint's limit is
+-- smaller, the peer's stream at its point begins as many bytes later, as if they had been fetched. So its limit takes the place of 2^24, and if it is 2^24,
+-- nothing is fetched. The point has the bytes that the user has read; the endpoint doesn't store them any more.
 use Rattle.std.specs.Prelude.{◌≡◌, ℕ, Bool, true, false, pos, ◌+◌, ◌≤◌, ◌%◌, ◌^◌, ◌+ℤ◌, ◌==◌, ◌&&◌, ◌||◌, not, max, List, [], ◌∷◌, ◌++◌, length, drop, sum, if◌then◌else◌, take, ◌⊎◌}
 use Rattle.std.specs.Bool.{MatchBool}
 use Rattle.ft_io.specs.declared.Addr.{Addr}
@@ -95,7 +95,7 @@ pub record MeetsLaws {State : Type 0} (service : Machine State) (news : News) (b
   pub interval : after.interval ≡ interval_after news before after
   pub rest : after.rest ≡ rest_after service news before after
 
--- TCP owes a segment without data to the one that arrived, or the acknowledgement or the edge changes in this turn
+-- an ACK is pending: the segment that arrived requires one, or the acknowledgement or the right edge changes in this turn
 abbrev pub owes_to : News → Point → Bool
 owes_to (Comes segment) before = owes before segment
 owes_to _ before = false
@@ -112,9 +112,9 @@ abbrev pub refusals : Addr → News → Point → List Segment
 refusals server (Comes segment) before = if refuses before segment then rst_at_ack server segment ∷ [] else []
 refusals server _ before = []
 
--- what is sent in a turn: that RST; retransmissions and probes; text and FIN; else a segment without data where one is owed. The model's wrapped connection
--- sends the same, except that it keeps TCP's RST to itself, answers a repeated SYN with the kept SYN-ACK, and also owes answers to what only it knows of: what
--- is logged, and that it has become live or is over
+-- what is sent in a turn: that RST; retransmissions and probes; text and FIN; else a segment without data if an ACK is pending. The model's wrapped connection
+-- sends the same, except that it drops TCP's RST, answers a repeated SYN with the logged SYN-ACK, and also has an ACK pending for what only it knows: what is
+-- logged, and that it has become live or is over
 abbrev pub segments_by_laws : {State : Type 0} → Machine State → Addr → News → (before after : Point) → List Segment
 segments_by_laws service server news before after =
     or_bare (is_owed news before after) (bare_segment server after)
@@ -151,7 +151,7 @@ pub record EndsAt (after : Point) (u : Tcb) : Type 0 where
   pub silent : leaving u ≡ []
 
 -- a turn of a run: what arrives, what the user does, a service that has read and written like the user up to then, and the point after it. Whatever a user
--- writes, some service has written that, and only that counts. So the services of two turns need have nothing in common
+-- writes, some service has written the same, and nothing else is required of it. So two turns may have different services
 pub record Step : Type 0 where
   pub news : News
   pub calls : List Call

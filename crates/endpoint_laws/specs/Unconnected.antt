@@ -42,7 +42,7 @@ abbrev pub answers_in_syn_sent : (iss : ℕ) → News → Bool
 answers_in_syn_sent iss (Comes segment) = acknowledges_syn iss segment && not (has_rst segment) && has_syn segment
 answers_in_syn_sent iss _ = false
 
--- the state that news leads to. A SYN without ACK, which a simultaneous open would take, is ignored
+-- the state after the news. A SYN without ACK is ignored: simultaneous open isn't implemented
 abbrev pub state_after_syn_sent : (iss : ℕ) → News → StateName
 state_after_syn_sent iss news = if resets_in_syn_sent iss news then Closed else (if answers_in_syn_sent iss news then Established else SynSent)
 

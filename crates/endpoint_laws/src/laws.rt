@@ -1,5 +1,5 @@
-//! The laws that an endpoint meets, each the clause of a function that does nothing, for the crates above to cite. They don't use the functions that the code's
-//! clauses name, but the words of the laws of `ft_model`.
+//! The laws that an endpoint satisfies, each the contract of a function with an empty body, for the crates above to cite. They don't use the functions that the
+//! code's contracts name, but the terms of `ft_model`'s laws.
 
 ghost use Rattle.std.specs.Prelude.{◌≡◌, ℕ, ◌+◌, ◌%◌, ◌<◌, ◌≤◌, ◌^◌, true, false, List, length};
 ghost use Rattle.seq_arith.specs.Packet.{Segment};
@@ -133,7 +133,7 @@ pub fn turns_send_up_to_the_edge()
     ensures { (e : Tcb) → has_begun e.name ≡ true → IsBounded e → ProbesRightly e → (flushed e).sending.sent ≡ sent_by_law e }
 {}
 
-/// When an answer is owed to a segment. It is sent where no other segment is.
+/// When a segment makes an ACK pending. The ACK is sent if no other segment is.
 #[tactic(auto, using(crate::proofs::OwedLaw::owed_law))]
 pub fn segments_are_owed_answers_by_law()
     ensures { (e : Tcb) (p : Segment) → has_begun e.name ≡ true → IsBounded e → IsUsual e p → e.owed ≡ false → is_refused e p ≡ false
@@ -222,20 +222,20 @@ pub fn states_tell_the_peers_fin()
     ensures { (e : Tcb) → has_begun e.name ≡ true → IsNamedRightly e → e.receiving.fin ≡ has_taken_fin e.name }
 {}
 
-/// The law on a segment without data, at the end of a turn with a segment: it is sent exactly where one is owed and no other segment is sent.
+/// The law on segments without data, at the end of a turn with a segment: one is sent exactly where an ACK is pending and no other segment is sent.
 pub fn bare_segments_go_out_where_owed()
     ensures { (e u : Tcb) (p : Segment) → has_begun e.name ≡ true → has_begun u.name ≡ true → IsBounded e → IsUsual e p → e.owed ≡ false
         → is_refused e p ≡ false → u.owed ≡ (received e p).owed
         → leaving u ≡ or_bare (asks (owes e p) u) (bare_segment (after_full u)) (full_out u) }
 {}
 
-/// The same, at the end of a turn in which no segment arrived: where the acknowledgement or the edge has changed.
+/// The same, at the end of a turn in which no segment arrived: an ACK is pending where the acknowledgement or the right edge has changed.
 pub fn bare_segments_tell_changes()
     ensures { (u : Tcb) → has_begun u.name ≡ true → u.owed ≡ false
         → leaving u ≡ or_bare (asks false u) (bare_segment (after_full u)) (full_out u) }
 {}
 
-/// What is taken and the receive edge are what was last advertised, once a turn has ended ..
+/// Once a turn has ended, RCV.NXT and the window's right edge are those last sent ..
 #[tactic(auto, using(crate::proofs::ToldLaw::told_by_flush))]
 pub fn turns_announce()
     ensures { (e : Tcb) → has_begun e.name ≡ true → told (flushed e) ≡ (next e.receiving, announced_edge e.receiving) }
@@ -309,8 +309,8 @@ pub fn segments_acknowledge_all_that_is_taken()
         → has_begun (before_flush news calls e).name ≡ true → AllByRecursion (Announces (before_flush news calls e)) (sent_in news calls e) }
 {}
 
-/// And nothing that is taken stays unreported: where more is taken in a turn, a segment is sent that isn't a RST, and so reports it. The same holds where the
-/// edge moves, unless a RST answers.
+/// And all that is taken is acknowledged at once: if more is taken in a turn, a segment is sent that isn't a RST, and so acknowledges it. The same holds if the
+/// right edge moves, unless a RST answers.
 pub fn what_is_taken_is_told()
     ensures { (news : News) (calls : List Call) (e : Tcb) → has_begun e.name ≡ true → e.answer ≡ None
         → told e ≡ (next e.receiving, announced_edge e.receiving) → ReadsOnlyTaken calls (arrived news e)
@@ -344,7 +344,7 @@ pub fn connecting_goes_on()
         → IsConnecting iss limit (turned news calls e) × ((turned news calls e).local ≡ e.local) × ((turned news calls e).remote ≡ e.remote) }
 {}
 
-/// The turn in which its SYN is acknowledged leaves it as a connection that has begun has to be between two turns, in the state that its halves imply. That is
+/// The turn in which its SYN is acknowledged leaves it as a connection that has begun must be between two turns, in the state that its halves imply. That is
 /// all that the laws on such connections require.
 pub fn answers_begin()
     ensures { (iss limit : ℕ) (news : News) (calls : List Call) (e : Tcb) → IsConnecting iss limit e → limit ≤ 2 ^ 24 → FieldsFit news

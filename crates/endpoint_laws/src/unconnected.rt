@@ -37,7 +37,7 @@ pub fn listening_endpoints_refuse()
         → sent_in news calls e ≡ sent_in_listen e.local news }
 {}
 
-/// Nothing but such a SYN leads out of it, and nothing resets it.
+/// Only such a SYN ends that state, and nothing resets it.
 pub fn listening_endpoints_wait_for_a_syn()
     ensures { (iss limit : ℕ) (news : News) (e : Tcb) → IsListening iss limit e → brings_syn news ≡ false
         → ((arrived news e).name ≡ Listen) × ((arrived news e).reset ≡ e.reset) }
@@ -52,8 +52,8 @@ pub fn syns_are_acknowledged()
         × (is_told (sent_in (Comes syn) calls e) ≡ true) }
 {}
 
-/// While an active open waits, it sends a RST in answer to an acknowledgement of anything but the SYN, the SYN again at the tick at which the timer expires,
-/// and nothing else.
+/// While an active open waits, it sends a RST in answer to an acknowledgement of anything but the SYN, retransmits the SYN when the timer expires, and sends
+/// nothing else.
 pub fn active_opens_send_their_syn_again()
     ensures { (iss limit : ℕ) (news : News) (calls : List Call) (e : Tcb) → IsConnecting iss limit e → MayUse calls (arrived news e)
         → has_begun (before_flush news calls e).name ≡ false
@@ -69,7 +69,7 @@ pub fn active_opens_time_by_law()
         → IsTimedBy (turned news calls e).sending (interval_waiting news e.sending) (rest_waiting news e.sending) }
 {}
 
-/// A SYN that acknowledges the endpoint's own establishes the connection, a RST that does so resets it, and nothing else leads out of SYN-SENT.
+/// A SYN that acknowledges the endpoint's own SYN establishes the connection, a RST that does so resets it, and nothing else ends SYN-SENT.
 pub fn active_opens_wait_for_an_answer()
     ensures { (iss limit : ℕ) (news : News) (e : Tcb) → IsConnecting iss limit e
         → ((arrived news e).name ≡ state_after_syn_sent iss news) × ((arrived news e).reset ≡ (e.reset || resets_in_syn_sent iss news)) }

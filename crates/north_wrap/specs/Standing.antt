@@ -89,7 +89,7 @@ with_answered count p = record p { reads_answered = max p.reads_answered (min co
 abbrev pub with_taken : List ℕ → Point → Point
 with_taken more p = record p { taken = p.taken ++ more }
 
--- Output: how much is given, of what may be sent and isn't given yet as much as TCP has room for ..
+-- Output: how much is given: all that may be sent and isn't given yet, as far as TCP has room for it ..
 abbrev pub given_more : {S : Type 0} → Machine S → Point → (room given : ℕ) → ℕ
 given_more service p room given = min room (released service p - given)
 

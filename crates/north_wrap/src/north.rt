@@ -83,9 +83,9 @@ impl<S: Service> North<S> {
         }
     }
 
-    /// A wrapper at the end of a restart. `rest` are the fetched bytes that aren't read, and `pending` the output that the client may still want. `reads` reads
-    /// were fetched, of `read` bytes together, and they made `made` bytes of output. `ended` says that one of them has length 0, and `closed` that the service
-    /// has closed. All of them are answered.
+    /// A wrapper at the end of a restart. `rest` are the fetched bytes that aren't read, and `pending` the output that the client hasn't acknowledged. `reads`
+    /// reads were fetched, of `read` bytes together, and they made `made` bytes of output. `ended` says that one of them has length 0, and `closed` that the
+    /// service has closed. All of them are answered.
     pub fn resumed(
         _alloc: Global,
         service: S,

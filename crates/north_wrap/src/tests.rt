@@ -195,7 +195,7 @@ fn a_rest_is_read_first(rt: HostRuntime) -> Result<(), Fail> {
     Ok(())
 }
 
-/// Output that the client may still want goes out at once.
+/// Output that the client hasn't acknowledged is sent at once.
 #[test]
 fn pending_output_is_given(rt: HostRuntime) -> Result<(), Fail> {
     let alloc = rt.alloc();
@@ -227,7 +227,7 @@ fn an_ended_wrapper_closes(rt: HostRuntime) -> Result<(), Fail> {
     Ok(())
 }
 
-/// A service that has closed is given nothing more; what comes is read all the same.
+/// A service that has closed gets no more input, but the bytes that arrive are still read.
 #[test]
 fn a_closed_service_makes_nothing(rt: HostRuntime) -> Result<(), Fail> {
     let alloc = rt.alloc();

@@ -19,7 +19,7 @@ pub struct Refused {
     pub why: EventWhy,
 }
 
-/// A client whose moves are written down. Offsets are in units: bytes, and one more for a FIN.
+/// A client that makes the moves of a schedule. Offsets are in units: bytes, and one more for a FIN.
 #[derive(Debug, Drop)]
 pub struct Client {
     pub(crate) key: Key,
@@ -95,7 +95,7 @@ impl Client {
         self.accepted.as_slice()
     }
 
-    /// How many units it has sent.
+    /// How many units it has sent: bytes, and one more for its FIN.
     pub fn sent(&self) -> u32
         ensures { result ≡ self.now.sent }
     {

@@ -1,4 +1,4 @@
-//! What the scripted client does with a packet that arrives (RFC 9293, 3.10.7.3 and 3.10.7.4, as far as they concern a client that never answers).
+//! What the scripted client does with a packet that arrives (RFC 9293, 3.10.7.3 and 3.10.7.4, for a client that never answers).
 
 ghost use Rattle.std.specs.Prelude.{◌≡◌, pos, ◌≤ℤ◌, OnOk, OnErr, length};
 ghost use Rattle.segment_codec.specs.Value.{segment_of as value_of};
@@ -78,7 +78,8 @@ impl Client {
         self.use_segment(segment)
     }
 
-    /// An acceptable segment with ACK. One that acknowledges what was not sent is dropped. Nothing is acknowledged where there is no memory for the text.
+    /// An acceptable segment with ACK. One that acknowledges what was not sent is dropped. If an allocation for the text fails, its acknowledgement isn't used
+    /// either.
     fn use_segment(&mut self, segment: &PacketRef<'_>) -> Result<(), NoMemory>
         ensures taken { OnOk result (self.new ≡ machine.used self.old (value_of segment.now)) }
         ensures kept { OnErr result (self.new ≡ self.old) }

@@ -1,5 +1,5 @@
-//! The scripted client's refusals, its life as its readers tell it, and a live client's whole connection. The client is at 192.0.2.1:40000
-//! with the number 1000, and the server at 192.0.2.100:7 with the number 5000.
+//! The scripted client's refusals, its state step by step, and a live client's complete connection. The client is at 192.0.2.1:40000 with the number 1000, and
+//! the server at 192.0.2.100:7 with the number 5000.
 
 ghost use Rattle.std.specs.Prelude.{◌≤◌, length};
 
@@ -42,14 +42,14 @@ fn coming(flags: u8, seq: u32, ack: u32, text: &[u8], out: &mut [u8; 1_500]) -> 
     write_packet(&head, text, out)
 }
 
-/// What happens in a client's life.
+/// What happens at a client.
 #[derive(Clone, Copy)]
 enum Step {
     Makes(Event),
     Comes { flags: u8, seq: u32, ack: u32 },
 }
 
-/// A whole life, with the script `hello`: open, text, the acknowledgement of three bytes, the server's FIN, the own one, its acknowledgement.
+/// A complete connection, with the script `hello`: open, text, the acknowledgement of three bytes, the server's FIN, the client's FIN, its acknowledgement.
 const LIFE: [Step; 8] = [
     Step::Makes(Event::Begin {
         client: 1,
@@ -94,7 +94,7 @@ fn ask(
     Some(client.step(event, out))
 }
 
-/// A client after so many steps of its life.
+/// A client after this many of these steps.
 fn client_after(alloc: Global, steps: usize) -> Result<Client, Fail> {
     let key = Key {
         ip: CLIENT.ip,
@@ -197,7 +197,7 @@ fn a_life_as_its_readers_tell_it(rt: HostRuntime) -> Result<(), Fail> {
         let told = (client.phase(), client.sent(), client.acked());
         assert_eq!(rt; told, (phase, sent, acked), "after {steps} steps");
     }
-    // The window of 100 that the SYN announced lets a hundred bytes in.
+    // The window of 100 that the SYN advertised has room for a hundred bytes.
     let mut client = client_after(rt.alloc(), 2)?;
     let mut out = [0u8; 1_500];
     let text = [b'x'; 80];
@@ -209,10 +209,10 @@ fn a_life_as_its_readers_tell_it(rt: HostRuntime) -> Result<(), Fail> {
     Ok(())
 }
 
-/// What a segment that goes out says: number, acknowledgement, flags, the segment size that it offers.
+/// What a segment that is sent says: number, acknowledgement, flags, the segment size that it offers.
 type Going = (u32, u32, u8, Option<u16>);
 
-/// Ends the turn, and says what goes out where it is one segment.
+/// Ends the turn, and returns what is sent, if it is one segment.
 fn flush(client: &mut LiveClient, out: &mut Outbox) -> Option<Going> {
     out.clear();
     client.flush(out);

@@ -1,5 +1,5 @@
--- A service that is fed again what the log keeps (FT-TCP, INFOCOM 2001: the restarted server replays its input). No more input and output is stored than is
--- still needed.
+-- A service that gets the logged reads again (FT-TCP, INFOCOM 2001: the restarted server replays its input). No more input and output is stored than is still
+-- needed.
 use Rattle.std.specs.Prelude.{◌≡◌, ℕ, ◌+◌, ◌-◌, ◌^◌, Bool, true, nat_lt, List, ◌++◌, length, take, drop, if◌then◌else◌}
 use Rattle.server_trait.specs.Service.{Served, Run}
 

@@ -33,7 +33,7 @@ impl Model for Asked {
 }
 
 impl Asked {
-    /// The first step, with this boot number.
+    /// The first step of a restart, with this boot number, which is at least 1.
     pub fn new(boot: u64) -> Asked
         requires { 1 ≤ boot }
         ensures { result ≡ boot }

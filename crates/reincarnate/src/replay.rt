@@ -1,4 +1,4 @@
-//! A service that is fed again what the log keeps.
+//! A service that gets the logged reads again.
 
 ghost use Rattle.std.specs.Prelude.{◌≡◌, ℕ, ◌^◌, ◌-◌, ◌+◌, ◌≤◌, List, [], ◌++◌, length, take, drop, true, false, OnOk};
 ghost use Rattle.north_wrap.specs.NorthState.{resumed_north};

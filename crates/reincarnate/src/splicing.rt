@@ -1,4 +1,4 @@
-//! Segments of the client that are forged to a fresh TCP bring it to where the log ends. What it answers is discarded.
+//! Forged segments of the client bring a fresh TCP to where the log ends. What it answers is discarded.
 
 ghost use Rattle.std.specs.Prelude.{◌≡◌, ◌≤◌, ◌-◌, ◌+◌, ◌^◌, [], Some, None, IfOk};
 ghost use Rattle.seq_arith.specs.Number.{number_at};

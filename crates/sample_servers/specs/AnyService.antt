@@ -32,7 +32,7 @@ any_after (Meter meter) chunk = mapped Meter (meter_after meter chunk)
 abbrev pub any_machine : ℕ → Machine AnyService
 any_machine kind = machine (any_started kind) any_after
 
--- what is kept of it: what is kept of the service in it. Which one it is isn't kept, since its kind says so
+-- its saved form: that of the service in it. Which service it is isn't saved, since its kind says so
 abbrev pub any_form : AnyService → List ℕ
 any_form (Echo echo) = empty_form echo
 any_form (Line line) = line_form line

@@ -61,7 +61,7 @@ line_after state chunk = if length chunk == 0 then line_end state else each_byte
 abbrev pub line_machine : Machine LineState
 line_machine = machine line_started line_after
 
--- what is kept of it: how many lines are finished, in 8 bytes, and then the bytes of the unfinished one
+-- its saved form: how many lines are finished, in 8 bytes, and then the bytes of the unfinished one
 abbrev pub line_form : LineState → List ℕ
 line_form state = to_be_bytes w64 state.finished ++ state.held
 

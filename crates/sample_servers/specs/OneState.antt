@@ -1,4 +1,4 @@
--- A service with one state: nothing of it has to be kept.
+-- A service with one state: nothing of it has to be saved.
 use Rattle.std.specs.Prelude.{ℕ, List, [], length, ◌==◌, Option, Some, None, if◌then◌else◌}
 
 -- the form of the state is no bytes

@@ -1,4 +1,4 @@
--- What is kept of each service is read back: proofs for the laws of the services.
+-- Each service's saved form is read back: proofs for the laws of the services.
 use Rattle.std.proofs.Common.{◌≡◌, ℕ, zero, suc, ◌<◌, ◌≤◌, ◌==◌, ◌&&◌, Bool, true, false, List, [], ◌∷◌, ◌++◌, length, take, drop, Option, Some, None, refl, sym, ap, subst, ◌∙◌, arith}
 use Rattle.std.specs.Prelude.{nat_lt, nat_le, get_or, if◌then◌else◌}
 use Rattle.std.specs.Option.{option_map}

@@ -76,7 +76,7 @@ transfer_after transfer chunk =
 abbrev pub transfer_machine : Machine TransferState
 transfer_machine = machine transfer_started transfer_after
 
--- what is kept of it: how many bytes are written, modulo 251, in one byte, and then the bytes that are held
+-- its saved form: how many bytes are written, modulo 251, in one byte, and then the bytes that are held
 abbrev pub transfer_form : TransferState → List ℕ
 transfer_form state = state.place ∷ held_bytes state.held
 

@@ -18,7 +18,7 @@ pub fn line_ignores_cuts()
     ensures { IgnoresCuts line_machine }
 {}
 
-/// At the maximum of 64 bits the line number stays. No run is so long, so this is stated of the state.
+/// At the maximum of 64 bits the line number stays. No run is that long, so the law is about a state and not about a run.
 pub fn line_number_stands_still()
     ensures state { (held : List ℕ) → (line_after (record { finished = 2 ^ 64 - 1; held = held }) (codes "\n")).next.finished ≡ 2 ^ 64 - 1 }
     ensures output { (held : List ℕ) → held ≢ codes "quit"

@@ -1,5 +1,5 @@
--- A crash with logged bytes, whole: a client opens and sends five bytes; they and their read are logged, the server doesn't hear of it and crashes,
--- and its next boot fetches the log and sends the output. Thirty events, twenty-six packets.
+-- The complete run with a crash after bytes are logged: a client opens and sends five bytes; they and their read are logged, the server crashes before an
+-- answer reaches it, and its next boot fetches the log and sends the output. Thirty events, twenty-six packets.
 use Rattle.std.specs.Prelude.{ℕ, codes, false, None, Some, List, [], ◌∷◌}
 use Rattle.seq_arith.specs.Packet.{Segment}
 use Rattle.seq_arith.specs.Message.Body.{HelloMsg, SummaryMsg, EntryMsg, PartMsg, LensMsg, ReadsMsg, DataMsg}
@@ -49,7 +49,7 @@ last_ack = client_segment 16 1006 5006 65535 []
 abbrev pub acknowledged : Point
 acknowledged = record resumed { una = 5; edge = 65540; wl2 = 5; congestion = congestion_with 2149 65535 0; rest = 0 }
 
--- the read is logged too, and the server crashes before it hears of either
+-- the read is logged too, and the server crashes before it receives either answer
 abbrev pub moment_14 : Moment
 moment_14 = moment (Deliver 11) (from_log 1 (ReadsMsg (kept_with 5 false 1)) ∷ []) (record moment_13.world { log = log_with (read_entry ∷ []) })
 
@@ -81,14 +81,14 @@ moment_22 = moment (Deliver 19) restart_3.sent (record moment_21.world { node = 
 abbrev pub moment_23 : Moment
 moment_23 = moment (Deliver 20) (from_log 2 (PartMsg key 0 hello_text) ∷ []) moment_22.world
 
--- with the last answer the connection goes on: the text is acknowledged
+-- with the last answer the connection continues: the text is acknowledged
 abbrev pub moment_24 : Moment
 moment_24 = moment (Deliver 21) restart_4.sent (record moment_23.world { node = Some restart_4.node })
 
 abbrev pub moment_25 : Moment
 moment_25 = moment (Deliver 22) [] (record moment_24.world { clients = heard ∷ [] })
 
--- the client gives room, and the output leaves
+-- the client advertises room, and the output is sent
 abbrev pub moment_26 : Moment
 moment_26 = moment (Ack 1 65535) (To_server room ∷ []) moment_25.world
 
@@ -98,7 +98,7 @@ moment_27 = moment (Deliver 23) restart_5.sent (record moment_26.world { node = 
 abbrev pub moment_28 : Moment
 moment_28 = moment (Deliver 24) [] (record moment_27.world { clients = echoed ∷ [] })
 
--- it is acknowledged, and the log hears of it
+-- it is acknowledged, and that is logged
 abbrev pub moment_29 : Moment
 moment_29 = moment (Ack 1 65535) (To_server last_ack ∷ []) (record moment_28.world { clients = served ∷ [] })
 

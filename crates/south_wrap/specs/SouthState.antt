@@ -23,7 +23,8 @@ taken_units s = s.taken + one_if s.fin
 abbrev pub acknowledged : SouthState → ℕ
 acknowledged s = min (taken_units s) s.answered
 
--- the receive edge: 65,535 bytes are buffered past what is read, the fetched bytes are there already, and a stream has at most 2^24 bytes
+-- the right edge of the receive window, as an offset: 65,535 bytes are buffered past what is read, the fetched bytes are there already, and a stream has at
+-- most 2^24 bytes
 abbrev pub receive_edge : SouthState → ℕ
 receive_edge s = min (max s.fetched s.read + 65535) (2 ^ 24)
 

@@ -7,7 +7,7 @@ use seq_arith::Seq;
 pub enum Inward {
     /// It is passed to TCP.
     Pass,
-    /// It repeats the client's SYN: the kept SYN-ACK answers it, and TCP doesn't see it.
+    /// It repeats the client's SYN: the SYN-ACK with the logged numbers answers it, and TCP doesn't see it.
     Repeat,
 }
 

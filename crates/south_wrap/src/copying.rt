@@ -15,7 +15,7 @@ use seq_arith::{FIN, RST, SYN, below, has};
 
 impl South {
     /// The part of a client's segment that is taken and not known to be logged, if there is any. Text and FIN of a segment with SYN or RST don't count. Whether
-    /// it was acceptable, or has ACK, plays no part.
+    /// it was acceptable, or has ACK, doesn't matter.
     pub fn copy_of(&self, packet: &[u8]) -> Option<CopyPart>
         requires { IsOk (reading packet.now) }
         ensures which { IfOk (reading packet.now) (λ segment. is_some result ≡ is_some_copied (copied self.now segment)) }

@@ -1,4 +1,4 @@
-//! At the point of its connection, the wrapper's words are the model's.
+//! At the point of its connection, the wrapper does what the model's laws say.
 
 ghost use Rattle.std.specs.Prelude.{◌≡◌, ◌≤◌, ◌+◌, ℕ, max, length};
 ghost use Rattle.seq_arith.specs.Packet.{Segment};

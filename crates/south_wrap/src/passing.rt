@@ -13,7 +13,7 @@ use segment_codec::read_accepted;
 use seq_arith::{RST, has};
 
 impl South {
-    /// Turns a segment of the client into the one for TCP. Its acknowledgement is lowered by delta. One above what this incarnation has sent is first lowered
+    /// Changes a segment of the client into the one for TCP. Its acknowledgement is lowered by delta. One above what this incarnation has sent is first lowered
     /// to that, and its window raised by as much, up to 65,535. All else stays.
     pub fn inward(&mut self, packet: &mut [u8]) -> Inward
         requires { IsOk (reading packet.old) }
@@ -32,8 +32,8 @@ impl South {
         Inward::Pass
     }
 
-    /// Turns a segment of TCP into the one for the client, and returns whether it is to be sent. A RST isn't. All others have their number raised by delta, and
-    /// acknowledge what is both taken and known to be logged, with the window from there.
+    /// Changes a segment of TCP into the one for the client, and returns whether it is to be sent. A RST isn't. All others have their sequence number raised by
+    /// delta, and acknowledge what is both taken and known to be logged, with the window from there.
     pub fn outward(&mut self, packet: &mut [u8]) -> bool
         requires { IsOk (reading packet.old) }
         ensures answer { IfOk (reading packet.old) (λ segment. result ≡ not (has_rst segment)) }

@@ -87,8 +87,8 @@ impl South {
         }
     }
 
-    /// The wrapper of a connection at the end of a restart. The log has `length` bytes of the client, and its FIN where `fin`. The client had acknowledged
-    /// `acked` units of output. The new TCP has the initial number `inner`, from which it counts the output after these.
+    /// The wrapper of a connection at the end of a restart. The log has `length` bytes of the client, and its FIN if `fin`. The client had acknowledged `acked`
+    /// units of output. The new TCP has the initial number `inner`, from which it counts the output after these.
     pub fn resumed(cisn: Seq, sisn: Seq, length: u32, fin: bool, acked: u32, inner: Seq) -> South
         requires length { length ≤ 2 ^ 24 }
         requires acked { acked ≤ 2 ^ 24 }
@@ -144,7 +144,8 @@ impl South {
         self.read = bytes;
     }
 
-    /// The logger has answered that it has `length` bytes of the client, and its FIN where `fin`. Returns what to report to the client now, where that is news.
+    /// The logger has answered that it has `length` bytes of the client, and its FIN if `fin`. Returns what to acknowledge to the client now, if that has
+    /// changed.
     pub fn on_stable(&mut self, length: u32, fin: bool) -> Option<AckOut>
         requires { length ≤ 2 ^ 24 }
         ensures state { self.new ≡ with_stable (length + one_if fin) self.old }
@@ -161,7 +162,7 @@ impl South {
         Some(self.ack_now())
     }
 
-    /// What to report to the client of its stream now: what is both taken and known to be logged, and the room after that.
+    /// What to acknowledge to the client now: what is both taken and known to be logged, and the window from there.
     pub fn ack_now(&self) -> AckOut
         ensures ack { result.ack.0 ≡ number_at self.now.cisn (acknowledged self.now) }
         ensures window { result.window ≡ window self.now }

@@ -18,7 +18,7 @@ before_segment c segment = record {
   owes = owes c segment;
 }
 
--- what is known before a turn without a segment. `asks` says whether the connection owes an answer
+-- what is known before a turn without a segment. `asks` says whether the connection has an ACK pending
 abbrev pub before_other : {S : Type 0} → Bool → ConnState S → Before
 before_other asks c = record { taken = bytes_taken c; fin = has_fin c.endpoint.name; una = una_units c; edge = announced c; asks = asks; owes = Bool.false }
 

@@ -1,4 +1,4 @@
--- The segments that a turn sends: TCP's, each through the south wrapper, and those that the connection owes in addition.
+-- The segments that a turn sends: TCP's, each through the south wrapper, and those that the connection adds.
 use Rattle.std.specs.Prelude.{ℕ, Bool, ◌==◌, ◌&&◌, ◌||◌, not, Option, Some, None, List, [], ◌∷◌, ◌++◌, map, if◌then◌else◌}
 use Rattle.std.specs.List.{list_any}
 use Rattle.seq_arith.specs.Number.{number_at}
@@ -46,8 +46,8 @@ syn_ack c = own_segment c c.south.sisn 18 (Some 1460)
 unfoldable pub bare : {S : Type 0} → ConnState S → Segment
 bare c = own_segment c (outer_sent c) 16 None
 
--- a segment without data is owed that TCP doesn't send: TCP doesn't know that more is answered, or that the connection was over or has become live; and a TCP
--- that is CLOSED sends none
+-- an ACK is pending that TCP doesn't send: TCP doesn't know that more is answered, or that the connection was over or has become live; and a TCP that is CLOSED
+-- sends none
 abbrev pub is_owed : {S : Type 0} → Before → ConnState S → Bool
 is_owed before c = before.asks || (is_closed c.endpoint.name && (before.owes || not (before.edge == announced c)))
 

@@ -37,7 +37,7 @@ bytes_taken c = fetched_or_read c + length c.endpoint.receiving.unread
 abbrev pub units_taken : {S : Type 0} → ConnState S → ℕ
 units_taken c = bytes_taken c + one_if (has_fin c.endpoint.name)
 
--- the receive edge that TCP advertises
+-- the right edge that TCP advertises, as an offset
 abbrev pub announced : {S : Type 0} → ConnState S → ℕ
 announced c = min (fetched_or_read c + 65535) (2 ^ 24) + one_if (has_fin c.endpoint.name)
 
@@ -64,12 +64,12 @@ resets c segment = has_rst segment && int_eq (first_of c.south.cisn segment) (po
 abbrev pub accepts : {S : Type 0} → ConnState S → Segment → Bool
 accepts c segment = is_acceptable_or_at_edge (units_taken c) (announced c - units_taken c) (first_of c.south.cisn segment) (length_of segment)
 
--- an answer is owed to an acceptable segment: a challenge ACK to a SYN and to a RST that isn't at the next number, and an ACK to a segment with a length ..
+-- acceptable segments that make an ACK pending: a SYN, and a RST that isn't at the next number, get a challenge ACK, and a segment with a length an ACK ..
 abbrev pub owes_acceptable : {S : Type 0} → ConnState S → Segment → Bool
 owes_acceptable c segment =
     if has_rst segment then not (int_eq (first_of c.south.cisn segment) (pos (units_taken c)))
     else (has_syn segment || nat_lt 0 (length_of segment))
 
--- .. and to every other one, unless it has RST
+-- .. and every segment that isn't acceptable does, unless it has RST
 unfoldable pub owes : {S : Type 0} → ConnState S → Segment → Bool
 owes c segment = if accepts c segment then owes_acceptable c segment else not (has_rst segment)

@@ -99,7 +99,7 @@ is_end_tick c = is_over c.endpoint.name && nat_le (units_taken c) (logged_units 
 abbrev pub counted : {S : Type 0} → ConnState S → ConnState S
 counted c = record c { end_ticks = if is_end_tick c && nat_lt c.end_ticks 4 then c.end_ticks + 1 else c.end_ticks }
 
--- a connection that isn't reset sends all reads again that aren't known to be logged, and at the fourth end tick, and from then on, it reports that it has
+-- a connection that isn't reset retransmits all reads that aren't known to be logged, and at the fourth end tick, and from then on, it reports that it has
 -- ended
 pub record TicksLive {S : Type 0} (old new : ConnState S) (segments messages : List (List ℕ)) : Type 0 where
   pub state : new ≡ (if (counted (ticked old)).end_ticks == 4 then with_done (counted (ticked old)) else counted (ticked old))

@@ -1,4 +1,4 @@
-//! The segments that a turn sends: TCP's, each through the south wrapper, and those that the connection owes in addition.
+//! The segments that a turn sends: TCP's, each through the south wrapper, and those that the connection adds.
 
 ghost use Rattle.std.specs.Prelude.{◌≡◌, ◌≤◌, ◌<◌, ◌+◌, ◌==◌, ◌∷◌, ◌++◌, [], Some, None, List, Option, ℕ, length, IsOk, slice_get, if◌then◌else◌};
 ghost use Rattle.std.specs.List.{AllByRecursion};
@@ -79,7 +79,7 @@ impl<S: Service> Conn<S> {
         out.push(&packet);
     }
 
-    /// Sends a segment without data, where one is owed and no other segment is sent.
+    /// Sends a segment without data, if an ACK is pending and no other segment is sent.
     #[tactic(auto, unfolding(crate::specs::Leaving::bare))]
     pub(crate) fn send_bare(&self, owed: bool, out: &mut Outbox)
         ensures { out.new ≡ or_bare owed (spelling (bare self.now)) out.old }
@@ -92,8 +92,8 @@ impl<S: Service> Conn<S> {
         out.push(&packet);
     }
 
-    /// Whether a segment without data is owed that its TCP doesn't send: TCP doesn't know that more is answered, or that the connection was over or has become
-    /// live; and a TCP that is CLOSED sends none.
+    /// Whether an ACK is pending that its TCP doesn't send: TCP doesn't know that more is answered, or that the connection was over or has become live; and a
+    /// TCP that is CLOSED sends none.
     pub(crate) fn is_owed(&self, before: Before) -> bool
         requires { IsSound self.now }
         ensures { result ≡ is_owed before self.now }

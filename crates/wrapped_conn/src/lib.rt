@@ -1,5 +1,5 @@
 //! One wrapped connection: an unchanged TCP between the two wrappers (FT-TCP, INFOCOM 2001). Segments of the client reach it through the south wrapper, and its
-//! user is the north wrapper. Apart from what TCP sends, only the segments and messages that the wrappers owe are sent.
+//! user is the north wrapper. The connection also sends segments of its own, for what TCP doesn't know, and the messages to the logger.
 #![tactic(auto)]
 
 pub use conn::Conn;

@@ -83,7 +83,7 @@ impl<S: Service> Conn<S> {
         self.taken() + u32::from(self.has_fin())
     }
 
-    /// The receive edge that TCP advertises.
+    /// The right edge that TCP advertises, as an offset.
     #[tactic(auto, using(crate::proofs::Small::taken_small))]
     pub(crate) fn edge(&self) -> u32
         requires { IsSound self.now }
@@ -148,7 +148,7 @@ impl<S: Service> Conn<S> {
             && self.place_of(&segment.head) == i64::from(self.taken_units())
     }
 
-    /// Whether TCP's rules owe an answer to a segment (RFC 9293, 3.10.7.4), once the SYN is acknowledged.
+    /// Whether a segment makes an ACK pending by TCP's rules (RFC 9293, 3.10.7.4), once the SYN is acknowledged.
     #[tactic(auto, unfolding(crate::specs::Numbers::owes))]
     pub(crate) fn owes(&self, segment: &PacketRef<'_>) -> bool
         requires sound { IsSound self.now }
@@ -212,7 +212,7 @@ fn is_acceptable(next: u32, room: u32, first: i64, len: u32) -> bool
     lies_in(next, room, first) || (0 < len && lies_in(next, room, first + i64::from(len - 1)))
 }
 
-/// A sender that has filled the window and lost a segment numbers its acknowledgements so.
+/// After a sender has filled the window and a segment was lost, its acknowledgements have this number.
 #[tactic(auto, unfolding(seq_arith::specs::Arrival::is_at_right_edge))]
 fn is_at_right_edge(next: u32, room: u32, first: i64, len: u32) -> bool
     ensures { result ≡ is_at_right_edge next room first len }

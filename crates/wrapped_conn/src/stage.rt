@@ -20,10 +20,10 @@ pub(crate) struct Before {
     pub fin: bool,
     /// The units of output that the client had acknowledged.
     pub una: u32,
-    /// The receive edge.
+    /// The right edge that TCP had advertised, as an offset.
     pub edge: u32,
-    /// Whether the connection owes an answer of which its TCP doesn't know.
+    /// Whether an ACK is pending of which its TCP doesn't know.
     pub asks: bool,
-    /// Whether TCP's rules owe one.
+    /// Whether one is pending by TCP's rules.
     pub owes: bool,
 }

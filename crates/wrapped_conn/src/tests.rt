@@ -32,7 +32,7 @@ enum News<'a> {
     Tick,
 }
 
-/// What comes, the segments that leave then, one after the other, and what is told to the logger.
+/// What arrives, the segments that are sent then, one after the other, and the messages to the logger.
 type Turn<'a> = (News<'a>, &'a [u8], &'a [u8]);
 
 /// One turn. Nothing is done where the bytes aren't accepted.
@@ -117,7 +117,7 @@ fn first_other(
     Ok(None)
 }
 
-/// The client's numbers wrap: text is acknowledged once it is logged, and its echo leaves once its read is.
+/// The client's numbers wrap: text is acknowledged once it is logged, and its echo is sent once its read is.
 #[test]
 fn number_wrap(rt: HostRuntime) -> Result<(), Fail> {
     let other = first_other(
@@ -224,7 +224,7 @@ fn zero_window(rt: HostRuntime) -> Result<(), Fail> {
     Ok(())
 }
 
-/// The SYN comes again, both sides close, and the connection, over, answers and ends after four ticks.
+/// The SYN is retransmitted, and both sides close. The connection is then over: it still answers, and ends after four ticks.
 #[test]
 fn closing(rt: HostRuntime) -> Result<(), Fail> {
     let other = first_other(
@@ -364,8 +364,8 @@ fn reset(rt: HostRuntime) -> Result<(), Fail> {
     Ok(())
 }
 
-/// The end of the text comes before its beginning, with the FIN: both are held. As the gap is filled, they go to the logger after the
-/// segment's own text.
+/// The end of the text arrives before its beginning, with the FIN: both are held. When the gap is filled, they are sent to the logger after the segment's own
+/// text.
 #[test]
 fn held(rt: HostRuntime) -> Result<(), Fail> {
     let other = first_other(

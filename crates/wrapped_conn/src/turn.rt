@@ -110,7 +110,7 @@ impl<S: Service> Conn<S> {
         }
     }
 
-    /// What a turn without a segment has to know. `asks` says whether the connection owes an answer.
+    /// What a turn without a segment has to know. `asks` says whether the connection has an ACK pending.
     fn before(&self, asks: bool) -> Before
         requires sound { IsSound self.now }
         ensures { result ≡ before_other asks self.now }
