@@ -1,4 +1,4 @@
--- What a desk counts besides the faults of its file.
+-- What a desk counts in addition to the failed calls on its file.
 use Rattle.std.specs.Prelude.{ℕ}
 
 -- no call on the file changes it
@@ -10,6 +10,6 @@ pub record Beside : Type 0 where
   -- how many of them were binds
   pub bind_faults : ℕ
 
--- a file that stands on no desk
+-- the counts of a file without a network
 abbrev pub nothing : Beside
 nothing = record { refusals = 0; link_faults = 0; bind_faults = 0 }

@@ -1,4 +1,4 @@
--- A choice of what a death leaves of a file, among all that it may leave.
+-- What a death leaves of a file, by one choice among all that it may leave.
 use Rattle.std.specs.Prelude.{ℕ, ◌==◌, true, false, List, [], ◌∷◌, ◌++◌, length, take, if◌then◌else◌}
 use Rattle.disk.specs.declared.calls.DiskCall.{DiskCall}
 use Rattle.disk.specs.declared.calls.DiskCall.TheVariants.{Appended, Put, Cut, Synced}
@@ -7,8 +7,9 @@ use Rattle.disk.specs.declared.calls.DeskCall.TheVariants.{OnLink, OnDisk}
 use Rattle.disk.specs.declared.death.Death.{Death}
 use Rattle.disk.specs.Left.{with_byte, seen_after}
 
--- What stands on the disk after a call, where `file` is what a read gave before it and `held` what stood on the disk. Of an append that comes after all that
--- a read gave, a front is on the disk; one after a torn end isn't. A byte that was put is there or not. A cut is done. A sync that failed did nothing.
+-- What is on the disk after a call, where `file` is what a read gave before the call and `held` is what was on the disk. Of an append that comes after all that
+-- a read gave, a prefix is on the disk; of one after a torn end, nothing is. A byte that was put is there or not. A cut is done. A sync that failed did
+-- nothing.
 abbrev pub held_after : Death → List ℕ → List ℕ → DiskCall → List ℕ
 held_after death file held (Appended bytes failed) = if length held == length file then held ++ take death.kept bytes else held
 held_after death file held (Put at byte failed) = if death.is_put then with_byte at byte held else held

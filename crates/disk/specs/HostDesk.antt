@@ -1,7 +1,7 @@
--- A desk over std's socket and file: it tells its counts alone.
+-- A desk over std's socket and file: contracts know only its counts.
 use Rattle.std.specs.Prelude.{ℕ}
 
--- what such a desk is to its callers
+-- such a desk, as its callers see it
 pub record DeskCounts : Type 0 where
   -- how many opens and calls on the file failed
   pub faults : ℕ

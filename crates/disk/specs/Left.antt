@@ -14,8 +14,8 @@ seen_after file (Put at byte failed) = with_byte at byte file
 seen_after file (Cut at failed) = take at file
 seen_after file (Synced failed) = file
 
--- What a death during a call or after it may leave, of a file that may hold these contents before. After a file's end, from an append to the next sync, anything
--- may stand. A byte that is put is the old one or the new one. From a cut to the next sync anything may come after it.
+-- What a death during a call or after it may leave, of a file that may have these contents before. After a file's end, from an append to the next sync,
+-- anything may be there. A byte that is put is the old one or the new one. From a cut to the next sync anything may be after it.
 abbrev pub MayLeave : List ℕ → (List ℕ → Type 0) → DiskCall → List ℕ → Type 0
 MayLeave file Held (Appended bytes failed) c = (d : List ℕ) × Held d × (take (length file) c ≡ d)
 MayLeave file Held (Put at byte failed) c = (d : List ℕ) × Held d × ((c ≡ d) ⊎ (c ≡ with_byte at byte d))
@@ -34,7 +34,7 @@ failed (Put at byte f) = Put at byte true
 failed (Cut at f) = Cut at true
 failed (Synced f) = Synced true
 
--- what was done of calls: the first of them, of which the last one may have failed
+-- the calls that were made, of a list of calls: a prefix of it, whose last call may have failed
 abbrev pub IsFrontOf : List DiskCall → List DiskCall → Type 0
 IsFrontOf calls [] = Unit {0}
 IsFrontOf [] (call ∷ done) = ⊥

@@ -1,4 +1,4 @@
--- A network and a file in memory, on one desk.
+-- A desk in memory: a network and a file.
 use Rattle.std.specs.Prelude.{◌≡◌, ◌⊎◌, ◌<◌, ℕ, Bool, true, List, [], Some, if◌then◌else◌}
 use Rattle.std.specs.declared.option.Option.{Option}
 use Rattle.std.specs.Str.{bytes_eq}
@@ -10,11 +10,11 @@ use Rattle.disk.specs.declared.calls.DeskCall.TheVariants.{OnLink}
 use Rattle.disk.specs.MemDisk as disks
 use Rattle.disk.specs.MemDisk.{DiskState}
 
--- what a desk in memory is to its callers
+-- a desk in memory, as its callers see it
 pub record DeskState : Type 0 where
   -- its network
   pub link : LinkState
-  -- its file, which notes the calls on both
+  -- its file, which records the calls on both
   pub disk : DiskState
   -- the name of the file
   pub name : List ℕ
@@ -34,22 +34,22 @@ abbrev pub fresh_desk : LinkState → DiskState → (name open_fails : List ℕ)
 fresh_desk link disk name open_fails is_in_use =
     record { link = link; disk = disk; name = name; opens = no_call open_fails; is_in_use = is_in_use; refusals = 0; link_faults = 0; bind_faults = 0 }
 
--- it tells the calls on both, and nothing once memory was wanting to note one
+-- the record of the calls on both; there is none once an allocation for it has failed
 abbrev pub told_of : DeskState → Option (List DeskCall)
 told_of desk = disks.told_of desk.disk
 
--- the file of its name has what wasn't read, and one of another name is new
+-- the file of its name has what isn't read yet, and a file of another name is new
 abbrev pub file_of : DeskState → List ℕ → Option (List ℕ)
 file_of desk name = Some (if bytes_eq desk.name name then desk.disk.left else [])
 
--- a call on the network was noted
+-- a call on the network was recorded
 abbrev pub noted : DeskState → LinkCall → DeskState
 noted desk call = record desk { disk = disks.noted desk.disk (OnLink call) }
 
--- memory was wanting to note one
+-- an allocation failed while a call was recorded
 abbrev pub starved : DeskState → DeskState
 starved desk = record desk { disk = disks.starved desk.disk }
 
--- memory was wanting in a call
+-- an allocation has failed in a call
 abbrev pub IsStarved : DeskState → Type 0
 IsStarved desk = (desk.disk.is_starved ≡ true) ⊎ (0 < desk.link.starved)

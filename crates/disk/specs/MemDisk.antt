@@ -6,7 +6,7 @@ use Rattle.ft_io.specs.NumberedCalls.{Calls, no_call, after_call}
 use Rattle.disk.specs.declared.calls.DeskCall.{DeskCall}
 use Rattle.disk.specs.Told.{told_if}
 
--- what a file in memory is to its callers
+-- a file in memory, as its callers see it
 pub record DiskState : Type 0 where
   -- what it had when it was opened
   pub first : List ℕ
@@ -16,11 +16,11 @@ pub record DiskState : Type 0 where
   pub reads : Calls
   -- its calls that change it
   pub changes : Calls
-  -- the calls that it has noted, the oldest first
+  -- the calls that it has recorded, the oldest first
   pub calls : List DeskCall
   -- how many calls failed
   pub faults : ℕ
-  -- memory was wanting in a call
+  -- whether an allocation has failed in a call
   pub is_starved : Bool
 
 -- a file of these bytes before the first call
@@ -28,15 +28,15 @@ abbrev pub fresh_disk : List ℕ → List ℕ → List ℕ → DiskState
 fresh_disk first read_fails fails =
     record { first = first; left = first; reads = no_call read_fails; changes = no_call fails; calls = []; faults = 0; is_starved = false }
 
--- it tells all its calls, and nothing once memory was wanting in one
+-- the record of all its calls; there is none once an allocation has failed in one
 abbrev pub told_of : DiskState → Option (List DeskCall)
 told_of disk = told_if disk.is_starved disk.calls
 
--- a call was noted
+-- a call was recorded
 abbrev pub noted : DiskState → DeskCall → DiskState
 noted disk call = record disk { calls = disk.calls ++ call ∷ [] }
 
--- memory was wanting to note a call
+-- an allocation failed while a call was recorded
 abbrev pub starved : DiskState → DiskState
 starved disk = record disk { is_starved = true }
 

@@ -1,17 +1,17 @@
-//! What is told of calls on a file, and of calls on a network and a file in one order.
+//! Recorded calls on a file, and recorded calls on a network and a file in one order.
 
 use ft_io::{LinkCall, Octets};
 
-/// A call that changes a file, as it is told. True where it failed: then it may be done in part.
+/// A recorded call that changes a file. True if it failed: then it may be done in part.
 #[derive(Debug, Drop)]
 pub enum DiskCall {
-    /// These bytes were to go after the end.
+    /// These bytes are appended at the end.
     Appended(Octets, bool),
-    /// This byte was to take the place of the one at this place, from 0.
+    /// This byte replaces the one at this place, counted from 0.
     Put(u64, u8, bool),
-    /// The bytes from this place on were to be cut off.
+    /// The bytes from this place on are cut off.
     Cut(u64, bool),
-    /// All that was done before was to be on the disk.
+    /// All that was done before is written to the disk.
     Synced(bool),
 }
 

@@ -1,4 +1,4 @@
-//! What a death leaves of a file in memory, by a choice of how far that had got which no sync had followed.
+//! What a death leaves of a file in memory, by a choice of how much of the unsynced changes is on the disk.
 
 ghost use Rattle.std.specs.Prelude.{◌≡◌, OnOk, IfOk, take};
 ghost use Rattle.disk.specs.Left.{with_byte, seen_after};
@@ -8,14 +8,14 @@ use crate::{DeskCall, DiskCall};
 use ft_io::NoMemory;
 use std::alloc::Global;
 
-/// When a death comes, and how far it finds what wasn't synced.
+/// When a death comes, and how much of the unsynced changes is on the disk then.
 #[derive(Clone, Copy, Debug, PartialEq, Eq)]
 pub struct Death {
     /// How many calls came before it.
     pub calls: usize,
-    /// How many bytes of an append are on the disk that no sync followed.
+    /// How many bytes of an unsynced append are on the disk.
     pub kept: usize,
-    /// Whether a byte is on the disk that was put and that no sync followed.
+    /// Whether an unsynced byte that was put is on the disk.
     pub is_put: bool,
 }
 
@@ -32,14 +32,14 @@ fn put_byte(bytes: &mut Vec<u8>, at: u64, byte: u8) -> Result<(), NoMemory>
     Ok(())
 }
 
-/// Cuts off what stands from this place on.
+/// Cuts off the bytes from this place on.
 fn cut_off(bytes: &mut Vec<u8>, at: u64)
     ensures { bytes.new.items ≡ take at bytes.old.items }
 {
     bytes.truncate(at as usize);
 }
 
-/// What stands on the disk after a call, where a read gave `file` before it.
+/// What is on the disk after a call, where a read gave `file` before it.
 fn hold(
     alloc: Global,
     death: Death,
@@ -81,7 +81,7 @@ fn see(file: &mut Vec<u8>, call: &DiskCall) -> Result<(), NoMemory>
     Ok(())
 }
 
-/// What stands on the disk after these calls, of a file that had `first` when it was opened.
+/// What is on the disk after these calls, of a file that had `first` when it was opened.
 pub(crate) fn left_behind(
     alloc: Global,
     death: Death,

@@ -1,4 +1,4 @@
-//! A network of datagrams and one file, which tell their calls in one order. So a contract can say that an answer was sent after the sync that it rests on.
+//! A network of datagrams and one file, whose calls are recorded in one order. So a contract can say that an answer was sent after the sync that it depends on.
 
 ghost use Rattle.std.specs.Prelude.{◌≡◌, ◌≤◌, ℕ, List, [], length, IfOk, OnOk, OnErr, IsErrOf};
 ghost use Rattle.std.specs.declared.option.Option.{Option};
@@ -12,22 +12,22 @@ use ft_io::{Addr, Failed, Heard};
 
 /// A socket for datagrams and a file. `open` comes before the calls on the file, and `bind` before those on the socket.
 pub trait Desk: Disk {
-    /// What a file of this name has, none where it is missing, or `None` where the desk doesn't tell.
+    /// The content of the file of this name, empty if there is no such file, or `None` where the content isn't specified.
     ghost file_of: { Self → List ℕ → Option (List ℕ) };
 
     /// How many times a file was refused because another process has it. The count never falls, and stops at `u64::MAX`.
     fn refusals(&self) -> u64
         ensures { result ≡ (Self.beside self.now).refusals };
 
-    /// How many calls on the network have failed; those on the file count apart.
+    /// How many calls on the network have failed. Those on the file are counted separately.
     fn link_faults(&self) -> u64
         ensures { result ≡ (Self.beside self.now).link_faults };
 
-    /// How many binds have failed; they count among the faults of the network too.
+    /// How many binds have failed. They count among the faults of the network too.
     fn bind_faults(&self) -> u64
         ensures { result ≡ (Self.beside self.now).bind_faults };
 
-    /// Opens the file of this name, or makes it, for this process alone. What it has is on the disk then, so that a death takes none of what is read.
+    /// Opens the file of this name, or creates it, for this process only. What it has is on the disk then, so that a death loses nothing of what is read.
     fn open(&mut self, name: &str) -> Result<(), ShelfEnd>
         ensures file { OnOk result (Self.left self.new ≡ file_of self.old name.now) }
         ensures told { Tells (Self.told self.old) (Self.told self.new) [] }
@@ -38,7 +38,7 @@ pub trait Desk: Disk {
         ensures no_link_fault { (Self.beside self.new).link_faults ≡ (Self.beside self.old).link_faults }
         ensures no_bind_fault { (Self.beside self.new).bind_faults ≡ (Self.beside self.old).bind_faults };
 
-    /// Takes the address `at` for what is sent and received from now on. After `Failed` all is as before, but for the counts.
+    /// Sends and receives at the address `at` from now on. After `Failed` all is as before, except for the counts.
     fn bind(&mut self, at: Addr) -> Result<(), Failed>
         ensures told { Tells (Self.told self.old) (Self.told self.new) (on_link (bind_told at result)) }
         ensures cause { OnErr result (Rose (Self.beside self.old).link_faults (Self.beside self.new).link_faults) }
@@ -51,7 +51,7 @@ pub trait Desk: Disk {
         ensures no_refusal { (Self.beside self.new).refusals ≡ (Self.beside self.old).refusals }
         ensures left { Self.left self.new ≡ Self.left self.old };
 
-    /// Sends one datagram. Whether it arrives is left open.
+    /// Sends one datagram. Whether it arrives is unspecified.
     fn send(&mut self, to: Addr, bytes: &[u8]) -> Result<(), Failed>
         ensures told { Tells (Self.told self.old) (Self.told self.new) (on_link (send_told to bytes.now result)) }
         ensures cause { OnErr result (Rose (Self.beside self.old).link_faults (Self.beside self.new).link_faults) }
@@ -62,8 +62,8 @@ pub trait Desk: Disk {
         ensures no_refusal { (Self.beside self.new).refusals ≡ (Self.beside self.old).refusals }
         ensures left { Self.left self.new ≡ Self.left self.old };
 
-    /// Waits a while for a datagram and moves it to the front of `buf`, its first bytes where it is longer. What comes after them, and all of `buf` where none
-    /// was given, is left open.
+    /// Waits a while for a datagram and moves it to the beginning of `buf`, or only its first bytes where it is longer. What follows them in `buf`, and all of
+    /// `buf` where none was given, is unspecified.
     fn recv(&mut self, buf: &mut [u8]) -> Result<Heard, Failed>
         requires { 2048 ≤ length buf.old }
         ensures within { IfOk result (λ heard. HasAtMost heard (length buf.new)) }
@@ -76,7 +76,7 @@ pub trait Desk: Disk {
         ensures no_refusal { (Self.beside self.new).refusals ≡ (Self.beside self.old).refusals }
         ensures left { Self.left self.new ≡ Self.left self.old };
 
-    /// The same, but it doesn't wait: it hears nothing unless a datagram has come already.
+    /// The same, but it doesn't wait: it gives `Heard::Nothing` unless a datagram has arrived already.
     fn recv_waiting(&mut self, buf: &mut [u8]) -> Result<Heard, Failed>
         requires { 2048 ≤ length buf.old }
         ensures within { IfOk result (λ heard. HasAtMost heard (length buf.new)) }

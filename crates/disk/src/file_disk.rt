@@ -1,5 +1,5 @@
-//! Std's file as a disk: the real outside. It tells no content, so that what it writes, and that a sync which answers `Ok` is true, rest on the system; contracts
-//! know how many calls failed.
+//! Std's file as a disk. Its content isn't specified: what it writes, and whether a sync that returns `Ok` is true, depends on the system. Contracts know how
+//! many calls failed.
 
 ghost use Rattle.std.specs.Prelude.{◌≡◌, ◌≤◌, None, IfOk, OnOk, OnErr, length};
 ghost use Rattle.ft_io.specs.Faults.{Rose};
@@ -15,7 +15,7 @@ use std::os::unix::fs::{FileExt, MetadataExt, OpenOptionsExt};
 use std::path::Path;
 use std::{fs, io};
 
-/// A file of the system, locked for this process alone until it is dropped or the process dies.
+/// A file of the system, locked for this process only, until it is dropped or the process dies.
 #[derive(Drop)]
 pub struct FileDisk {
     file: File,
@@ -33,9 +33,9 @@ impl Model for FileDisk {
 }
 
 impl FileDisk {
-    /// Opens the file at `path`, or makes it, for this process alone. It is synced before its first read: a process that died may have written more than it had
-    /// synced, and what is read and answered from then on must outlast a loss of power. A link, a folder and a device are refused in its place, and so is a file
-    /// with a second name, under which the lock wouldn't be looked for.
+    /// Opens the file at `path`, or creates it, for this process only. It is synced before its first read: a process that died may have written more than it
+    /// had synced, and what is read and answered from then on must survive a loss of power. A symbolic link, a directory and a device are refused, and so is a
+    /// file with a second name (hard link), since the lock is looked for under the first.
     pub fn open<R: Files<File = File>>(files: &R, path: &str) -> Result<FileDisk, ShelfEnd>
         ensures { IfOk result (λ disk. disk ≡ 0) }
     {
@@ -64,10 +64,10 @@ impl FileDisk {
     }
 }
 
-/// The regular file of this name, which no link leads to and which has no second name; made if it is missing.
+/// The regular file of this name, created if it is missing. The name is no symbolic link, and the file has no second name.
 fn open_named<R: Files<File = File>>(files: &R, path: &str) -> io::Result<File> {
     let mut file = open_or_make(files, path)?;
-    // What is meant for a standard stream that was closed must not land in the file.
+    // If a standard stream is closed, its descriptor is free: what is written to that stream must not end up in the file.
     if file.as_raw_fd() <= 2 {
         file = file.try_clone()?;
     }
@@ -80,7 +80,8 @@ fn open_named<R: Files<File = File>>(files: &R, path: &str) -> io::Result<File> 
     Ok(file)
 }
 
-/// A link or a device that stands at the name isn't opened. The file isn't opened to append: then Linux would put each byte after the end, wherever it is to go.
+/// A symbolic link or a device of this name isn't opened. The file isn't opened in append mode: Linux would then write each byte at the end, whatever its
+/// place.
 fn open_or_make<R: Files<File = File>>(files: &R, path: &str) -> io::Result<File> {
     let made = OpenOptions::new()
         .read(true)
@@ -98,8 +99,8 @@ fn open_or_make<R: Files<File = File>>(files: &R, path: &str) -> io::Result<File
     OpenOptions::new().read(true).write(true).open(files, path)
 }
 
-/// Syncs the file and its folder, so that a name that was made stays, and tells the file's length. The kernel's copies of the file are dropped, which a failed
-/// sync of an earlier process may have left other than the disk has them.
+/// Syncs the file and its directory, so that a new name stays, and returns the file's length in bytes. The kernel's cached pages of the file are dropped, which
+/// a failed sync of an earlier process may have left different from the disk.
 fn settle<R: Files<File = File>>(files: &R, file: &File, path: &str) -> io::Result<u64> {
     file.sync_all()?;
     let advised = libc::posix_fadvise(file.as_raw_fd(), 0, 0, libc::POSIX_FADV_DONTNEED);

@@ -1,4 +1,4 @@
-//! Std's UDP socket and std's file as a desk: the real outside. It tells no content; contracts know how many calls failed.
+//! Std's UDP socket and std's file as a desk. Their content isn't specified: contracts know only how many calls failed.
 
 ghost use Rattle.std.specs.Prelude.{◌≡◌, ◌≤◌, IfSome, IfOk, OnOk, OnErr, None, length};
 ghost use Rattle.ft_io.specs.Faults.{Rose};
@@ -13,10 +13,10 @@ use std::marker::Model;
 use std::net::{IpAddr, Ipv4Addr, Net, SocketAddr, UdpSocket};
 use std::time::Duration;
 
-/// How many milliseconds a receive that waits does so at most.
+/// The longest wait of a receive, in milliseconds.
 const PATIENCE: u64 = 20;
 
-/// A UDP socket and a file. A call on the file before the first open that succeeded is a fault, and so is one on the network before the first bind that did; a
+/// A UDP socket and a file. A call on the file before the first successful open is a fault, and so is one on the network before the first successful bind. A
 /// datagram from an address that isn't IPv4 is a fault too.
 #[derive(Drop)]
 pub struct HostDesk<'a, R: Net + Files<File = File>> {
@@ -210,7 +210,7 @@ impl Bound {
         Ok(())
     }
 
-    /// Receives a datagram, or nothing; `None` where the socket fails.
+    /// Receives a datagram, or nothing. `None` where the socket fails.
     fn hear(&mut self, waits: bool, buf: &mut [u8]) -> Option<Heard>
         ensures { IfSome result (λ heard. HasAtMost heard (length buf.new)) }
     {
@@ -225,7 +225,7 @@ impl Bound {
         }
     }
 
-    /// Whether the socket took the datagram whole. It waits for room, so that no answer is lost for want of it.
+    /// Whether the socket took the complete datagram. The send waits for room in the socket, so that no answer is lost because its buffer is full.
     fn send(&mut self, to: Addr, bytes: &[u8]) -> bool {
         self.set_waits(true).is_ok()
             && matches!(self.socket.send_to(bytes, socket_addr(to)), Ok(sent) if sent == bytes.len())

@@ -1,6 +1,6 @@
-//! One file that grows at its end, as a trait: what a logger keeps its log in. It tells the calls that change it, so that a contract can say what a death at
-//! any of them may leave. A desk is such a file and a network of datagrams beside it, which tell their calls in one order. Each has a form in memory, and one
-//! over std's files and sockets, which tells only how many of its calls failed.
+//! One file that grows at its end, as a trait: a logger keeps its log in it. The calls that change it are recorded, so that a contract can say what a death at
+//! any of them may leave. A desk is such a file together with a network of datagrams, whose calls are recorded in one order. Each has a form in memory, and one
+//! over std's files and sockets, of which contracts know only how many calls failed.
 #![tactic(auto)]
 
 pub use calls::{DeskCall, DiskCall};

@@ -1,5 +1,5 @@
-//! A network and a file in memory, for tests: the datagrams that come, the file's bytes and the calls that fail are given, and the calls on both are told in one
-//! list.
+//! A network and a file in memory, for tests: the datagrams that arrive, the file's bytes and the calls that fail are given, and the calls on both are recorded
+//! in one list.
 
 ghost use Rattle.std.specs.Prelude.{◌≡◌, ◌≤◌, ◌<◌, ◌⊎◌, length, take, false, true, None, Some, [], string_bytes, IfSome, IfOk, OnOk, OnErr, IsErrOf};
 ghost use Rattle.std.specs.Bool.{OnTrue, OnFalse};
@@ -54,8 +54,8 @@ impl Model for MemDesk {
 }
 
 impl MemDesk {
-    /// A desk with this network, and with this file under this name. The opens fail whose numbers, each from 1, stand in `open_fails`, and where `is_in_use`
-    /// every open is refused. It takes no memory yet.
+    /// A desk with this network, and with this file under this name. The opens fail whose numbers, counted from 1, are in `open_fails`, and if `is_in_use`,
+    /// every open is refused. Nothing is allocated yet.
     pub fn new(
         alloc: Global,
         link: MemLink,
@@ -79,7 +79,7 @@ impl MemDesk {
         }
     }
 
-    /// The calls so far, the oldest first, or `None` once memory was wanting to note one.
+    /// The calls so far, the oldest first, or `None` once an allocation for their record has failed.
     pub fn told(&self) -> Option<&[DeskCall]>
         ensures some { IfSome result (λ calls. told_of self.now ≡ Some calls.now) }
         ensures none { result ≡ None → told_of self.now ≡ None }
@@ -87,7 +87,7 @@ impl MemDesk {
         self.disk.told()
     }
 
-    /// What a death leaves of the file, in the course of the calls so far.
+    /// What a death during the calls so far leaves of the file.
     pub fn after_death(&self, death: Death) -> Result<Vec<u8>, NoMemory>
         ensures is { IfOk result (λ left. left.items ≡ left_of death self.now.disk.first self.now.disk.calls) }
         ensures may_be { IfOk result (λ left.
@@ -103,7 +103,7 @@ impl MemDesk {
         self.disk.note(DeskCall::OnLink(call))
     }
 
-    /// Notes a datagram that was handed to send.
+    /// Records a datagram that was handed to send.
     fn note_handed(&mut self, to: Addr, bytes: &[u8], fails: bool) -> bool
         ensures noted { OnTrue result (self.new ≡ noted self.old (Handed to bytes.now fails)) }
         ensures starved { OnFalse result (self.new ≡ starved self.old) }
@@ -115,7 +115,7 @@ impl MemDesk {
         self.note(LinkCall::Handed(to, Octets::new(copy), fails))
     }
 
-    /// Notes what was heard.
+    /// Records what was received.
     fn note_heard(&mut self, heard: Heard, buf: &[u8]) -> bool
         requires { HasAtMost heard (length buf.now) }
         ensures noted { OnTrue result (self.new ≡ noted self.old (heard_as heard buf.now)) }
@@ -223,7 +223,7 @@ impl Desk for MemDesk {
     }
 
     fn bind(&mut self, at: Addr) -> Result<(), Failed>
-        // It fails only where it is to, or where memory is wanting.
+        // It fails only where it was made to fail, or where an allocation fails.
         ensures fails { OnErr result (BindFails self.old.link ⊎ IsStarved self.new) }
 
         // What every desk promises.
@@ -247,7 +247,7 @@ impl Desk for MemDesk {
     }
 
     fn send(&mut self, to: Addr, bytes: &[u8]) -> Result<(), Failed>
-        // It fails only where its call is listed so, or where memory is wanting.
+        // It fails only where its call is listed so, or where an allocation fails.
         ensures fails { OnErr result (IsNextListed self.old.link.sends ⊎ IsStarved self.new) }
 
         // What every desk promises.
@@ -270,7 +270,7 @@ impl Desk for MemDesk {
     fn recv(&mut self, buf: &mut [u8]) -> Result<Heard, Failed>
         requires { 2048 ≤ length buf.old }
 
-        // It fails only where its call is listed so, or where memory is wanting, and hears the next arrival.
+        // It fails only where its call is listed so, or where an allocation fails, and gives the next arrival.
         ensures heard { IfOk result (λ heard. heard_as heard buf.new ≡ arriving (length buf.new) self.old.link.arrivals) }
         ensures fails { OnErr result (IsNextListed self.old.link.recvs ⊎ IsStarved self.new) }
 
@@ -299,7 +299,7 @@ impl Desk for MemDesk {
     fn recv_waiting(&mut self, buf: &mut [u8]) -> Result<Heard, Failed>
         requires { 2048 ≤ length buf.old }
 
-        // It fails only where its call is listed so, or where memory is wanting, and hears the next arrival.
+        // It fails only where its call is listed so, or where an allocation fails, and gives the next arrival.
         ensures heard { IfOk result (λ heard. heard_as heard buf.new ≡ arriving (length buf.new) self.old.link.arrivals) }
         ensures fails { OnErr result (IsNextListed self.old.link.recvs ⊎ IsStarved self.new) }
 

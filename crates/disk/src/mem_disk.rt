@@ -1,5 +1,5 @@
-//! A file in memory, for tests. It tells its calls, fails where it is told to, and fails where memory runs out; from then on it tells nothing. It can be asked
-//! what a death at any moment leaves.
+//! A file in memory, for tests. It records its calls. It fails where it was made to fail, and where an allocation fails; from then on it records nothing. It
+//! can be asked what a death at any moment leaves of it.
 
 ghost use Rattle.std.specs.Prelude.{◌≡◌, ◌≤◌, ◌<◌, ◌↔◌, ◌⊎◌, length, min, take, false, true, None, Some, [], ◌∷◌, is_err, IfSome, IfOk, OnOk, OnErr, IsErr};
 ghost use Rattle.std.specs.Bool.{OnTrue, OnFalse};
@@ -55,8 +55,8 @@ impl Model for MemDisk {
 }
 
 impl MemDisk {
-    /// A file that had these bytes when it was opened. The reads fail whose numbers, each from 1, stand in `read_fails`, and in `fails` those of the calls that
-    /// change it. It takes no memory yet.
+    /// A file that had these bytes when it was opened. The reads fail whose numbers, counted from 1, are in `read_fails`, and likewise in `fails` those of the
+    /// calls that change it. Nothing is allocated yet.
     pub fn new(alloc: Global, first: Vec<u8>, read_fails: Vec<u32>, fails: Vec<u32>) -> MemDisk
         ensures { result ≡ fresh_disk first.items read_fails.items fails.items }
     {
@@ -72,7 +72,7 @@ impl MemDisk {
         }
     }
 
-    /// The calls so far, the oldest first, or `None` once memory was wanting in one.
+    /// The calls so far, the oldest first, or `None` once an allocation has failed in one.
     pub fn told(&self) -> Option<&[DeskCall]>
         ensures some { IfSome result (λ calls. told_of self.now ≡ Some calls.now) }
         ensures none { result ≡ None → told_of self.now ≡ None }
@@ -84,7 +84,7 @@ impl MemDisk {
         }
     }
 
-    /// What a death leaves of the file, in the course of the calls that it has noted.
+    /// What a death during the calls so far leaves of the file.
     pub fn after_death(&self, death: Death) -> Result<Vec<u8>, NoMemory>
         ensures is { IfOk result (λ left. left.items ≡ left_of death self.now.first self.now.calls) }
         ensures may_be { IfOk result (λ left. LeftBy self.now.first (λ c. c ≡ self.now.first) (disk_calls (take death.calls self.now.calls)) left.items) }
@@ -100,7 +100,7 @@ impl MemDisk {
         left_behind(self.alloc, death, &self.first, &self.calls[..count])
     }
 
-    /// Notes a call, or answers that memory is wanting for it.
+    /// Records a call. False if an allocation for that fails.
     pub(crate) fn note(&mut self, call: DeskCall) -> bool
         ensures noted { OnTrue result (self.new ≡ noted self.old call) }
         ensures starved { OnFalse result (self.new ≡ starved self.old) }
@@ -119,14 +119,14 @@ impl MemDisk {
         &self.first[self.at..]
     }
 
-    /// Tells nothing from now on.
+    /// Records nothing from now on.
     pub(crate) fn starve(&mut self)
         ensures { self.new ≡ starved self.old }
     {
         self.is_starved = true;
     }
 
-    /// The file of another name, which is made.
+    /// A file of another name, which is created.
     pub(crate) fn make_anew(&mut self)
         ensures { self.new ≡ made_anew self.old }
     {
@@ -143,7 +143,7 @@ impl MemDisk {
         Failed
     }
 
-    /// Notes a call that changes the file, and answers as it did.
+    /// Records a call that changes the file, and returns its result.
     fn finish(&mut self, call: DiskCall, fails: bool) -> Result<(), Failed>
         ensures ok { OnOk result ((fails ≡ false) × (self.new ≡ noted self.old (OnDisk call))) }
         ensures err { OnErr result (((fails ≡ true) × (self.new ≡ failed (noted self.old (OnDisk call)))) ⊎ (self.new ≡ failed (starved self.old))) }
@@ -194,7 +194,7 @@ impl Disk for MemDisk {
     }
 
     fn append(&mut self, bytes: &[u8]) -> Result<(), Failed>
-        // It fails exactly where its call is listed so, or where memory is wanting; so do the others that change the file.
+        // It fails exactly where its call is listed so, or where an allocation fails. So do the other calls that change the file.
         ensures done { OnOk result ((IsNextListed self.old.changes → ⊥)
             × (self.new ≡ noted (changing self.old) (OnDisk (Appended bytes.now false)))) }
         ensures failed { OnErr result ((IsNextListed self.old.changes
@@ -263,7 +263,7 @@ impl Disk for MemDisk {
     }
 }
 
-/// Copies as much of the front of `bytes` as fits into `buf`, and answers how much.
+/// Copies the first bytes of `bytes` into `buf`, as many as fit, and returns how many.
 fn copy_front(bytes: &[u8], buf: &mut [u8]) -> usize
     ensures count { result ≡ min (length bytes.now) (length buf.new) }
     ensures copied { take result buf.new ≡ take result bytes.now }

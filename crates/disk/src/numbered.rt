@@ -1,4 +1,4 @@
-//! Calls numbered from 1, some of which a list makes fail: how the forms in memory fail on purpose.
+//! Calls numbered from 1, some of which fail because a list names them: so the forms in memory fail on purpose.
 
 ghost use Rattle.std.specs.Prelude.{◌≡◌, ◌↔◌, IsTrue, Contains};
 ghost use Rattle.ft_io.specs.NumberedCalls.{no_call, after_call, IsNextListed};
@@ -21,14 +21,14 @@ impl Model for NumberedCalls {
 }
 
 impl NumberedCalls {
-    /// No call yet; `fails` has the numbers, from 1, of those that fail.
+    /// No call yet. `fails` has the numbers, counted from 1, of those that fail.
     pub fn new(fails: Vec<u32>) -> NumberedCalls
         ensures { result ≡ no_call fails.items }
     {
         NumberedCalls { fails, made: 0 }
     }
 
-    /// Counts a call, and tells whether it fails.
+    /// Counts a call, and returns whether it fails.
     pub fn next_fails(&mut self) -> bool
         ensures listed { IsTrue result ↔ IsNextListed self.old }
         ensures counted { self.new ≡ after_call self.old }

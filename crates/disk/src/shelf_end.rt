@@ -1,4 +1,4 @@
-//! How the opening of a file ends where it fails.
+//! Why the opening of a file fails.
 
 use std::fs::TryLockError;
 use std::io;
@@ -6,7 +6,7 @@ use std::io;
 /// Why a file couldn't be opened.
 #[derive(Clone, Copy, Debug, PartialEq, Eq)]
 pub enum ShelfEnd {
-    /// A call of the system failed, or what stands there is no file of the wanted kind.
+    /// A system call failed, or the name is that of no regular file with one name.
     Failed,
     /// Another process has it open.
     InUse,

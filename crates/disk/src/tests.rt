@@ -1,5 +1,5 @@
-//! What deaths leave of a file in memory, written down by hand; the order in which a desk tells; and the real file and the real socket, of which no clause tells
-//! a byte.
+//! What deaths leave of a file in memory, written down by hand; the order in which a desk records calls; and the real file and socket, of which no contract
+//! specifies a byte.
 
 use super::*;
 use ft_io::{Addr, Arrival, Failed, Heard, LinkCall, MemLink, NoMemory, Octets};
@@ -21,7 +21,7 @@ const THERE: Addr = Addr {
     port: 47_132,
 };
 
-/// How many calls came before the death, how much of an append that wasn't synced is kept, whether a byte that wasn't is, and what is left.
+/// How many calls came before the death, how many bytes of an unsynced append are kept, whether an unsynced byte that was put is, and what is left.
 type Row = (usize, usize, bool, &'static str);
 
 const ROWS: [Row; 14] = [
@@ -74,7 +74,7 @@ fn a_death_leaves_what_was_synced(rt: HostRuntime) -> Result<(), Fail> {
     Ok(())
 }
 
-/// A desk to which one datagram comes, and whose second send fails.
+/// A desk at which one datagram arrives, and whose second send fails.
 fn desk_of(alloc: Global) -> Result<MemDesk, NoMemory> {
     let bytes = Octets::new(b"hello".to_vec(alloc)?);
     let arrivals = vec![in alloc; Arrival::Datagram { from: FROM, bytes }]?;

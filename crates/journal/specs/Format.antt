@@ -1,5 +1,5 @@
 -- A journal's file: a magic, then blocks, each of them an open gate (209), the length of its body in four bytes, high byte first, and the body; then a closed
--- gate (46, all eight bits the other way), and after that whatever a death has left there.
+-- gate (46, the complement of 209), and after that whatever a death has left there.
 use Rattle.std.specs.Prelude.{◌≡◌, ℕ, ◌+◌, ◌<◌, ◌^◌, false, List, [], ◌∷◌, ◌++◌, length, codes}
 use Rattle.std.specs.Int.{bytes_high_first}
 use Rattle.disk.specs.declared.calls.DiskCall.{DiskCall}
@@ -18,11 +18,11 @@ abbrev pub blocks : List (List ℕ) → List ℕ
 blocks [] = []
 blocks (body ∷ bodies) = 209 ∷ counted body ++ blocks bodies
 
--- all before the closed gate
+-- all bytes before the closed gate
 abbrev pub front : List (List ℕ) → List ℕ
 front bodies = magic ++ blocks bodies
 
--- a file stands for the bodies of the blocks before its closed gate
+-- a file is read as the bodies of the blocks before its closed gate
 abbrev pub Stands : List (List ℕ) → List ℕ → Type 0
 Stands bodies file = (tail : List ℕ) × (file ≡ front bodies ++ 46 ∷ tail)
 
@@ -30,7 +30,7 @@ Stands bodies file = (tail : List ℕ) × (file ≡ front bodies ++ 46 ∷ tail)
 abbrev pub at_rest : List (List ℕ) → List ℕ
 at_rest bodies = front bodies ++ 46 ∷ []
 
--- nothing comes after the closed gate, and a death takes nothing of it
+-- nothing comes after the closed gate, and a death changes nothing
 abbrev pub IsAtRest : List ℕ → (List ℕ → Type 0) → List (List ℕ) → Type 0
 IsAtRest file Held bodies = (file ≡ at_rest bodies) × ((c : List ℕ) → Held c → c ≡ file)
 
@@ -38,11 +38,11 @@ IsAtRest file Held bodies = (file ≡ at_rest bodies) × ((c : List ℕ) → Hel
 abbrev pub IsSmall : List ℕ → Type 0
 IsSmall body = length body < 2 ^ 32
 
--- what goes after the closed gate: the body with its length, and the next closed gate
+-- what is appended after the closed gate: the body with its length, and the next closed gate
 abbrev pub sized : List ℕ → List ℕ
 sized body = bytes_high_first 4 (length body) ++ (body ++ 46 ∷ [])
 
--- the calls that keep a body, after a closed gate at this place
+-- the calls that append a body, after a closed gate at this place
 abbrev pub keeping : ℕ → List ℕ → List DiskCall
 keeping end body = Appended (sized body) false ∷ Synced false ∷ Put end 209 false ∷ Synced false ∷ []
 
@@ -50,7 +50,7 @@ keeping end body = Appended (sized body) false ∷ Synced false ∷ Put end 209 
 abbrev pub mending : ℕ → List DiskCall
 mending end = Cut (end + 1) false ∷ Synced false ∷ []
 
--- the calls that keep bodies, one after the other
+-- the calls that append bodies, one after the other
 abbrev pub all_kept : List (List ℕ) → List (List ℕ) → List DiskCall
 all_kept bodies [] = []
 all_kept bodies (body ∷ kept) = keeping (length (front bodies)) body ++ all_kept (bodies ++ body ∷ []) kept

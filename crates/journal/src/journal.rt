@@ -1,4 +1,4 @@
-//! Keeping a block after those that a journal has.
+//! Appending a block to a journal.
 
 ghost use Rattle.std.specs.Prelude.{◌≡◌, ◌≤◌, ◌<◌, ◌+◌, ◌-◌, ◌^◌, length, List, IfOk, OnOk, OnErr, IsErrOf};
 ghost use Rattle.ft_io.specs.Faults.{Rose};
@@ -13,11 +13,11 @@ use disk::Disk;
 use ft_io::Failed;
 use std::alloc::{AllocError, AllocFailed, Global};
 
-/// Why a block wasn't kept.
+/// Why a block wasn't appended.
 #[derive(Clone, Copy, Debug, PartialEq, Eq)]
 pub enum KeepEnd {
     NoMemory,
-    /// The disk failed, or was full.
+    /// A call on the disk failed; it may be full.
     Failed,
 }
 
@@ -45,20 +45,20 @@ impl From<Failed> for KeepEnd {
     }
 }
 
-/// A gate after which a block stands. No bit of it is that of a closed one, so damage hardly makes one the other.
+/// An open gate: a block follows. It differs from a closed gate in all eight bits, so damage hardly turns one into the other.
 pub const OPEN: u8 = 209;
 
-/// A gate after which nothing stands that counts.
+/// A closed gate: nothing after it counts.
 pub const CLOSED: u8 = 46;
 
-/// A journal's file that ends with a closed gate. The file itself is the caller's, who passes the same one to each call.
+/// A journal whose file ends with a closed gate. The caller has the file, and passes the same one to each call.
 #[derive(Clone, Copy, Debug, PartialEq, Eq)]
 pub struct Journal {
-    /// The place of the closed gate.
+    /// The place of the closed gate, in bytes from the file's beginning.
     pub end: u64,
 }
 
-/// What goes after a closed gate to keep a body there: the body with its length, and the next closed gate.
+/// What is appended after a closed gate: the body with its length, and the next closed gate.
 fn block_of(alloc: Global, body: &[u8]) -> Result<Vec<u8>, AllocError>
     requires { length body.now < 2 ^ 32 }
     ensures { IfOk result (λ block. block.items ≡ sized body.now) }
@@ -71,7 +71,8 @@ fn block_of(alloc: Global, body: &[u8]) -> Result<Vec<u8>, AllocError>
 }
 
 impl Journal {
-    /// Keeps a block. At `Ok` every death leaves a file from then on that has it. After an error the journal may only be dropped, and the file be opened again.
+    /// Appends a block with this body. After `Ok` every death leaves a file that has the block. After an error the journal may only be dropped; the file can
+    /// then be opened again.
     pub fn keep<D: Disk>(&mut self, alloc: Global, disk: &mut D, body: &[u8]) -> Result<(), KeepEnd>
         requires small { length body.now < 2 ^ 32 }
         requires room { self.old.end + 5 + length body.now < 2 ^ 64 }

@@ -1,5 +1,6 @@
-//! A journal: blocks in a file, each of them on the disk before its keeping is answered, whatever dies and whenever. No checksum is trusted. The first byte of a
-//! block is its gate. It stands closed on the disk before anything is written after it, and is opened by a call of its own once all after it is on the disk.
+//! A journal, which is a write-ahead log: blocks in a file. Each is on the disk before its append returns, whatever dies and whenever. It needs no checksum.
+//! The first byte of a block is its gate. It is closed on the disk before anything is written after it, and is opened by a write of its own once all after it
+//! is on the disk.
 #![tactic(auto)]
 
 pub use journal::{CLOSED, Journal, KeepEnd, OPEN};

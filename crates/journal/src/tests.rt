@@ -1,10 +1,10 @@
-//! A file with two blocks at moments of keeping the second, written down by hand.
+//! A file with two blocks, at several moments while the second is appended, written down by hand.
 
 use super::*;
 use disk::{Death, MemDisk};
 use std::test::Fail;
 
-/// How many calls came before a death, how much of an append it finds, whether it finds an open gate, and what it leaves.
+/// How many calls came before a death, how many bytes of an append are on the disk then, whether an open gate is, and what the death leaves.
 type Row = (usize, usize, bool, &'static [u8]);
 
 const ROWS: [Row; 6] = [

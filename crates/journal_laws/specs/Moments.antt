@@ -1,4 +1,4 @@
--- A moment in the life of a logger that keeps its log in a journal: the calls that it has made so far, and what the next logger finds if it dies then.
+-- A moment in the run of a logger that keeps its log in a journal: the calls that it has made so far, and what the next logger finds if it dies then.
 use Rattle.std.specs.Prelude.{◌≡◌, ◌⊎◌, ℕ, Some, Result, Ok, Err, List, [], ◌∷◌, ◌++◌, map}
 use Rattle.std.specs.Option.{option_to_list}
 use Rattle.ft_io.specs.declared.link_call.LinkCall.{LinkCall}
@@ -18,7 +18,7 @@ use Rattle.journal.specs.Format.{Stands}
 use Rattle.kept_log.specs.Kept.{HasLog}
 use Rattle.kept_log.specs.Opening.{Finds}
 
--- what was done of calls: the first of them. The last one, if it is on the file, may have failed or be under way
+-- a prefix of calls. The last one, if it is on the file, may have failed or not be finished
 abbrev pub failed_call : DeskCall → DeskCall
 failed_call (OnLink call) = OnLink call
 failed_call (OnDisk call) = OnDisk (failed call)
@@ -45,7 +45,7 @@ messages_in [] = []
 messages_in (OnLink call ∷ calls) = message_on call ++ messages_in calls
 messages_in (OnDisk call ∷ calls) = messages_in calls
 
--- what they handed to send
+-- what they sent
 abbrev pub bytes_on : LinkCall → List (List ℕ)
 bytes_on (Handed to bytes is_lost) = bytes ∷ []
 bytes_on (Came from bytes) = []
@@ -63,9 +63,9 @@ abbrev pub answers_to : Log → List Message → List Message
 answers_to log [] = []
 answers_to log (message ∷ messages) = option_to_list (answer_to log message) ++ answers_to (log_after log message) messages
 
--- What a log has become when a process that made these calls has died. Of the messages that it received, in their order, the first are those up to the last answer that
--- it handed to send; to each of them it handed exactly the answer of the log at its place. The log has them all, and then those that the file had already. The
--- last ones it hasn't: they count as never delivered
+-- The log after a process that made these calls has died. Of the messages that it received, in their order, the first are those up to the last answer that it
+-- sent; to each of them it sent exactly the answer of the log at its place. The log has them all, and then those that the file had already. The log doesn't
+-- have the last ones: they count as never delivered
 pub record ComesBack (before after : Log) (calls : List DeskCall) : Type 0 where
   pub answered : List Message
   pub kept : List Message
@@ -74,7 +74,7 @@ pub record ComesBack (before after : Log) (calls : List DeskCall) : Type 0 where
   pub handed : handed_in calls ≡ map spelling (answers_to before answered)
   pub after_is : after ≡ log_after_all before (answered ++ kept)
 
--- what is left of its file stands for such a log, and whoever opens it finds no other
+-- what is left of its file is read as such a log, and as no other
 pub record Outlives (before : Log) (calls : List DeskCall) (left : List ℕ) : Type 0 where
   pub bodies : List (List ℕ)
   pub end : ℕ

@@ -1,5 +1,6 @@
-//! What a death leaves of a logger that keeps its log in a journal, at every moment of its life: the law that joins the clause on the process (`journal_link`), the
-//! laws of its file (`journal`) and those of a world whose logger may die (`logger_deaths`). Nothing here runs; each function is a theorem.
+//! What a death leaves of a logger that keeps its log in a journal, at every moment of its run: the law that joins the contract of the process
+//! (`journal_link`), the laws of its file (`journal`) and those of a world whose logger may die (`logger_deaths`). Nothing here runs; each function is a
+//! theorem.
 #![tactic(auto)]
 
 ghost use Rattle.std.specs.Prelude.{◌≡◌, ℕ, Some, List, [], ◌∷◌, ◌++◌, map};
@@ -31,8 +32,8 @@ ghost use Rattle.journal_laws.specs.Moments.{IsFront, ComesBack, Outlives, AreUn
 
 use server_trait::Service;
 
-/// Once its file is open, a death at any moment leaves a file that has all that was ever answered: of the messages that were received those up to the last answer,
-/// and maybe more of them, in their order.
+/// Once its file is open, a death at any moment leaves a file that has all that was ever answered: the received messages up to the last answer, and maybe more,
+/// in their order.
 pub fn what_was_answered_is_there()
     ensures { (file : List ℕ) (opening : List DiskCall) (start : Place) (local : Addr) (rounds : List Round) (done : List DeskCall) (left : List ℕ)
         → Starts (Some file) opening start → AllByRecursion (λ round. IsRound (received_in round)) rounds
@@ -40,7 +41,7 @@ pub fn what_was_answered_is_there()
         → Outlives start.log done left }
 {}
 
-/// What a logger told that stopped in a round, or after its last one, it told at a moment of a life. So the law before this one holds of every end.
+/// A logger that stopped in a round, or after its last one, has made the calls of some moment of a run. So the law before this one holds for every end.
 pub fn an_unanswered_round_is_a_moment()
     ensures { (start : Place) (local : Addr) (rounds : List Round) (received : List Received) (cut : List DeskCall) → AllByRecursion (λ round. IsRound (received_in round)) rounds
         → IsUnanswered (place_after start rounds) received cut
@@ -48,20 +49,20 @@ pub fn an_unanswered_round_is_a_moment()
         × IsFront (OnLink (Bound local) ∷ calls_of start whole) (OnLink (Bound local) ∷ (calls_of start rounds ++ cut)) }
 {}
 
-/// A death while a journal is opened that had a log leaves this log.
+/// A death while a journal is opened leaves the log that the journal had.
 pub fn an_opening_takes_nothing()
     ensures { (file : List ℕ) (bodies : List (List ℕ)) (opening done : List DiskCall) (end : ℕ) (log : Log) (left : List ℕ) → IsWhole file bodies opening → HasLog bodies end log
         → IsFrontOf opening done → LeftBy file (λ c. c ≡ file) done left → Outlives log (on_disk done) left }
 {}
 
-/// In every world whose log is the one at a message's place, to receive the message and to hand on its answer is the delivery of a packet.
+/// In every world whose log is the one at a message's place, receiving the message and sending its answer is the delivery of a packet.
 pub fn an_answer_is_a_delivery<S: Service>()
     ensures { (kind number : ℕ) (world : World) (message : Message) → packet_at world.packets number ≡ Some (To_logger message)
         → MayHappen (machine (S.started kind) S.after) world (Calm (Deliver number)) (option_to_list (option_map From_logger (answer_to world.log message)))
         (record world { log = log_after world.log message; packets = world.packets ++ option_to_list (option_map From_logger (answer_to world.log message)) }) }
 {}
 
-/// Where a process has died, and its log has come back with messages that it hadn't answered, the world's logger has died: its log is the one that came back.
+/// If a process has died, and its log after the restart has messages that it hadn't answered, this is a death of the world's logger with that log.
 pub fn a_death_is_a_step<S: Service>()
     ensures { (kind : ℕ) (world : World) (numbers : List ℕ) (before after : Log) (calls : List DeskCall) (back : ComesBack before after calls)
         → world.log ≡ log_after_all before back.answered → AreUnderWay world.packets numbers back.kept

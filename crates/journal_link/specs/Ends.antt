@@ -1,4 +1,4 @@
--- How a logger with a journal ends early: its exit status, and the line that tells it.
+-- How a logger with a journal ends early: its exit status, and the line that reports it.
 use Rattle.std.specs.Prelude.{◌≡◌, ◌⊎◌, ℕ, Bool, false, Option, Result, MatchResult, List, ◌++◌, codes}
 use Rattle.std.specs.Fmt.{decimal}
 use Rattle.std.specs.Io.KnownBytes.{Appends}
@@ -39,7 +39,7 @@ text_of JournalFault = codes "ftnode: journal fault\n"
 text_of (BadJournal at) = place_text at
 text_of InUse = codes "ftnode: journal in use\n"
 
--- the line is written whole and the status is the end's; or that write failed, and the status is that of a fault of a sink
+-- the complete line is written and the status is the end's; or that write failed, and the status is that of a failed write
 abbrev pub TellsEnd : JournalEnd → (err_old err_new : Option (List ℕ)) → (faults_old faults_new : ℕ) → (code : ℕ) → Type 0
 TellsEnd end err_old err_new faults_old faults_new code =
     ((code ≡ code_of end) × Appends err_old err_new (text_of end))

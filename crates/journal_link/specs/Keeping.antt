@@ -19,13 +19,14 @@ use Rattle.journal_link.specs.declared.role.JournalRole.{JournalRole}
 use Rattle.journal_link.specs.declared.status.JournalEnd.{JournalEnd}
 use Rattle.journal_link.specs.declared.status.JournalEnd.TheVariants.{Node, JournalFault, BadJournal, InUse}
 
--- Where a process starts: at the log of the blocks that its file has. By these calls it cuts off what a death has left after them, or makes a file that was empty
+-- Where a process starts: at the log of the blocks that its file has. By these calls it cuts off what a death has left after them, or creates a journal in a
+-- file that was empty
 pub record Starts (file : Option (List ℕ)) (opening : List DiskCall) (start : Place) : Type 0 where
   pub bodies : List (List ℕ)
   pub has_log : HasLog bodies start.end start.log
   pub finds : (bytes : List ℕ) → file ≡ Some bytes → Finds bytes bodies opening
 
--- A whole life: the file is opened, then comes the bind, then rounds, with so many turns in all. What is written are the counts of their calls
+-- A complete run: the file is opened, then comes the bind, then rounds, with this many turns in all. The counts of their calls are written
 pub record IsKeeper (role : JournalRole) (file : Option (List ℕ)) (old new : Option (List DeskCall)) (Writes : List ℕ → Type 0) : Type 0 where
   pub opening : List DiskCall
   pub start : Place
@@ -36,7 +37,7 @@ pub record IsKeeper (role : JournalRole) (file : Option (List ℕ)) (old new : O
   pub tells : Tells old new (on_disk opening ++ OnLink (Bound role.logger.local) ∷ calls_of start rounds)
   pub written : Writes (count_line (counts_of (link_calls (calls_of start rounds))))
 
--- A round that isn't answered: its receives so far, and of the calls that keep what they changed the first ones, of which the last one may have failed. Or it hasn't
+-- A round that isn't answered: its receives so far, and a prefix of the calls that commit what they changed, whose last call may have failed. Or it hasn't
 -- begun
 pub record IsUnanswered (at : Place) (received : List Received) (calls : List DeskCall) : Type 0 where
   pub done : List DiskCall
@@ -44,7 +45,7 @@ pub record IsUnanswered (at : Place) (received : List Received) (calls : List De
   pub front : IsFrontOf (committing at.end (changes_in at.log received)) done
   pub calls_are : calls ≡ on_link (receives received) ++ on_disk done
 
--- a life that ended in a round, or after all of them
+-- a run that ended in a round, or after all of them
 pub record IsCutKeeper (role : JournalRole) (file : Option (List ℕ)) (old new : Option (List DeskCall)) : Type 0 where
   pub opening : List DiskCall
   pub start : Place
@@ -57,7 +58,7 @@ pub record IsCutKeeper (role : JournalRole) (file : Option (List ℕ)) (old new 
   pub within : turns_in rounds + length received ≤ role.logger.turns
   pub tells : Tells old new (on_disk opening ++ OnLink (Bound role.logger.local) ∷ (calls_of start rounds ++ cut))
 
--- a life that ended while its file was opened: the first of the calls that open it, of which the last one may have failed
+-- a run that ended while its file was opened: a prefix of the calls that open it, whose last call may have failed
 pub record IsCutOpening (file : Option (List ℕ)) (old new : Option (List DeskCall)) : Type 0 where
   pub opening : List DiskCall
   pub start : Place
@@ -66,7 +67,7 @@ pub record IsCutOpening (file : Option (List ℕ)) (old new : Option (List DeskC
   pub front : IsFrontOf opening done
   pub tells : Tells old new (on_disk done)
 
--- a life that ended before it had an address
+-- a run that ended before its address was bound
 pub record IsUnbound (file : Option (List ℕ)) (old new : Option (List DeskCall)) : Type 0 where
   pub opening : List DiskCall
   pub start : Place
@@ -81,7 +82,7 @@ IsOpen file start old new = (opening : List DiskCall) × Starts file opening sta
 abbrev pub IsRefused : Option (List ℕ) → ℕ → Type 0
 IsRefused file at = (bytes : List ℕ) → file ≡ Some bytes → IsDamaged at bytes
 
--- how the opening stops: a file that is refused is as it was
+-- how the opening stops: a file that is refused is unchanged
 abbrev pub OpeningStops : (file : Option (List ℕ)) → (old new : Option (List DeskCall)) → JournalEnd → Type 0
 OpeningStops file old new InUse = Tells old new []
 OpeningStops file old new (BadJournal at) = Tells old new [] × IsRefused file at
@@ -89,7 +90,7 @@ OpeningStops file old new JournalFault = Tells old new [] ⊎ IsCutOpening file 
 OpeningStops file old new (Node NoMemory) = Tells old new []
 OpeningStops file old new _ = ⊥
 
--- How such a logger stops early. A round that stops it is answered nowhere. A file that is refused is as it was
+-- How such a logger stops early. No message of the round in which it stops is answered. A file that is refused is unchanged
 abbrev pub KeeperStops : JournalRole → (file : Option (List ℕ)) → (old new : Option (List DeskCall)) → (out_old out_new : Option (List ℕ)) → JournalEnd → Type 0
 KeeperStops role file old new out_old out_new InUse = Tells old new [] × (out_new ≡ out_old)
 KeeperStops role file old new out_old out_new (BadJournal at) = Tells old new [] × IsRefused file at × (out_new ≡ out_old)

@@ -1,4 +1,4 @@
--- What a logger with a journal did, and how that is told.
+-- What a logger with a journal did, and what it reports of it.
 use Rattle.std.specs.Prelude.{◌≡◌, ◌⊎◌, ℕ, Option, Result, Ok, Err, List}
 use Rattle.std.specs.Io.KnownBytes.{Appends}
 use Rattle.ft_io.specs.Sink.{AppendsFront}
@@ -12,13 +12,13 @@ abbrev pub Keeps : JournalRole → Option (List ℕ) → Result (Unit {0}) Journ
 Keeps role file (Ok _) old new out_old out_new = IsKeeper role file old new (Appends out_old out_new)
 Keeps role file (Err end) old new out_old out_new = KeeperStops role file old new out_old out_new end
 
--- the status of an end, and what is written of it to err: the whole line, or a front of it at 5
+-- the status of an end, and what is written of it to err: the complete line, or a prefix of it at status 5
 abbrev pub IsTold : Result (Unit {0}) JournalEnd → (err_old err_new : Option (List ℕ)) → (code : ℕ) → Type 0
 IsTold (Ok _) err_old err_new code = (code ≡ 0) × (err_new ≡ err_old)
 IsTold (Err end) err_old err_new code =
     ((code ≡ code_of end) × Appends err_old err_new (text_of end)) ⊎ ((code ≡ 5) × AppendsFront err_old err_new (text_of end))
 
--- what was done and what was told agree
+-- what was done and what is reported agree
 pub record HasKept (role : JournalRole) (file : Option (List ℕ)) (old new : Option (List DeskCall)) (out_old out_new err_old err_new : Option (List ℕ)) (code : ℕ) : Type 0 where
   pub end : Result (Unit {0}) JournalEnd
   pub keeps : Keeps role file end old new out_old out_new

@@ -1,5 +1,5 @@
--- The turns of a logger that keeps its log in a journal. They come in rounds: the receives of all of a round's turns, then the calls that keep what these changed,
--- then the answers. So no answer is handed to send before all that its round changed is on the disk.
+-- The turns of a logger that keeps its log in a journal. They come in rounds: the receives of all of a round's turns, then the calls that keep what these
+-- changed, then the answers. So no answer is sent before all that its round changed is on the disk.
 use Rattle.std.specs.Prelude.{◌≤◌, ℕ, ◌+◌, Result, Ok, Err, List, [], ◌∷◌, ◌++◌, length, map}
 use Rattle.std.specs.List.{AllByRecursion}
 use Rattle.ft_io.specs.declared.link_call.LinkCall.{LinkCall}
@@ -25,12 +25,12 @@ IsDatagram (datagram from bytes) = Unit {0}
 IsDatagram silence = ⊥
 IsDatagram failure = ⊥
 
--- one receive at least and 256 at most. One that gave no datagram is the last
+-- at least one receive and at most 256. A receive that gave no datagram is the last
 abbrev pub IsRound : List Received → Type 0
 IsRound [] = ⊥
 IsRound (last ∷ earlier) = (length (last ∷ earlier) ≤ 256) × AllByRecursion IsDatagram earlier
 
--- the log after receives, the newest first, on top of what it was
+-- the log after receives, the newest first, from the log before them
 abbrev pub log_behind : Log → List Received → Log
 log_behind log [] = log
 log_behind log (last ∷ earlier) = log_then (log_behind log earlier) last
@@ -49,17 +49,17 @@ change_by log (datagram from bytes) = change_in log bytes (reading bytes)
 change_by log silence = []
 change_by log failure = []
 
--- the messages that changed the log, each on top of those before it, one after the other as they came
+-- the messages that changed the log, each after those before it, one after the other as they arrived
 abbrev pub changes_in : Log → List Received → List ℕ
 changes_in log [] = []
 changes_in log (last ∷ earlier) = changes_in log earlier ++ change_by (log_behind log earlier) last
 
--- each answer is the log's at its message's place, and goes to where the message came from
+-- each answer is the log's at its message's place, and is sent to the message's sender
 abbrev pub answers_in : Log → Round → List LinkCall
 answers_in log [] = []
 answers_in log (last ∷ earlier) = answers_in log earlier ++ answering (log_behind log (received_in earlier)) last.is_lost last.received
 
--- a log, and where the closed gate of the file stands that has it
+-- a log, and the place of the closed gate of the file that has it
 pub record Place : Type 0 where
   pub end : ℕ
   pub log : Log
@@ -67,12 +67,12 @@ pub record Place : Type 0 where
 abbrev pub after_receives : Place → List Received → Place
 after_receives at received = record { end = end_after at.end (changes_in at.log received); log = log_behind at.log received }
 
--- the calls of a round: its receives, then those that keep exactly the messages that changed the log (none where there are none), then its answers
+-- the calls of a round: its receives, then those that commit exactly the messages that changed the log (none if there are none), then its answers
 abbrev pub round_calls : Place → Round → List DeskCall
 round_calls at round =
     on_link (receives (received_in round)) ++ (on_disk (committing at.end (changes_in at.log (received_in round))) ++ on_link (answers_in at.log round))
 
--- what rounds lead to, the newest first
+-- log and place after rounds, the newest first
 abbrev pub place_after : Place → List Round → Place
 place_after start [] = start
 place_after start (last ∷ earlier) = after_receives (place_after start earlier) (received_in last)

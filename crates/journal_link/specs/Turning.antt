@@ -29,7 +29,7 @@ place_of kept = record { end = kept.end; log = kept.log }
 abbrev pub with_received : KeptState → Received → KeptState
 with_received kept r = record kept { log = log_then kept.log r; round = kept.round ++ change_by kept.log r }
 
--- bytes came
+-- bytes arrived
 abbrev pub with_bytes : KeptState → List ℕ → KeptState
 with_bytes kept bytes = record kept { log = log_with kept.log (reading bytes); round = kept.round ++ change_in kept.log bytes (reading bytes) }
 
@@ -72,7 +72,7 @@ pub record HasTaken (is_more : Bool) (before after : KeptState) (old new : Optio
   pub after_is : after ≡ with_received before received
   pub answers_are : answers ≡ waiting ++ reply_to before.log received
 
--- so many receives, each of which gave a datagram
+-- this many receives, each of which gave a datagram
 pub record IsGathering (count : ℕ) (before after : KeptState) (old new : Option (List DeskCall)) (counted counts : Counts) (answers : List Answer) : Type 0 where
   pub received : List Received
   pub count_is : length received ≡ count
@@ -99,7 +99,7 @@ pub record IsCutGathering (most : ℕ) (old new : Option (List DeskCall)) : Type
   pub is_round : IsRound received
   pub tells : Tells old new (on_link (receives received))
 
--- a whole round
+-- a complete round
 pub record HasTurned (count : ℕ) (before after : KeptState) (old new : Option (List DeskCall)) (counted counts : Counts) : Type 0 where
   pub round : Round
   pub count_is : length round ≡ count
@@ -117,7 +117,7 @@ pub record IsCutRound (most : ℕ) (at : Place) (old new : Option (List DeskCall
   pub unanswered : IsUnanswered at received cut
   pub tells : Tells old new cut
 
--- rounds of so many turns in all
+-- rounds of this many turns in all
 pub record HasServed (count : ℕ) (start at : Place) (old new : Option (List DeskCall)) (counts : Counts) : Type 0 where
   pub rounds : List Round
   pub are_rounds : AllByRecursion (λ round. IsRound (received_in round)) rounds

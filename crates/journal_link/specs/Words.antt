@@ -22,7 +22,7 @@ file_of word = if is_name word then Some word else None
 abbrev pub journal_in : List Use → Option JournalRole
 journal_in uses = journal_from (logger_in uses) (option_and_then file_of (value_of uses option.Journal))
 
--- what words ask of a logger with a journal, where they are allowed as such. All other words are `node`'s
+-- the role that words name, if they are those of a logger with a journal. All other words are `node`'s
 unfoldable pub journal_of : List Text → Option JournalRole
 journal_of [] = None
 journal_of (name ∷ words) = if bytes_eq name (codes "logger") then option_and_then journal_in (allowed_uses journal_options words) else None

@@ -9,7 +9,7 @@ use ft_io::Addr;
 use logger_store::MsgOut;
 use node_link::Counts;
 
-/// What goes to whom once its round is on the disk: an answer, or no bytes.
+/// An answer and its addressee, to be sent once its round is on the disk; or no bytes.
 #[derive(Debug, Drop)]
 pub struct Answer {
     pub to: Addr,

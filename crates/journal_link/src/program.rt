@@ -11,8 +11,8 @@ use std::rt::Env;
 use std::time::Clock;
 use std::{env, io};
 
-/// `ftnode` with this system's words, sockets, files and processes, and with these three streams: its exit status, that of [`node_with`]. The words end with an
-/// error of std's where they can't be had: one of them isn't UTF-8, or memory is wanting.
+/// `ftnode` with this system's arguments, sockets, files and processes, and with these three streams. Returns its exit status, that of [`node_with`], or std's
+/// error if the arguments can't be read: one of them isn't UTF-8, or an allocation failed.
 pub fn run_ftnode<
     R: Env + AllocGlobal + Net + Clock + Files<File = File> + Processes,
     I: Read + Drop,

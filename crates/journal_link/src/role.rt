@@ -31,7 +31,7 @@ impl Model for FileName {
 }
 
 impl FileName {
-    /// The name of this word, or none where the word is empty or begins with `-`.
+    /// The file name that this word is, or `None` if it is empty or begins with `-`.
     fn read(alloc: Global, word: &str) -> Result<Option<FileName>, NoMemory>
         ensures { IfOk result (λ name. name ≡ file_of word.now) }
     {

@@ -28,7 +28,7 @@ const DATAGRAM_ROOM: usize = 2_048;
 /// The most turns of a round.
 const MOST: u32 = 256;
 
-/// Receives once: how many bytes came to the front of the buffer, and from where. None is a tick. It waits a while for a datagram, or not.
+/// Receives once: how many bytes arrived, at the beginning of the buffer, and from where. `None` is a tick. It waits a while for a datagram, or not.
 fn receive<K: Desk>(
     desk: &mut K,
     waits: bool,
@@ -55,7 +55,7 @@ fn receive<K: Desk>(
     }
 }
 
-/// Takes what the bytes say, if they are a message, and gives the answer to it, or no bytes.
+/// Takes what the bytes say, if they are a message, and returns the answer to it, or no bytes.
 fn answer(alloc: Global, kept: &mut KeptLog, bytes: &[u8]) -> Result<MsgOut, NoMemory>
     requires { is_full kept.old ≡ false }
     ensures next { OnOk result (kept.new ≡ with_bytes kept.old bytes.now) }
@@ -68,7 +68,7 @@ fn answer(alloc: Global, kept: &mut KeptLog, bytes: &[u8]) -> Result<MsgOut, NoM
     Ok(out)
 }
 
-/// One receive. What came is taken, and its answer waits for the commit. Answers whether a datagram came.
+/// One receive. What arrived is taken, and its answer waits for the commit. Returns whether a datagram arrived.
 fn take_next<K: Desk>(
     alloc: Global,
     desk: &mut K,
@@ -93,7 +93,8 @@ fn take_next<K: Desk>(
     Ok(true)
 }
 
-/// The receives of a round: one that waits, then others until nothing waits, one fails, there are so many, or a block is full. Answers how many they are.
+/// The receives of a round: one that waits, then others until no datagram is there, one fails, there are `most`, or a block is full. Returns how many there
+/// were.
 fn gather<K: Desk>(
     alloc: Global,
     desk: &mut K,
@@ -124,7 +125,7 @@ fn gather<K: Desk>(
     Ok(most)
 }
 
-/// A round of at most so many turns: its receives, the commit, and then its answers. Answers how many turns it had.
+/// A round of at most this many turns: its receives, the commit, and then its answers. Returns how many turns it had.
 fn take_round<K: Desk>(
     alloc: Global,
     desk: &mut K,
@@ -151,7 +152,7 @@ fn take_round<K: Desk>(
     Ok(count)
 }
 
-/// So many turns, in rounds, and their calls counted.
+/// This many turns, in rounds. Returns the counts of their calls.
 pub(crate) fn serve<K: Desk>(
     alloc: Global,
     desk: &mut K,

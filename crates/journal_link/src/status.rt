@@ -16,14 +16,14 @@ use journal::KeepEnd;
 use kept_log::OpenEnd;
 use node_link::{NodeEnd, Status};
 
-/// How a logger with a journal ends that wasn't done to its end.
+/// How a logger with a journal ends before its turns are done.
 #[derive(Clone, Copy, Debug, PartialEq, Eq)]
 pub enum JournalEnd {
-    /// As any role may end.
+    /// An end that any role may have.
     Node(NodeEnd),
     /// A call on the journal's file failed.
     JournalFault,
-    /// The file is no journal. Here begins what is no block.
+    /// The file is no journal, or is damaged: at this place, in bytes, begins what is no block.
     BadJournal { at: u64 },
     /// Another process has the file open.
     InUse,
@@ -79,7 +79,7 @@ impl From<KeepEnd> for JournalEnd {
     }
 }
 
-/// Writes where a file is no journal.
+/// Writes the line for a damaged file, with the place of the damage.
 fn write_place<E: Sink>(err: &mut E, at: u64) -> Result<(), Failed>
     ensures whole { OnOk result (Appends (E.taken err.old) (E.taken err.new) (place_text at)) }
     ensures front { OnErr result (AppendsFront (E.taken err.old) (E.taken err.new) (place_text at)) }
@@ -92,7 +92,7 @@ fn write_place<E: Sink>(err: &mut E, at: u64) -> Result<(), Failed>
     write_all(err, b"\n")
 }
 
-/// The status of an end whose line was written, or failed to be.
+/// The status of an end: 5 if its line couldn't be written.
 fn status_of(code: u8, written: Result<(), Failed>) -> Status
     ensures ok { OnOk written (result.code ≡ code) }
     ensures err { OnErr written (result.code ≡ 5) }
@@ -103,7 +103,7 @@ fn status_of(code: u8, written: Result<(), Failed>) -> Status
     }
 }
 
-/// Writes the line of an end, and gives its status: 5 where that write failed.
+/// Writes the line of an end, and returns its status: 5 if that write failed.
 pub(crate) fn tell<E: Sink>(err: &mut E, end: JournalEnd) -> Status
     ensures told { TellsEnd end (E.taken err.old) (E.taken err.new) (E.fault_count err.old) (E.fault_count err.new) result.code }
     ensures early { result.code ≡ 0 → ⊥ }

@@ -50,9 +50,9 @@ fn keep<K: Desk, O: Sink, E: Sink>(
     }
 }
 
-/// `ftnode` with these words: as [`node`], and a logger whose words have `--journal FILE` besides keeps its log in this file, so that it comes back with all that
-/// it has told. The desk is that logger's network and file, in one; `link` is for all others. Its status is 0 where all turns were done, 3 because memory ran out, 4
-/// where the bind failed, 5 for a fault of a sink, 11 where a call on the file failed, 12 where the file is no journal, and 13 where another process has it open.
+/// `ftnode` with these arguments: as [`node`], except that a logger with the option `--journal FILE` keeps its log in this file, and so restarts with all that
+/// it has answered. `desk` is that logger's network and file; `link` is for all other roles. Its status is 0 if all turns were done, 3 if memory ran out, 4 if
+/// the bind failed, 5 if a write failed, 11 if a call on the file failed, 12 if the file is no journal or is damaged, and 13 if another process has it open.
 pub fn node_with<L: Link, I: Source, O: Sink, E: Sink, P: Spawner, K: Desk>(
     alloc: Global,
     words: &[String],
@@ -63,7 +63,7 @@ pub fn node_with<L: Link, I: Source, O: Sink, E: Sink, P: Spawner, K: Desk>(
     kids: &mut P,
     desk: &mut K,
 ) -> Status
-    // All other words than those of a logger with a journal are `node`'s, and so is what is said of them.
+    // All other words than those of a logger with a journal are `node`'s, and `node`'s clauses hold of them.
     ensures ended { journal_of (map string_bytes words.now) ≡ None → HasEnded (role_of (map string_bytes words.now))
         (record { left = I.left input.old; calls = L.told link.old; started = P.started kids.old; spawned = P.told kids.old; out = O.taken out.old })
         (record { left = I.left input.new; calls = L.told link.new; started = P.started kids.new; spawned = P.told kids.new; out = O.taken out.new })
@@ -76,7 +76,7 @@ pub fn node_with<L: Link, I: Source, O: Sink, E: Sink, P: Spawner, K: Desk>(
     ensures link_fault { journal_of (map string_bytes words.now) ≡ None → result.code ≡ 4 → Rose (L.bind_fault_count link.old) (L.bind_fault_count link.new) }
     ensures write_fault { result.code ≡ 5 → Rose (O.fault_count out.old) (O.fault_count out.new) ⊎ Rose (E.fault_count err.old) (E.fault_count err.new) }
     ensures child_fault { result.code ≡ 10 → Rose (P.fault_count kids.old) (P.fault_count kids.new) }
-    // At every other status no read, bind, write, start or wait has failed, not even one that was tried again.
+    // At every other status no read, bind, write, start or wait has failed, not even one that was retried.
     ensures no_read_fault { is_fault_status result.code ≡ false → I.fault_count input.new ≡ I.fault_count input.old }
     ensures no_bind_fault { is_fault_status result.code ≡ false → L.bind_fault_count link.new ≡ L.bind_fault_count link.old }
     ensures no_write_fault { is_fault_status result.code ≡ false → O.fault_count out.new ≡ O.fault_count out.old }
@@ -100,7 +100,7 @@ pub fn node_with<L: Link, I: Source, O: Sink, E: Sink, P: Spawner, K: Desk>(
         → IsStill (E.fault_count err.old) (E.fault_count err.new) → (result.code ≡ 0) ⊎ (result.code ≡ 3) }
     ensures same_desk { journal_of (map string_bytes words.now) ≡ None → desk.new ≡ desk.old }
 
-    // A logger with a journal: what it called on the desk, in one order, what it wrote, and nothing else.
+    // A logger with a journal: its calls on the desk, in one order, what it wrote, and nothing else.
     ensures kept { (role : JournalRole) → journal_of (map string_bytes words.now) ≡ Some role
         → HasKept role (K.file_of desk.old role.journal) (K.told desk.old) (K.told desk.new) (O.taken out.old) (O.taken out.new)
         (E.taken err.old) (E.taken err.new) result.code }

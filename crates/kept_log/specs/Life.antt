@@ -1,4 +1,4 @@
--- What a logger does to its file from one opening to its death: it puts the file at rest, commits rounds, and dies at any moment.
+-- What a logger does to its file from one opening to its death: it cuts off what an earlier death has left, commits rounds, and dies at any moment.
 use Rattle.std.specs.Prelude.{List, [], ◌∷◌, ◌++◌, ℕ, length}
 use Rattle.disk.specs.declared.calls.DiskCall.{DiskCall}
 use Rattle.journal.specs.Format.{front}

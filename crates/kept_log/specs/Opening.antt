@@ -1,4 +1,4 @@
--- How a journal's file is opened: which files have a reading, and which calls put them at rest.
+-- How a journal's file is opened: which files can be read, and which calls leave nothing after their closed gate.
 use Rattle.std.specs.Prelude.{◌≡◌, ◌⊎◌, ◌≤◌, ◌<◌, ℕ, false, List, [], ◌∷◌, ◌++◌, length, drop, Some}
 use Rattle.std.specs.declared.option.Option.{Option}
 use Rattle.seq_arith.specs.Message.{Message}
@@ -17,16 +17,16 @@ use Rattle.kept_log.specs.Kept.{HasLog}
 use Rattle.kept_log.specs.declared.opening.OpenEnd.{OpenEnd}
 use Rattle.kept_log.specs.declared.opening.OpenEnd.TheVariants.{NoMemory, Failed, Wrong}
 
--- the calls that make a journal of a file that has so many bytes of a new one
+-- the calls that complete a new journal, of which the file has this many bytes
 abbrev pub making : ℕ → List DiskCall
 making len = Appended (drop len (at_rest [])) false ∷ Synced false ∷ []
 
--- the calls that cut off what a death has left after the closed gate: none where nothing stands there
+-- the calls that cut off what a death has left after the closed gate: none if nothing is there
 abbrev pub cutting : ℕ → List ℕ → List DiskCall
 cutting end [] = []
 cutting end (byte ∷ tail) = mending end
 
--- a front of the magic, or all of it: a file that was being made
+-- a prefix of the magic, or all of it: a file whose creation wasn't completed
 pub record IsBegun (file : List ℕ) (bodies : List (List ℕ)) (calls : List DiskCall) : Type 0 where
   pub rest : List ℕ
   pub is : file ++ rest ≡ magic
@@ -40,7 +40,7 @@ pub record IsWhole (file : List ℕ) (bodies : List (List ℕ)) (calls : List Di
   pub torn : length tail ≤ 381701
   pub calls_are : calls ≡ cutting (length (front bodies)) tail
 
--- a file, its blocks, and the calls that put it at rest
+-- a file, its blocks, and the calls that leave nothing after its closed gate
 abbrev pub Finds : List ℕ → List (List ℕ) → List DiskCall → Type 0
 Finds file bodies calls = IsBegun file bodies calls ⊎ IsWhole file bodies calls
 
@@ -54,7 +54,7 @@ pub record HasNoMagic (file : List ℕ) : Type 0 where
   pub not_begun : (rest : List ℕ) → file ++ rest ≡ magic → ⊥
   pub no_magic : (rest : List ℕ) → file ≡ magic ++ rest → ⊥
 
--- a journal that is damaged in the block at this place: all before it are whole
+-- a journal that is damaged in the block at this place: all blocks before it are complete
 pub record IsBroken (at : ℕ) (file : List ℕ) : Type 0 where
   pub bodies : List (List ℕ)
   pub messages : List Message
@@ -65,11 +65,11 @@ pub record IsBroken (at : ℕ) (file : List ℕ) : Type 0 where
   pub none : HasNoBlock rest
   pub longer : length magic < length file
 
--- the place is that of the first byte of the first block that isn't one, and 0 where the magic isn't there
+-- the place is that of the first byte that is neither a block nor the closed gate, and 0 if the magic is missing
 abbrev pub IsDamaged : ℕ → List ℕ → Type 0
 IsDamaged at file = ((at ≡ 0) × HasNoMagic file) ⊎ IsBroken at file
 
--- what stands after an opening, of a file that had these bytes: its blocks have the log, and the calls that were told have put it at rest
+-- what holds after an opening, of a file that had these bytes: its blocks have the log, and the recorded calls have left nothing after its closed gate
 pub record IsOpened (left : Option (List ℕ)) (old new : Option (List DeskCall)) (end : ℕ) (log : Log) : Type 0 where
   pub bodies : List (List ℕ)
   pub calls : List DiskCall
@@ -77,7 +77,7 @@ pub record IsOpened (left : Option (List ℕ)) (old new : Option (List DeskCall)
   pub tells : Tells old new (on_disk calls)
   pub finds : (file : List ℕ) → left ≡ Some file → Finds file bodies calls
 
--- calls that put a file at rest, and that a failed one has cut short
+-- a prefix of such calls, whose last call failed
 pub record IsCutShort (left : Option (List ℕ)) (old new : Option (List DeskCall)) : Type 0 where
   pub bodies : List (List ℕ)
   pub messages : List Message
@@ -88,13 +88,13 @@ pub record IsCutShort (left : Option (List ℕ)) (old new : Option (List DeskCal
   pub tells : Tells old new (on_disk done)
   pub finds : (file : List ℕ) → left ≡ Some file → Finds file bodies calls
 
--- how an opening stops early: nothing was called, but where a call that puts the file at rest failed
+-- how an opening stops early: no call has changed the file, unless one of those calls failed
 abbrev pub HasStopped : (left : Option (List ℕ)) (old new : Option (List DeskCall)) → OpenEnd → Type 0
 HasStopped left old new NoMemory = Tells old new []
 HasStopped left old new (Wrong at) = Tells old new [] × ((file : List ℕ) → left ≡ Some file → IsDamaged at file)
 HasStopped left old new Failed = Tells old new [] ⊎ IsCutShort left old new
 
--- how an opening ends where its reading does
+-- how an opening ends if its reading ends early
 abbrev pub opening_end : KeepEnd → OpenEnd
 opening_end reads.NoMemory = NoMemory
 opening_end reads.Failed = Failed

@@ -1,4 +1,4 @@
--- What the parts of a reading find.
+-- What the steps of reading a journal find.
 use Rattle.std.specs.Prelude.{◌≡◌, ◌⊎◌, ◌≤◌, ◌<◌, ◌^◌, ℕ, List, [], ◌∷◌, ◌++◌, length, Some}
 use Rattle.std.specs.declared.option.Option.{Option}
 use Rattle.std.specs.Io.KnownBytes.{Consumes}
@@ -47,13 +47,13 @@ Steps old new bytes rest before after takes.Closed = Takes bytes rest before aft
 Steps old new bytes rest before after takes.Short = (more : List ℕ) × Consumes old new more × (rest ≡ bytes ++ more) × (after ≡ before)
 Steps old new bytes rest before after takes.Wrong = (left : List ℕ) → old ≡ Some left → HasNoBlock (bytes ++ left)
 
--- where a reading comes after blocks: of what stood after the magic this is left, in the window and in the file
+-- where a reading is after blocks: this is left of what followed the magic, in the window and in the file
 pub record IsAt (first : List ℕ) (old new : Option (List ℕ)) (window : List ℕ) (place : ℕ) (log : Log) : Type 0 where
   pub bodies : List (List ℕ)
   pub has_log : HasLog bodies place log
   pub goes_on : (left : List ℕ) → old ≡ Some left → (rest : List ℕ) × (new ≡ Some rest) × (first ++ left ≡ blocks bodies ++ (window ++ rest))
 
--- these bytes are blocks, and from this place of the file on no block
+-- these bytes are blocks, and from this place of the file on there is no block
 pub record IsBrokenAt (at : ℕ) (bytes : List ℕ) : Type 0 where
   pub bodies : List (List ℕ)
   pub messages : List Message

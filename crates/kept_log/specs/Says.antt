@@ -1,4 +1,4 @@
--- What bytes say that are messages, one after the other: each tells its own length.
+-- What bytes say that are messages, one after the other: each has its own length in its header.
 use Rattle.std.specs.Prelude.{◌≡◌, ◌≤◌, ℕ, List, [], ◌∷◌, ◌++◌, length, Ok}
 use Rattle.std.specs.List.{AllByRecursion}
 use Rattle.seq_arith.specs.Message.{Message}
@@ -13,7 +13,7 @@ abbrev pub AllSay : List (List ℕ) → List Message → Type 0
 AllSay [] messages = messages ≡ []
 AllSay (body ∷ bodies) messages = (first : List Message) × (rest : List Message) × (messages ≡ first ++ rest) × Says body first × AllSay bodies rest
 
--- a block has the messages of one round, 256 of the longest at most
+-- a block has the messages of one round, at most as long as 256 of the longest
 abbrev pub IsRound : List ℕ → Type 0
 IsRound body = length body ≤ 381696
 

@@ -4,23 +4,23 @@ ghost use Rattle.kept_log.specs.Reading.{StartsWith};
 
 use journal::{CLOSED, OPEN};
 
-/// The most bytes that a block's body has: 256 of the longest messages.
+/// The longest body of a block, in bytes: 256 of the longest messages.
 pub const MOST_BODY: usize = 381_696;
 
-/// What stands at the front of bytes.
+/// What bytes begin with.
 #[derive(Clone, Copy, Debug, PartialEq, Eq)]
 pub enum Start {
     /// A closed gate.
     Closed,
-    /// A block whose body has so many bytes.
+    /// A block whose body has this many bytes.
     Block(usize),
-    /// The front of a block, or nothing.
+    /// A prefix of a block, or nothing.
     Short,
     /// Neither gate, or a body that is too long.
     Wrong,
 }
 
-/// What stands at the front.
+/// What these bytes begin with.
 pub fn start_of(bytes: &[u8]) -> Start
     ensures { StartsWith bytes.now result }
 {

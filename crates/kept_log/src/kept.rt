@@ -28,12 +28,13 @@ use std::marker::Model;
 /// The longest message, in bytes.
 const LONGEST: usize = 1_491;
 
-/// A log, and the round of messages that have changed it and aren't in its journal yet. The journal's file is the caller's, who passes the same one to each call.
+/// A log, and the round of messages that have changed it and aren't in its journal yet. The caller has the journal's file, and passes the same one to each
+/// call.
 #[derive(Drop)]
 pub struct KeptLog {
     store: LogStore,
     journal: Journal,
-    /// In room that is made once.
+    /// Its room is allocated once.
     round: Vec<u8>,
 }
 
@@ -49,8 +50,8 @@ impl Model for KeptLog {
 }
 
 impl KeptLog {
-    /// Opens the journal in a file that was opened just now, and takes what it has into a log. A file of at most 8 bytes that is a front of the magic is made
-    /// a journal; what a death has left after the closed gate is cut off. A file that is damaged stays as it is.
+    /// Reads the journal in a file that was opened just now into a log. A file of at most 8 bytes that is a prefix of the magic becomes a new journal. What a
+    /// death has left after the closed gate is cut off. A file that is damaged stays as it is.
     pub fn open<D: Disk>(alloc: Global, disk: &mut D) -> Result<KeptLog, OpenEnd>
         ensures opened { IfOk result (λ k. IsOpened (D.left disk.old) (D.told disk.old) (D.told disk.new) k.end k.log) }
         ensures none_waits { IfOk result (λ k. k.round ≡ []) }
@@ -69,29 +70,29 @@ impl KeptLog {
         })
     }
 
-    /// The log, with what waits.
+    /// The log, with the uncommitted round.
     pub fn log(&self) -> &LogStore
         ensures { result.now ≡ self.now.log }
     {
         &self.store
     }
 
-    /// The place of the closed gate: how long the file is once nothing waits.
+    /// The place of the closed gate, which is the file's last byte.
     pub fn end(&self) -> u64
         ensures { result ≡ self.now.end }
     {
         self.journal.end
     }
 
-    /// Whether the round has no room for another message: it has for 256 of the longest.
+    /// Whether the round has no room for another message. It has room for 256 of the longest.
     pub fn is_full(&self) -> bool
         ensures { result ≡ is_full self.now }
     {
         self.round.len() > MOST_BODY - LONGEST
     }
 
-    /// Takes a message with its bytes, and puts the answer to it, or nothing, in the place of what `out` held. Where it changes the log it joins the round that
-    /// waits. The answer may be sent once the round is committed, and not before. It wants memory where `LogStore::answer` does.
+    /// Takes a message with its bytes, and replaces what `out` held by the answer to it, or by nothing. If it changes the log, it joins the uncommitted round.
+    /// The answer may be sent once the round is committed, and not before. It fails for lack of memory where `LogStore::answer` does.
     pub fn take(
         &mut self,
         alloc: Global,
@@ -106,7 +107,7 @@ impl KeptLog {
         ensures answer { OnOk result (out.new ≡ answer_bytes (answer_to self.old.log (message_of m.now))) }
         ensures round { OnOk result (self.new.round ≡ self.old.round ++ kept_of self.old.log (message_of m.now) bytes.now) }
         ensures end { self.new.end ≡ self.old.end }
-        // What waits has all changes of the log.
+        // The uncommitted round has all changes of the log.
         ensures waits { OnOk result ((before : Log) → Waits before self.old.round self.old.log → Waits before self.new.round self.new.log) }
         ensures refused { OnErr result (self.new ≡ self.old) }
         ensures empty { OnErr result (out.new ≡ []) }
@@ -120,8 +121,8 @@ impl KeptLog {
         Ok(())
     }
 
-    /// Keeps the round that waits as a block of the journal. At `Ok` nothing waits any more, and every death from then on leaves a file that has the log. After an
-    /// error the log may only be dropped, and its file be opened again.
+    /// Appends the uncommitted round as a block of the journal. After `Ok` the round is empty, and every death leaves a file that has the log. After an error
+    /// the log may only be dropped; its file can then be opened again.
     pub fn commit<D: Disk>(&mut self, alloc: Global, disk: &mut D) -> Result<(), KeepEnd>
         ensures kept { OnOk result (Tells (D.told disk.old) (D.told disk.new) (on_disk (committing self.old.end self.old.round))) }
         ensures round { OnOk result (self.new.round ≡ []) }

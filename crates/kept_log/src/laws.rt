@@ -1,4 +1,4 @@
-//! What the clauses of an opening and of commits come to. Nothing here runs; each function is a theorem.
+//! What the contracts of opening and committing imply. Nothing here runs; each function is a theorem.
 
 ghost use Rattle.std.specs.Prelude.{◌≡◌, ◌⊎◌, ◌≤◌, ◌+◌, ℕ, List, ◌++◌, length};
 ghost use Rattle.seq_arith.specs.Message.{Message};
@@ -17,14 +17,14 @@ pub fn a_file_has_one_log()
         → (bodies ≡ others) × (messages ≡ more) }
 {}
 
-/// A file that is opened isn't damaged, wherever.
+/// A file that is opened isn't damaged at any place.
 pub fn a_journal_is_not_damaged()
     ensures { (file : List ℕ) (bodies : List (List ℕ)) (messages : List Message) (calls : List DiskCall) (at : ℕ)
         → Finds file bodies calls → AreKept bodies messages → IsDamaged at file → ⊥ }
 {}
 
-/// The calls of an opening put the file at rest: a death after them leaves its blocks, with nothing after the closed gate. Where the file was a journal before,
-/// a death at any moment of them leaves the same blocks.
+/// After the calls of an opening a death leaves the file's blocks, with nothing after the closed gate. If the file was a journal before, a death at any moment
+/// during them leaves the same blocks.
 pub fn an_opening_keeps_the_blocks()
     ensures rests { (file left : List ℕ) (bodies : List (List ℕ)) (calls : List DiskCall)
         → Finds file bodies calls → LeftBy file (λ c. c ≡ file) calls left → left ≡ at_rest bodies }
@@ -32,8 +32,8 @@ pub fn an_opening_keeps_the_blocks()
         → IsWhole file bodies calls → IsFrontOf calls done → LeftBy file (λ c. c ≡ file) done left → Stands bodies left }
 {}
 
-/// A logger's whole life: it opens a file, commits rounds, and dies at any moment of one more commit. What it leaves stands for the blocks that it found and
-/// for all rounds that it has committed, with the last one or without it.
+/// A logger opens a file, commits rounds, and dies at any moment of one more commit. It leaves a file with the blocks that it found and all rounds that it has
+/// committed, with the last one or without it.
 pub fn a_life_keeps_its_rounds()
     ensures { (file left : List ℕ) (bodies rounds : List (List ℕ)) (last : List ℕ) (calls done : List DiskCall)
         → Finds file bodies calls → IsFrontOf (committing (length (front (with_rounds bodies rounds))) last) done
@@ -41,7 +41,7 @@ pub fn a_life_keeps_its_rounds()
         → Stands (with_rounds bodies rounds) left ⊎ Stands (with_round (with_rounds bodies rounds) last) left }
 {}
 
-/// A file that stands for blocks is opened with them, where a death has left no more after the closed gate than the longest block has.
+/// A file that has blocks is opened with them, if a death has left no more bytes after the closed gate than the longest block has.
 pub fn what_stands_is_opened()
     ensures { (file : List ℕ) (bodies : List (List ℕ)) → Stands bodies file → length file ≤ length (front bodies) + 381702
         → (calls : List DiskCall) × IsWhole file bodies calls }

@@ -1,5 +1,6 @@
-//! The log of FT-TCP in a journal's file: each change of it is on the disk before it is answered. What changes the log waits in a round, and a commit keeps the
-//! round as one block, so that a round of any number of messages costs two syncs. A logger that has died opens its file again, and has all that was ever told.
+//! The log of FT-TCP in a journal's file: each change of it is on the disk before it is answered. Messages that change the log wait in a round, and a commit
+//! appends the round as one block, so that a round of any number of messages costs two syncs. A restarted logger opens the file again, and has all that was
+//! ever answered.
 #![tactic(auto)]
 
 pub use kept::KeptLog;

@@ -5,10 +5,10 @@ ghost use Rattle.kept_log.specs.Reading.{HasMagic};
 /// The first eight bytes of a journal's file.
 pub const MAGIC: &[u8] = b"ftlog 1\n";
 
-/// What the bytes at a file's front are. They are all of it, or more than the magic has.
+/// What a file begins with. The bytes are all of the file, or more than the magic has.
 #[derive(Clone, Copy, Debug, PartialEq, Eq)]
 pub enum Magic {
-    /// A front of the magic, or the magic alone.
+    /// A prefix of the magic, or the magic and nothing more.
     Part,
     /// The magic, and more.
     Whole,

@@ -1,4 +1,4 @@
-//! The opening of a journal: it is read, and then put at rest.
+//! Opening a journal: it is read, and then what a death has left after its closed gate is cut off.
 
 ghost use Rattle.std.specs.Prelude.{[], ◌≡◌, ◌≤◌, ◌^◌, List, ℕ, length, IfOk, IfErr, OnOk, OnErr, IsErrOf};
 ghost use Rattle.ft_io.specs.Faults.{Rose};
@@ -23,9 +23,9 @@ use std::alloc::Global;
 pub enum OpenEnd {
     /// Memory ran out, or the file has 2^62 bytes.
     NoMemory,
-    /// The disk failed, or was full.
+    /// A call on the disk failed; it may be full.
     Failed,
-    /// The file is damaged, or is no journal: the place of the first byte of the first block that isn't one. No call has changed it.
+    /// The file is damaged, or is no journal: the place, in bytes, of the first byte that is neither a block nor the closed gate. No call has changed the file.
     Wrong(u64),
 }
 
@@ -53,7 +53,7 @@ impl From<KeepEnd> for OpenEnd {
 /// A new journal: the magic, and a closed gate.
 const FRESH: &[u8] = b"ftlog 1\n.";
 
-/// Makes a journal of a file that has so many bytes of a new one.
+/// Completes a new journal, of which the file has this many bytes.
 fn make<D: Disk>(disk: &mut D, len: usize) -> Result<(), Failed>
     requires { len ≤ 8 }
     ensures made { OnOk result (Tells (D.told disk.old) (D.told disk.new) (on_disk (making len))) }
@@ -66,7 +66,7 @@ fn make<D: Disk>(disk: &mut D, len: usize) -> Result<(), Failed>
     disk.sync()
 }
 
-/// Cuts off so many bytes after the closed gate.
+/// Cuts off this many bytes after the closed gate.
 fn cut_tail<D: Disk>(disk: &mut D, end: u64, tail: usize) -> Result<(), Failed>
     requires { end ≤ 2 ^ 62 }
     ensures cut { OnOk result ((torn : List ℕ) → length torn ≡ tail → Tells (D.told disk.old) (D.told disk.new) (on_disk (cutting end torn))) }
@@ -83,7 +83,7 @@ fn cut_tail<D: Disk>(disk: &mut D, end: u64, tail: usize) -> Result<(), Failed>
     disk.sync()
 }
 
-/// Reads a file that was opened just now into the empty log, puts it at rest, and answers the place of its closed gate.
+/// Reads a file that was opened just now into the empty log, cuts off what follows its closed gate, and returns the place of that gate.
 pub fn open_file<D: Disk>(alloc: Global, disk: &mut D, store: &mut LogStore) -> Result<u64, OpenEnd>
     requires { store.old ≡ empty_log }
     ensures opened { IfOk result (λ end. IsOpened (D.left disk.old) (D.told disk.old) (D.told disk.new) end store.new) }

@@ -1,4 +1,4 @@
-//! The reading of a journal's file, once, from its front to its end.
+//! Reading a journal's file, once, from its beginning to its end.
 
 ghost use Rattle.std.specs.Prelude.{[], ◌≡◌, ◌≤◌, ◌<◌, ◌+◌, ◌∷◌, ◌++◌, List, ℕ, Some, length, IfOk, OnOk, IfSome, IfNone, IsErrOf};
 ghost use Rattle.std.specs.Io.KnownBytes.{Consumes, IsAtEnd};
@@ -23,19 +23,19 @@ const CHUNK: usize = 65_536;
 /// The most bytes that a death leaves after the closed gate: the longest block.
 pub const MOST_TORN: usize = 381_701;
 
-/// A place that no file has.
+/// A place that no file reaches.
 pub const BEYOND: u64 = 1 << 62;
 
-/// What was taken from the front of a file's bytes, or read after them.
+/// What was taken from the beginning of the bytes read, or after more of them were read.
 #[derive(Clone, Copy, Debug, PartialEq, Eq)]
 pub enum Taken {
-    /// A block whose body has so many bytes.
+    /// A block whose body has this many bytes.
     Block(usize),
-    /// Nothing: there stands the closed gate.
+    /// Nothing: the closed gate is there.
     Closed,
-    /// Nothing: that is no block, unless more bytes follow. Or these have been read.
+    /// Nothing: the bytes are no complete block, unless more follow. Or more bytes have been read.
     Short,
-    /// Nothing: that is no block.
+    /// Nothing: the bytes are no block, whatever follows.
     Wrong,
 }
 
@@ -44,7 +44,7 @@ pub enum Taken {
 pub enum Reached {
     /// The place of the closed gate.
     Closed(u64),
-    /// The place of the first byte of the first block that isn't one.
+    /// The place of the first byte that is neither a block nor the closed gate.
     Wrong(u64),
 }
 
@@ -55,7 +55,7 @@ pub enum Found {
     New(usize),
     /// The place of the closed gate, and how many bytes come after it.
     Whole(u64, usize),
-    /// The place of the first byte of the first block that isn't one.
+    /// The place of the first byte that is neither a block nor the closed gate.
     Wrong(u64),
 }
 

@@ -1,5 +1,5 @@
--- A world in which the logger may die at any moment, and is started again over its file. A death takes nothing that was told: the log that comes back has all
--- that the log had, and besides some of the messages that had come to the logger and were not answered yet: those that its file has.
+-- A world in which the logger may die at any moment, and is restarted from its file. A death loses nothing that was answered: the log after it has all that the
+-- log had, and also those messages in the file that had reached the logger and were not answered yet.
 use Rattle.std.specs.Prelude.{◌≡◌, ◌⊎◌, ℕ, Some, List, [], ◌∷◌}
 use Rattle.std.specs.List.{AllByRecursion}
 use Rattle.server_trait.specs.Service.{Machine}
@@ -11,13 +11,13 @@ use Rattle.ft_model.specs.Masked.{SeesFront, AcknowledgesLogged, RestartIsExact,
 use Rattle.ft_model.specs.World.{World, Moment, Happens, IsStart, Joint, world_after}
 use Rattle.ft_model.specs.declared.event.Event.{Event}
 
--- What happens next: an event of any world, or the logger's death and return. The packets of these numbers had come to it in this order, and were not
--- answered, and its file has them. What had come to it and isn't in the file counts as never delivered.
+-- What happens next: an event of any world, or the logger's death and restart. The packets of these numbers had reached it in this order, and were not
+-- answered, and its file has them. What had reached it and isn't in the file counts as never delivered.
 pub data Step : Type 0 where
   Calm : Event → Step
   Dies : List ℕ → Step
 
--- the log that comes back: the messages of these packets came on top of what it was
+-- the log after the restart: the log before, and then the messages of these packets
 abbrev pub ComesBack : List Packet → List ℕ → Log → Log → Type 0
 ComesBack packets [] before after = after ≡ before
 ComesBack packets (number ∷ numbers) before after =
@@ -48,12 +48,12 @@ abbrev pub IsAnswer : Packet → Type 0
 IsAnswer (From_logger message) = Unit {0}
 IsAnswer _ = ⊥
 
--- the second list is the first with answers of the logger in between
+-- the second list is the first, with answers of the logger inserted
 abbrev pub IsWithin : List Packet → List Packet → Type 0
 IsWithin packets [] = packets ≡ []
 IsWithin packets (one ∷ others) = ((rest : List Packet) × (packets ≡ one ∷ rest) × IsWithin rest others) ⊎ (IsAnswer one × IsWithin packets others)
 
--- a world and the one after a joint trace differ in answers of the logger alone, which nobody got
+-- a world and the one after a joint trace differ only in answers of the logger, which were never delivered
 pub record IsShown {State : Type 0} (service : Machine State) (start world : World) : Type 0 where
   pub trace : List Moment
   pub joint : Joint service start trace

@@ -1,4 +1,4 @@
--- Which messages a file has to keep so that it stands for the same log.
+-- Which messages a file has to keep so that it gives the same log.
 use Rattle.std.specs.Prelude.{◌≡◌, ◌⊎◌, List, [], ◌∷◌}
 use Rattle.seq_arith.specs.Message.{Message}
 use Rattle.ft_model.specs.Log.{Log, log_after}
@@ -8,7 +8,7 @@ abbrev pub log_after_all : Log → List Message → Log
 log_after_all log [] = log
 log_after_all log (message ∷ messages) = log_after_all (log_after log message) messages
 
--- of the messages these are kept: each that changes the log, and maybe others
+-- these messages are kept of all: each one that changes the log, and maybe others
 abbrev pub IsKeptOf : Log → List Message → List Message → Type 0
 IsKeptOf log [] kept = kept ≡ []
 IsKeptOf log (message ∷ messages) kept =

@@ -1,4 +1,4 @@
--- What lies below a mark: a restart that begins at the mark doesn't fetch it.
+-- What is below a mark: a restart that begins at the mark doesn't fetch it.
 use Rattle.std.specs.Prelude.{◌≡◌, ℕ, false, Some, List, length, sum, take}
 use Rattle.seq_arith.specs.Mark.{Mark}
 use Rattle.server_trait.specs.Service.{Machine, reference}
@@ -6,7 +6,7 @@ use Rattle.server_trait.specs.Saved.{Writing}
 use Rattle.ft_model.specs.Log.{Entry}
 use Rattle.mark_laws.specs.MarkedLog.{has_closing}
 
--- bytes and lengths over which the uncrashed server's run comes to what a mark says, and whose state is read back from it
+-- bytes and lengths after which the uncrashed server's run is where the mark says, with a state that is read back from the mark
 pub record IsBelow {State : Type 0} (service : Machine State) (writing : Writing State) (m : Mark) (bytes lengths : List ℕ) : Type 0 where
   pub reads : length lengths ≡ m.reads
   pub size : length bytes ≡ m.length

@@ -1,5 +1,5 @@
 -- The log with marks: the log with all its bytes and lengths, and for each entry at most one mark, from which a restart may begin. Nothing is dropped here. A
--- store may drop what lies below a mark, since it is never told again.
+-- store may drop what is below a mark, since no answer reports it any more.
 use Rattle.std.specs.Prelude.{ℕ, ◌==◌, Bool, true, false, ◌&&◌, not, nat_lt, nat_le, max, sum, Option, Some, None, option_map, List, [], take, length, if◌then◌else◌}
 use Rattle.std.specs.Option.{option_map_or}
 use Rattle.std.specs.List.{list_any}
@@ -58,7 +58,7 @@ after_mark l message = if message.boot == l.log.boot then with_mark_body message
 abbrev pub after_message : MarkedLog → Message → MarkedLog
 after_message l message = record l { log = log_after l.log message }
 
--- bytes and lengths below the mark aren't told
+-- no answer reports bytes and lengths below the mark
 abbrev pub is_below : MarkedLog → Body → Bool
 is_below l (BytesMsg key offset) = nat_lt offset (l.marks key).length
 is_below l (CutsMsg key first) = nat_lt first (l.marks key).reads
@@ -79,7 +79,7 @@ is_mark_answer (MarkedMsg key reads) = true
 is_mark_answer (HeldMsg key mark) = true
 is_mark_answer _ = false
 
--- of a known key it tells how many reads its mark has, or the mark itself
+-- for a known key: how many reads its mark has, or the mark itself
 abbrev pub told_of_mark : MarkBody → MarkedLog → Option MarkBody
 told_of_mark (MarkMsg key mark) l = option_map (λ e. MarkedMsg key (l.marks key).reads) (entry_of key l.log)
 told_of_mark (AskMsg key) l = option_map (λ e. HeldMsg key (l.marks key)) (entry_of key l.log)

@@ -1,4 +1,4 @@
--- When a connection is quiet, so that its service's state can be kept in place of the reads that led to it.
+-- When a connection is quiet, so that its service's state can be logged in place of the reads that led to it.
 use Rattle.std.specs.Prelude.{◌≡◌, false, length}
 use Rattle.seq_arith.specs.Mark.{Mark}
 use Rattle.server_trait.specs.Service.{Machine}
@@ -6,7 +6,7 @@ use Rattle.server_trait.specs.Saved.{Writing}
 use Rattle.ft_model.specs.Point.{Point, made, whole_run, bytes_read}
 use Rattle.mark_laws.specs.MarkedLog.{has_closing}
 
--- every read is known to be logged, all output is acknowledged, and the service reads on
+-- every read is known to be logged, all output is acknowledged, the closing read isn't made, and the service hasn't closed
 pub record IsQuiet {State : Type 0} (service : Machine State) (p : Point) : Type 0 where
   pub answered : p.reads_answered ≡ length p.lengths
   pub acknowledged : p.una ≡ made service p

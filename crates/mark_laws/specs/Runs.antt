@@ -1,4 +1,4 @@
--- What makes a mark true: it says where the uncrashed server's run over the logged reads came to.
+-- When a mark is true: it has the state of the uncrashed server's run over the first logged reads.
 use Rattle.std.specs.Prelude.{◌≡◌, ◌≤◌, false, length, sum, take}
 use Rattle.seq_arith.specs.Mark.{Mark}
 use Rattle.server_trait.specs.Service.{Machine, reference}
@@ -6,7 +6,7 @@ use Rattle.server_trait.specs.Saved.{Writing}
 use Rattle.ft_model.specs.Log.{Entry}
 use Rattle.mark_laws.specs.MarkedLog.{has_closing}
 
--- its reads are logged and no closing read is among them, and it has the form of the state after them and counts the output made by then
+-- its reads are logged and no closing read is among them, and it has the form of the state after them and the count of the output written by then
 pub record IsRunOf {State : Type 0} (service : Machine State) (writing : Writing State) (e : Entry) (m : Mark) : Type 0 where
   pub count : m.reads ≤ length e.lengths
   pub bytes : m.length ≡ sum (take m.reads e.lengths)

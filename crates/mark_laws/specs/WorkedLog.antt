@@ -1,4 +1,5 @@
--- A worked run: a log with one entry of 5,000 bytes in three reads takes marks that are kept and marks that aren't, and is asked above and below the kept one.
+-- A worked run: a log with one entry of 5,000 bytes in three reads takes marks that are kept and marks that aren't, and gets questions above and below the kept
+-- one.
 use Rattle.std.specs.Prelude.{ℕ, false, [], ◌∷◌, replicate}
 use Rattle.ft_io.specs.declared.Key.{Key}
 use Rattle.seq_arith.specs.Mark.{MarkMessage}

@@ -1,5 +1,5 @@
 //! The log with marks, as definitions, and laws on marks: when one is true, that it stays true while the log grows, and what a restart that begins at one may
-//! rest on. Nothing here runs; each function is a theorem.
+//! assume. Nothing here runs; each function is a theorem.
 #![tactic(auto)]
 
 ghost use Rattle.std.specs.Prelude.{◌≡◌, ℕ, ◌≤◌, List, Some, None, length, sum};
@@ -39,7 +39,7 @@ pub fn true_marks_are_read_back<S: Service>()
         → IsBelow (machine (S.started kind) S.after) writing mark (bytes_below mark e) (lengths_below mark e) }
 {}
 
-/// A mark of two reads is kept. A mark of fewer reads, one whose length isn't the sum of its reads, and one beyond the reads are answered alike and change
+/// A mark of two reads is kept. A mark of fewer reads, one whose length isn't the sum of its reads, and one beyond the reads get the same answer and change
 /// nothing.
 pub fn worked_marks_are_kept()
     ensures kept { after_mark before (marking 2 4096 10) ≡ kept }
@@ -52,7 +52,7 @@ pub fn worked_marks_are_kept()
     ensures held { answer_to_mark kept asking ≡ Some held }
 {}
 
-/// Below the mark nothing is told; from it on all is told as without a mark.
+/// Questions below the mark get no answer; those from it on are answered as without a mark.
 pub fn worked_questions_are_answered_above()
     ensures bytes_below { answer_above kept (bytes_from 4095) ≡ None }
     ensures bytes { answer_above kept (bytes_from 4096) ≡ Some last_part }

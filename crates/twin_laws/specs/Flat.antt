@@ -70,7 +70,7 @@ both [] bs = []
 both (a ∷ as_) [] = []
 both (a ∷ as_) (b ∷ bs) = (a, b) ∷ both as_ bs
 
--- a turn of a logger that serves alone is kept. That of a paired one becomes `paired`
+-- a turn of a logger that serves alone is kept. That of a paired logger becomes `paired`
 abbrev pub kept_alone : TwinWorld → Event → TwinMoment → Flat → Flat → Flat
 kept_alone w event moment paired f =
     if w.pair.head_stopped then kept_as event moment f else (if w.pair.tail_stopped then kept_as event moment f else paired)

@@ -22,8 +22,8 @@ pub record Pair : Type 0 where
 abbrev pub new_pair : Pair
 new_pair = record { head = new_head; tail = new_tail; from_head = []; from_tail = []; answers = []; given = []; head_stopped = false; tail_stopped = false }
 
--- A delivery of the network names anything that the other ever sent by its place, any number of times and in any order. What is never named is lost. Any
--- request of the server may arrive at either
+-- A delivery of the network names, by its place, anything that the other logger ever sent, any number of times and in any order. What is never named is lost.
+-- Any request of the server may arrive at either
 pub data Delivery : Type 0 where
   Server_asks : Part → Request → Delivery
   Other_tells : Part → (place : ℕ) → Delivery
@@ -87,10 +87,10 @@ abbrev pub given_if : Bool → List Request → List Request
 given_if true given = given
 given_if false given = []
 
--- Two loggers act as one. The tail's log is that of the first requests that the head took, as many as the tail has applied. The head's is that of all of them.
--- The survivor's continues with what it was asked when it served alone. What was sent to the server is the answers of one log to the applied requests and then
--- to those that the survivor was asked, each at its place. So whatever was answered before a stop is in the survivor's log. Nothing is confirmed that wasn't
--- applied, and nothing applied that wasn't taken
+-- Two loggers act as one. The tail's log is the log after the requests that the tail has applied, which are the first that the head took. The head's is the log
+-- after all of them. The survivor's log continues with the requests that it got when it served alone. What was sent to the server is the answers of one log to
+-- the applied requests and then to the survivor's, each at its place. So whatever was answered before a stop is in the survivor's log. Nothing is confirmed
+-- that wasn't applied, and nothing applied that wasn't taken
 pub record ActsAsOne (p : Pair) : Type 0 where
   pub confirmed : p.head.confirmed ≤ p.tail.applied
   pub applied : p.tail.applied ≤ length p.head.taken

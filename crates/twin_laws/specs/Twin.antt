@@ -1,5 +1,5 @@
--- Two loggers that are seen as one: a chain of two (chain replication, van Renesse and Schneider, OSDI 2004). The head takes the server's messages, numbers
--- them and forwards them. The tail applies them in that order and answers. One of them may stop, and the other then serves alone.
+-- Two loggers that act as one: a chain of two (chain replication, van Renesse and Schneider, OSDI 2004). The head takes the server's messages, numbers them and
+-- forwards them. The tail applies them in that order and answers. One of them may stop, and the other then serves alone.
 use Rattle.std.specs.Prelude.{ℕ, Bool, true, false, ◌+◌, ◌-◌, ◌^◌, ◌==◌, ◌&&◌, nat_lt, nat_le, Result, Ok, Err, List, [], ◌∷◌, ◌++◌, length, drop, if◌then◌else◌}
 use Rattle.std.specs.Option.{option_to_list}
 use Rattle.seq_arith.specs.declared.kinds.BadMsg.{BadMsg}
@@ -126,7 +126,7 @@ abbrev pub asked : List ℕ → Result Message BadMsg → Comes
 asked bytes (Ok message) = Asks (record { bytes = bytes; message = message })
 asked bytes (Err why) = Is_noise
 
--- what bytes of the other logger say. A forwarded message is read as the server's are. An Alone says nothing to a logger here
+-- what bytes of the other logger say. A forwarded message is read as the server's messages are. An Alone means nothing to a logger here
 abbrev pub forwarded_as : ℕ → Comes → Comes
 forwarded_as number (Asks request) = Tells (Forward number request)
 forwarded_as number _ = Is_noise

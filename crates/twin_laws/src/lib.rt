@@ -25,8 +25,8 @@ use server_trait::Service;
 
 mod part;
 
-/// A head and a tail act as one log, whatever is delivered, lost, repeated and reordered, and whichever of them stops. This is only safety: a head that
-/// forwards nothing would satisfy it too. That each does what it should is a matter of the definitions, which the code follows.
+/// A head and a tail act as one log, whatever is delivered, lost, repeated and reordered, and whichever of them stops. This is a safety property only: a head
+/// that forwards nothing would satisfy it too. The definitions say what each of them does, and the code follows them.
 pub fn two_loggers_act_as_one()
     ensures { (deliveries : List Delivery) → ActsAsOne (pair_over new_pair deliveries) }
 {}
