@@ -1,4 +1,4 @@
-//! What the log tells of an entry without its bytes and lengths.
+//! What an answer says of an entry without its bytes and lengths.
 
 use ft_io::Key;
 
@@ -15,9 +15,9 @@ pub struct EntryHead {
     pub mss: u16,
     /// How many of the client's bytes are logged, at most 2^24.
     pub length: u32,
-    /// 1 where the client's FIN is logged, else 0.
+    /// 1 if the client's FIN is logged, otherwise 0.
     pub fin: u8,
-    /// 1 where the connection has ended, else 0.
+    /// 1 if the connection has ended, otherwise 0.
     pub done: u8,
     /// How many reads are logged, at most 2^24 + 1.
     pub reads: u32,

@@ -1,4 +1,4 @@
-//! The fence, in the words of what the store's contract names.
+//! Laws of the log store: the fence, and what trimming leaves.
 
 ghost use Rattle.std.specs.Prelude.{ℕ, ◌≡◌, ◌≤◌, ◌<◌, ◌==◌, ◌&&◌, true, false, Some, None, if◌then◌else◌, length, slice_get};
 ghost use Rattle.logger_store.specs.Stored.{bytes_of};
@@ -18,13 +18,13 @@ pub fn older_boots_get_stale()
         → is_answer message.body ≡ false → answer_to later message ≡ Some (record { boot = message.boot; body = StaleMsg later.boot }) }
 {}
 
-/// What a store that has given up fronts is left of a log follows that log: after each message it is left of the log after it.
+/// A trimmed store keeps following its log: what is left of the log before a message becomes, with that message, what is left of the log after it.
 pub fn trimmed_logs_follow()
     ensures { (t : TrimmedLog) (log : Log) (message : Message) → IsLeftOf t log
         → IsLeftOf (record t { log = log_after t.log message }) (log_after log message) }
 {}
 
-/// It answers as that log does, except where it is asked for what is trimmed: then it doesn't answer.
+/// It answers as that log does, except to questions about what is trimmed, which it doesn't answer.
 pub fn trimmed_logs_answer_alike()
     ensures { (t : TrimmedLog) (log : Log) (message : Message) → IsLeftOf t log
         → answer_left t message ≡ (if message.boot == log.boot && is_trimmed t message.body then None else answer_to log message) }

@@ -28,6 +28,7 @@ impl Model for Lens {
 }
 
 impl Lens {
+    /// No lengths.
     pub fn new() -> Lens
         ensures { result ≡ [] }
     {
@@ -36,6 +37,7 @@ impl Lens {
         }
     }
 
+    /// How many lengths there are, at most 512.
     #[tactic(auto, using(crate::proofs::Lengths::count_of_lens))]
     pub fn len(&self) -> usize
         ensures value { result ≡ length self.now }
@@ -44,7 +46,7 @@ impl Lens {
         self.bytes.len() / 2
     }
 
-    /// Adds a length, for which there is room.
+    /// Appends a length. There must be room for it.
     #[tactic(auto, using(crate::proofs::Lengths::one_length_more, crate::proofs::Lengths::count_of_lens))]
     pub fn push(&mut self, len: u16)
         requires { length self.old < 512 }

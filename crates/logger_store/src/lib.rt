@@ -1,5 +1,5 @@
-//! The log of FT-TCP (INFOCOM 2001: the logger) as a store: what is logged of up to 64 connections, the bytes of each in pages and the lengths of
-//! its reads in runs, and what the log answers to a message, as bytes. A call that is refused for memory changes nothing.
+//! The log of FT-TCP (INFOCOM 2001: the logger) as a store: what is logged of up to 64 connections, the bytes of each in pages and the lengths of its reads in
+//! runs, and what the log answers to a message, as bytes. A call that returns `NoMemory` changes nothing.
 #![tactic(auto)]
 
 pub use entry_head::EntryHead;

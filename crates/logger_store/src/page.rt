@@ -27,6 +27,7 @@ impl Model for Page {
 }
 
 impl Page {
+    /// An empty page. All its room is allocated here.
     pub fn new(alloc: Global) -> Result<Page, NoMemory>
         ensures { IfOk result (λ page. page ≡ []) }
     {
@@ -34,6 +35,7 @@ impl Page {
         Ok(Page { bytes })
     }
 
+    /// How many bytes there are, at most 4,096.
     pub fn len(&self) -> usize
         ensures value { result ≡ length self.now }
         ensures within { result ≤ 4096 }
@@ -41,6 +43,7 @@ impl Page {
         self.bytes.len()
     }
 
+    /// The bytes, in order.
     pub fn as_slice(&self) -> &[u8]
         ensures value { result.now ≡ self.now }
         ensures within { length result.now ≤ 4096 }

@@ -18,8 +18,7 @@ pub const PART: usize = 1_024;
 /// In place of a page that was given up.
 static ZEROS: [u8; PAGE] = [0; PAGE];
 
-/// The bytes of an entry: full pages, and the page of the last bytes once there is one. Pages in front of these may be given up: their bytes are then zeros to
-/// whoever reads them.
+/// The bytes of an entry: full pages, and then the page of the last bytes, once there is one. The first pages may be dropped: their bytes then read as zeros.
 #[derive(Debug, Drop)]
 pub struct Pages {
     /// How many pages are given up.
@@ -113,7 +112,7 @@ fn drop_pages(full: &mut VecDeque<Page>, last: &mut Option<Page>, count: usize)
 }
 
 impl Pages {
-    /// No bytes. It takes no memory.
+    /// No bytes. Nothing is allocated yet.
     pub fn new(alloc: Global) -> Pages
         ensures { result ≡ [] }
     {
@@ -137,7 +136,7 @@ impl Pages {
         }
     }
 
-    /// Adds bytes, at most a page of them. What the page of the last byte takes needs no memory.
+    /// Appends bytes, at most 4,096. What fits the page of the last byte needs no allocation.
     #[tactic(auto, using(crate::proofs::GivenUp::room_kept, crate::proofs::Filling::all_more, crate::proofs::Filling::filled, std::proofs::Common::append_assoc))]
     pub fn add(&mut self, alloc: Global, bytes: &[u8]) -> Result<(), NoMemory>
         requires { length bytes.now ≤ 4096 }
@@ -159,7 +158,7 @@ impl Pages {
         Ok(())
     }
 
-    /// The bytes of the page at this place, from 0; none after the last page.
+    /// The bytes of page `i`, counted from 0; none after the last page.
     #[tactic(auto, using(crate::proofs::GivenUp::zero_page, crate::proofs::GivenUp::last_kept, crate::proofs::GivenUp::none_kept))]
     fn page(&self, i: usize) -> &[u8]
         ensures value { result.now ≡ page_of self.now i }
@@ -178,7 +177,7 @@ impl Pages {
         &[]
     }
 
-    /// Gives up so many pages from the first on, and none anew where more were given up before. It takes no memory.
+    /// Drops the first pages, this many of them, counting those dropped before. Nothing is allocated.
     #[tactic(auto, using(crate::proofs::GivenUp::zeroed_is))]
     pub fn give_up(&mut self, pages: usize)
         requires { 4096 * pages ≤ length self.old }
@@ -189,7 +188,7 @@ impl Pages {
         self.given_up += more;
     }
 
-    /// The byte at this place, from 0.
+    /// The byte at this place, counted from 0.
     #[tactic(auto, using(crate::proofs::Paging::byte_there, crate::proofs::Paging::byte_in_page))]
     pub fn at(&self, at: usize) -> u8
         requires { at < length self.now }
@@ -209,7 +208,7 @@ impl Pages {
         &page[from % PAGE..]
     }
 
-    /// Adds to a part without bytes those from a place on, as many as it has room for. They stand in one page, or in two.
+    /// Fills an empty part with the bytes from a place on, as many as it has room for. They are in one page, or in two.
     #[tactic(auto, using(crate::proofs::Paging::part_copied))]
     pub fn copy(&self, from: usize, part: &mut ArrayVec<u8, PART>)
         requires empty { part.old.items ≡ [] }

@@ -17,7 +17,7 @@ pub struct Run {
     pub count: u32,
 }
 
-/// The lengths of reads: closed runs, and the run of the last length. That run counts 0 before the first read.
+/// The lengths of reads: complete runs, and the run of the last length. That run has the count 0 before the first read.
 #[derive(Debug, Drop)]
 pub struct Runs {
     /// The runs before the last, the first first.
@@ -67,7 +67,7 @@ fn took_of(run: Run, reads: usize) -> Option<u32>
 }
 
 impl Runs {
-    /// No lengths. It takes no memory.
+    /// No lengths. Nothing is allocated yet.
     pub fn new(alloc: Global) -> Runs
         ensures { result ≡ [] }
     {
@@ -80,7 +80,7 @@ impl Runs {
         }
     }
 
-    /// Adds the length of the next read. The last length again needs no memory.
+    /// Appends the length of the next read. A length equal to the last one needs no allocation.
     #[tactic(auto, using(crate::proofs::Lengths::last_length, std::proofs::Common::append_assoc))]
     pub fn push(&mut self, len: u16) -> Result<(), NoMemory>
         requires { length self.old < 2 ^ 32 - 1 }
@@ -102,7 +102,7 @@ impl Runs {
         Ok(())
     }
 
-    /// The length at this place, from 0.
+    /// The length of the read with index `i`, counted from 0, in bytes.
     pub fn at(&self, i: usize) -> u16
         requires { i < length self.now }
         ensures { result ≡ slice_index self.now i }
@@ -118,7 +118,7 @@ impl Runs {
         self.last.length
     }
 
-    /// Adds to no lengths those from a place on, at most 512.
+    /// Fills an empty list with the lengths from a place on, at most 512.
     pub fn copy(&self, first: usize, lens: &mut Lens)
         requires empty { lens.old ≡ [] }
         ensures { lens.new ≡ take 512 (drop first self.now) }
@@ -130,7 +130,7 @@ impl Runs {
         spell_run(self.last, skip, lens);
     }
 
-    /// How many bytes the first reads took; none where a closing read is among them.
+    /// How many bytes the first reads took; `None` if a closing read is among them.
     pub fn took(&self, reads: usize) -> Option<u32>
         requires { sum self.now ≤ 2 ^ 24 }
         ensures { result ≡ took reads self.now }

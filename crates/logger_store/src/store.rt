@@ -31,7 +31,7 @@ use std::marker::Model;
 /// How many entries a log may have.
 const ENTRY_LIMIT: u16 = 64;
 
-/// The log: the boot number of the newest server that has said Hello, and an entry for each connection, in the order of their opening.
+/// The log: the boot number of the newest server that has sent Hello, and an entry for each connection, in the order of their opening.
 #[derive(Drop)]
 pub struct LogStore {
     /// The newest server's boot number.
@@ -82,7 +82,7 @@ fn is_hello(body: &Body<'_>) -> bool
 }
 
 impl LogStore {
-    /// A log of boot 0 without entries. It takes no memory.
+    /// A log of boot 0 without entries. Nothing is allocated yet.
     pub fn new(alloc: Global) -> LogStore
         ensures { result ≡ empty_log }
     {
@@ -92,7 +92,7 @@ impl LogStore {
         }
     }
 
-    /// The boot number of the newest server that has said Hello, and 0 before.
+    /// The boot number of the newest server that has sent Hello; 0 before the first.
     pub fn boot(&self) -> u64
         ensures { result ≡ self.now.boot }
     {
@@ -114,7 +114,7 @@ impl LogStore {
         Some(entry)
     }
 
-    /// The entry at this place, from 0, without its bytes and lengths. None exactly where there is none.
+    /// The entry at place `i`, counted from 0, without its bytes and lengths; `None` exactly if there is no such entry.
     pub fn entry(&self, i: u16) -> Option<EntryHead>
         ensures value { option_map head_value result ≡ option_map head_of (slice_get self.now.entries i) }
         ensures flags { IfSome result (λ head. (head.fin ≤ 1) × (head.done ≤ 1)) }
@@ -122,7 +122,7 @@ impl LogStore {
         Some(self.at(i)?.head())
     }
 
-    /// The logged byte at this place, from 0, of the entry at place i.
+    /// The logged byte at the place `at`, counted from 0, of the entry at place `i`.
     pub fn byte(&self, i: u16, at: u32) -> u8
         requires { at < length (bytes_of (slice_get self.now.entries i)) }
         ensures { result ≡ slice_index (bytes_of (slice_get self.now.entries i)) at }
@@ -133,7 +133,7 @@ impl LogStore {
         }
     }
 
-    /// The logged length of the read with this index, from 0, of the entry at place i.
+    /// The logged length, in bytes, of the read with the index `at`, counted from 0, of the entry at place `i`.
     pub fn length(&self, i: u16, at: u32) -> u16
         requires { at < length (lengths_of (slice_get self.now.entries i)) }
         ensures { result ≡ slice_index (lengths_of (slice_get self.now.entries i)) at }
@@ -314,7 +314,7 @@ impl LogStore {
         }
     }
 
-    /// Whether the log after a message is another one: a file that keeps exactly these messages has the log.
+    /// Whether a message changes the log. A file that keeps exactly the messages that do has the log.
     #[tactic(auto, unfolding(ft_model::specs::Log::log_after, crate::specs::Changes::changes))]
     pub fn changes(&self, m: &Msg<'_>) -> bool
         requires { IsSendable m.now }
@@ -404,9 +404,8 @@ impl LogStore {
         }
     }
 
-    /// Takes a message, and puts the answer to it, or nothing, in the place of what `out` held. Memory is wanted only for an entry of another
-    /// key, for bytes that the page of the entry's last byte doesn't take, and for a read of another length than the last one. Without it all
-    /// is as it was, and `out` is empty.
+    /// Takes a message, and replaces what `out` held by the answer to it, or by nothing. It allocates only for an entry of a new key, for bytes that don't fit
+    /// the page of the entry's last byte, and for a read whose length differs from the last one. After `NoMemory` all is as it was, and `out` is empty.
     #[tactic(auto, using(crate::proofs::Sending::some_boot), unfolding(ft_model::specs::Log::log_after, ft_model::specs::Log::answer_to, crate::specs::Stored::wants_memory))]
     pub fn answer(&mut self, alloc: Global, m: &Msg<'_>, out: &mut MsgOut) -> Result<(), NoMemory>
         requires { IsSendable m.now }

@@ -45,7 +45,7 @@ pub struct Part<'a> {
     pub bytes: &'a [u8],
 }
 
-/// What is logged of a connection. Its reads are counted and summed as they come.
+/// What is logged of a connection. Its reads are counted and summed as they are logged.
 #[derive(Debug, Drop)]
 pub struct StoredEntry {
     /// The key, the initial numbers and the segment size.
@@ -93,7 +93,7 @@ impl Model for StoredEntry {
 }
 
 impl StoredEntry {
-    /// An entry in which nothing is logged yet. It takes no memory.
+    /// An entry in which nothing is logged yet. Nothing is allocated.
     pub fn new(alloc: Global, numbers: &Numbers) -> StoredEntry
         requires { (64 ≤ numbers.now.mss) × (numbers.now.mss ≤ 1460) }
         ensures { result ≡ new_entry (numbers_value numbers.now) }

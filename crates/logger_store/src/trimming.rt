@@ -1,4 +1,4 @@
-//! A log whose entries' fronts may be given up.
+//! A log store that can drop the first bytes and reads of its entries.
 
 ghost use Rattle.std.specs.Prelude.{[], ◌≡◌, ◌≤◌, ◌<◌, ◌-◌, ◌&&◌, ◌==◌, true, false, None, option_map, option_copied, IfSome, OnOk, OnErr, IsOk, length, sum, take, slice_get, slice_index, slice_index_or, slice_set, if◌then◌else◌};
 ghost use Rattle.ft_model.specs.Log.{head_of, log_after, answer_to};
@@ -15,7 +15,7 @@ use logger_wire::{Body, Msg};
 use std::alloc::Global;
 use std::marker::Model;
 
-/// Up to where an entry isn't told any more.
+/// How much of an entry's beginning is trimmed: no answer reports it any more.
 #[derive(Clone, Copy, Debug)]
 pub struct Trim {
     /// The bytes below this place, at most 2^24, ..
@@ -27,7 +27,8 @@ pub struct Trim {
 /// Nothing is trimmed.
 const UNTRIMMED: Trim = Trim { bytes: 0, reads: 0 };
 
-/// A log store that can be trimmed: an entry's first reads and their bytes aren't told any more, and the whole pages of these bytes are given up.
+/// A log store that can be trimmed: no answer reports an entry's trimmed first reads and their bytes any more, and the complete pages of these bytes are
+/// dropped.
 #[derive(Drop)]
 pub struct TrimStore {
     /// Zeros stand in it for the bytes that are given up.
@@ -47,7 +48,7 @@ impl Model for TrimStore {
 impl TrimStore {
     ghost use Rattle.logger_store.specs.Trimmed.{untrimmed, trim_at, trim_of, is_trimmed, answer_left, with_trim, MayTrim};
 
-    /// A log of boot 0 without entries. It takes no memory.
+    /// A log of boot 0 without entries. Nothing is allocated yet.
     pub fn new(alloc: Global) -> TrimStore
         ensures { result ≡ untrimmed }
     {
@@ -57,7 +58,7 @@ impl TrimStore {
         }
     }
 
-    /// The boot number of the newest server that has said Hello, and 0 before.
+    /// The boot number of the newest server that has sent Hello; 0 before the first.
     pub fn boot(&self) -> u64
         ensures { result ≡ self.now.log.boot }
     {
@@ -72,7 +73,7 @@ impl TrimStore {
         self.log.count()
     }
 
-    /// The entry at this place, from 0, without its bytes and lengths. None exactly where there is none.
+    /// The entry at place `i`, counted from 0, without its bytes and lengths; `None` exactly if there is no such entry.
     pub fn entry(&self, i: u16) -> Option<EntryHead>
         ensures value { option_map head_value result ≡ option_map head_of (slice_get self.now.log.entries i) }
         ensures flags { IfSome result (λ head. (head.fin ≤ 1) × (head.done ≤ 1)) }
@@ -80,7 +81,7 @@ impl TrimStore {
         self.log.entry(i)
     }
 
-    /// The logged byte at this place, from 0, of the entry at place i, past what is trimmed.
+    /// The logged byte at the place `at`, counted from 0, of the entry at place `i`. It isn't trimmed.
     pub fn byte(&self, i: u16, at: u32) -> u8
         requires there { at < length (bytes_of (slice_get self.now.log.entries i)) }
         requires told { (trim_at self.now.trims i).bytes ≤ at }
@@ -89,7 +90,7 @@ impl TrimStore {
         self.log.byte(i, at)
     }
 
-    /// The logged length of the read with this index, from 0, of the entry at place i, past what is trimmed.
+    /// The logged length, in bytes, of the read with the index `at`, counted from 0, of the entry at place `i`. It isn't trimmed.
     pub fn length(&self, i: u16, at: u32) -> u16
         requires there { at < length (lengths_of (slice_get self.now.log.entries i)) }
         requires told { (trim_at self.now.trims i).reads ≤ at }
@@ -98,7 +99,7 @@ impl TrimStore {
         self.log.length(i, at)
     }
 
-    /// Up to where the entry at a place is trimmed.
+    /// How much of the entry at place `i` is trimmed.
     pub fn trim_at(&self, i: u16) -> Trim
         ensures { result ≡ trim_at self.now.trims i }
     {
@@ -138,7 +139,8 @@ impl TrimStore {
         m.boot == self.boot() && self.is_trimmed(&m.body)
     }
 
-    /// Takes a message, and puts the answer to it, or nothing, in the place of what `out` held, as `LogStore::answer` does; but what is trimmed isn't told.
+    /// Takes a message, and replaces what `out` held by the answer to it, or by nothing, as `LogStore::answer` does; but it doesn't answer questions about what
+    /// is trimmed.
     #[tactic(auto, unfolding(crate::specs::Trimmed::answer_left))]
     pub fn answer(&mut self, alloc: Global, m: &Msg<'_>, out: &mut MsgOut) -> Result<(), NoMemory>
         requires { IsSendable m.now }
@@ -156,7 +158,7 @@ impl TrimStore {
         self.log.answer(alloc, m, out)
     }
 
-    /// How many bytes the first reads of the entry at place i took; none where there is no entry, or a closing read is among them.
+    /// How many bytes the first `reads` reads of the entry at place `i` took; `None` if there is no such entry, or a closing read is among them.
     pub fn took(&self, i: u16, reads: u32) -> Option<u32>
         ensures value { IfSome result (λ n. n ≡ sum (take reads (lengths_of (slice_get self.now.log.entries i)))) }
         ensures within { IfSome result (λ n. n ≤ length (bytes_of (slice_get self.now.log.entries i))) }
@@ -165,7 +167,7 @@ impl TrimStore {
         self.log.took(i, reads)
     }
 
-    /// Trims the entry at place i: its first `reads` reads, which took its first `bytes` bytes, aren't told any more. It takes no memory.
+    /// Trims the entry at place `i`: no answer reports its first `reads` reads any more, which took its first `bytes` bytes. Nothing is allocated.
     pub fn trim(&mut self, i: u16, bytes: u32, reads: u32)
         requires { MayTrim i bytes reads self.old }
         ensures { self.new ≡ with_trim i bytes reads self.old }
@@ -177,7 +179,7 @@ impl TrimStore {
         self.trims[usize::from(i)] = Trim { bytes, reads };
     }
 
-    /// How many bytes of the entry at place i are kept: those past the whole pages that are given up.
+    /// How many bytes of the entry at place `i` are stored: those past the complete pages that are dropped.
     pub fn kept(&self, i: u16) -> u32
         requires { i < length self.now.log.entries }
         ensures { result ≡ length (bytes_of (slice_get self.now.log.entries i)) - pages (trim_at self.now.trims i).bytes }
