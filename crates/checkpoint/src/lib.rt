@@ -1,5 +1,5 @@
-//! Marks: a service's state at a point of a connection, kept at the logger in place of the input that led to it. Here are the messages about them as bytes: what
-//! a string of bytes says, and which refusal it gets, is defined by their grammar in `seq_arith`. Nothing here allocates.
+//! Marks (checkpoints): a service's state at a point of a connection, logged in place of the input that led to it. Here are the messages about them as bytes:
+//! what a string of bytes says, and which refusal it gets, is defined by their grammar in `seq_arith`. Nothing here allocates.
 #![tactic(auto)]
 
 pub use mark_msg::{MarkBody, MarkMsg};
