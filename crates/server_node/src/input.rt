@@ -1,4 +1,4 @@
-//! What comes to the node, and how its turns end.
+//! The inputs of a node, and why a turn ends it.
 
 ghost use Rattle.std.specs.Prelude.{◌≡◌};
 ghost use Rattle.server_node.specs.declared.input.TurnEnd.TheVariants.{NoMemory};
@@ -16,7 +16,7 @@ pub enum Input<'a> {
     Tick,
 }
 
-/// Why a turn ended the node, which may only be dropped then.
+/// Why a turn ended the node. It may only be dropped then.
 #[derive(Clone, Copy, Debug, PartialEq, Eq, Error)]
 pub enum TurnEnd {
     #[error("out of memory")]

@@ -1,4 +1,4 @@
-//! What follows from where a node stands, each the clause of a function that does nothing.
+//! Laws of a node at its place in the model, each the contract of a function with an empty body.
 
 ghost use Rattle.std.specs.Prelude.{ℕ, List, Option};
 ghost use Rattle.ft_io.specs.declared.Addr.{Addr};
@@ -19,23 +19,22 @@ ghost use Rattle.server_node.specs.Stages.{StageStands};
 
 use server_trait::Service;
 
-/// A connection that a node lends tells its point: what `inside` answers are the point's numbers, the south wrapper's delta and stable number
-/// and the north wrapper's counts agree with it, and until the connection is over or reset its TCP is neither CLOSED nor reset, and its numbers
-/// are the point's, each less delta.
+/// A connection that a node lends shows its point: `inside` returns the point's numbers, the south wrapper's delta and stable number and the north wrapper's
+/// counts agree with it, and until the connection is over or reset its TCP is neither CLOSED nor reset, and its numbers are the point's, each less delta.
 pub fn lent_connections_tell_their_point<S: Service>()
     ensures { (fresh : S) (server : Addr) (boot : ℕ) (p : Point) (c : ConnState S) → IsSound c → Stands (machine fresh S.after) server boot c p
         → TellsItsPoint (machine fresh S.after) p c }
 {}
 
-/// Where a node stands, each key stands alone: its slot at its own place, or it has neither.
+/// At a node's place in the model each key has its own place: its slot is there, or it has neither slot nor place.
 pub fn standing_nodes_stand_for_each_key<S: Service>()
     ensures { (service : Machine S) (node : Node) (at : Stage S) (key : Key) → StageStands service node at
         → StandsFor service node key (slot_in key at) (place_in key node.stage) }
 {}
 
-/// No client can touch another's connection, over any run of turns of a node that serves: a key that stands at its place, or that isn't known yet,
-/// and of whose own client each packet was near, has had a lawful turn in each of them, as a server has that serves this key alone, and its slot
-/// stands where that leads. Nothing is asked of what other clients sent, nor that any other connection stands.
+/// No client can affect another's connection, over any run of turns of a node that serves: a key whose slot is at its place, or that isn't known yet, and whose
+/// own client's packets were all near, has had a lawful turn in each of them, as in a server that serves only this key, and its slot is at the place after it.
+/// Nothing is assumed of what other clients sent, nor of any other connection.
 pub fn keys_run_alone<S: Service>()
     ensures { (service : Machine S) (node : Node) (key : Key) (first : Serving S) (turns : List (Turned S)) (start : Option Place)
         → AreTurns service node first turns → StandsFor service node key (slot_of key first) start → AreNearFor service node key first turns

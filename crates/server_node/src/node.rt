@@ -44,7 +44,8 @@ impl<S: Service> Node<S> {
     ghost use Rattle.server_node.specs.Restarts.{Restarts};
     ghost use Rattle.server_node.specs.Stages.{StageStands, NodeGoes, IsFence};
 
-    /// Boots, with this boot number, the number from which initial numbers are counted, and the kind of the service. It has said Hello then.
+    /// Boots, with this boot number, at least 1, the number from which initial sequence numbers are counted, and the kind of the service. `sent` then has the
+    /// Hello.
     pub fn boot(
         alloc: Global,
         boot: u64,
@@ -73,7 +74,7 @@ impl<S: Service> Node<S> {
         })
     }
 
-    /// The connection of a key, while it is live: it stands at the key's point, and what it lends is sound, so that each of its calls may be made.
+    /// The connection of a key, while it is live. It is at the key's point, and each of its calls may be made.
     #[tactic(auto, unfolding(crate::specs::Conn::IsSound))]
     pub fn conn(&self, key: Key) -> Option<&Conn<S>>
         ensures stands { (standing : Standing) → StageStands (machine (S.started self.now.who.kind) S.after) (node_of self.now.who standing) self.now.stage
@@ -117,9 +118,9 @@ impl<S: Service> Node<S> {
         Ok(())
     }
 
-    /// One turn, which lends what it sends. Whatever comes, it leaves alone whom the input isn't about, each key continues by the law whose own
-    /// packets are near, and at the end of a restart so does each key whose own entry is sound. After an error the node may only be dropped. A
-    /// Stale of its boot that names a larger one ends it by `Fenced`, also where there is no memory left, and nothing else does.
+    /// One turn. Returns what it sends. Whatever the input is, it leaves the keys unchanged that the input isn't about. Each key continues by the law whose own
+    /// packets are near, and at the end of a restart so does each key whose own entry is sound. After an error the node may only be dropped. A Stale of its
+    /// boot that names a larger one ends it by `Fenced`, even if no memory is left, and nothing else ends it so.
     pub fn turn(&mut self, alloc: Global, input: Input<'_>) -> Result<&[OutPacket], TurnEnd>
         ensures* after { sem 𝓛 (follows_so (the_row S.row S.Service) (the_row S.row S.Service) self.entry.ghost_name none (λ _ _. ⊤)
             (λ node. IfOk result (λ sent. (node.who ≡ self.old.who) × (node.sent.items ≡ sent.now) × ((standing : Standing)

@@ -7,7 +7,7 @@ use ft_io::{Key, NoMemory};
 use std::alloc::Global;
 use std::marker::Model;
 
-/// To whom a packet goes.
+/// The addressee of a packet.
 #[derive(Clone, Copy, Debug, PartialEq, Eq)]
 pub enum To {
     /// The client at this address and port.
@@ -49,12 +49,14 @@ impl OutPacket {
         Ok(())
     }
 
+    /// The addressee.
     pub fn to(&self) -> To
         ensures { party_of result ≡ self.now.to }
     {
         self.to
     }
 
+    /// The bytes: a packet to a client, or a message to the logger.
     pub fn bytes(&self) -> &[u8]
         ensures { result.now ≡ self.now.bytes }
     {
