@@ -1,4 +1,4 @@
-//! The calls of a role's turns, counted and told in one line.
+//! The calls of a role's turns, counted, and the line that reports the counts.
 
 ghost use Rattle.std.specs.Prelude.{ℕ, List, ◌≡◌, ◌++◌, ◌<◌, ◌^◌, [], IfOk, IfErr, OnOk, IsErrOf, decimal};
 ghost use Rattle.std.specs.Io.KnownBytes.{Appends};
@@ -14,10 +14,10 @@ use ft_io::{Failed, Heard, NoMemory, Sink, write_all};
 use itoa::Buffer;
 use std::alloc::Global;
 
-/// How many calls there were on a link, by what they answered.
+/// How many calls there were on a link, by their results.
 #[derive(Clone, Copy, Debug, PartialEq, Eq)]
 pub struct Counts {
-    /// The receives: one a turn.
+    /// The receives: one in each turn.
     pub turns: u128,
     /// The receives that gave a datagram.
     pub datagrams: u128,
@@ -93,7 +93,7 @@ fn line_of(alloc: Global, counts: &Counts) -> Result<Vec<u8>, NoMemory>
     Ok(line)
 }
 
-/// Writes the line that tells the counts.
+/// Writes the line of the counts.
 pub fn tell_counts<O: Sink>(alloc: Global, counts: &Counts, out: &mut O) -> Result<(), NodeEnd>
     ensures written { OnOk result (Appends (O.taken out.old) (O.taken out.new) (count_line counts.now)) }
     ensures stops { IfErr result (TellStops (count_line counts.now) (O.taken out.old) (O.taken out.new)) }

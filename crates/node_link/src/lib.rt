@@ -1,6 +1,5 @@
-//! `node`: the top call of `ftnode`. By its words it is a server, a logger or a client of FT-TCP (INFOCOM 2001), over a network of datagrams,
-//! or it starts a pair of servers with a logger and a client, each a program of its own. `node_of` is the same for a service of one's own, as a server or
-//! its logger.
+//! `node`: the top call of `ftnode`. Its arguments make it a server, a logger or a client of FT-TCP (INFOCOM 2001), over a network of datagrams, or it starts a
+//! pair of servers with a logger and a client, each a process of its own. `node_of` is the same for a service of your own, as a server or its logger.
 #![tactic(auto)]
 
 pub use counts::{Counts, tell_counts};

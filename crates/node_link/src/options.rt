@@ -29,12 +29,12 @@ pub enum OptionName {
     Base,
     First,
     Second,
-    /// Of no role of `node`: the file in which a logger keeps its log.
+    /// The file in which a logger keeps its log. No role of `node` has this option.
     Journal,
 }
 
 impl OptionName {
-    /// Its name, without the hyphens.
+    /// The option's name, without the hyphens.
     pub fn word<'a>(self) -> &'a str
         ensures { result.now ≡ name_of self }
     {
@@ -105,7 +105,7 @@ fn has_stray(words: &[String]) -> bool
     words.iter().any(|word| is_stray(word.as_bytes()))
 }
 
-/// The values of these options as the words give them, or none where the words aren't allowed.
+/// The values of these options in the words, or `None` if the words aren't allowed.
 pub fn read_options<'a>(
     alloc: Global,
     options: &[OptionName],

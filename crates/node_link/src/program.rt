@@ -7,7 +7,7 @@ use ft_io::NoMemory;
 use std::alloc::Global;
 use std::marker::Model;
 
-/// The word by which a program is started. It isn't empty and doesn't begin with `-`.
+/// The name by which a program is started. It isn't empty and doesn't begin with `-`.
 #[derive(Debug, Drop)]
 pub struct Program {
     word: String,
@@ -32,7 +32,7 @@ pub fn is_name(word: &[u8]) -> bool
 }
 
 impl Program {
-    /// The program of this word, or none where the word is empty or begins with `-`.
+    /// The program of this name, or `None` if the word is empty or begins with `-`.
     pub(crate) fn read(alloc: Global, word: &str) -> Result<Option<Program>, NoMemory>
         ensures { IfOk result (λ program. program ≡ program_of word.now) }
     {

@@ -63,7 +63,9 @@ const TURN_LIMIT: u64 = 1_000_000;
 /// An incarnation of the server.
 #[derive(Clone, Copy, Debug)]
 pub struct ServerRole {
+    /// Its own address and port.
     pub local: Addr,
+    /// The logger's address and port.
     pub logger: Addr,
     /// One of the four, or none where the program has a service of its own.
     pub service: Option<ServiceKind>,
@@ -78,6 +80,7 @@ pub struct ServerRole {
 /// The logger, from an empty log.
 #[derive(Clone, Copy, Debug)]
 pub struct LoggerRole {
+    /// Its own address and port.
     pub local: Addr,
     /// 1 to 1,000,000.
     pub turns: u32,
@@ -86,7 +89,9 @@ pub struct LoggerRole {
 /// A client that sends a script.
 #[derive(Debug, Drop)]
 pub struct ClientRole {
+    /// Its own address and port.
     pub local: Addr,
+    /// The server's address and port.
     pub server: Addr,
     /// Its initial number.
     pub isn: u32,

@@ -8,6 +8,7 @@ use ft_io::NoMemory;
 /// The exit status of the program.
 #[derive(Clone, Copy, Debug, PartialEq, Eq)]
 pub struct Status {
+    /// 0 if everything was done, otherwise the number of the end.
     pub code: u8,
 }
 
