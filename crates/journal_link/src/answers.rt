@@ -12,7 +12,9 @@ use node_link::Counts;
 /// An answer and its addressee, to be sent once its round is on the disk; or no bytes.
 #[derive(Debug, Drop)]
 pub struct Answer {
+    /// The addressee.
     pub to: Addr,
+    /// The answer, or no bytes.
     pub out: MsgOut,
 }
 

@@ -53,6 +53,7 @@ impl FileName {
 /// A logger that keeps its log in a journal.
 #[derive(Debug, Drop)]
 pub struct JournalRole {
+    /// Its address and turns.
     pub logger: LoggerRole,
     /// Its file.
     pub journal: FileName,

@@ -3,6 +3,8 @@
 /// The packets that an event sent: `count` packets from number `first` on.
 #[derive(Clone, Copy, Debug, PartialEq, Eq)]
 pub struct StepOut {
+    /// The number of the first of them, counted from 1 over the whole run.
     pub first: u32,
+    /// How many there are.
     pub count: u32,
 }

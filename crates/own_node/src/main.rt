@@ -1,5 +1,5 @@
-//! `own_node`: a service of one's own as a process over UDP: a server, or a logger beside it. All is done by `node_of`; here are the words, the socket, the
-//! standard output and the standard error.
+//! `own_node`: a service of your own as a process over UDP: a server, or its logger. All is done by `node_of`; here are the arguments, the socket, the standard
+//! output and the standard error.
 #![tactic(auto)]
 
 use counter_service::Counter;

@@ -11,11 +11,11 @@ use Rattle.net_schedule.specs.Stepping.{StandsAfter}
 use Rattle.counter_service.specs.declared.counter.Counter.{Counter}
 use Rattle.counter_service.specs.Counter.{counter_started, counter_after, answers}
 
--- a client has accepted a front of the answers to its script
+-- a client has accepted a prefix of the answers to its script
 abbrev pub SeesAnswers : Client → Type 0
 SeesAnswers client = IsPrefix client.accepted (answers 0 client.script)
 
--- the world stands at the end of a legal trace of these events of a schedule, whose server runs Counter
+-- the world is at the end of a legal trace of these events of a schedule, whose server runs Counter
 pub record IsPlayed (schedule : Schedule) (events : List Event) (w : Kept Counter) : Type 0 where
   pub trace : List Moment
   pub stands : StandsAfter (machines (λ _. counter_started) counter_after) schedule events trace w

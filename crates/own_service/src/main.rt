@@ -1,5 +1,5 @@
-//! `own_service`: a service of one's own in the world of a schedule. It plays the schedule of its standard input, in which the server crashes, and
-//! prints what each client has accepted beside what a server that never failed would have answered.
+//! `own_service`: a service of your own in the world of a schedule. It plays the schedule of its standard input, in which the server crashes, and prints what
+//! each client has accepted, next to what a server that never failed would have answered.
 #![tactic(auto)]
 
 ghost use Rattle.std.specs.Prelude.{◌≡◌, ◌≤◌, length, IfOk, IfSome};
@@ -53,8 +53,8 @@ fn read(alloc: Global, text: &[u8]) -> Option<Schedule>
     }
 }
 
-/// The world at the end of a schedule: all its events are played. Whatever they lose or repeat, and whenever the server crashes, what a client has
-/// accepted is a front of the answers to its script.
+/// The world at the end of a schedule: all its events are played. Whatever they lose or repeat, and whenever the server crashes, what a client has accepted is
+/// a prefix of the answers to its script.
 fn play(alloc: Global, schedule: &Schedule) -> Option<World<Counter>>
     requires playable { IsPlayable schedule.now }
     requires few { length schedule.now.clients ≤ 16 }

@@ -1,5 +1,5 @@
-//! `replay`: the top call of `ftreplay`. It reads a schedule, plays its events in the world and writes the report while it runs; or it plays the schedule that
-//! a seed makes, and writes a summary.
+//! `replay`: the top call of `ftreplay`. It reads a schedule, plays its events in the world and writes the report while it runs; or it generates a schedule
+//! from a seed, plays it and writes a summary.
 #![tactic(auto)]
 
 pub use program::run_ftreplay;

@@ -7,8 +7,8 @@ use std::process::ExitCode;
 use std::rt::Env;
 use std::{env, io};
 
-/// `ftreplay` with the words of this system and with these three streams. It returns the exit status, which is that of [`replay`]; or an error of std, where a
-/// word isn't UTF-8, or the words can't be allocated.
+/// `ftreplay` with the arguments of this system and with these three streams. It returns the exit status, which is that of [`replay`]; or an error of std, if
+/// an argument isn't UTF-8, or an allocation for the arguments fails.
 pub fn run_ftreplay<R: Env + AllocGlobal, I: Read + Drop, O: Write + Drop, E: Write + Drop>(
     system: &R,
     input: I,

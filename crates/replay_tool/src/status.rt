@@ -14,6 +14,7 @@ use std::alloc::AllocError;
 /// The exit status of the program.
 #[derive(Clone, Copy, Debug, PartialEq, Eq)]
 pub struct Status {
+    /// 0 if everything was done, otherwise the number of the end.
     pub code: u8,
 }
 

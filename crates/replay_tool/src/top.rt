@@ -33,9 +33,9 @@ fn asks_for_run(words: &[String]) -> bool
 }
 
 /// `ftreplay` with these words. For `run` it reads a schedule from `input` to its end and writes the report of its run to `out` while it runs. For `seed SEED
-/// CLIENTS EVENTS` it plays this many events of the schedule that the seed makes for this many clients, and writes their summary to `out` once they are done;
-/// nothing is read. After that it writes to `err` why a run ended early. The status is 0 where all was done, 2 for other words, 3 where an allocation failed,
-/// 4 for a fault of the source, 5 for a fault of a sink, 6 for a refused line, 7 for a refused event, and 8 at a limit. With a seed it is 0, 3, 5 or 8.
+/// CLIENTS EVENTS` it plays this many events of the schedule that the seed generates for this many clients, and writes their summary to `out` once they are
+/// done; nothing is read. After that it writes to `err` why a run ended early. The status is 0 where all was done, 2 for other words, 3 where an allocation
+/// failed, 4 for a fault of the source, 5 for a fault of a sink, 6 for a refused line, 7 for a refused event, and 8 at a limit. With a seed it is 0, 3, 5 or 8.
 #[tactic(auto, using(crate::proofs::Seeding::run_asks_none))]
 pub fn replay<I: Source, O: Sink, E: Sink>(
     alloc: Global,

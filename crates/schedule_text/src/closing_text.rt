@@ -13,6 +13,7 @@ use std::alloc::Global;
 /// What a report says of a connection in the log.
 #[derive(Clone, Copy, Debug, PartialEq, Eq)]
 pub struct LogLine<'a> {
+    /// The client's address and port.
     pub key: Key,
     /// The client's bytes that are logged.
     pub length: u32,

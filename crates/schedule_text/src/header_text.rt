@@ -1,4 +1,4 @@
-//! The head of a report: what the schedule asked for, before its events.
+//! The header of a report: the schedule's lines before its events.
 
 ghost use Rattle.std.specs.Prelude.{◌≡◌, ◌+◌, ◌++◌, ◌∷◌, ◌==◌, if◌then◌else◌, codes, length, OnOk, OnErr};
 ghost use Rattle.hex.specs.Hex.{encode_lower};

@@ -1,4 +1,4 @@
-//! The dice: numbers that are drawn, and the event that they decide.
+//! Drawing events: pseudorandom numbers, and the event that they decide.
 
 ghost use Rattle.std.specs.Prelude.{◌≡◌, ℕ, ◌*◌, ◌<◌, ◌^◌, Some, option_copied, length};
 ghost use Rattle.ft_model.specs.Client.{Client as Seen};
@@ -21,15 +21,15 @@ const TEXT: u32 = 536;
 /// How many bytes each client sends more than the one before it.
 pub(crate) const STEP: u32 = 1_000;
 
-/// What a drawn event depends on in the server.
+/// The server's state, as far as a drawn event depends on it.
 #[derive(Clone, Copy, Debug, PartialEq, Eq)]
 pub struct ServerNow {
     pub is_up: bool,
-    /// How often it has started: the number of its last boot.
+    /// How many times it has booted, which is the number of its last boot.
     pub boots: u64,
 }
 
-/// What decides which event comes next: a generator, from which numbers are drawn.
+/// What decides the next event: a generator, from which numbers are drawn.
 #[derive(Clone, Copy, Debug)]
 pub struct Dice {
     pub draws: Generator,

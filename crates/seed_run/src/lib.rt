@@ -1,4 +1,4 @@
-//! Runs of generated schedules: a seed makes the clients and draws the events, each in the world after those before it, and a summary says what came of it.
+//! Runs of generated schedules: clients and events are drawn from a seed, each event given the world's state, and a summary says what the run did.
 #![tactic(auto)]
 
 pub use asked::Asked;
