@@ -17,7 +17,7 @@ const SEED: u64 = 1;
 
 const DATAGRAMS: u32 = 10_000;
 
-/// A client meets at most so many datagrams before another takes its place.
+/// A client gets at most this many datagrams before another replaces it.
 const AGE: u32 = 60;
 
 const ISN: u32 = 1_000;
@@ -177,7 +177,7 @@ fn scripted(alloc: Global, is_open: bool) -> Result<Client, NoMemory> {
     Ok(client)
 }
 
-/// What a scripted client tells of itself.
+/// A scripted client's state, as its methods report it.
 #[derive(Clone, Copy, PartialEq, Eq)]
 struct Told {
     phase: Phase,
@@ -285,7 +285,7 @@ impl Target {
         self.client.flush(&mut self.out);
     }
 
-    /// What is handed out is what the server sends at that place. It answers how many bytes that are.
+    /// Checks that the bytes handed out are those that the server sends at that place, and returns how many they are.
     fn accept_some(&mut self, dice: &mut Dice) -> Result<usize, Rule> {
         let mut buf = [0u8; 50];
         let most = dice.roll(51) as usize;

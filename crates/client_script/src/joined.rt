@@ -24,7 +24,7 @@ const LIMIT: u32 = 1 << 24;
 /// How many bytes each sends.
 const LENGTH: usize = 100_000;
 
-/// The client's text repeats after so many bytes, and the server's after so many.
+/// The periods of the client's text and of the server's, in bytes.
 const CLIENT_PERIOD: usize = 251;
 
 const SERVER_PERIOD: usize = 241;
@@ -48,7 +48,7 @@ struct Way {
 }
 
 impl Way {
-    /// What left goes on its way. One packet in six is lost.
+    /// Puts what was sent on its path. One packet in six is lost.
     fn carry(&mut self, alloc: Global, out: &Outbox, dice: &mut Dice) -> Result<(), NoMemory> {
         for i in 0..out.len() {
             if dice.roll(6) > 0 {

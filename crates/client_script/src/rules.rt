@@ -1,4 +1,4 @@
-//! What must hold of a client whatever comes to it.
+//! What must hold of a client whatever arrives.
 
 use crate::dice::Dice;
 use peer_client::Phase;

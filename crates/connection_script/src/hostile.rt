@@ -15,7 +15,7 @@ use wrapped_conn::{Inside, TurnOut};
 
 const SEED: u64 = 1;
 
-/// So many connections meet so many datagrams each.
+/// How many connections there are, and how many datagrams each gets.
 const CONNECTIONS: u32 = 200;
 
 const DATAGRAMS: u32 = 50;

@@ -31,7 +31,7 @@ fn requests(size: u16) -> [u8; 1_460] {
     text
 }
 
-/// The client sends a text and acknowledges so many units, and the logger logs everything. How many reads there are then.
+/// The client sends a text and acknowledges this many units, and the logger logs everything. Returns how many reads there are then.
 fn turn(
     alloc: Global,
     conn: &mut Conn<AnyService>,
@@ -87,7 +87,7 @@ fn turn_acknowledged(
     Ok(reads)
 }
 
-/// The same, so many times.
+/// The same, this many times.
 fn turns_acknowledged(
     alloc: Global,
     conn: &mut Conn<AnyService>,

@@ -11,12 +11,12 @@ use seq_arith::ACK;
 use std::alloc::Global;
 use wrapped_conn::{Conn, Inside, TurnOut};
 
-/// The whole segments, and the bytes of the last one.
+/// How many full segments there are, and how many bytes the last one has.
 const SEGMENTS: u32 = 11_491;
 
 const LAST: usize = 356;
 
-/// What stands at the end: the numbers, and the last segments of the turn in which all is logged and of that of one byte more.
+/// The state at the end: the numbers, and the last segments of the turn in which all is logged and of the turn of one byte more.
 #[derive(Clone, Copy)]
 pub(crate) struct Filled {
     pub(crate) inside: Inside,
@@ -32,7 +32,7 @@ fn first_segment(out: &TurnOut) -> Option<Head> {
     Some(read_packet(out.segments().packet(0)).ok()?.head)
 }
 
-/// The segment with this number, from 0, and what is logged then. The head of the segment that acknowledges it.
+/// The segment with this number, counted from 0, and what is logged then. Returns the header of the segment that acknowledges it.
 fn fill(
     alloc: Global,
     conn: &mut Conn<AnyService>,
@@ -62,7 +62,7 @@ fn fill(
     Ok(acknowledged)
 }
 
-/// The whole stream comes, and a byte more.
+/// The complete stream arrives, and one byte more.
 pub(crate) fn fill_all(alloc: Global) -> Result<Filled, NoMemory> {
     let text = [120u8; 1_460];
     let mut out = TurnOut::new(alloc)?;

@@ -118,7 +118,7 @@ pub(crate) fn say_acked(
     take_packet(alloc, conn, &mut packet[..len], out)
 }
 
-/// A message that tells what is logged.
+/// A message that reports what is logged.
 fn message(answer: Answer, logged: Logged) -> [u8; 31] {
     let kind = if answer == Answer::Stable { 12 } else { 14 };
     let mut bytes = [0u8; 31];
@@ -134,7 +134,7 @@ fn message(answer: Answer, logged: Logged) -> [u8; 31] {
     bytes
 }
 
-/// The logger tells what is logged.
+/// The logger reports what is logged.
 pub(crate) fn hear(
     alloc: Global,
     conn: &mut Conn<AnyService>,

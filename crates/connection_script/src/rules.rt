@@ -1,4 +1,4 @@
-//! What must hold of a connection whatever comes to it.
+//! What must hold of a connection whatever arrives.
 
 ghost use Rattle.wrapped_conn.specs.Sound.{IsSound};
 

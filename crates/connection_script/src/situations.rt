@@ -51,7 +51,7 @@ pub(crate) fn log_all(
     hear(alloc, conn, Answer::Reads, all_of(conn), out)
 }
 
-/// The client has sent five bytes to Echo, and closes where it is told to.
+/// The client has sent five bytes to Echo, and closes if asked to.
 fn unlogged(alloc: Global, closes: bool, out: &mut TurnOut) -> Result<Conn<AnyService>, NoMemory>
     ensures { IfOk result (λ c. IsSound c) }
 {

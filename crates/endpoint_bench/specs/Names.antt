@@ -1,7 +1,7 @@
 -- The names of the services.
 use Rattle.std.specs.Prelude.{ℕ, List, Option, Some, None, bytes_eq, codes, if◌then◌else◌}
 
--- the kind that a name stands for
+-- the kind of service that a name means
 abbrev pub kind_named : List ℕ → Option ℕ
 kind_named name =
     if bytes_eq name (codes "echo") then Some 1

@@ -1,7 +1,7 @@
-//! A client and a server endpoint in memory: `echo BYTES WRITE [WAY]` has the client write so many bytes in writes of WRITE bytes, the server echo
-//! them, and the client compare the echo and close. One segment is under way at a time; with a WAY a window of them is, which come in order
-//! (`window`), with each two swapped (`swapped`), or with one packet of 100 lost (`lossy`). It prints the segments that each side sent and the
-//! bytes that came back, and the ticks, if there were any. It fails where the echo differs or doesn't come to its end.
+//! A client and a server endpoint in memory: `echo BYTES WRITE [WAY]` has the client write so many bytes in writes of WRITE bytes, the server echo them, and
+//! the client compare the echo and close. One segment is under way at a time; with a WAY a window of them is, which come in order (`window`), with each two
+//! swapped (`swapped`), or with one packet of 100 lost (`lossy`). It prints the segments that each side sent and the bytes that came back, and the ticks, if
+//! there were any. It fails if the echo differs or isn't completed.
 
 use crate::exchange::{Exchange, Way};
 use ft_io::NoMemory;

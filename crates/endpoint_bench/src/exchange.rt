@@ -22,13 +22,13 @@ const SERVER: Addr = Addr {
 /// A connection's receive edge never passes this.
 const LIMIT: u32 = 1 << 30;
 
-/// The most bytes under way where that is a window: 44 whole segments.
+/// The most bytes in flight if a full window may be in flight: 44 full segments.
 const WINDOW: u32 = 64_240;
 
-/// At most so many ticks pass.
+/// At most this many ticks pass.
 const TICKS: u32 = 10_000_000;
 
-/// How the packets of a turn come to the other end.
+/// How the packets of a turn reach the other end.
 #[derive(Clone, Copy, Debug, PartialEq, Eq)]
 pub(crate) enum Way {
     /// One segment is under way at a time.
@@ -89,7 +89,7 @@ impl Side {
         })
     }
 
-    /// Takes what the other end sent last. With one segment under way this is one packet at most, since a FIN goes out alone.
+    /// Takes what the other end sent last. With one segment in flight this is at most one packet, since a FIN has a segment of its own.
     fn hear(&mut self, sent: &Outbox, way: Way) {
         for i in 0..sent.len() {
             let place = way.place(i, sent.len());

@@ -115,7 +115,7 @@ fn anywhere(dice: &mut Dice) -> Seq {
     Seq(dice.roll(65_536) * 65_536).add(dice.roll(65_536))
 }
 
-/// A number at most so many before this one or after it.
+/// A number at most this far before this one or after it.
 fn near(dice: &mut Dice, number: Seq, most: u8) -> Seq {
     let most = u32::from(most);
     Seq(number.0.wrapping_sub(most)).add(dice.roll(2 * most + 1))
@@ -171,7 +171,7 @@ fn hostile_head(dice: &mut Dice, target: &Target) -> Head {
     }
 }
 
-/// Writes a datagram whose text stands in the peer's stream at its number, and answers its length.
+/// Writes a datagram whose text is that of the peer's stream at its number, and returns its length.
 fn hostile(dice: &mut Dice, target: &Target, out: &mut [u8; 1_500]) -> usize
     ensures { result ≤ 1500 }
 {
@@ -345,7 +345,7 @@ impl Target {
         Ok(())
     }
 
-    /// One datagram comes to the target, damaged or not.
+    /// One datagram, damaged or not, arrives at the target.
     pub(crate) fn attack(&mut self, dice: &mut Dice, tally: &mut Tally) -> Kept {
         let mut packet = [0u8; 1_500];
         let len = hostile(dice, self, &mut packet);

@@ -89,7 +89,7 @@ impl User {
     }
 }
 
-/// One of the two: its endpoint, its user, and the way on which packets come to it.
+/// One of the two: its endpoint, its user, and the path on which packets reach it.
 #[derive(Drop)]
 struct Side {
     endpoint: Endpoint,

@@ -5,7 +5,7 @@ use crate::words::{
     Why, Words, address, answer, count, number, segment, short, state, state_name, text,
 };
 
-/// The receive edge where a line tells no limit.
+/// The limit of the receive window's right edge, if a line gives none.
 const LIMIT: u32 = 1 << 24;
 
 /// A line.
@@ -19,7 +19,7 @@ pub(crate) enum Line<'a> {
     Action(Action<'a>),
 }
 
-/// Reads a line. `ways` is how many ways stand above it.
+/// Reads a line. `ways` is how many ways were defined before it.
 pub(crate) fn read_line(line: &str, ways: usize) -> Result<Line<'_>, Why> {
     let line = line.trim();
     if line.is_empty() || line.starts_with('#') {

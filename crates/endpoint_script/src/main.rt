@@ -117,7 +117,7 @@ fn read_and_play<R: Print + AllocGlobal>(
     }
 }
 
-/// Plays all scripts of a text, and tells their outcome.
+/// Plays all scripts of a text, and returns their outcome.
 fn run<R: Print + AllocGlobal>(rt: &R, text: &[u8]) -> Result<u8, RunEnd> {
     let mut outcome = Outcome {
         cases: 0,

@@ -133,7 +133,7 @@ impl Play {
     }
 }
 
-/// Plays a case. At its end all that left must be told.
+/// Plays a case. By its end the script must have named all segments that were sent.
 pub(crate) fn play_case(
     alloc: Global,
     script: &Script<'_>,

@@ -1,4 +1,4 @@
-//! The reading of a whole script.
+//! Reading a complete script.
 
 use crate::line::{Line, read_line};
 use crate::script::{Action, Part, Script, Step};
@@ -73,7 +73,7 @@ fn push_step<'a>(parts: &mut Vec<Part<'a>>, step: Step<'a>) -> Result<(), Script
     }
 }
 
-/// The steps of a way, which stand in front of all others of a part.
+/// The steps of a way, which come before all others of a part.
 fn steps_of<'a>(
     alloc: Global,
     ways: &[Part<'a>],
@@ -129,7 +129,7 @@ impl<'a> Draft<'a> {
         Ok(())
     }
 
-    /// The ways that stand above the last part.
+    /// The ways that were defined before the last part.
     fn ways_above(&self) -> &[Part<'a>] {
         let ways = self.script.ways.as_slice();
         let count = match self.place {
@@ -173,7 +173,7 @@ impl<'a> Draft<'a> {
     }
 }
 
-/// The line of the first byte that isn't UTF-8, where so many before it are.
+/// The line of the first byte that isn't UTF-8, given how many bytes before it are.
 fn line_of(text: &[u8], valid: usize) -> u32 {
     let mut line = 1u32;
     for byte in text.iter().take(valid) {
@@ -184,7 +184,7 @@ fn line_of(text: &[u8], valid: usize) -> u32 {
     line
 }
 
-/// Reads a script from its text, or tells the first line that is refused.
+/// Reads a script from its text, or returns the first line that is refused.
 pub(crate) fn read_script(alloc: Global, text: &[u8]) -> Result<Script<'_>, ScriptEnd> {
     let text = match str::from_utf8(text) {
         Ok(text) => text,

@@ -90,7 +90,7 @@ pub(crate) struct Seen {
     pub(crate) room: usize,
 }
 
-/// What peer and user know of an endpoint, when packets leave it.
+/// What the peer and the user know of an endpoint when it sends packets.
 #[derive(Clone, Copy)]
 pub(crate) struct Known {
     pub(crate) name: StateName,
@@ -164,7 +164,7 @@ pub(crate) fn check_numbers(before: Seen, after: Seen, ack: Seq) -> Kept {
     require(after == Seen { readable, ..before }, Rule::Closed)
 }
 
-/// A RST answers alone.
+/// A RST in answer is the only segment of its turn.
 fn check_rst(p: PacketRef<'_>, count: usize) -> Kept {
     let is_alone = p.head.window == 0 && p.payload.is_empty() && count == 1;
     require(is_alone, Rule::RstAlone)?;

@@ -1,5 +1,5 @@
-//! An endpoint on which a script acts. A segment or a tick begins a turn, and the turn ends where what leaves is told, by `flush`, or
-//! where the next turn begins. Each segment that leaves must be told.
+//! An endpoint on which a script acts. A segment or a tick begins a turn. The turn ends where the script names what is sent, by `flush`, or where the next turn
+//! begins. The script must name each segment that is sent.
 
 use crate::script::{Deed, Opening, Segment, Text};
 use crate::text::{Shown, ShownSegment};
@@ -20,7 +20,7 @@ const PEER: Addr = Addr {
 /// The peer's initial number where no SYN came.
 const PEER_ISN: Seq = Seq(1_000);
 
-/// Why a step doesn't come to its end.
+/// Why a step fails.
 #[derive(Drop)]
 pub(crate) enum Miss {
     NoMemory,
@@ -41,10 +41,10 @@ impl From<NoMemory> for Miss {
     }
 }
 
-/// A step comes to its end, and what it asks to see is seen.
+/// A step is done, and what it expects is there.
 pub(crate) type Met = Result<(), Miss>;
 
-/// An endpoint, and how much of what leaves is told.
+/// An endpoint, and how many of the segments that it sent the script has named.
 #[derive(Drop)]
 pub(crate) struct Scene {
     pub(crate) endpoint: Endpoint,
@@ -54,7 +54,7 @@ pub(crate) struct Scene {
     /// The endpoint's initial number, and the peer's.
     pub(crate) isn: Seq,
     pub(crate) peer_isn: Seq,
-    /// How many of the last turn's segments are told.
+    /// How many of the last turn's segments the script has named.
     told: usize,
     /// Whether something happened since the last flush.
     is_open: bool,
@@ -157,7 +157,7 @@ impl Scene {
         }
     }
 
-    /// Ends the turn. All that left must be told.
+    /// Ends the turn. The script must have named all segments that were sent.
     pub(crate) fn end_turn(&mut self, alloc: Global) -> Met {
         self.flush();
         if self.told < self.out.len() {

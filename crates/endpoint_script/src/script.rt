@@ -31,7 +31,7 @@ pub(crate) struct Opening {
     pub(crate) local: Addr,
     pub(crate) remote: Option<Addr>,
     pub(crate) isn: u32,
-    /// The receive edge never passes so many bytes.
+    /// The right edge of the receive window never passes this many bytes.
     pub(crate) limit: u32,
 }
 
@@ -125,14 +125,14 @@ pub(crate) struct Step<'a> {
     pub(crate) action: Action<'a>,
 }
 
-/// A way or a case. The steps of a way with which it begins stand in front of its own.
+/// A way or a case. The steps of the way with which it begins come before its own.
 #[derive(Drop)]
 pub(crate) struct Part<'a> {
     pub(crate) name: &'a str,
     pub(crate) steps: Vec<Step<'a>>,
 }
 
-/// A whole script.
+/// A complete script.
 #[derive(Drop)]
 pub(crate) struct Script<'a> {
     pub(crate) ways: Vec<Part<'a>>,

@@ -12,7 +12,7 @@ use tcp_endpoint::{State, StateName};
 pub(crate) enum Why {
     /// It isn't UTF-8.
     Encoding,
-    /// It has a word where none or another may stand.
+    /// It has a word where none or another is allowed.
     Word,
     /// A word is missing.
     Missing,
@@ -26,9 +26,9 @@ pub(crate) enum Why {
     State,
     /// A text is misspelled or too long.
     Text,
-    /// No way of this name stands above, or one stands there already.
+    /// No way of this name was defined before, or one was already.
     Way,
-    /// It may not stand here: outside a way and a case, or a beginning after another step.
+    /// It isn't allowed here: outside a way and a case, or a beginning after another step.
     Place,
     /// No endpoint was opened.
     NoEndpoint,
@@ -52,7 +52,7 @@ impl fmt::Display for Why {
     }
 }
 
-/// The words of a line that aren't read yet. They stand between spaces.
+/// The words of a line that aren't read yet. Spaces separate them.
 #[derive(Clone, Copy)]
 pub(crate) struct Words<'a> {
     rest: &'a str,

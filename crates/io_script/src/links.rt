@@ -43,7 +43,7 @@ fn say_heard(heard: Result<Heard, Failed>, buf: &[u8], said: &mut Said) -> Resul
     }
 }
 
-/// Five receives: what each answered, and the counts of faults and of calls that are told.
+/// Five receives: what each returned, and the counts of faults and of recorded calls.
 pub fn receive_five(alloc: Global, fails: Vec<u32>, said: &mut Said) -> Result<(), NoMemory> {
     let arrivals = four_arrivals(alloc)?;
     let mut link = MemLink::new(alloc, arrivals, Vec::new(alloc), fails, false);
@@ -80,7 +80,7 @@ pub fn bind_three(alloc: Global, fails: Vec<u32>, said: &mut Said) -> Result<(),
     say_counts(&link, said)
 }
 
-/// Says the counts of faults, of failed binds, and of calls that are told.
+/// Prints the counts of faults, of failed binds, and of recorded calls.
 fn say_counts(link: &MemLink, said: &mut Said) -> Result<(), NoMemory> {
     said.count(link.faults())?;
     said.count(link.bind_faults())?;

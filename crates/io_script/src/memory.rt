@@ -42,8 +42,8 @@ pub fn write_three(alloc: Global, fails: Vec<u32>, said: &mut Said) -> Result<()
     said.count(sink.starved())
 }
 
-/// A start with the word `echo`, one without words, and a wait for each child that was started, the first of which ends with 7:
-/// what they answered, the count of faults, and how many calls are told.
+/// A start with the word `echo`, one without words, and a wait for each child that was started, the first of which ends with 7: what they returned, the count
+/// of faults, and how many calls are recorded.
 pub fn start_two(alloc: Global, fails: Vec<u32>, said: &mut Said) -> Result<(), NoMemory> {
     let mut spawner = MemSpawner::new(alloc, vec![in alloc; 7]?, fails);
     let words = vec![in alloc; String::from_str(alloc, "echo")?]?;

@@ -1,4 +1,4 @@
-//! Reading to a limit, and writing whole.
+//! Reading to a limit, and writing completely.
 
 use crate::said::Said;
 use ft_io::{Failed, MemSink, MemSource, NoMemory, ReadEnd, Sink, read_to_limit, write_all};
@@ -61,7 +61,7 @@ impl<S: Sink> Sink for Narrow<S> {
     }
 }
 
-/// Writes `abcdefgh` whole to a sink that takes three bytes a call: whether that succeeded, and what the sink has.
+/// Writes all of `abcdefgh` to a sink that takes three bytes a call: whether that succeeded, and what the sink has.
 pub fn write_text(alloc: Global, fails: Vec<u32>, said: &mut Said) -> Result<(), NoMemory> {
     let inner = MemSink::new(alloc, fails);
     let mut sink = Narrow { inner };

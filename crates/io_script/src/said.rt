@@ -8,7 +8,7 @@ use std::alloc::Global;
 pub struct Said {
     alloc: Global,
     bytes: Vec<u8>,
-    /// A word stands in the line that isn't finished.
+    /// A word of the unfinished line.
     is_begun: bool,
 }
 

@@ -30,7 +30,7 @@ fn await_datagram<L: Link>(link: &mut L, buf: &mut [u8; 2048]) -> Result<Heard, 
     Ok(Heard::Nothing)
 }
 
-/// Sends a datagram of so many bytes to itself, and says its length and first bytes when it is back.
+/// Sends itself a datagram of this many bytes, and prints its length and first bytes when it arrives.
 fn send_round<L: Link>(
     link: &mut L,
     here: Addr,

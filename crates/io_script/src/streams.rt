@@ -46,7 +46,7 @@ impl<W: Write> Write for FailsOnce<W> {
     }
 }
 
-/// Four reads of `hello` of at most three bytes: after each what it answered, what stands in the buffer, and the count of faults.
+/// Four reads of `hello` of at most three bytes: after each what it returned, what the buffer has, and the count of faults.
 pub fn read_four(said: &mut Said) -> Result<(), NoMemory> {
     let mut source = ReadSource::new(failing_once(b"hello".as_slice()));
     for _ in 0..4 {

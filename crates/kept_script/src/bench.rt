@@ -38,7 +38,7 @@ fn decoded(alloc: Global, text: &str) -> Result<Option<Vec<u8>>, NoMemory> {
     }
 }
 
-/// Two numbers between which a space stands.
+/// Two numbers, separated by a space.
 fn two_numbers(text: &str) -> Option<(u32, u32)> {
     let (first, second) = text.split_once(' ')?;
     Some((first.parse().ok()?, second.parse().ok()?))

@@ -1,13 +1,13 @@
-//! `kept_script`: keeps a log in a file in memory, by the lines of a script, which comes from standard input. It prints for each what comes of it:
+//! `kept_script`: keeps a log in a file in memory, by the lines of a script, which it reads from standard input. For each line it prints the result:
 //!
-//! - `file HEX` sets the file's bytes, and `more COUNT BYTE` puts COUNT bytes of this number after them; `# ..` is printed as it stands;
+//! - `file HEX` sets the file's bytes, and `more COUNT BYTE` appends COUNT bytes of this number; `# ..` is printed as it is;
 //! - `fail READ CALL` makes the READth read fail of each file that is opened from then on, and the CALLth call that changes it; 0 for none;
-//! - `open` opens the journal in the file; `cuts` opens each front of the file, and `flips` the file with each of its bits changed in turn. What comes of
-//!   an opening is the log's boot number, its count of entries and the place of the closed gate, or why it wasn't opened, and the calls on the file;
+//! - `open` opens the journal in the file; `cuts` opens each prefix of the file, and `flips` the file with each of its bits changed in turn. The result of an
+//!   opening is the log's boot number, its count of entries and the place of the closed gate, or why it wasn't opened, and the calls on the file;
 //! - `in HEX` gives a datagram, and prints the answer; `long COUNT` gives at most COUNT Data messages of 1,460 bytes each, until the round is full;
 //! - `commit` commits the round, and prints the calls on the file; `state` prints the same of the log as an opening; `entry I` the entry at place I;
-//! - `death CALLS KEPT PUT` sets the file's bytes to what a death leaves that comes after so many calls, finds so many bytes of an append that no sync
-//!   followed, and a byte that was put if PUT is 1.
+//! - `death CALLS KEPT PUT` sets the file's bytes to what a death after CALLS calls leaves, with KEPT bytes of an append that no sync followed, and with a byte
+//!   that was put if PUT is 1.
 #![tactic(auto)]
 
 use bench::Bench;

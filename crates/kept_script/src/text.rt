@@ -6,7 +6,7 @@ use kept_log::{KeptLog, OpenEnd};
 use logger_store::{EntryHead, LogStore};
 use std::alloc::Global;
 
-/// How many bytes are printed whole.
+/// Up to how many bytes are printed in full.
 const SHOWN: usize = 256;
 
 /// 31 times the number before, and the byte, for each byte; modulo 2^32.
@@ -59,7 +59,7 @@ pub(crate) fn calls_text(alloc: Global, disk: &MemDisk, from: usize) -> Result<S
     Ok(text)
 }
 
-/// How many calls a disk tells of.
+/// How many calls a disk has recorded.
 pub(crate) fn call_count(disk: &MemDisk) -> usize {
     match disk.told() {
         Some(calls) => calls.len(),

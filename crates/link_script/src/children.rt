@@ -1,4 +1,4 @@
-//! What a spawner in memory tells.
+//! The calls that a spawner in memory has recorded.
 
 use crate::say;
 use ft_io::{NoMemory, SpawnCall};

@@ -1,19 +1,19 @@
 //! `link_script`: runs `node` over a link in memory, by the lines of a script, which comes from standard input, and prints how each run ends. The lines of a
 //! script:
 //!
-//! - `# ..` is printed as it stands;
-//! - `ask WORDS` prints which role the words ask for. In words `~` stands for a space, and `''` for an empty word;
-//! - `come FROM HEX` adds a datagram to what comes to the next run, and `nothing` a silence;
+//! - `# ..` is printed as it is;
+//! - `ask WORDS` prints which role the words ask for. In words `~` means a space, and `''` an empty word;
+//! - `come FROM HEX` adds a datagram to what arrives at the next run, and `nothing` a receive that times out;
 //! - `input HEX` is the input of the next run;
-//! - `child N` gives the next child of the next run the status N; it is 0 where none is given;
+//! - `child N` gives the next child of the next run the status N; without this line it is 0;
 //! - `fail CALL N` makes the call with number N, from 1, of the next run fail: CALL is `bind`, `send`, `receive`, `read`, `write`, `error` or `child`: the
 //!   writes are on out and err, and starts of children and waits for them have one numbering;
-//! - `run WORDS` runs `node`, and prints its status, what it wrote to out and to err, and the calls that the link and the spawner tell; `brief WORDS` prints of
-//!   the link's calls only how many were receives and how many sends;
+//! - `run WORDS` runs `node`, and prints its status, what it wrote to out and to err, and the calls that the link and the spawner recorded; `brief WORDS`
+//!   prints of the link's calls only how many were receives and how many sends;
 //! - `own WORDS` is the same as `run`, for `node_of` with the service Counter;
-//! - `start WORDS` starts `ftnode` as a process, and prints its exit status and what it wrote to both outputs. Its shell's command is that of a line
-//!   `shell TEXT` before it, where `$0` is the program and `$@` are its words. `answer HEX` is what a peer at 127.0.0.1:7461 answers to the datagrams that come to
-//!   it, one after another, and `hold FILE` keeps this journal open meanwhile.
+//! - `start WORDS` starts `ftnode` as a process, and prints its exit status and what it wrote to both outputs. Its shell's command is that of a line `shell
+//!   TEXT` before it, where `$0` is the program and `$@` are its words. `answer HEX` is what a peer at 127.0.0.1:7461 answers to the datagrams that reach it,
+//!   one after another, and `hold FILE` keeps this journal open meanwhile.
 //!
 //! With words it is `ftnode`.
 #![tactic(auto)]
@@ -56,7 +56,7 @@ fn main(rt: HostRuntime) -> io::Result<ExitCode> {
     Ok(ExitCode::SUCCESS)
 }
 
-/// What comes to the next run and is its input, how its children end, which of its calls fail; what the next process meets; and what was printed so far.
+/// What arrives at the next run and is its input, how its children end, and which of its calls fail; what the next process finds; and what was printed so far.
 #[derive(Drop)]
 struct Script {
     arrivals: Vec<Arrival>,

@@ -25,7 +25,7 @@ const PATIENCE: u32 = 1_000;
 pub struct Meeting {
     /// The shell's command that starts it: `$0` is the program, and `$@` are its words. Empty where no more is to be done than that.
     shell: String,
-    /// What the peer answers to the datagrams that come to it, one after another.
+    /// What the peer answers to the datagrams that it receives, one after another.
     pub answers: Vec<Vec<u8>>,
     /// A journal that is open meanwhile. None where the name is empty.
     held: String,

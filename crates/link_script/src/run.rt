@@ -8,7 +8,7 @@ use ft_io::{Addr, Arrival, LinkCall, MemLink, MemSink, MemSource, MemSpawner, No
 use node_link::{node, node_of};
 use std::alloc::Global;
 
-/// What is run, and how its calls on the link are told.
+/// What is run, and how its calls on the link are printed.
 #[derive(Clone, Copy, Debug, PartialEq, Eq)]
 pub enum Way {
     /// `node`, each call.
@@ -39,7 +39,7 @@ struct Finished {
     kids: MemSpawner,
 }
 
-/// A list of this number alone.
+/// A list of only this number.
 fn only(alloc: Global, number: u32) -> Result<Vec<u32>, NoMemory> {
     Ok(vec![in alloc; number]?)
 }

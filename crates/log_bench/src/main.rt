@@ -1,8 +1,7 @@
-//! Fills a log and fetches it again, for `bench/log.sh`: `log_bench READS BYTES ROUNDS`. In each of ROUNDS rounds one entry of a new log takes
-//! BYTES bytes, at most 2^24, in Data of 1,460 bytes, and after each Data a Read, and is then fetched whole in Parts and Lens. READS is `equal`, for
-//! reads of 1,460 bytes, or `other`, for reads of 1,459 and 1,461 bytes in turn; or it is `made`, and the messages for `equal` are made and not given
-//! to a log. Each message is spelled, read and answered. It prints how many messages there were, and what the lengths and checksums of all
-//! answers add up to.
+//! Fills a log and fetches it again, for `bench/log.sh`: `log_bench READS BYTES ROUNDS`. In each of ROUNDS rounds one entry of a new log takes BYTES bytes, at
+//! most 2^24, in Data of 1,460 bytes, and after each Data a Read, and is then fetched completely in Parts and Lens. READS is `equal`, for reads of 1,460 bytes,
+//! or `other`, for reads of 1,459 and 1,461 bytes in turn; or it is `made`, and the messages for `equal` are made and not given to a log. Each message is
+//! spelled, read and answered. It prints how many messages there were, and what the lengths and checksums of all answers add up to.
 #![tactic(auto)]
 
 ghost use Rattle.std.specs.Prelude.{◌≡◌, ◌≤◌, ◌<◌, ◌+◌, ◌^◌, length};

@@ -4,7 +4,7 @@ use ft_io::NoMemory;
 use logger_store::{EntryHead, TrimStore};
 use std::alloc::Global;
 
-/// Two numbers between which a space stands.
+/// Two numbers, separated by a space.
 pub(crate) fn numbers(text: &str) -> Option<(u16, u32)> {
     let (place, at) = text.split_once(' ')?;
     Some((place.parse().ok()?, at.parse().ok()?))

@@ -1,11 +1,11 @@
-//! `mark_script`: keeps services as bytes and reads messages about marks, as a script says that comes from standard input. A SERVICE is `echo`, `line`,
-//! `transfer`, `meter` or `counter`. The lines of a script:
+//! `mark_script`: saves services as bytes and reads messages about marks, by the lines of a script, which it reads from standard input. A SERVICE is `echo`,
+//! `line`, `transfer`, `meter` or `counter`. The lines of a script:
 //!
-//! - `# ..` is printed as it stands;
+//! - `# ..` is printed as it is;
 //! - `load SERVICE HEX` loads a service, and prints the form that it then has, or `none`;
 //! - `runs SERVICE COUNT SEED` plays COUNT runs of a service that are drawn from SEED, and saves it after each that hasn't closed. It prints how many have
 //!   closed and how many were read back, how many forms were refused once they were damaged, and a number that follows from all forms;
-//! - `mark HEX` reads a message about marks, and prints what it says, or which test it fails; after it `again` where it is written again as it came;
+//! - `mark HEX` reads a message about marks, and prints what it says, or which test it fails; after it `again` if writing it gives the same bytes;
 //! - `random COUNT SEED` reads COUNT messages that are drawn from SEED, most of them damaged, and prints how many fail each test and how many are read, and a
 //!   number that follows from all that is written again.
 #![tactic(auto)]

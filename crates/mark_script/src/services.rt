@@ -20,7 +20,7 @@ fn kind_of(name: &str) -> Option<u8> {
     }
 }
 
-/// Loads a service, and answers the form that it then has.
+/// Loads a service, and returns the form that it then has.
 pub(crate) fn load_line(alloc: Global, text: &str) -> Result<String, NoMemory> {
     let (name, text) = text.split_once(' ').unwrap_or((text, ""));
     let (Some(kind), Some(bytes)) = (kind_of(name), spelled(alloc, text)?) else {

@@ -1,7 +1,7 @@
-//! Eight connections with an echo service, one after another: `connection BYTES WRITE` has each client, a plain endpoint with a key of its own,
-//! write so many bytes in writes of WRITE bytes and compare what comes back, and then close. The server's side is a wrapped connection with a log
-//! after it. Segments and messages pass as bytes. It prints the segments of the clients, of the connections and the messages to the log, how many
-//! bytes came back, and how many connections came to their end.
+//! Eight connections with an echo service, one after another: `connection BYTES WRITE` has each client, a plain endpoint with a key of its own, write so many
+//! bytes in writes of WRITE bytes and compare what comes back, and then close. The server's side is a wrapped connection with a log after it. Segments and
+//! messages pass as bytes. It prints the segments of the clients, of the connections and the messages to the log, how many bytes came back, and how many
+//! connections ended.
 
 use crate::logger::Logger;
 use crate::{STREAM, without_memory};
@@ -22,14 +22,14 @@ const CONNECTIONS: u16 = 8;
 /// The first client's port.
 const PORT: u16 = 40_000;
 
-/// What came to pass.
+/// What the run did.
 #[derive(Clone, Copy, Debug)]
 struct Totals {
     client_segments: u64,
     server_segments: u64,
     messages: u64,
     echoed: u64,
-    /// How many connections echoed all and came to their end.
+    /// How many connections echoed all and ended.
     whole: u16,
 }
 

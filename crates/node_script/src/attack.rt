@@ -80,7 +80,7 @@ pub(crate) struct Tally {
     pub wrong: u64,
 }
 
-/// Whether a packet goes to a client with a live connection, and is a RST or doesn't acknowledge exactly what is taken and logged.
+/// Whether a packet is sent to a client with a live connection, and is a RST or doesn't acknowledge exactly what is taken and logged.
 fn is_wrong(node: &Node<AnyService>, packet: &OutPacket) -> bool {
     let To::Client(key) = packet.to() else {
         return false;
@@ -106,7 +106,7 @@ fn count(node: &Node<AnyService>, tally: &mut Tally) {
     }
 }
 
-/// Gives a server so many datagrams that are drawn from this seed: half of them with right checksums, as packets and as messages.
+/// Gives a server this many datagrams, drawn from a seed: half of them with correct checksums, as packets and as messages.
 pub(crate) fn attack(
     alloc: Global,
     node: &mut Node<AnyService>,

@@ -48,7 +48,7 @@ fn far_acknowledgement(draws: &mut Generator, strikes: Strikes) -> Blow
     }
 }
 
-/// At the right edge of a whole window, or one beside it, with at most one byte.
+/// At the right edge of a full window, or next to it, with at most one byte.
 fn wrong_edge(draws: &mut Generator, strikes: Strikes) -> Blow
     ensures { (0 < result.room) × (result.room < 21) }
 {
@@ -60,7 +60,7 @@ fn wrong_edge(draws: &mut Generator, strikes: Strikes) -> Blow
     }
 }
 
-/// A RST beside the number, and past what the other segments of the same line can make it.
+/// A RST near the next number, but past any value that the other segments of the same line can give it.
 fn wrong_reset(draws: &mut Generator, strikes: Strikes) -> Blow
     ensures { (0 < result.room) × (result.room < 21) }
 {
@@ -110,7 +110,7 @@ fn odd_flags(draws: &mut Generator, strikes: Strikes) -> Blow
     }
 }
 
-/// A SYN with the client's initial number, or beside it.
+/// A SYN with the client's initial number, or one next to it.
 fn opening(draws: &mut Generator, strikes: Strikes) -> Blow
     ensures { (0 < result.room) × (result.room < 21) }
 {
@@ -174,7 +174,7 @@ impl Digest {
         }
     }
 
-    /// A packet: the address of its client, if it goes to one, and its bytes.
+    /// A packet: the address of its client, if it is for one, and its bytes.
     fn note_packet(&mut self, packet: &OutPacket) {
         self.sent = self.sent.saturating_add(1);
         if let To::Client(key) = packet.to() {

@@ -1,4 +1,4 @@
-//! The crash table: the first events of a schedule, then a crash and a restart, and the client goes on as long as it must.
+//! The crash table: the first events of a schedule, then a crash and a restart, after which the client continues as long as it must.
 
 ghost use Rattle.std.specs.Prelude.{◌≤◌, length, IfOk};
 ghost use Rattle.ft_model.specs.Playable.{IsPlayable};
@@ -122,7 +122,7 @@ impl Driven {
         self.go_on(alloc, &ack)
     }
 
-    /// The server crashes and restarts, and the client goes on as far as it must.
+    /// The server crashes and restarts, and the client continues as far as it must.
     fn crash(&mut self, alloc: Global) -> Result<(), StepEnd> {
         self.restart(alloc)?;
         self.reopen(alloc)?;

@@ -1,14 +1,13 @@
 //! `replay_script`: plays the schedules of a script, which comes from standard input, by `replay` over memory, and prints what was written
 //! and how it ended. A line that begins with `=` says what is done with the lines after it, up to the next such line:
 //!
-//! - `= play NAME WORDS READ OUT ERR LAST` plays them as the text of a schedule, with these words, joined by `~`; READ, OUT and ERR number
-//!   the call of the source, of the sink of the report and of that of the errors that fails, 0 for none. Printed are the status, what was
-//!   written to the sink of the errors, and the report: its last LAST lines, or all of it for 0. Without lines after it, it plays those of
-//!   the one before it;
-//! - `= crash NAME` plays them in the world, and for each number of their first events anew: then the server crashes, restarts and all is
-//!   delivered that is sent, and the client goes on. Printed is what it has accepted at the end, and the lengths that the log keeps.
+//! - `= play NAME WORDS READ OUT ERR LAST` plays them as the text of a schedule, with these words, joined by `~`; READ, OUT and ERR number the call of the
+//!   source, of the sink of the report and of that of the errors that fails, 0 for none. Printed are the status, what was written to the sink of the errors,
+//!   and the report: its last LAST lines, or all of it for 0. Without lines of its own, it plays those of the one before it;
+//! - `= crash NAME` plays, for each n, the first n of the events in a new world; then the server crashes and restarts, all is delivered that is sent, and the
+//!   client continues. Printed is what it has accepted at the end, and the lengths of the reads in the log.
 //!
-//! Of the lines of a schedule, `*COUNT LINE` stands for so many of them.
+//! Among the lines of a schedule, `*COUNT LINE` means this line COUNT times.
 #![tactic(auto)]
 
 use crashes::play_crashes;
@@ -72,7 +71,7 @@ impl Script {
     }
 }
 
-/// The line that is meant so many times.
+/// The repeated line, and how often it is repeated.
 fn many(line: &str) -> Option<(u32, &str)> {
     let (count, repeated) = line.strip_prefix('*')?.split_once(' ')?;
     let Ok(count) = count.parse::<u32>() else {

@@ -43,7 +43,7 @@ fn failing(alloc: Global, word: &str) -> Result<Vec<u32>, NoMemory> {
     Ok(fails)
 }
 
-/// The last lines of a text, so many of them, or all for 0.
+/// The last lines of a text, this many of them, or all for 0.
 fn last_lines(text: &[u8], count: u32) -> &[u8] {
     if count == 0 {
         return text;

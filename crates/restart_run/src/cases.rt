@@ -66,7 +66,7 @@ fn many(alloc: Global, out: &mut String) -> Result<(), NoMemory> {
     Ok(())
 }
 
-/// 10,000 messages that answer nothing, in the middle of a restart, which goes on as if they hadn't come.
+/// 10,000 messages that answer no question, in the middle of a restart, which continues as if they hadn't arrived.
 fn hostile(alloc: Global, bytes: &[u8], out: &mut String) -> Result<(), NoMemory> {
     let entry = logged(bytes, 0, &[2_048, 452], 5);
     let entries = [entry];
@@ -82,7 +82,7 @@ fn hostile(alloc: Global, bytes: &[u8], out: &mut String) -> Result<(), NoMemory
     Ok(())
 }
 
-/// Connections whose client goes on sending.
+/// Connections whose client continues to send.
 fn open_cases(alloc: Global, long: &[u8], out: &mut String) -> Result<(), NoMemory> {
     one(
         alloc,

@@ -32,7 +32,7 @@ fn letter(alloc: Global, entry: &Logged<'_>, drawn: u32, place: u32) -> Result<V
     }
 }
 
-/// Hands over so many of them while bytes of this entry are asked for, from offset 0 on. How many fit.
+/// Hands over this many of them while bytes of this entry are asked for, from offset 0 on. Returns how many fit.
 pub(crate) fn attack(
     alloc: Global,
     fetching: &mut Fetching<AnyService>,

@@ -1,5 +1,5 @@
-//! `restart_run`: restarts connections from a log in memory, by messages as they stand on the wire. It prints what is asked, how much is held
-//! after each answer, and where each connection goes on. Statuses: 0, and 3 without memory.
+//! `restart_run`: restarts connections from a log in memory, by messages as bytes. It prints what is asked, how much is held after each answer, and where each
+//! connection continues. Statuses: 0, and 3 if memory runs out.
 #![tactic(auto)]
 
 use cases::play_all;

@@ -96,7 +96,7 @@ fn state_of(name: StateName) -> &'static str {
     }
 }
 
-/// Where a connection goes on: delta, and the number, acknowledgement and window of the first segment that it would send.
+/// Where a connection continues: delta, and the number, acknowledgement and window of the first segment that it would send.
 fn tell(
     alloc: Global,
     spliced: &Spliced<AnyService>,

@@ -1,8 +1,8 @@
 //! `text_script`: reads the schedules and packets of a script, which comes from standard input, and prints what they say. The lines of a script:
 //!
-//! - `# ..` is printed as it stands;
-//! - `read TEXT` reads a schedule, in which `%XX` stands for a byte. Its head and its events are printed as a report has them, or else why it is refused;
-//! - `many COUNT LINE` reads a schedule of a service and a server, after which this line stands so often, each with a line feed; printed is how many events it
+//! - `# ..` is printed as it is;
+//! - `read TEXT` reads a schedule, in which `%XX` means a byte. Its header and its events are printed as a report has them, or else why it is refused;
+//! - `many COUNT LINE` reads a schedule of a service and a server, followed by COUNT copies of this line, each with a line feed; printed is how many events it
 //!   has, or why it is refused;
 //! - `script WORD` reads a client's script;
 //! - `packet WAY HEX` prints the line of packet 7, which says these bytes; WAY is `up` or `down`, between client 1 and the server, or `out` or `in`,

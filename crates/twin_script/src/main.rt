@@ -1,13 +1,13 @@
-//! `twin_script`: gives two loggers the datagrams of a script, which comes from standard input, and prints what goes out. A PART is `head` or
-//! `tail`. The lines of a script:
+//! `twin_script`: gives two loggers the datagrams of a script, which comes from standard input, and prints what is sent. A PART is `head` or `tail`. The lines
+//! of a script:
 //!
-//! - `pair` begins with a new head and a new tail, and `# ..` is printed as it stands;
-//! - `PART server HEX` and `PART other HEX` give a datagram that came from that side, and `PART sent N` gives what the other part sent as its Nth
-//!   datagram, from 1. What goes out is printed after the part, in order, each datagram as `server HEX` or `other HEX`; `-` where nothing does;
+//! - `pair` begins with a new head and a new tail, and `# ..` is printed as it is;
+//! - `PART server HEX` and `PART other HEX` give a datagram that came from that side, and `PART sent N` gives what the other part sent as its Nth datagram,
+//!   counted from 1. What is sent is printed after the part, in order, each datagram as `server HEX` or `other HEX`; `-` if nothing is sent;
 //! - `PART log` prints the part's number, and its log's boot number and count of entries;
-//! - `stop 1` stops the head and `stop 2` the tail, and the other is told, unless one has stopped before;
-//! - `random COUNT LENGTH SEED` plays COUNT lists of LENGTH deliveries that are drawn from SEED, each with a new pair, and prints how many datagrams
-//!   went to the server and to the other, the sum of all numbers at the ends, and a number that follows from all bytes.
+//! - `stop 1` stops the head and `stop 2` the tail, and the other is informed, unless one has stopped before;
+//! - `random COUNT LENGTH SEED` plays COUNT lists of LENGTH deliveries that are drawn from SEED, each with a new pair, and prints how many datagrams were sent
+//!   to the server and to the other, the sum of all numbers at the ends, and a number that depends on all bytes.
 #![tactic(auto)]
 
 use ft_io::NoMemory;
@@ -31,7 +31,7 @@ fn part_of(name: &str) -> Option<Part> {
     }
 }
 
-/// What goes out, as a line after the part's name.
+/// What is sent, as a line after the part's name.
 fn sent_line(alloc: Global, name: &str, out: &TwinOut) -> Result<String, NoMemory> {
     let mut line = format!(in alloc; "{name}")?;
     if out.len() == 0 {
@@ -143,7 +143,7 @@ fn play_again(
     }
 }
 
-/// A new pair and room for what goes out.
+/// A new pair, and room for what is sent.
 fn begin(alloc: Global) -> Result<(Pair, TwinOut), NoMemory> {
     Ok((Pair::new(alloc)?, TwinOut::new(alloc)?))
 }

@@ -7,7 +7,7 @@ use seq_arith::{Generator, Sum16};
 /// Room for the longest message that is drawn.
 pub(crate) const ROOM: usize = 64;
 
-/// The kinds that are drawn, each as often as it stands here.
+/// The kinds that are drawn, each as often as it is listed here.
 const KINDS: [u8; 16] = [1, 1, 1, 9, 9, 9, 13, 13, 15, 5, 7, 16, 11, 11, 11, 11];
 
 /// A number below a bound.
@@ -26,7 +26,7 @@ struct Draft {
 }
 
 impl Draft {
-    /// Appends a number in so many bytes, as far as there is room.
+    /// Appends a number in this many bytes, as far as there is room.
     fn put(&mut self, n: u32, width: u32)
         requires { width ≤ 4 }
     {
@@ -62,7 +62,7 @@ fn begin(kind: u8, boot: u8) -> Draft {
     Draft { bytes, len: 16 }
 }
 
-/// A message that follows from what is drawn, at the front of `bytes`; answers how long it is.
+/// Writes a message, determined by what is drawn, at the beginning of `bytes`, and returns its length.
 pub(crate) fn any_message(generator: &mut Generator, bytes: &mut [u8; ROOM]) -> usize
     ensures { result ≤ 64 }
 {

@@ -47,7 +47,7 @@ impl Pair {
         }
     }
 
-    /// The next place in order of what was sent to a part, after so many that are lost, and at most `last`.
+    /// The place of the next datagram that was sent to a part, in order, after this many that are lost, and at most `last`.
     pub(crate) fn pass(&mut self, part: Part, lost: usize, last: usize) -> usize {
         let passed = match part {
             Part::Head => &mut self.passed.0,
@@ -102,7 +102,7 @@ impl Pair {
         self.deliver(alloc, part, Side::Other, bytes.as_slice(), out)
     }
 
-    /// Stops a part and tells the other, unless one has stopped before.
+    /// Stops a part and informs the other, unless one has stopped before.
     pub(crate) fn stop(&mut self, part: Part) {
         if self.stopped.is_some() {
             return;
@@ -122,7 +122,7 @@ fn leave_alone(logger: &mut TwinLog) {
     }
 }
 
-/// Keeps what goes to the other.
+/// Stores what is sent to the other part.
 fn keep_sent(alloc: Global, out: &TwinOut, sent: &mut Vec<Vec<u8>>) -> Result<(), NoMemory> {
     for i in 0..out.len() {
         if out.to(i) == Side::Other {

@@ -36,7 +36,7 @@ impl Tally {
     }
 }
 
-/// Which part a server's message goes to: mostly the head, and the tail where the head has stopped.
+/// To which part a server's message is sent: mostly the head, and the tail once the head has stopped.
 fn part_asked(generator: &mut Generator, pair: &Pair) -> Part {
     if pair.stopped() == Some(Part::Head) || below(generator, 16) == 0 {
         Part::Tail
@@ -111,7 +111,7 @@ fn deliver_one(
     deliver_some(alloc, generator, pair, part, kind == 39, out)
 }
 
-/// Plays so many lists, each with a new pair.
+/// Plays this many lists, each with a new pair.
 fn play_lists(
     alloc: Global,
     count: u32,

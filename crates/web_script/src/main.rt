@@ -1,12 +1,12 @@
-//! `web_script`: gives the web server the connections of a script, which comes from standard input, and says what it answers. In the script `%XX` stands for a
+//! `web_script`: gives the web server the connections of a script, which comes from standard input, and prints what it answers. In the script `%XX` means a
 //! byte. A request is one piece of each part, in order. The lines of a script:
 //!
-//! - `# ..` is printed as it stands;
-//! - `part N` begins the Nth part of a request, from 0, without pieces;
+//! - `# ..` is printed as it is;
+//! - `part N` begins the Nth part of a request, counted from 0, without pieces;
 //! - `piece WEIGHT TIMES TEXT` is a piece of the last part: TIMES copies of the text. It is drawn WEIGHT times as often as a piece of weight 1;
 //! - `say TEXT` is a connection with this text as its one chunk, and prints how many bytes answer it, their MD5, and whether it closes;
 //! - `random COUNT SEED` plays COUNT connections that are drawn from SEED: one request after another, some of them damaged, in chunks cut anywhere. It prints
-//!   how many chunks were answered by how many bytes, how many connections closed, and the MD5 of each chunk's number before what answers it.
+//!   how many chunks were answered by how many bytes, how many connections closed, and the MD5 of each chunk's number followed by its answer.
 #![tactic(auto)]
 
 use drawn::{Parts, draw_connection};
@@ -91,7 +91,7 @@ impl Tally {
         }
     }
 
-    /// Counts what answers the chunk of this number.
+    /// Counts the answer to the chunk with this number.
     fn count(&mut self, at: u32, answer: &[u8]) {
         self.answers = self.answers.saturating_add(1);
         self.bytes = self.bytes.saturating_add(answer.len() as u64);
@@ -115,7 +115,7 @@ impl Tally {
     }
 }
 
-/// Gives the server a chunk, and counts what answers it.
+/// Gives the server a chunk, and counts its answer.
 fn take(
     alloc: Global,
     web: &mut Web,
@@ -161,7 +161,7 @@ fn play_random(
     tally.say(alloc, out)
 }
 
-/// The longest chunks of a connection, each drawn as often as it stands here.
+/// The longest chunks of a connection, each drawn as often as it is listed here.
 const LONGEST: [u32; 8] = [1, 5, 20, 100, 500, 2_048, 2_048, 2_048];
 
 /// Plays a connection in chunks that are drawn, some of them with the end of input.

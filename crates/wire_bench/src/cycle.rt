@@ -1,4 +1,4 @@
-//! The packets of the turns in which one client sends a byte and hears its echo, as bytes.
+//! The packets of the turns in which one client sends a byte and receives its echo, as bytes.
 
 ghost use Rattle.std.specs.Prelude.{◌≡◌, ◌≤◌, ◌<◌, length, IsSome};
 ghost use Rattle.logger_wire.specs.Value.{IsSendable};

@@ -1,6 +1,6 @@
-//! The lines of a report, written many times, and a schedule, read many times. `lines write CYCLES ROUNDS` writes, in each of ROUNDS rounds, the
-//! lines of the turns in which one client sends a byte and hears its echo, CYCLES of them after the opening: the packets are kept as bytes, and
-//! are made once. `lines read ROUNDS` reads the schedule on the standard input, and gives how many events it spells.
+//! The lines of a report, written many times, and a schedule, read many times. `lines write CYCLES ROUNDS` writes, in each of ROUNDS rounds, the lines of the
+//! turns in which one client sends a byte and receives its echo, CYCLES of them after the opening: the packets are stored as bytes, and are made once. `lines
+//! read ROUNDS` reads the schedule on the standard input, and gives how many events it spells.
 
 ghost use Rattle.std.specs.Prelude.{◌≤◌, ◌<◌};
 
@@ -57,7 +57,7 @@ fn read_rounds(alloc: Global, text: &[u8], rounds: u32) -> u64 {
     events
 }
 
-/// Writes the lines of all cycles, so many times.
+/// Writes the lines of all cycles, this many times.
 fn write_rounds<O: Sink>(
     alloc: Global,
     sent: &[Sent],

@@ -1,4 +1,4 @@
-//! The server's side of a connection: what comes to it, and where what it sends goes.
+//! The server's side of a connection: what arrives there, and what becomes of what it sends.
 
 ghost use Rattle.std.specs.Prelude.{◌<◌, length, IfOk, OnOk};
 ghost use Rattle.wrapped_conn.specs.Sound.{IsSound};
@@ -95,7 +95,7 @@ impl Server {
         self.end_turn(alloc, client, logger)
     }
 
-    /// What the turn sends arrives, and so do the log's answers, one by one.
+    /// What the turn sends arrives, and so do the log's answers, one after another.
     fn end_turn(
         &mut self,
         alloc: Global,

@@ -158,7 +158,7 @@ impl Host {
         self.exchange_with_log(alloc)
     }
 
-    /// The connections of so many clients are opened. Nothing of that is counted.
+    /// Opens the connections of this many clients. Nothing of that is counted.
     pub(crate) fn open(&mut self, alloc: Global, clients: u16) -> Result<(), NoMemory> {
         for i in 0..clients {
             self.send(alloc, i, 0, 0, SYN, 0)?;

@@ -16,7 +16,7 @@ const KEY: Key = Key {
 /// The most bytes of a Data.
 const DATA: u32 = 1_460;
 
-/// Logs a connection with so many bytes, in reads of this size, whose client has acknowledged all output.
+/// Logs a connection with this many bytes, in reads of this size, whose client has acknowledged all output.
 pub(crate) fn fill(
     alloc: Global,
     logger: &mut Logger,

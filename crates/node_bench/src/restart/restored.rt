@@ -21,7 +21,7 @@ const LOCAL: Addr = Addr {
 /// More questions than any log here needs.
 const QUESTIONS: u32 = 100_000;
 
-/// What the restarts so far have come to.
+/// The counts of the restarts so far.
 #[derive(Clone, Copy)]
 pub(crate) struct Restored {
     pub(crate) questions: u32,
