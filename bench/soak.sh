@@ -9,14 +9,14 @@
 #     sudo bench/soak.sh [PROGRAM]        a built ftnode, else this checkout's
 # CLIENTS (16, at most 64: a log takes no more), KILLS (100), KILL ("server", or "server logger": then the logger has a journal), BYTES (400000), LOSS ("0 1 5", in
 # percent), PAUSE (0.2), RATE (4000, or 2000 with the logger: bytes that a client sends in a second, so that about one kill a second comes; 0: as fast as it can) and
-# LIMIT (400) may stand in the environment. It takes eleven minutes, or 22 with the logger. Neither half of a loss takes longer than LIMIT seconds and half a minute,
-# so three losses end within 43 minutes. It makes network namespaces and TUN devices, and removes them in the end.
+# LIMIT (400, or 800 with the logger, in seconds) may stand in the environment. It takes eleven minutes, or 22 with the logger. Neither half of a loss takes longer than
+# LIMIT and half a minute, so three losses end within 43 minutes, or 83. It makes network namespaces and TUN devices, and removes them in the end.
 set -eu
 program=${1:+$(realpath "$1")}
 . "$(dirname "$0")/common.sh"
-clients=${CLIENTS:-16} kills=${KILLS:-100} bytes=${BYTES:-400000} losses=${LOSS:-0 1 5} pause=${PAUSE:-0.2} limit=${LIMIT:-400}
+clients=${CLIENTS:-16} kills=${KILLS:-100} bytes=${BYTES:-400000} losses=${LOSS:-0 1 5} pause=${PAUSE:-0.2}
 read -ra victims <<<"${KILL:-server}"
-rate=${RATE:-$((4000 / ${#victims[@]}))}
+rate=${RATE:-$((4000 / ${#victims[@]}))} limit=${LIMIT:-$((400 * ${#victims[@]}))}
 server=10.79.1.1 port=7 logger=10.79.1.2:7008 outside=soak_$$ pids=() spaces=()
 for ((k = 1; k <= clients; k++)); do spaces+=("soak_${k}_$$"); done
 

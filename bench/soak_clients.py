@@ -5,9 +5,10 @@
     soak_clients.py ask HOST PORT BYTES RATE KILLS LIMIT SPACE..      a client in each of these network namespaces, all in this process
 
 Each client sends BYTES bytes of its own, at most RATE bytes a second (as fast as its socket takes them where RATE is 0), ends its side, and compares what comes
-back. Printed are `kill SECONDS` each time that another part of all bytes has come, KILLS times in all; `client N: WHY` for a client that got less than all; and at
-last `end SECONDS RESETS LOST WRONG SILENCE DONE`: how long it took, connections that were reset, bytes that didn't come, bytes that came and were others, the
-longest time in which nothing came to a client that waited, in seconds, and how many clients got all. It ends after LIMIT seconds at the latest.
+back. Printed are `kill SECONDS` each time that another part of all bytes has come, KILLS times in all; `client N: WHY` for a client that got less than all, with
+the kernel's timeout where it wasn't done in time; and at last `end SECONDS RESETS LOST WRONG SILENCE DONE`: how long it took, connections that were reset, bytes
+that didn't come, bytes that came and were others, the longest time in which nothing came to a client that waited, in seconds, and how many clients got all. It
+ends after LIMIT seconds at the latest.
 """
 import ctypes
 import os
@@ -15,6 +16,7 @@ import random
 import select
 import socket
 import socketserver
+import struct
 import sys
 import time
 
@@ -22,6 +24,7 @@ PIECE = 2000  # bytes that a client with a rate sends at a time
 ROOM = 65536
 PERIOD = 0.02  # seconds until a client looks again whether it may send
 NEW_NETWORK = 0x40000000  # CLONE_NEWNET
+TCP_INFO = struct.Struct("8B24I")  # linux/tcp.h, up to the round trip
 
 
 class Echo(socketserver.BaseRequestHandler):
@@ -57,6 +60,11 @@ class Client:
 
     def got_all(self):
         return self.back == len(self.data) and not self.wrong and not self.is_reset
+
+    def timeout(self):
+        """What the kernel says of its retransmission timer: its seconds, the round trip that it has measured, and how often it has expired in a row."""
+        info = TCP_INFO.unpack(self.link.getsockopt(socket.IPPROTO_TCP, socket.TCP_INFO, TCP_INFO.size))
+        return f"timeout {info[8] / 1e6:.1f} s, round trip {info[23] / 1e6:.1f} s, {info[2]} retransmissions in a row"
 
     def end(self, why):
         self.is_open, self.why = False, why
@@ -124,7 +132,7 @@ def ask(at, size, rate, kills, limit, spaces):
             print(f"kill {time.monotonic() - begun:.1f}", flush=True)
     for each in clients:
         if each.is_open:
-            each.end(f"not done after {limit:.0f} seconds")
+            each.end(f"not done after {limit:.0f} seconds; {each.timeout()}")
         if not each.got_all():
             print(f"client {each.number}: {each.back} of {size} bytes came: {each.why}")
     resets, lost = sum(each.is_reset for each in clients), sum(max(0, size - each.back) for each in clients)

@@ -22,3 +22,23 @@ def checksum(data):
     while total > 0xFFFF:
         total = (total & 0xFFFF) + (total >> 16)
     return total ^ 0xFFFF
+
+
+SYN, RST, ACK = 0x02, 0x04, 0x10
+
+
+def segment(source, destination, seq, ack, flags):
+    """A TCP segment without text and options, with a window of 65,535 bytes, in an IPv4 packet. Both ends are an address of four bytes and a port."""
+    tcp = struct.pack(">HHIIBBHHH", source[1], destination[1], seq, ack, 5 << 4, flags, 65535, 0, 0)
+    pseudo = source[0] + destination[0] + struct.pack(">BBH", 0, 6, len(tcp))
+    tcp = tcp[:16] + struct.pack(">H", checksum(pseudo + tcp)) + tcp[18:]
+    ip = struct.pack(">BBHHHBBH", 0x45, 0, 20 + len(tcp), 0, 0x4000, 64, 6, 0) + source[0] + destination[0]
+    return ip[:10] + struct.pack(">H", checksum(ip)) + ip[12:] + tcp
+
+
+def fields(packet):
+    """Source, destination, sequence number and flags of a packet as `segment` makes them; None where it is too short."""
+    if len(packet) < 40:
+        return None
+    source_port, destination_port, seq = struct.unpack(">HHI", packet[20:28])
+    return (packet[12:16], source_port), (packet[16:20], destination_port), seq, packet[33]

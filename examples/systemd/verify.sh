@@ -1,5 +1,5 @@
 #!/usr/bin/env bash
-# Checks the units by `systemd-analyze verify`, with /bin/true in the place of ftnode where that isn't installed. It fails where systemd finds anything to say:
+# Checks the units by `systemd-analyze verify`, with /bin/true in the place of each program that isn't installed. It fails where systemd finds anything to say:
 #     examples/systemd/verify.sh
 set -eu
 cd "$(dirname "$0")"
@@ -7,7 +7,9 @@ command -v systemd-analyze >/dev/null || { echo "verify: not run: the command sy
 room=$(mktemp -d)
 trap 'rm -rf "$room"' EXIT
 cp ./*.service ./*.timer "$room"
-[ -x /usr/local/bin/ftnode ] || sed -i 's#/usr/local/bin/ftnode#/bin/true#' "$room"/*.service
+for program in /usr/local/bin/ftnode /usr/local/lib/ftnode/{server,log}_status.py; do
+    [ -x "$program" ] || sed -i "s#$program#/bin/true#" "$room"/*.service
+done
 said=$(systemd-analyze verify "$room"/*.service "$room"/*.timer 2>&1) || { echo "$said"; exit 1; }
 [ -z "$said" ] || { echo "$said"; exit 1; }
 echo "verify: $(ls "$room" | wc -l) units are clean"
