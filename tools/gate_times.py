@@ -1,14 +1,14 @@
 #!/usr/bin/env python3
 """Processor minutes of the merge gate, by crate: proof, tests, and edits that must be refused.
 
-    tools/gate_times.py run [--save FILE] [NAME..]    starts `rt ci NAME..` here, and watches it
-    tools/gate_times.py watch PID [--save FILE]       watches an `rt ci` that runs already
-    tools/gate_times.py table FILE                    prints the table of what was saved
-    tools/gate_times.py log FILE                      prints what the log of a run tells: it has no times
+    tools/gate_times.py run [--save FILE] [--anew] [NAME..]   starts `rt ci NAME..` here, and watches it
+    tools/gate_times.py watch PID [--save FILE]               watches an `rt ci` that runs already
+    tools/gate_times.py table FILE                            prints the table of what was saved
+    tools/gate_times.py log FILE                              prints what the log of a run tells: it has no times
 
 The log of `rt ci` has no times, so they are read from /proc while it runs (Linux alone), twice a second: for each process of the prover,
 user and system time, and that of the children it waited for. What a process does after the last look is lost, at most half a second each.
-What was proved by an earlier run is not proved again: for the whole times clear what `rt` keeps, or give `--anew`.
+What an earlier run on this machine passed is not proved again: for the whole times give `--anew`.
 
 A crate's row has its proof (with the building of its library or program), the proof and building of its tests, and its edits. `chain` is the
 proof of the crate and of the longest way of crates below it: what a run takes at the least, however many processors it has.
@@ -198,7 +198,8 @@ def main():
     verbs = parser.add_subparsers(dest="verb", required=True)
     run = verbs.add_parser("run", help="starts `rt ci` and watches it")
     run.add_argument("--save", metavar="FILE", help="where to keep the measurements")
-    run.add_argument("words", nargs=argparse.REMAINDER, help="words for `rt ci`")
+    run.add_argument("--anew", action="store_true", help="proves what an earlier run has passed, too")
+    run.add_argument("names", nargs="*", metavar="NAME", help="crates; without one, all")
     by_pid = verbs.add_parser("watch", help="watches an `rt ci` that runs already")
     by_pid.add_argument("pid", type=int)
     by_pid.add_argument("--save", metavar="FILE", help="where to keep the measurements")
@@ -206,7 +207,7 @@ def main():
         verbs.add_parser(verb).add_argument("file")
     words = parser.parse_args()
     if words.verb == "run":
-        gate = subprocess.Popen(["rt", "ci", *words.words])
+        gate = subprocess.Popen(["rt", "ci", *(["--anew"] if words.anew else []), *words.names])
         print_table(watch(gate.pid, words.save, lambda: gate.poll() is not None))
         sys.exit(gate.returncode)
     elif words.verb == "watch":
