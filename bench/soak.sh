@@ -1,8 +1,8 @@
 #!/usr/bin/env bash
 # A server that is killed again and again under many clients, and a logger with it where KILL says so: CLIENTS clients of the kernel, each in a network namespace and
 # behind a tools/bridge.py of its own, send BYTES bytes each to an echo of ftnode and compare what comes back. Meanwhile the server is killed (kill -9) KILLS times,
-# each time that another part of all bytes has come back, and in turn with it the logger as often. Each is started again PAUSE seconds later: the server with the
-# next boot number, the logger with its journal. As many clients send the same to an echo server of the kernel over paths (bench/relay.py) with the same loss,
+# and in turn with it the logger as often. Where clients send at a rate the kills come evenly over the time that this takes, and else each time that another part of
+# all bytes has come back. Each is started again PAUSE seconds later: the server with the next boot number, the logger with its journal. As many clients send the same to an echo server of the kernel over paths (bench/relay.py) with the same loss,
 # without window scaling and selective acknowledgements; nothing is killed there, and the pauses that ftnode's clients had are added to the time. Both run at each
 # loss. Printed are resets, bytes lost, the longest time in which a client got nothing, and the time.
 # The goal: no reset, no byte lost, and all clients done within three times. Status 0 where it is met, 1 where it is missed, 2 where it can't run.
@@ -125,6 +125,7 @@ run_clients() { # KILLS
     mkfifo "$work/events"
     bench/soak_clients.py ask "$server" "$port" "$bytes" "$rate" "$1" "$limit" "${spaces[@]}" >"$work/events" &
     asking=$!
+    pids+=("$asking")
     while read -r word rest; do
         case $word in
             kill) last_kill=$rest && kill_next ;;
@@ -133,6 +134,7 @@ run_clients() { # KILLS
         esac
     done <"$work/events"
     rm "$work/events"
+    forget "$asking"
     wait "$asking" || { echo "soak.sh: the clients ended with $?" >&2; exit 1; }
 }
 

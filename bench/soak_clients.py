@@ -5,7 +5,7 @@
     soak_clients.py ask HOST PORT BYTES RATE KILLS LIMIT SPACE..      a client in each of these network namespaces, all in this process
 
 Each client sends BYTES bytes of its own, at most RATE bytes a second (as fast as its socket takes them where RATE is 0), ends its side, and compares what comes
-back. Printed are `kill SECONDS` each time that another part of all bytes has come, KILLS times in all; `client N: WHY` for a client that got less than all, with
+back. Printed are `kill SECONDS` each time that the next kill is due, KILLS times in all; `client N: WHY` for a client that got less than all, with
 the kernel's timeout where it wasn't done in time; and at last `end SECONDS RESETS LOST WRONG SILENCE DONE`: how long it took, connections that were reset, bytes
 that didn't come, bytes that came and were others, the longest time in which nothing came to a client that waited, in seconds, and how many clients got all. It
 ends after LIMIT seconds at the latest.
@@ -111,12 +111,26 @@ class Client:
         self.end(why.strerror)
 
 
+class Kills:
+    """When they are due: evenly over the time in which the bytes can be sent; where they have no rate, each time that another part of all of them has come back."""
+
+    def __init__(self, count, size, rate, clients):
+        self.count, self.done = count, 0
+        self.by_clock, self.part = rate > 0, (size / rate if rate > 0 else size * clients) / (count + 1)
+
+    def is_due(self, passed, back):
+        if self.done == self.count or (passed if self.by_clock else back) <= (self.done + 1) * self.part:
+            return False
+        self.done += 1
+        return True
+
+
 def ask(at, size, rate, kills, limit, spaces):
     clients, begun = [], time.monotonic()
     for number, space in enumerate(spaces, 1):
         enter(space)
         clients.append(Client(number, at, size))
-    back, killed = 0, 0
+    back, kills = 0, Kills(kills, size, rate, len(spaces))
     while (live := [each for each in clients if each.is_open]) and (passed := time.monotonic() - begun) < limit:
         allowed = size if rate == 0 else min(size, int(passed * rate) // PIECE * PIECE + PIECE)
         for each in live:
@@ -127,8 +141,7 @@ def ask(at, size, rate, kills, limit, spaces):
         for each in live:
             if each.link in came:
                 back += each.receive()
-        while killed < kills and back > (killed + 1) * size * len(clients) // (kills + 1):
-            killed += 1
+        if kills.is_due(time.monotonic() - begun, back):
             print(f"kill {time.monotonic() - begun:.1f}", flush=True)
     for each in clients:
         if each.is_open:
