@@ -8,7 +8,7 @@ use Rattle.counter_service.specs.declared.counter.Counter.{Counter}
 abbrev pub counter_started : Counter
 counter_started = record { count = 0 }
 
--- one byte more. At the end of 64 bits the count stands still
+-- one byte more. At 2^64 - 1 the count stays
 abbrev pub counted : ℕ → ℕ
 counted count = min (count + 1) (2 ^ 64 - 1)
 

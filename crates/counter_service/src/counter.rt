@@ -8,8 +8,8 @@ use itoa::Buffer;
 use server_trait::{Next, Saved, Service};
 use std::alloc::Global;
 
-/// The service that counts the bytes of its input. It answers each line feed with the count up to and with it, in decimal, and a line feed.
-/// At 2^64 - 1 the count stands still. The end of input closes.
+/// The service that counts the bytes of its input. It answers each line feed with the count up to and with it, in decimal, and a line feed. At 2^64 - 1 the
+/// count stays. The end of input closes.
 #[derive(Clone, Copy, Debug, PartialEq, Eq)]
 pub struct Counter {
     count: u64,

@@ -1,5 +1,5 @@
-//! A spawner in memory, for tests. Its children end at once with the statuses that it was made with. It records its calls. It fails where it is told to, and
-//! where an allocation fails; from then on it records nothing.
+//! A spawner in memory, for tests. Its children end at once with the statuses that it was made with. It records its calls. It fails where it was made to fail,
+//! and where an allocation fails; from then on it records nothing.
 
 ghost use Rattle.std.specs.Prelude.{◌≡◌, ◌≤◌, ◌⊎◌, map, string_bytes, slice_get, Some, None, IfSome, IfOk, OnOk, OnErr};
 ghost use Rattle.ft_io.specs.declared.spawn_call.SpawnCall.TheVariants.{Started, Ended};

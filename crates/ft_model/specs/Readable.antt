@@ -50,7 +50,7 @@ IsKnown clients key = (0 < number_of_client clients key) × Fits (number_of_clie
 abbrev pub IsOf : Addr → Key → Type 0
 IsOf server key = (key.ip ≡ server.ip) × (key.port ≡ server.port)
 
--- a segment goes between a client and the server
+-- a segment is sent by a client to the server, or by the server to a client
 abbrev pub HasEnds : Addr → List Client → Packet → Type 0
 HasEnds server clients (To_server s) = IsKnown clients (source_of s) × IsOf server (destination_of s)
 HasEnds server clients (To_client s) = IsKnown clients (destination_of s) × IsOf server (source_of s)

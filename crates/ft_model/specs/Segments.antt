@@ -36,7 +36,7 @@ head_to server p seq flags mss = record {
 abbrev pub segment_at : Addr → Point → (offset flags : ℕ) → List ℕ → Segment
 segment_at server p offset flags payload = record { head = head_to server p (number_at p.sisn offset) flags None; payload = payload }
 
--- the SYN-ACK, with the logged numbers. No client byte is taken when it is sent, so it acknowledges the SYN and has the whole window
+-- the SYN-ACK, with the logged numbers. No client byte is taken when it is sent, so it acknowledges the SYN and advertises the full window
 abbrev pub syn_ack : Addr → Point → Segment
 syn_ack server p = record { head = head_to server p p.sisn (SYN + ACK) (Some 1460); payload = [] }
 

@@ -32,11 +32,11 @@ is_renewed before after = nat_lt before.una after.una || (after.syn_acked && not
 abbrev pub is_set_anew : Point → Point → Bool
 is_set_anew before after = before.rest == 0 || is_renewed before after
 
--- the interval is 1 tick when the timer is set anew, and doubles at each expiry, up to 64
+-- the interval is 1 tick when the timer is restarted, and doubles at each expiry, up to 64
 unfoldable pub interval_after : News → Point → Point → ℕ
 interval_after news before after = if is_set_anew before after then 1 else (if expires news before then min 64 (2 * before.interval) else before.interval)
 
--- the ticks left, if the timer must run: a whole interval when it is set anew or has expired, and one less at each other tick
+-- the ticks left, if the timer must run: a full interval when it is restarted or has expired, and one less at each other tick
 unfoldable pub rest_after : {State : Type 0} → Machine State → News → Point → Point → ℕ
 rest_after service news before after =
     if must_run service after

@@ -27,7 +27,7 @@ wire_of (To_client segment) = record { from = The_server; to = A_client (destina
 wire_of (To_logger message) = record { from = The_server; to = The_logger; bytes = messages.spelling message }
 wire_of (From_logger message) = record { from = The_logger; to = The_server; bytes = messages.spelling message }
 
--- a segment can be written: each field fits its place, the whole fits a packet, and the text is bytes
+-- a segment can be written: each field fits its place, the segment fits a packet, and the text is bytes
 abbrev pub CanBeSent : Segment → Type 0
 CanBeSent segment = segments.IsSpellable segment × AreBytes segment.payload
 

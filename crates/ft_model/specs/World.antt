@@ -128,7 +128,7 @@ abbrev pub IsNextBoot : World → ℕ → Type 0
 IsNextBoot w boot = (w.boot < boot) × (boot < 2 ^ 64)
 
 -- what may happen: from the world before, by this event, with these packets sent, to the world after. Boot numbers rise, one server is up at a time, and a
--- server that goes down loses all that it held
+-- server that crashes loses all its state
 abbrev pub Happens : {State : Type 0} → Machine State → World → Event → List Packet → World → Type 0
 Happens service before (Boot boot isn) sent after =
     (before.node ≡ None) × IsNextBoot before boot × (sent ≡ hello (booted before.server boot isn))

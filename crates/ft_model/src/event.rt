@@ -5,7 +5,7 @@
 pub enum Event {
     /// The server starts, with its boot number and the initial number of its first connection.
     Boot { boot: u64, isn: u32 },
-    /// The server goes down, and all that it held is lost.
+    /// The server crashes, and all its state is lost.
     Crash,
     /// A tick of the server's clock.
     Tick,

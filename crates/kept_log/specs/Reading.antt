@@ -32,7 +32,7 @@ StartsWith bytes (starts.Block len) = (body : List ℕ) × (rest : List ℕ) × 
 StartsWith bytes starts.Short = HasNoBlock bytes
 StartsWith bytes starts.Wrong = (more : List ℕ) → HasNoBlock (bytes ++ more)
 
--- what was taken from the front of bytes, and the log before and after it
+-- what was taken from the beginning of bytes, and the log before and after it
 abbrev pub Takes : (bytes rest : List ℕ) (before after : Log) → Taken → Type 0
 Takes bytes rest before after (takes.Block len) =
     (body : List ℕ) × (bytes ≡ 209 ∷ (counted body ++ rest)) × (length body ≡ len) × (len ≤ 381696) × Waits before body after

@@ -59,7 +59,7 @@ pub enum Found {
     Wrong(u64),
 }
 
-/// Takes a block from the front of the bytes into the log.
+/// Takes the block at the beginning of the bytes into the log.
 fn take_block(alloc: Global, window: &mut Window, store: &mut LogStore) -> Result<Taken, NoMemory>
     ensures { IfOk result (Takes window.old window.new store.old store.new) }
 {
@@ -138,7 +138,7 @@ fn read_blocks<D: Disk>(
 }
 
 #[tactic(auto, using(crate::proofs::Files::quiet_on, crate::proofs::Files::rose_later, crate::proofs::Files::none_told))]
-/// Counts the bytes up to the file's end, of which so many were read: none if they are more than the longest block has.
+/// Counts the bytes up to the file's end, of which `have` were read already: `None` if they are more than the longest block has.
 fn count_tail<D: Disk>(
     disk: &mut D,
     have: usize,

@@ -53,7 +53,7 @@ impl Window {
         self.at += n;
     }
 
-    /// Moves the bytes to the front, and others after them.
+    /// Moves the bytes to the beginning of their room, and appends others.
     fn add(&mut self, bytes: &[u8]) -> Result<(), AllocError>
         ensures { OnOk result (self.new ≡ self.old ++ bytes.now) }
     {

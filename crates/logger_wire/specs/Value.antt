@@ -64,8 +64,7 @@ abbrev pub left_over : Body → ℕ
 left_over (body.LensMsg key first lens) = length lens.now % 2
 left_over _ = 0
 
--- what may be sent: its flags are 0 or 1, its lengths have two bytes each, each field is in its range, and the whole has one of its
--- kind's lengths
+-- what may be sent: its flags are 0 or 1, its lengths have two bytes each, each field is in its range, and the message has one of its kind's lengths
 pub record IsSendable (msg : Msg) : Type 0 where
   pub flags : list_all (λ flag. nat_le flag 1) (flags_of msg.body) ≡ true
   pub lens : left_over msg.body ≡ 0

@@ -1,4 +1,4 @@
--- A service that is given bytes writes bytes, and its state stays as it should be: proofs for the laws of the services.
+-- A service that is given bytes writes bytes, and its state keeps its invariant: proofs for the laws of the services.
 use Rattle.std.proofs.Common.{◌≡◌, refl, ℕ, zero, suc, ◌+◌, ◌%◌, ◌/◌, ◌^◌, ◌<◌, ◌==◌, Bool, true, false, List, [], ◌∷◌, ◌++◌, length, take, arith}
 use Rattle.std.specs.Prelude.{decimal, codes, bytes_eq, nat_lt, if◌then◌else◌}
 use Rattle.std.specs.Fmt.{digit_glyph, digits, digits_onto}
@@ -25,7 +25,7 @@ bytes_take zero xs a = tt
 bytes_take (suc n) [] a = tt
 bytes_take (suc n) (x ∷ xs) a = (a.0, bytes_take n xs a.1)
 
--- what is written is bytes, and the state after it is as it should be
+-- what is written is bytes, and the state after it satisfies the invariant
 abbrev pub IsServed : {S : Type 0} → (S → Type 0) → Served S → Type 0
 IsServed P served = AreBytes served.output × P served.next
 
@@ -46,7 +46,7 @@ served_and_then P next output true f bytes here more = (bytes, here)
 served_and_then P next output false f bytes here more =
     let later = more next here in (bytes_append output (f next).output bytes later.0, later.1)
 
--- what a run has written is bytes, and its state is as it should be
+-- what a run has written is bytes, and its state satisfies the invariant
 abbrev pub IsRunning : {S : Type 0} → (S → Type 0) → Run S → Type 0
 IsRunning P run = AreBytes run.output × P run.state
 
@@ -197,7 +197,7 @@ bytes-transfer = bytes_fold (machine transfer_started transfer_after) IsTransfer
 pub bytes-meter : WritesBytes (machine meter_started meter_after)
 bytes-meter = bytes_fold (machine meter_started meter_after) Anything tt (λ s chunk _ _. (bytes_length_line chunk, tt))
 
--- a service out of the four is as it should be
+-- the invariant of a service out of the four
 abbrev pub IsAny : AnyService → Type 0
 IsAny (Echo echo) = Unit {0}
 IsAny (Line line) = IsLine line

@@ -1,4 +1,4 @@
-//! Laws of complete runs. They are about the services' definitions, and don't repeat them. Each is a function with nothing to do, whose contract is the law.
+//! Laws of complete runs. They are about the services' definitions, and don't repeat them. Each is a function with an empty body, whose contract is the law.
 
 ghost use Rattle.std.specs.Prelude.{◌≡◌, ◌≢◌, ℕ, ◌^◌, ◌-◌, Bool, List, codes, length};
 ghost use Rattle.server_trait.specs.Service.{fold};

@@ -96,7 +96,7 @@ fn each_service_goes_through_the_trait(rt: HostRuntime) {
     expect::<Meter>(&rt, 0, b"ab|", b"2\n", true);
 }
 
-// A text, so many times `a`, and another text.
+// A text, then `a` this many times, and another text.
 fn filled(
     rt: &impl AllocGlobal,
     before: &[u8],

@@ -12,7 +12,7 @@ use std::marker::Model;
 /// The most bytes that answer one request.
 const SIZE_LIMIT: u32 = 2_047;
 
-/// The pattern's length, in bytes: byte i of the whole output is i modulo this.
+/// The pattern's length, in bytes: byte i of all output is i modulo this.
 const PERIOD: u8 = 251;
 
 /// The bytes of an incomplete request.

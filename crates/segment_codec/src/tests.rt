@@ -1,6 +1,6 @@
-//! Packets from outside: most were made by scapy 2.5.0 (Debian's python3-scapy), with `raw(IP(..)/TCP(..))` or with bytes
-//! changed and both checksums then summed by scapy's `checksum`. A row of a table gives the bytes in which its packet differs from `SYN`.
-//! What a setter is to leave was summed anew by a few lines of Python.
+//! Packets from outside: most were made by scapy 2.5.0 (Debian's python3-scapy), with `raw(IP(..)/TCP(..))` or with bytes changed and both checksums then
+//! summed by scapy's `checksum`. A row of a table gives the bytes in which its packet differs from `SYN`. The checksums of what a setter must leave were
+//! computed by a few lines of Python.
 
 ghost use Rattle.std.specs.Prelude.{◌≤◌};
 

@@ -135,7 +135,7 @@ spelling message = spelled message (checksum (spelled message 0))
 abbrev pub message_length : MarkBody → ℕ
 message_length body = behind_at (kind_of body) + length (behind_of body)
 
--- what has a spelling: each number fits its bytes and is in its range, and the whole has one of its kind's lengths
+-- what has a spelling: each number fits its bytes and is in its range, and the message has one of its kind's lengths
 pub record IsSpellable (message : MarkMessage) : Type 0 where
   pub boot : message.boot < 256 ^ 8
   pub numbers : AllFit (fields_of (kind_of message.body)) (numbers_of message.body)

@@ -344,7 +344,7 @@ AllFit [] (n ∷ numbers) = ⊥
 AllFit (field ∷ rest) [] = ⊥
 AllFit (field ∷ rest) (n ∷ numbers) = (n < 256 ^ width field) × AllFit rest numbers
 
--- what has a spelling: each number fits its bytes and is in its range, and the whole has one of its kind's lengths
+-- what has a spelling: each number fits its bytes and is in its range, and the message has one of its kind's lengths
 pub record IsSpellable (message : Message) : Type 0 where
   pub boot : message.boot < 256 ^ 8
   pub numbers : AllFit (fields_of (kind_of message.body)) (numbers_of message.body)

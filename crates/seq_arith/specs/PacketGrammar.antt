@@ -51,7 +51,7 @@ ip_tests bytes =
     ∷ (not (checksum (take 20 bytes) == 0), IpChecksum)
     ∷ []
 
--- and then of the TCP header and the whole
+-- and then of the TCP header and of the packet's length
 unfoldable pub tcp_tests : List ℕ → List (Bool × BadPacket)
 tcp_tests bytes =
     (nat_lt (payload_at bytes) 40 || nat_lt (length bytes) (payload_at bytes), DataOffset)
@@ -113,7 +113,7 @@ unfoldable pub spelling : Segment → List ℕ
 spelling segment =
     let blank = spelled segment 0 0 in spelled segment (checksum (take 20 blank)) (checksum (tcp_text blank))
 
--- what has a spelling: each field fits its bytes, and the whole a packet
+-- what has a spelling: each field fits its bytes, and the packet has at most 1,500 bytes
 pub record IsSpellable (segment : Segment) : Type 0 where
   pub src : segment.head.src < 2 ^ 32
   pub dst : segment.head.dst < 2 ^ 32

@@ -99,7 +99,7 @@ spelled datagram check = headed 85 (kind_number (kind_of datagram)) (number_of d
 unfoldable pub spelling : TwinDatagram → List ℕ
 spelling datagram = spelled datagram (checksum (spelled datagram 0))
 
--- what has a spelling: the number fits its bytes, all is in its range, and the whole has one of its kind's lengths
+-- what has a spelling: the number fits its bytes, all is in its range, and the datagram has one of its kind's lengths
 pub record IsSpellable (datagram : TwinDatagram) : Type 0 where
   pub number : number_of datagram < 256 ^ 8
   pub sound : is_sound (kind_of datagram) (number_of datagram) (behind_of datagram) ≡ true

@@ -38,7 +38,7 @@ fn sent_out(restart: &Restart, packet: &[u8], out: &mut [u8; 64]) -> Option<bool
     Some(south.outward(room))
 }
 
-/// What it makes of one on its way in, after so many units were sent.
+/// What it makes of one on its way in, after this many units were sent.
 fn let_in(restart: &Restart, sent: u32, packet: &[u8], out: &mut [u8; 64]) -> Option<Inward> {
     let mut south = restart.south()?;
     if sent >= restart.acked && sent <= 16_777_216 {
@@ -279,7 +279,7 @@ fn segments_that_stop(rt: HostRuntime) {
 const HELLO: &[u8; 45] =
     b"\x45\x00\x00\x2d\x00\x00\x40\x00\x40\x06\xb6\x65\xc0\x00\x02\x01\xc0\x00\x02\x64\x9c\x40\x00\x07\x00\x00\x03\xe9\x00\x00\x13\x89\x50\x11\xff\xff\x33\xdd\x00\x00\x68\x65\x6c\x6c\x6f";
 
-/// What is copied of it, where so much is logged before and so much is taken.
+/// What is copied of it, given how much was logged before and how much is taken.
 fn copied(taken: u32, fin: bool, logged: u32) -> Option<CopyPart> {
     let mut south = South::new(Seq(1000), Seq(5000));
     if taken > 65_535 || logged > 65_535 {

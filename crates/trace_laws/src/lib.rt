@@ -36,8 +36,8 @@ pub fn logged_entries_are_sound<S: Service>()
         → AllByRecursion (IsSound (machine (S.started kind) S.after)) (world_after start trace).log.entries }
 {}
 
-/// Whatever comes to a server that fetches: each entry that it then has completely, and that is to be restored, is sound. What it has of any other is the
-/// prefix of a sound one.
+/// Whatever arrives at a server that fetches, each entry that it then has completely, and will restore, is sound. What it has of any other entry is the prefix
+/// of a sound one.
 pub fn fetched_entries_are_sound<S: Service>()
     ensures whole { (kind : ℕ) (start : World) (trace : List Moment) (node : Node) (input : Input) → Joint (machine (S.started kind) S.after) start trace
         → (world_after start trace).node ≡ Some node → MayCome (world_after start trace) input

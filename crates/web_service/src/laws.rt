@@ -1,4 +1,5 @@
-//! Laws of whole inputs and of answers. They are about the definition, and don't repeat it. Each is a function with nothing to do, whose contract is the law.
+//! Laws of complete inputs and of answers. They are about the definition, and don't repeat it. Each is a function with an empty body, whose contract is the
+//! law.
 
 ghost use Rattle.std.specs.Prelude.{◌≡◌, ◌++◌, ◌∷◌, ℕ, List, length};
 ghost use Rattle.server_trait.specs.Service.{fold};

@@ -1,5 +1,5 @@
--- A crash takes a read away: the first incarnation reads three bytes, and neither Data nor Read reaches the log before it goes down. The second one, to which
--- the client sends all five bytes, reads them at once. The service's output shows the lengths of its reads.
+-- A crash loses a read: the first incarnation reads three bytes, and neither Data nor Read reaches the log before it crashes. The second one, to which the
+-- client sends all five bytes, reads them at once. The service's output shows the lengths of its reads.
 use Rattle.std.specs.Prelude.{ℕ, Bool, false, ◌==◌, Some, None, List, [], ◌∷◌, length}
 use Rattle.seq_arith.specs.Message.Body.{HelloMsg, SummaryMsg, ListMsg, EntryMsg, DataMsg, StableMsg, ReadMsg, ReadsMsg}
 use Rattle.server_trait.specs.Service.{Served, Machine}
