@@ -87,7 +87,7 @@ class Logger:
 
     def entries(self):
         """All entries in the logger's order, asked with its present boot; None where it doesn't answer at all."""
-        found = []
+        self.boot, found = 1, []  # an empty log answers by Stale alone, and a boot that it has already wouldn't get one
         while len(found) < PLACES:
             answer = self.answer(len(found))
             if answer is None:
