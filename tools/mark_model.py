@@ -1,3 +1,4 @@
+#!/usr/bin/env python3
 """Services kept as bytes, and messages about marks, in plain Python, by the rules and not by the program.
 
 mark_model.py lines      reads a script of `mark_script` from standard input, and writes what it must print

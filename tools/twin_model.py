@@ -1,3 +1,4 @@
+#!/usr/bin/env python3
 """Two loggers that act as one, in plain Python, by the rules and not by the program: what a head and a tail do with each datagram.
 
 twin_model.py lines      reads a script of `twin_script` from standard input, and writes what it must print
