@@ -2,21 +2,30 @@
 # A server that is killed again and again under many clients, and a logger with it where KILL says so: CLIENTS clients of the kernel, each in a network namespace and
 # behind a tools/bridge.py of its own, send BYTES bytes each to an echo of ftnode and compare what comes back. Meanwhile the server is killed (kill -9) KILLS times,
 # and in turn with it the logger as often. Where clients send at a rate the kills come evenly over the time that this takes, and else each time that another part of
-# all bytes has come back. Each is started again PAUSE seconds later: the server with the next boot number, the logger with its journal. As many clients send the same to an echo server of the kernel over paths (bench/relay.py) with the same loss,
-# without window scaling and selective acknowledgements; nothing is killed there, and the pauses that ftnode's clients had are added to the time. Both run at each
-# loss. Printed are resets, bytes lost, the longest time in which a client got nothing, and the time.
+# all bytes has come back. Each is started again PAUSE seconds later: the server with the next boot number, the logger with its journal. As many clients send the
+# same to an echo server of the kernel over paths (bench/relay.py) with the same loss, without window scaling and selective acknowledgements; nothing is killed
+# there, and the pauses that ftnode's clients had are added to the time. Both run at each loss. Printed are resets, bytes lost, the longest time in which a client
+# got nothing, and the time.
 # The goal: no reset, no byte lost, and all clients done within three times. Status 0 where it is met, 1 where it is missed, 2 where it can't run.
 #     sudo bench/soak.sh [PROGRAM]        a built ftnode, else this checkout's
-# CLIENTS (16, at most 64: a log takes no more), KILLS (100), KILL ("server", or "server logger": then the logger has a journal), BYTES (400000), LOSS ("0 1 5", in
-# percent), PAUSE (0.2), RATE (4000, or 2000 with the logger: bytes that a client sends in a second, so that about one kill a second comes; 0: as fast as it can) and
-# LIMIT (400, or 800 with the logger, in seconds) may stand in the environment. It takes eleven minutes, or 22 with the logger. Neither half of a loss takes longer than
-# LIMIT and half a minute, so three losses end within 43 minutes, or 83. It makes network namespaces and TUN devices, and removes them in the end.
+# In the environment may stand:
+#     CLIENTS   16; at most 64, since a log takes no more
+#     KILLS     100, of each process
+#     KILL      "server"; or "server logger", and then the logger has a journal
+#     BYTES     400000, of each client
+#     LOSS      "0 1 5", in percent
+#     PAUSE     0.2, in seconds
+#     RATE      4000, or 2000 with the logger: bytes that a client sends in a second, so that one kill a second comes; 0: as fast as it can
+#     LIMIT     400, or 800 with the logger: seconds after which a half of a loss is ended
+#     RTO_MAX   the longest retransmission timeout of the clients, in milliseconds, at least 1000, on Linux 6.15 or later; the kernel's own is 120,000
+# It takes eleven minutes, or 22 with the logger, and at most LIMIT and half a minute for each half of a loss. It makes network namespaces and TUN devices, and
+# removes them in the end.
 set -eu
 program=${1:+$(realpath "$1")}
 . "$(dirname "$0")/common.sh"
 clients=${CLIENTS:-16} kills=${KILLS:-100} bytes=${BYTES:-400000} losses=${LOSS:-0 1 5} pause=${PAUSE:-0.2}
 read -ra victims <<<"${KILL:-server}"
-rate=${RATE:-$((4000 / ${#victims[@]}))} limit=${LIMIT:-$((400 * ${#victims[@]}))}
+rate=${RATE:-$((4000 / ${#victims[@]}))} limit=${LIMIT:-$((400 * ${#victims[@]}))} rto_max=${RTO_MAX:-}
 server=10.79.1.1 port=7 logger=10.79.1.2:7008 outside=soak_$$ pids=() spaces=()
 for ((k = 1; k <= clients; k++)); do spaces+=("soak_${k}_$$"); done
 
@@ -66,6 +75,7 @@ add_spaces() {
     for space in "${spaces[@]}"; do ip netns add "$space"; done
     for space in "${spaces[@]}" "$outside"; do
         ip netns exec "$space" sh -c 'echo 0 >/proc/sys/net/ipv4/tcp_window_scaling; echo 0 >/proc/sys/net/ipv4/tcp_sack'
+        [ -z "$rto_max" ] || ip netns exec "$space" sh -c "echo $rto_max >/proc/sys/net/ipv4/tcp_rto_max_ms" || missing "this kernel has no bound on its timeout"
     done
 }
 
