@@ -1,5 +1,5 @@
-# Sourced by real_client.sh, own.sh and logger_crash.sh: a kernel's TCP client in a network namespace of its own, and a server, its logger and tools/bridge.py in
-# another. The script sets `name`, `program` (a built one), `loss` (in percent) and the array `service` (the words of a server that choose its service, or none).
+# Sourced by real_client.sh, own.sh and logger_crash.sh. It runs a kernel's TCP client in one network namespace, and a server, its logger and tools/bridge.py in
+# another. The script sets `name`, `program` (a built one), `loss` (in percent) and the array `service` (the server's words that choose its service, or none).
 program=$(realpath "$program") client_ip=10.77.0.1 server=10.77.0.2:7 logger=10.77.0.3:7008
 inside=ftclient$$ outside=ftnode$$ room=$(mktemp -d) started=()
 
@@ -49,8 +49,8 @@ start_all() {
     start_bridge
 }
 
-# The client sends the bytes of $room/sent, and those of $room/wanted have to come. The server is killed (kill -9) when a quarter, a half and three quarters
-# of them have, and started again with the next boot number.
+# The client sends the bytes of $room/sent and must receive those of $room/wanted. The server is killed (kill -9) when a quarter, a half and three quarters of
+# them have arrived, and is started again with the next boot number.
 through_three_kills() {
     local bytes client boot status
     bytes=$(stat -c %s "$room/wanted")

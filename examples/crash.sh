@@ -1,10 +1,10 @@
 #!/usr/bin/env bash
-# A crash that nobody notices: logger, server and client on the loopback. The client asks the service Transfer REQUESTS times for 2,047 bytes. When a third of them
-# has come the server is killed with kill -9, and started again; what the client has in the end is compared with what a server that never failed sends.
-# It takes 1 to 25 seconds, and wants a built ftnode:
+# A crash that the client doesn't notice: logger, server and client run on the loopback. The client asks the service Transfer REQUESTS times for 2,047 bytes. When
+# a third of them has arrived, the server is killed with kill -9 and started again. What the client receives is compared with what a server without a crash sends.
+# It takes 1 to 25 seconds, and needs a built ftnode:
 #     examples/crash.sh [PROGRAM] [REQUESTS] [STRAY]
-# PROGRAM is crates/ftnode/out/ftnode, REQUESTS 250, at most 8,000, and STRAY 0 where nothing is said: so many datagrams a second, which are no packets, come to
-# the server from another port meanwhile.
+# Defaults: PROGRAM crates/ftnode/out/ftnode, REQUESTS 250 (at most 8,000), STRAY 0. STRAY is the number of datagrams a second that are sent to the server from
+# another port during the run and are no packets.
 set -u
 cd "$(dirname "$0")/.." || exit 2
 program=${1:-crates/ftnode/out/ftnode} requests=${2:-250} stray=${3:-0}
@@ -33,7 +33,7 @@ if [ "$stray" != 0 ]; then
     tools/stray.py $server "$stray" >"$room/stray.out" 2>"$room/stray.err" &
     started+=("$!")
 fi
-# The client writes into a pipe: behind the third that is read from it only what the pipe holds can come, however fast the transfer is.
+# The client writes into a pipe, of which a third of the bytes is read: beyond that only what fits into the pipe is transferred, however fast the transfer is.
 mkfifo "$room/pipe"
 "$program" client --local $client --server $server --isn 1000 --turns 1000000 <"$room/asked" >"$room/pipe" 2>"$room/client.err" &
 running=$!

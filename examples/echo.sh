@@ -1,7 +1,7 @@
 #!/usr/bin/env bash
-# Ten echoes without a crash: each time a client of ftnode sends BYTES bytes through a server and a logger on the loopback, and compares what comes back. The
-# sockets have the room that the system gives them. A run may take 300 seconds. Status 0 where all ten pass. It wants a built ftnode:
-#     examples/echo.sh [PROGRAM] [BYTES]        PROGRAM is crates/ftnode/out/ftnode, BYTES 2,000,000, at most 16,777,216, where nothing is said
+# Ten echoes without a crash: each time a client of ftnode sends BYTES bytes through a server and a logger on the loopback, and compares what is returned. The
+# sockets' buffers have the system's default sizes. A run may take 300 seconds. The status is 0 if all ten pass. It needs a built ftnode:
+#     examples/echo.sh [PROGRAM] [BYTES]        defaults: PROGRAM crates/ftnode/out/ftnode, BYTES 2,000,000 (at most 16,777,216)
 set -u
 cd "$(dirname "$0")/.." || exit 2
 program=${1:-crates/ftnode/out/ftnode} bytes=${2:-2000000}
@@ -19,7 +19,7 @@ start() { # NAME WORD..: starts a role
     "$program" "${@:2}" >"$room/$1.out" 2>"$room/$1.err" &
     started+=("$!")
 }
-# One echo, with a logger and a server of its own. What the client ended with is in `status`: 124 where it took too long.
+# One echo, with its own logger and server. The client's exit status is in `status`; 124 means that it took too long.
 echo_once() {
     start logger logger --local $logger --turns 1000000
     start server server --local $server --logger $logger --service echo --boot 1 --isn 5000 --turns 1000000

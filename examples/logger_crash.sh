@@ -1,17 +1,17 @@
 #!/usr/bin/env bash
-# A logger that survives its own death: a kernel's TCP client, through tools/bridge.py, and ftnode's own client each send 2,000,000 bytes to an echo of ftnode
-# whose logger keeps a journal. Meanwhile the server and the logger are killed (kill -9) 30 times each, at random moments, each by itself, and started again: the
-# server with the next boot number, the logger with the same words. All bytes have to come back to both clients, and at the end the journal has to be opened
-# once more. The moments and the bytes are drawn from a seed, which is printed. It makes two network namespaces and a TUN device, and removes them in the end. A
-# run takes about 50 seconds. It needs root, and a built ftnode:
+# A log that survives the death of its logger. A kernel's TCP client, through tools/bridge.py, and ftnode's own client each send 2,000,000 bytes to an echo server
+# of ftnode, whose logger has a journal. During the transfers the server and the logger are each killed (kill -9) 30 times, independently and at random moments,
+# and started again: the server with the next boot number, the logger with the same words. Both clients must get all bytes back, and at the end the journal must
+# open once more. The moments and the bytes are drawn from a seed, which is printed. It makes two network namespaces and a TUN device, and removes them at the end.
+# A run takes about 50 seconds. It needs root and a built ftnode:
 #     sudo examples/logger_crash.sh [PROGRAM] [RUNS] [SEED]
-# PROGRAM is crates/ftnode/out/ftnode and RUNS 10 where nothing is said; the first run has the seed SEED, or a random one, and each other the next number.
+# Defaults: PROGRAM crates/ftnode/out/ftnode, RUNS 10, SEED random. SEED is the first run's seed; each further run has the next number.
 set -u
 cd "$(dirname "$0")/.." || exit 2
 name=logger_crash program=${1:-crates/ftnode/out/ftnode} runs=${2:-10} seed=${3:-$RANDOM} loss=0 service=(--service echo)
 bytes=2000000 kills=30 own_client=10.77.0.4
 
-# Nothing is printed of what is killed.
+# The shell prints nothing about killed processes.
 end_by() { # SIGNAL PROCESS: its status
     { kill "-$1" "$2" && wait "$2"; } 2>/dev/null
 }
@@ -25,7 +25,7 @@ start_numbered_server() { # BOOT
     process=$server_process
 }
 
-# Starts what START starts, kills it at moments that are drawn from the seed, and starts it again. It runs until it is ended itself.
+# Starts a process by START, kills it at moments that are drawn from the seed, and starts it again. It runs until it is killed itself.
 kill_again() { # NAME START SEED
     RANDOM=$3
     trap '{ kill -9 "$process" && wait "$process"; } 2>/dev/null' EXIT
@@ -44,8 +44,8 @@ kill_again() { # NAME START SEED
     echo "$1 $number ended by itself, with $?" >>"$room/early"
 }
 
-# Both transfers are slowed down to 45 kB a second, so that they last longer than the kills: the kernel's client sends so slowly, and what ftnode's client writes is
-# read so slowly.
+# Both transfers are slowed down to 45 kB a second, so that they last longer than the kills: the kernel's client sends at this rate, and the output of ftnode's
+# client is read at this rate.
 start_own_client() {
     mkfifo "$room/pipe"
     ip netns exec "$outside" "$program" client --local "$own_client:7009" --server "$server" --isn 1000 --turns 1000000 \
@@ -61,7 +61,7 @@ draw_bytes() { # SEED
     python3 -c "import random, sys; sys.stdout.buffer.write(random.Random($1).randbytes($bytes))"
 }
 
-# How far the transfers were when the last kill of each process came, as a share of all bytes.
+# The share of all bytes that was transferred when each process was killed for the last time.
 shares() {
     awk -v bytes="$bytes" '{
         printf(NR == 1 ? "%d %% and %d %%" : ", %d %% and %d %%", 100 * $1 / bytes, 100 * $2 / bytes)
@@ -91,7 +91,7 @@ transfer() { # SEED: 0 where all bytes came to both clients, under all kills
     { [ -e "$room/server.killed" ] && [ -e "$room/logger.killed" ] && at=$(shares); } || { echo "the transfers were done before the last kill"; failed=1; }
 }
 
-# Behind the end the file is a journal at rest. Its bytes beside those that the clients sent:
+# After the end nothing is written to the journal. Its bytes, and those that the clients sent:
 look_at_journal() {
     ip netns exec "$outside" "$program" logger --local "$logger" --turns 1 --journal "$room/journal" >"$room/last" 2>&1 || { cat "$room/last"; failed=1; }
     awk -v size="$(stat -c %s "$room/journal")" -v bytes="$bytes" 'BEGIN { printf "the journal has %d bytes, %.3f of those sent", size, size / 2 / bytes }'

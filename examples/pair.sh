@@ -1,7 +1,7 @@
 #!/usr/bin/env bash
-# `ftnode pair`: it starts a logger, a server and a client on the loopback, waits until the server has spent its turns, starts a second one with the next boot
-# number, and prints how each ended. All four must end with 0. It takes about a quarter of a minute, and wants a built ftnode:
-#     examples/pair.sh [PROGRAM]        PROGRAM is crates/ftnode/out/ftnode where nothing is said
+# `ftnode pair`: it starts a logger, a server and a client on the loopback, waits until the server's turns are done, starts a second server with the next boot
+# number, and prints how each ended. All four must end with status 0. It takes about 15 seconds, and needs a built ftnode:
+#     examples/pair.sh [PROGRAM]        default: PROGRAM crates/ftnode/out/ftnode
 set -u
 cd "$(dirname "$0")/.." || exit 2
 program=$(realpath "${1:-crates/ftnode/out/ftnode}")

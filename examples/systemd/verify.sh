@@ -1,5 +1,5 @@
 #!/usr/bin/env bash
-# Checks the units by `systemd-analyze verify`, with /bin/true in the place of each program that isn't installed. It fails where systemd finds anything to say:
+# Checks the units by `systemd-analyze verify`, with /bin/true instead of each program that isn't installed. It fails if systemd reports anything:
 #     examples/systemd/verify.sh
 set -eu
 cd "$(dirname "$0")"
