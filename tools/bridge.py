@@ -1,18 +1,18 @@
 #!/usr/bin/env python3
-"""Carries the packets of unchanged TCP clients to and from `ftnode`, which speaks TCP packets inside UDP datagrams.
+"""Forwards the packets of unchanged TCP clients to and from `ftnode`, which sends and receives TCP packets inside UDP datagrams.
 
     tools/bridge.py --client 10.77.0.1 --server 10.77.0.2:7 [--node ADDRESS] [--local IP] [--loss PERCENT] [--seed N]
                     [--device NAME] [--netns NAME]
 
-It makes a TUN device, with the client's address, and routes the server's address into it. What the kernel's TCP then sends to the server comes out of
-the device as a packet, and goes in one datagram from the client's own address and port to the node; a datagram that comes back to this address and port holds
-a packet, and goes into the device. So the client is any program that opens a connection to the server's address: nothing in it is changed.
+It makes a TUN device with the client's address, and routes the server's address into it. It reads from the device each packet that the kernel's TCP sends to the
+server, and sends it to the node in one datagram, from the client's own address and port. A datagram that arrives at this address and port contains a packet, which
+is written into the device. So any program that opens a connection to the server's address can be the client, unchanged.
 
---node is where the node's server listens, if that isn't the server's address, and --local the address of this machine from which the datagrams go, if that isn't
-the client's; then addresses are rewritten on the way, and the sums with them. --netns moves the device into a network namespace, so that clients there
-reach the server while node and bridge stand outside. --loss drops packets in both directions, drawn from the seed.
+--node is the address at which the node's server listens, if that isn't the server's address, and --local the address of this machine from which the datagrams
+are sent, if that isn't the client's; then addresses and checksums are rewritten. --netns moves the device into a network namespace, so that clients in it reach
+the server while node and bridge are outside. --loss drops packets in both directions, chosen by the seed.
 
-It needs Linux, root and /dev/net/tun, and Python's standard library alone. It is outside the proofs: of what it does nothing is shown.
+It needs Linux, root, /dev/net/tun and only Python's standard library. It is outside the proofs: nothing about it is proved.
 """
 import argparse
 import fcntl

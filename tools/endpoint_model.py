@@ -1,12 +1,12 @@
 #!/usr/bin/env python3
-"""One endpoint of plain TCP in Python, by RFC 9293 and RFC 5681 and in stream offsets, beside the program: it plays the cases of scripts for `endpoint_script`.
+"""One endpoint of plain TCP in Python, by RFC 9293 and RFC 5681, in stream offsets and independent of the program. It plays scripts for `endpoint_script`.
 
-    tools/endpoint_model.py check < SCRIPT   says at which lines it sees something else than the script wants
-    tools/endpoint_model.py write < SCRIPT   writes the script with what it sees in the place of what is wanted
-    tools/endpoint_model.py draw SEED STEPS  writes a case with early segments from a seed, and what it sees in it
-    tools/endpoint_model.py acks SEED STEPS  the same with acknowledgements: new ones, repeated, split, too high, with another window
+    tools/endpoint_model.py check < SCRIPT   prints the lines at which it differs from what the script expects
+    tools/endpoint_model.py write < SCRIPT   writes the script with its own results as what is expected
+    tools/endpoint_model.py draw SEED STEPS  writes a case with out-of-order segments from a seed, with its results
+    tools/endpoint_model.py acks SEED STEPS  the same with acknowledgements: new, repeated, partial, too high, with another window
 
-Lines that stand for much at once (`join`, `hostile`, `tally`) are passed over, and so are the scripts behind the first one, which are to be refused.
+It skips the lines that play many packets at once (`join`, `hostile`, `tally`), and the scripts after the first one, which must be refused.
 """
 import random
 import sys

@@ -2,16 +2,16 @@
 """Processor minutes of the merge gate, by crate: proof, tests, and edits that must be refused.
 
     tools/gate_times.py run [--save FILE] [--anew] [NAME..]   starts `rt ci NAME..` here, and watches it
-    tools/gate_times.py watch PID [--save FILE]               watches an `rt ci` that runs already
+    tools/gate_times.py watch PID [--save FILE]               watches an `rt ci` that is already running
     tools/gate_times.py table FILE                            prints the table of what was saved
-    tools/gate_times.py log FILE                              prints what the log of a run tells: it has no times
+    tools/gate_times.py log FILE                              prints what the log of a run says, which has no times
 
-The log of `rt ci` has no times, so they are read from /proc while it runs (Linux alone), twice a second: for each process of the prover,
-user and system time, and that of the children it waited for. What a process does after the last look is lost, at most half a second each.
-What an earlier run on this machine passed is not proved again: for the whole times give `--anew`.
+The log of `rt ci` has no times, so they are read from /proc while it runs (only on Linux), twice a second: for each process of the prover,
+user and system time, and that of the children for which it waited. Time after the last reading is lost, at most half a second for each process.
+What an earlier run on this machine passed is not proved again: for the times of a whole run give `--anew`.
 
 A crate's row has its proof (with the building of its library or program), the proof and building of its tests, and its edits. `chain` is the
-proof of the crate and of the longest way of crates below it: what a run takes at the least, however many processors it has.
+proof of the crate and of the longest chain of crates below it: a run takes at least as long, however many processors it has.
 """
 import argparse
 import collections
@@ -200,7 +200,7 @@ def main():
     run.add_argument("--save", metavar="FILE", help="where to keep the measurements")
     run.add_argument("--anew", action="store_true", help="proves what an earlier run has passed, too")
     run.add_argument("names", nargs="*", metavar="NAME", help="crates; without one, all")
-    by_pid = verbs.add_parser("watch", help="watches an `rt ci` that runs already")
+    by_pid = verbs.add_parser("watch", help="watches an `rt ci` that is already running")
     by_pid.add_argument("pid", type=int)
     by_pid.add_argument("--save", metavar="FILE", help="where to keep the measurements")
     for verb in ("table", "log"):

@@ -1,4 +1,4 @@
-"""What the tools beside this file share of the internet's formats. Python's standard library alone."""
+"""Addresses, checksums and segments, for the other tools in this folder. It needs only Python's standard library."""
 import argparse
 import socket
 import struct

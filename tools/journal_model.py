@@ -1,11 +1,11 @@
 #!/usr/bin/env python3
-"""A log that is kept in a journal's file, in plain Python, by the rules and not by the program.
+"""A log in a journal's file, in plain Python, written from the rules and not from the program.
 
 journal_model.py lines      reads a script of `kept_script` from standard input, and writes what it must print
 journal_model.py cases      writes the script that is stored beside the program
 
-A file is taken apart from its front, as a whole; what changes the log is seen by comparing all that the log has before and after. The log is that of model.py, the
-messages are those of twin_model.py.
+A file is read as a whole, from its beginning; whether a message changes the log is found by comparing the whole log before and after. The log is that of model.py,
+the messages are those of twin_model.py.
 """
 import copy
 import random

@@ -3,11 +3,11 @@
 
     tools/ladder.py REPORT [--from E] [--to E] > PICTURE.svg      REPORT is a file, or - for standard input
 
-Time goes down, a row for each event and for each packet; lifelines stand for clients, server and log. An arrow goes from where a packet was sent
-to where it was delivered. A packet that is never delivered ends in a cross, and so does one that reaches a server that is down; a packet that is
-delivered again, or long after it was sent, comes out of a small ring. What a client's segment says is written in full: number, flags, sequence
-and acknowledgement number, bytes of text, and the window where it isn't 65,535. Of a message the picture has the name and the fields that differ
-from one to the next. This file is outside the proofs: it shows what a report says, and judges nothing.
+Time runs downwards, with a row for each event and each packet; clients, server and log have vertical lines. An arrow leads from the sending of a packet to its
+delivery. The arrow of a packet that is never delivered, or that reaches a server that is down, ends in a cross; that of a packet that is delivered again, or long
+after it was sent, begins at a small ring. A segment is labelled with its packet number, flags, sequence and acknowledgement number, bytes of text, and its window
+where that isn't 65,535; a message with its name and the fields that differ from one to the next. This file is outside the proofs: it shows what a report says, and
+judges nothing.
 """
 import argparse
 import sys

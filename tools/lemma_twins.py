@@ -1,11 +1,11 @@
 #!/usr/bin/env python3
-"""Lemmas that state the same: in `proofs/`, of one crate or of several, under whatever names, and with whatever names of their variables.
+"""Finds lemmas in `proofs/` that state the same, in one crate or in several, even under different names and with different names of variables.
 
     tools/lemma_twins.py [--crate NAME]
 
-Each group is a signature and the places where it stands, the lowest crate first: keep that one, and import it in the others. A law on Booleans, choices
-or results has its place in `ft_io/proofs` (`Booleans`, `Choices`, `Outcomes`), where std doesn't have it. Answers and the worked runs of `ft_model` are
-passed over: their goals have the same words for different things. So may two signatures whose words are defined in each crate apart: look first.
+Each group is a signature and the places of the lemmas that have it, the lowest crate first: keep that one, and import it in the others. Laws about Booleans,
+options or results that std doesn't have are in `ft_io/proofs` (`Booleans`, `Choices`, `Outcomes`). Answers and the worked runs of `ft_model` are left out: their
+goals use the same words for different things. That can also happen to two signatures whose words are defined differently in their crates: read them first.
 """
 import argparse
 import collections

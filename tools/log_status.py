@@ -1,5 +1,5 @@
 #!/usr/bin/env python3
-"""Asks a logger what it holds, and prints a line for each connection.
+"""Asks a logger for its log, and prints a line for each connection.
 
     tools/log_status.py --logger 10.77.0.3:7008 [--warn PLACES] [--wait SECONDS] [--watch]
 
@@ -8,17 +8,17 @@
     ..
 
 `bytes`, `reads` and `fin` are what is logged of the client's stream, `acknowledged` what the client has acknowledged of the output, and `done` is 1 once the
-connection has ended. An ended connection keeps its place. --watch prints all of it again each 60 seconds.
+connection has ended. An ended connection keeps its place. --watch prints all of it every 60 seconds.
 
-It changes nothing: it sends List alone, with a boot number that the logger already has (a smaller one is answered by Stale, which names the present one), and
-never Hello. Each index is asked for at most three times; the first that isn't answered is taken for the end. A logger to which no server has spoken
-answers nothing, and neither does one of boot 1 without connections.
+It changes nothing: it sends only List, with the logger's present boot number (a smaller one is answered by Stale, which names the present one), and never Hello.
+Each index is asked for at most three times; the first that isn't answered counts as the end. A logger that no server has sent anything doesn't answer, and neither
+does one with boot number 1 and no connections.
 
-Never ask a logger that runs with --part: it would take these questions for its server's, and answer the server no more.
+Never ask a logger that runs with --part: it would treat these questions as its server's, and no longer answer the server.
 
-Exit status, as a monitor wants it: 0, all is well; 1, at least --warn places are used (56 of the 64, unless said otherwise); 2, wrong words; 3, no answer.
+Exit status, for a monitor: 0, no problem; 1, at least --warn of the 64 places are used (56 by default); 2, wrong words; 3, no answer.
 
-Whoever can reach the logger's port can ask. It is outside the proofs, and needs Python's standard library alone.
+Everybody who can reach the logger's port can ask. It is outside the proofs, and needs only Python's standard library.
 """
 import argparse
 import socket

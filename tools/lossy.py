@@ -1,12 +1,12 @@
 #!/usr/bin/env python3
-"""Draws schedules of long answers whose segments get lost, come twice and out of order, so that the server's congestion window opens and shuts.
+"""Draws schedules of long answers whose segments are lost, repeated and reordered, so that the server's congestion window grows and shrinks.
 
     tools/lossy.py draw SEED                    writes the schedule of a seed
-    tools/lossy.py compare PROGRAM FIRST COUNT  plays so many seeds by a built `ftreplay` and by the model, and those of tools/reordered.py, and compares
+    tools/lossy.py compare PROGRAM FIRST COUNT  plays COUNT seeds by a built `ftreplay` and by the model, and those of tools/reordered.py, and compares
                                                 the reports
 
-The client asks for 16,000 to 57,000 bytes in one segment, and acknowledges most of what comes, with now and then another window. Its acknowledgements get
-lost and come twice as well. In about every fifth seed the server crashes on the way. The client has the whole answer in the end.
+The client asks for 16,000 to 57,000 bytes in one segment, and acknowledges most of what arrives, sometimes with another window. Its acknowledgements are lost and
+repeated too. In about every fifth seed the server crashes during the answer. In the end the client has the whole answer.
 """
 import random
 import subprocess

@@ -1,10 +1,10 @@
 #!/usr/bin/env python3
-"""Services kept as bytes, and messages about marks, in plain Python, by the rules and not by the program.
+"""Saved states of services, and messages about marks, in plain Python, written from the rules and not from the program.
 
 mark_model.py lines      reads a script of `mark_script` from standard input, and writes what it must print
 mark_model.py cases      writes the script that is stored beside the program
 
-A form is made from all that a service was ever given, where the program makes it from the service's state.
+A saved state is made here from all input that the service was ever given; the program makes it from the service's state.
 """
 import re
 import sys

@@ -1,7 +1,7 @@
 """The whole system in plain Python: clients, log, server and world, by the rules and not by the program.
 
-It follows the laws of docs/MODEL.md in stream offsets, with whole streams in memory and no TCP inside: a second way to the same reports, outside the
-proofs. What it makes of a schedule is compared with what `ftreplay` makes of it (tools/seed_model.py), so no line here may be taken from the program.
+It follows the laws of docs/MODEL.md in stream offsets, with whole streams in memory and without an inner TCP: a second implementation, outside the proofs. Its
+report of a schedule is compared with that of `ftreplay` (tools/seed_model.py), so no line here may be copied from the program.
 """
 from collections import namedtuple
 

@@ -1,6 +1,6 @@
 #!/usr/bin/env python3
-"""Tests of tools/model.py: numbers that follow from the rules by hand, a crash at each turn of the first path, transfers whose segments get lost, and the
-runs that are stored in crates/replay_script. It takes half a minute. Run it: tools/model_test.py"""
+"""Tests of tools/model.py: numbers computed from the rules by hand, a crash at each turn of the first path, transfers with lost segments, and the stored runs of
+crates/replay_script. It takes half a minute. Run it: tools/model_test.py"""
 import pathlib
 import re
 import unittest

@@ -1,8 +1,8 @@
 #!/usr/bin/env python3
-"""Draws schedules in which one client's segments come out of order, overlap, get lost and come twice: reordered.py SEED [in-order].
+"""Draws schedules in which one client's segments arrive out of order, overlap, are lost and are repeated: reordered.py SEED [in-order].
 
-With `in-order` the same segments are sent and each comes once, in order. The client has the same in the end, which tools/model_test.py looks at. In about
-every third seed the server crashes between the segments, so what it held is gone.
+With `in-order` the same segments are sent, and each arrives once, in order. The client has the same bytes in the end, as tools/model_test.py tests. In about every
+third seed the server crashes between the segments, so the held text is lost.
 """
 import random
 import sys

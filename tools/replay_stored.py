@@ -1,9 +1,9 @@
 #!/usr/bin/env python3
 """The stored run of `replay_script` by the model in tools/model.py.
 
-    tools/replay_stored.py [FOLDER]   writes FOLDER/stdout anew (crates/replay_script): of each order that the model can play, what it makes of it
+    tools/replay_stored.py [FOLDER]   writes FOLDER/stdout (crates/replay_script) again, with the model's result of each order that the model can play
 
-The model plays whole schedules, seeds, and crashes. What is printed of calls that fail and of words and lines that are refused stays as it stands.
+The model plays whole schedules, seeds and crashes. The lines about failed calls, and about refused words and lines, stay as they are.
 """
 import pathlib
 import re

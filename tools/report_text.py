@@ -1,4 +1,4 @@
-"""Reads a report of `ftreplay`, as docs/FORMATS.md has it, for the tools beside this file."""
+"""Reads a report of `ftreplay` (docs/FORMATS.md), for the other tools in this folder."""
 import re
 import sys
 from dataclasses import dataclass, field

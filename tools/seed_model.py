@@ -1,14 +1,14 @@
 #!/usr/bin/env python3
-"""What `ftreplay` must write, by the model in tools/model.py: another way than the program's.
+"""What `ftreplay` must write, by the model in tools/model.py, which is independent of the program.
 
     tools/seed_model.py seed SEED CLIENTS EVENTS      the summary of a schedule that is drawn from a seed
     tools/seed_model.py schedule SEED CLIENTS EVENTS  that schedule as text, for `ftreplay run`
     tools/seed_model.py run < SCHEDULE                the report of a schedule, up to its first event that isn't allowed
     tools/seed_model.py compare PROGRAM [--seeds N] [--events N] [--first SEED] [--through seed|run]
-                                                      plays N seeds with 1 to 16 clients each by both, and compares what comes out
+                                                      plays N seeds with 1 to 16 clients each by both, and compares what they write
 
-PROGRAM is a built `ftreplay`. `compare` ends with 1 at the first difference, and says which words show it. With `--through run` the program plays each schedule
-as text, and the whole reports are compared.
+PROGRAM is a built `ftreplay`. `compare` ends with status 1 at the first difference, and prints the words that reproduce it. With `--through run` the program plays
+each schedule as text, and the whole reports are compared.
 """
 import argparse
 import signal

@@ -3,15 +3,15 @@
 
     tools/server_status.py --server 10.77.0.2:7 [--wait SECONDS]
 
-It sends an acknowledgement from a port that has no connection. A server that serves answers with a RST, as a listening TCP does (RFC 9293, 3.10.7.2). One that
-is restarting, or that its logger hasn't answered since it started, is silent. No connection is opened, and no place of the log is used. It asks at most three
-times, each time from another port.
+It sends an acknowledgement from a port that has no connection. A server that serves answers with a RST, as a listening TCP does (RFC 9293, 3.10.7.2). A server
+that is restarting, or that has had no answer from its logger since it started, doesn't answer. No connection is opened, and no place of the log is used. It asks
+at most three times, each time from another port.
 
-A server whose logger has died after the restart still answers: ask the logger, too (tools/log_status.py).
+A server whose logger died after the server's restart still answers: ask the logger too (tools/log_status.py).
 
-Exit status, as a monitor wants it: 0, it serves; 2, wrong words; 3, no answer.
+Exit status, for a monitor: 0, it serves; 2, wrong words; 3, no answer.
 
-It is outside the proofs, and needs Python's standard library alone.
+It is outside the proofs, and needs only Python's standard library.
 """
 import argparse
 import random

@@ -1,7 +1,7 @@
 #!/usr/bin/env python3
-"""Sends stray datagrams, which are no packets, to an address: stray.py ADDRESS:PORT RATE, RATE datagrams a second, until it is ended.
+"""Sends stray datagrams, which are no packets, to an address: stray.py ADDRESS:PORT RATE sends RATE datagrams a second until it is killed.
 
-At more than 1,000 a second they leave in bursts, one a millisecond. A burst that is late is made up for by the next. It is outside the proofs.
+At more than 1,000 a second they are sent in bursts, one burst a millisecond. After a late burst the next one is larger by what is missing. It is outside the proofs.
 """
 import socket
 import sys

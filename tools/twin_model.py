@@ -1,10 +1,10 @@
 #!/usr/bin/env python3
-"""Two loggers that act as one, in plain Python, by the rules and not by the program: what a head and a tail do with each datagram.
+"""Two loggers that act as one, in plain Python, written from the rules and not from the program: what a head and a tail do with each datagram.
 
 twin_model.py lines      reads a script of `twin_script` from standard input, and writes what it must print
 twin_model.py cases      writes the script that is stored beside the program
 
-It keeps a head's whole history and spells each datagram anew, where the program keeps what is unconfirmed; the log is that of model.py.
+It stores a head's whole history and spells each datagram again; the program stores only what is unconfirmed. The log is that of model.py.
 """
 import sys
 from struct import pack, unpack

@@ -4,7 +4,7 @@
     tools/web_model.py wanted <SCRIPT       writes what the program has to print for a script, such as crates/web_script/stdin
     tools/web_model.py bytes N              writes the N bytes of /bytes/N, made without any server
 
-The lines of a script stand at the head of crates/web_script/src/main.rt. It needs Python's standard library and twin_model.py beside it.
+The lines of a script are described at the beginning of crates/web_script/src/main.rt. It needs only Python's standard library and twin_model.py.
 """
 import hashlib
 import re
