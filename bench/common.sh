@@ -1,11 +1,11 @@
-# The beginning that the scripts beside this file share. They source it with `set -eu`; it leads to the top of the repository, and makes a folder
-# $work that goes when the script ends.
+# The common beginning of the other scripts in this folder, which source it after `set -eu`. It changes to the top of the repository, and makes a folder $work that
+# is removed when the script ends.
 cd "$(dirname "$0")/.."
 work=$(mktemp -d)
 out=$work/out
 trap 'rm -rf "$work"' EXIT
 
-# build CRATE WORD..: proves and builds a program by running it once with these words. What is said of a build that fails is shown, and ends the script.
+# build CRATE WORD..: proves and builds a program by running it once with these words. If that fails, its output is shown and the script ends.
 build() {
     local crate=$1
     shift

@@ -1,12 +1,12 @@
 #!/usr/bin/env bash
-# Segments a second of wrapped connections, by node_bench: eight clients one after another, each with a key of its own, have a wrapped connection with a
-# log behind it echo 8 MiB, beside those of endpoint_bench, in which two endpoints echo the same 64 MiB, in one run: segments of 1,460
-# bytes and of 64. Of each the least processor time of 7 turns, taken in turn. A segment counts once: it is written, handed over, read, and
-# its text echoed or compared. The connection also sends segments without text, and each segment's text passes as a message to the log and is
-# answered, and so does its read. So the two are set beside each other by the segments with text, as many in both; all are told too.
+# Segments a second of wrapped connections, by node_bench, compared with those of endpoint_bench, in one run: eight clients one after another, each with its own
+# key, send 8 MiB each to a wrapped connection with a log, which echoes them; in endpoint_bench two endpoints echo the same 64 MiB. Segments have 1,460 bytes, and
+# then 64. Printed is the minimum CPU time of 7 runs each, which alternate. A segment counts once: it is written, handed over, read, and its text echoed or
+# compared. The connection also sends segments without text, and the text of each segment is sent to the log in a message and answered, and so is its read. So the
+# comparison is by the segments with text, of which both have as many; the number of all segments is printed too.
 #     bench/connection.sh [OLDER]
-# With OLDER, an older node_bench or a checkout that has one, that one and this one echo 1 GiB, in 8 runs of 8 connections with segments of 1,460 bytes,
-# 21 times in turn, and the least times are compared. Status 1 where this one takes over 5 % longer.
+# With OLDER, an older node_bench or a checkout that has one, both programs echo 1 GiB, in 8 runs of 8 connections with segments of 1,460 bytes, 21 times
+# alternately, and the minimum times are compared. Status 1 if the new one takes over 5 % longer.
 set -eu
 before=${1:+$(realpath "$1")}
 . "$(dirname "$0")/common.sh"

@@ -1,11 +1,11 @@
 #!/usr/bin/env bash
-# Segments a second of two endpoints in memory, by endpoint_bench, which echo 64 MiB, beside packets a second of a plain C loop of a
-# packet's checks (gcc -O2), in one run: segments of 1,460 bytes beside packets of 1,500 bytes, and of 64 beside 40. Of each the least
-# processor time of 7 turns, taken in turn. A segment counts once: it is written, handed over, read, and its text echoed or compared. Then the same echo in
-# segments of 1,460 bytes with a whole window under way: in order, with each two segments swapped, and with one packet of 100 lost; beside the first of these.
+# Segments a second of two endpoints in memory that echo 64 MiB, by endpoint_bench, compared with packets a second of a plain C loop of a packet's checks (gcc
+# -O2), in one run: segments of 1,460 bytes with packets of 1,500 bytes, and of 64 with 40. Printed is the minimum CPU time of 7 runs each, which alternate. A
+# segment counts once: it is written, handed over, read, and its text echoed or compared. Then the same echo in segments of 1,460 bytes with a whole window in
+# flight: in order, with every two segments swapped, and with one packet of 100 lost; each compared with the first of these.
 #     bench/endpoint.sh [OLDER]
-# With OLDER, an older endpoint_bench or a checkout that has one, that one and this one echo 1 GiB (one byte less, in segments of 1,460 bytes) 21 times in turn,
-# and the least times are compared. Status 1 where this one takes over 5 % longer.
+# With OLDER, an older endpoint_bench or a checkout that has one, both programs echo 1 GiB (minus one byte, in segments of 1,460 bytes) 21 times alternately, and
+# the minimum times are compared. Status 1 if the new one takes over 5 % longer.
 set -eu
 before=${1:+$(realpath "$1")}
 . "$(dirname "$0")/common.sh"

@@ -1,11 +1,11 @@
 #!/usr/bin/env bash
-# Real processes over UDP on this machine's loopback, as LLVM builds them: a client that sends SIZE bytes (15,000,000 unless one is given) in lines of 64 and
-# reads what comes back, through a server and a logger: with Echo of ftnode, and then with Counter of own_node. Printed are of both the bytes a second, and of server and logger the counts of their calls, the processor time a datagram
-# that came, and the most memory held; of the first run also the processor time of a C loop that sends and receives datagrams of 1,400 bytes (bench/link.c); and the server's
-# datagrams a second beside those of a C process that echoes (bench/echo.c). Then a transfer of 1,000,000 bytes whose server is killed (kill -9) when a quarter,
-# a half and three quarters of them have come back, and started again with the next boot number.
-# Each time the client has to end with 0 and its bytes to be the script's.
-#     bench/ftnode.sh [SIZE] [PORT]        seven ports from PORT (7200) on, and three each from ten and from twenty above
+# Real processes over UDP on this machine's loopback, built with LLVM: a client sends SIZE bytes (default 15,000,000) in lines of 64, and reads what is returned,
+# through a server and a logger: first with Echo of ftnode, then with Counter of own_node. For both it prints the bytes a second, and for server and logger the
+# counts of their calls, the CPU time for each received datagram, and the peak memory. For the first run it also prints the CPU time of a C loop that sends and
+# receives datagrams of 1,400 bytes (bench/link.c), and the server's datagrams a second with those of a C process that echoes (bench/echo.c). Then a transfer of
+# 1,000,000 bytes whose server is killed (kill -9) when a quarter, a half and three quarters of them have been returned, and started again with the next boot
+# number. Each time the client must end with status 0, and its bytes must be the script's.
+#     bench/ftnode.sh [SIZE] [PORT]        it uses seven ports from PORT (default 7200) on, three from PORT + 10 on, and three from PORT + 20 on
 set -eu
 . "$(dirname "$0")/common.sh"
 size=${1:-15000000} base=${2:-7200}

@@ -1,13 +1,15 @@
 #!/usr/bin/env bash
-# A logger that keeps its log in a file, beside one that doesn't and beside a C program that makes the same calls on its file (bench/journal.c), in one run:
-#  1. messages a second, Data of 1,460 bytes with 1, 64 and 256 of them under way, of the least time of many turns, taken in turn. Goal: 0.7 of the C program's;
-#  2. the file beside what a client sent in full segments, through a server with the service Meter, which answers little, and with Echo. Goal: at most 1.05 times;
-#  3. the opening of a file of 64 MiB, which comes from the disk, the least of ROUNDS. Goal: 100 MB a second;
-#  4. the most memory that a logger held while it took 16 MiB, with a journal and without one. Goal: at most 1 MiB more.
-# Status 0 where all goals are met, 1 where one is missed, 2 where it can't run.
+# A logger that keeps its log in a file, compared with one that doesn't, and with a C program that makes the same calls on its file (bench/journal.c), in one run:
+#  1. messages a second, for Data of 1,460 bytes with 1, 64 and 256 of them in flight, by the minimum time of many runs, which alternate. Goal: 0.7 of the C
+#     program's;
+#  2. the size of the file, compared with what a client sent in full segments, through a server with the service Meter, which answers little, and with Echo. Goal:
+#     at most 1.05 times;
+#  3. the opening of a file of 64 MiB that is read from the disk, the minimum of ROUNDS. Goal: 100 MB a second;
+#  4. the peak memory of a logger that takes 16 MiB, with a journal and without one. Goal: at most 1 MiB more.
+# Status 0 if all goals are met, 1 if one is missed, 2 if it can't run.
 #     sudo bench/journal.sh [PROGRAM] [FOLDER]
-# PROGRAM is a built ftnode, else this checkout's. The files lie in FOLDER, or in /tmp. ROUNDS (9) may stand in the environment. It takes about two minutes. While
-# it runs net.core.rmem_default of the machine is raised, so that 256 datagrams find room in a socket.
+# PROGRAM is a built ftnode, by default this checkout's. The files are in FOLDER, by default /tmp. The environment may set ROUNDS (9). It takes about two minutes.
+# While it runs, net.core.rmem_default of the machine is raised, so that 256 datagrams fit into a socket's buffer.
 set -eu
 program=${1:+$(realpath "$1")} folder=${2:-}
 . "$(dirname "$0")/common.sh"

@@ -1,8 +1,8 @@
 #!/usr/bin/env python3
 """What `ftnode logger --journal FILE` does with bad files and bad disks: journal_faults.py PROGRAM FOLDER.
 
-Each case has its status and its text; a file that is damaged stays byte for byte as it is, and what a logger has told is never lost. Which files are damaged, and
-where, tools/journal_model.py says. bench/journal_faults.sh runs it as root in a mount namespace of its own, where FOLDER is empty.
+In each case the status and the text are checked, that a damaged file isn't changed, and that what a logger has answered is never lost. tools/journal_model.py says
+which files are damaged, and where. bench/journal_faults.sh runs it as root in its own mount namespace, in which FOLDER is empty.
 """
 import os
 import shutil

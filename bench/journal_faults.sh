@@ -1,9 +1,10 @@
 #!/usr/bin/env bash
 # What `ftnode logger --journal FILE` does with bad files and bad disks, in 1,231 checks: files that are cut at each byte or have one of their bits changed,
-# foreign bytes, each front of a new file; a folder, a link, a device, a second name; no right to read, to write or to make the file (as nobody, by
-# setpriv); a second logger; a disk that gets full, and one that is full before the first start (a tmpfs in a mount namespace of the script's own); wrong words.
-# Each has its status and its text, a damaged file stays as it is, and what a logger has told is there when it comes back. It takes 20 seconds.
-#     sudo bench/journal_faults.sh [PROGRAM]        a built ftnode, else this checkout's
+# other bytes, each prefix of a new file; a folder, a link, a device, a second name; no permission to read, to write or to make the file (as nobody, by
+# setpriv); a second logger; a disk that gets full, and one that is full before the first start (a tmpfs in this script's own mount namespace); wrong words.
+# In each case the status and the text are checked, that a damaged file isn't changed, and that after a restart the log has all that was answered. It takes 20
+# seconds.
+#     sudo bench/journal_faults.sh [PROGRAM]        a built ftnode, by default this checkout's
 set -eu
 program=${1:+$(realpath "$1")}
 . "$(dirname "$0")/common.sh"

@@ -1,6 +1,6 @@
 #!/usr/bin/env bash
-# One send and one receive of a datagram on this machine's loopback, by wire_bench's UDP socket beside a C loop of sendto and recvfrom
-# (gcc -O2), in one run: for 100 and for 1,400 bytes, the least processor time, of program and system, of 7 turns each, taken in turn.
+# One send and one receive of a datagram on this machine's loopback, by wire_bench's UDP socket, compared with a C loop of sendto and recvfrom (gcc -O2), in one
+# run: for 100 and for 1,400 bytes, the minimum CPU time (user and system) of 7 runs each, which alternate.
 set -eu
 . "$(dirname "$0")/common.sh"
 build wire_bench link 100 1

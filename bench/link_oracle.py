@@ -1,10 +1,9 @@
 #!/usr/bin/env python3
-"""Writes link_script's script and what it has to print: link_oracle.py SCRIPT PRINTED.
+"""Writes link_script's script and what it must print: link_oracle.py SCRIPT PRINTED.
 
-The expected lines follow the written rules alone: which command lines are allowed stands in a table made by hand, and the logger, the server before it has a
-connection, and the pair are played by the short models below, with the messages' bytes made here. How a client's life ends is written down by hand, and the
-endpoint of tools/endpoint_model.py lives it too. What a server with Counter does to one client, and how it starts again from the log, is written down step by
-step."""
+The expected lines follow only the written rules. A table made by hand says which command lines are allowed. The logger, the server before it has a connection, and
+the pair are played by the short models below, which make the messages' bytes themselves. How a client ends is written down by hand, and also played by the
+endpoint of tools/endpoint_model.py. What a server with Counter does with one client, and how it restarts from the log, is written down step by step."""
 import pathlib
 import random
 import sys

@@ -1,8 +1,8 @@
 #!/usr/bin/env bash
-# The log, by log_bench, beside a plain C program that checks, copies and answers the same datagrams (gcc -O2), in one run. One entry is filled with
-# 16 MiB in Data of 1,460 bytes, each with its Read, and fetched whole in Parts and Lens: how many messages are spelled, read and answered a
-# second, with reads of equal lengths and with reads of 1,459 and 1,461 bytes in turn. Of each the least processor time of 7 turns of 8 rounds, taken in
-# turn. Then the time for the sixteenth MiB beside that for the first, and the most memory that a run holds, less what it holds for an empty entry.
+# The log, by log_bench, compared with a plain C program that checks, copies and answers the same datagrams (gcc -O2), in one run. One entry is filled with 16 MiB
+# in Data of 1,460 bytes, each with its Read, and is fetched completely in Parts and Lens. Printed is how many messages a second are spelled, read and answered,
+# with reads of equal lengths and with reads of 1,459 and 1,461 bytes alternately, by the minimum CPU time of 7 runs of 8 rounds each, which alternate. Then the
+# time for the sixteenth MiB compared with that for the first, and the peak memory of a run, minus that of a run with an empty entry.
 set -eu
 . "$(dirname "$0")/common.sh"
 build log_bench equal 1000 1

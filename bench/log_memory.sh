@@ -1,7 +1,7 @@
 #!/usr/bin/env bash
-# Refuses memory to `log_script` on its cases but the random ones, one allocation a run, each in turn. A line for which memory is refused is played once
-# more, so each run must print what it prints with all memory: the log was as before. Or, while a line is read, it ends with status 1 and std's own error,
-# having printed a front of that.
+# Runs `log_script` on its cases, without the random ones, and lets one allocation of each run fail: the first, the second and so on. The program plays a line whose
+# allocation failed once more, so each run must print what it prints when no allocation fails: the log was as before. Or, where the allocation was for reading a
+# line, it ends with status 1 and std's own error, having printed a prefix of that.
 set -eu
 . "$(dirname "$0")/common.sh"
 build log_script <crates/log_script/stdin

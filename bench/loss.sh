@@ -1,11 +1,11 @@
 #!/usr/bin/env bash
-# How long it takes to echo SIZE bytes over a path (bench/relay.py) that loses packets and delays each by 8 ms, each way: by ftnode's own client through server
-# and logger; where root and TUN devices allow it, by a client of the kernel through tools/bridge.py to ftnode's server; and by two sockets of the kernel
-# in network namespaces. The kernel's sockets have no window scaling and no selective acknowledgements. Each runs with three seeds, in turn, at each loss. Printed
-# are the seconds, the medians and their ratios. A transfer of the kernel's that isn't done in five minutes is said to be so, and counts as longer than all others.
-#     bench/loss.sh [PROGRAM [OLDER]]     a built ftnode, else this checkout's; and an older one to compare with
-# SIZE (500000), LOSS (1; a list of percents such as "0 1 3 5"), DELAY (8, in ms), SWAPPED (0, a percent), PORT (7300) and CONTROL (the congestion control of the
-# kernel's sockets, such as reno; the system's own where nothing is said) may stand in the environment.
+# How long it takes to echo SIZE bytes over a path (bench/relay.py) that loses packets and delays each by 8 ms in each direction: by ftnode's own client through
+# server and logger; where root and TUN devices allow it, by a kernel's client through tools/bridge.py to ftnode's server; and by two of the kernel's sockets in
+# network namespaces. The kernel's sockets have no window scaling and no selective acknowledgements. Each runs with three seeds, alternately, at each loss. Printed
+# are the seconds, the medians and their ratios. A kernel's transfer that isn't done in five minutes is reported so, and counts as longer than all others.
+#     bench/loss.sh [PROGRAM [OLDER]]     a built ftnode, by default this checkout's; and an older one to compare with
+# The environment may set SIZE (500000), LOSS (1; a list of percents such as "0 1 3 5"), DELAY (8, in ms), SWAPPED (0, a percent), PORT (7300) and CONTROL (the
+# congestion control of the kernel's sockets, such as reno; by default the system's).
 set -eu
 older=${2:+$(realpath "$2")} program=${1:+$(realpath "$1")}
 . "$(dirname "$0")/common.sh"

@@ -1,7 +1,7 @@
 #!/usr/bin/env bash
-# Refuses memory to `ftreplay run` on the first path, one allocation a run, each in turn. A run may end with status 3 and `ftreplay: no
-# memory`, having written a front of the report; with status 0 and the whole report, where it could do without; or, while the program's
-# words are made, before `replay` is called, with status 1 and std's own error. The refusing malloc is a library that is loaded before libc.
+# Runs `ftreplay run` on the first path, and lets one allocation of each run fail: the first, the second and so on. A run may end with status 3 and `ftreplay: no
+# memory`, having written a prefix of the report; with status 0 and the whole report, where it could do without the memory; or, where the allocation was for the
+# program's words, before `replay` is called, with status 1 and std's own error. The malloc that fails is in a library that is loaded before libc.
 set -eu
 . "$(dirname "$0")/common.sh"
 build ftreplay run <crates/ftreplay/stdin

@@ -1,11 +1,11 @@
 #!/usr/bin/env bash
-# Turns a second of a server with 1, 16 and 64 live connections, by node_bench: clients send segments of 64 and of 1,460 bytes in turn, a log
-# beside the server keeps each, and Echo sends it back; then segments that lie before what is taken, each answered by an acknowledgement alone; then
-# ticks. All is in memory, and packets and messages pass as bytes; what the log and the writing of the clients' packets take is in the figures. A
-# segment makes three turns: its own, and one for each of the log's two answers. The clients offer no segment size, so 1,460 bytes come back in three.
-# Beside each row the plain C checks of as many packets of that size (gcc -O2), in the same run, and how often memory is asked for, by a library
-# that is loaded before libc and tells each call. Of each the least processor time of 5 runs, taken in turn, less that of a run that only opens the
-# connections. Then the memory that a live connection holds, by the most that runs with 64 connections and with one hold.
+# Turns a second of a server with 1, 16 and 64 live connections, by node_bench: clients in turn send segments of 64 bytes, or of 1,460; a log in the same program
+# stores each, and Echo returns it; then segments that are before the bytes taken, each answered only by an acknowledgement; then ticks. All is in memory,
+# and packets and messages are passed as bytes; the times include the log and the writing of the clients' packets. A segment makes three turns: its own, and one
+# for each of the log's two answers. The clients offer no segment size, so 1,460 bytes are returned in three segments. Each row also has the time of the plain C
+# checks of as many packets of that size (gcc -O2), in the same run, and how often memory is allocated, counted by a library that is loaded before libc. Times are
+# the minimum CPU time of 5 runs each, which alternate, minus that of a run that only opens the connections. Then the memory of a live connection, from the peak
+# memory of runs with 64 connections and with one.
 set -eu
 . "$(dirname "$0")/common.sh"
 build node_bench node 1 1 64 1 0

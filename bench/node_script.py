@@ -1,9 +1,9 @@
 #!/usr/bin/env python3
 """Writes the script of node_script and what it must print: node_script.py REPORTS FOLDER, into FOLDER/stdin and FOLDER/stdout.
 
-REPORTS is a folder with the reports of the worked runs. Of each the turns of the server are taken, and what the report says that the server sends
-is what must be printed. Packets and messages are spelled here, apart from the repository's codecs. The other cases are set by hand below, but for
-those on held segments and on congestion control: what a server does there is told by the model in tools/model.py.
+REPORTS is a folder with the reports of the worked runs. The server's turns are taken from each, and what the server sends by the report is what must be printed.
+Packets and messages are spelled here, independently of the repository's codecs. The other cases are written by hand below, except those on held segments and on
+congestion control, whose expected output is that of the model in tools/model.py.
 """
 import os
 import pathlib

@@ -1,7 +1,7 @@
 #!/usr/bin/env bash
-# Packets and messages by wire_bench beside plain C loops of the same checks and updates (gcc -O2), in one run: packets
-# read and summed, for 40 and for 1,500 bytes; three fields of a packet set in place, of the same packets; and messages read and written, a
-# Data of 1,460 bytes and the length of a read. Of each the least processor time of 7 turns, taken in turn.
+# Packets and messages by wire_bench, compared with plain C loops of the same checks and updates (gcc -O2), in one run: packets of 40 and of 1,500 bytes are read,
+# with their checksums; three fields of such a packet are set in place; and messages are read and written, a Data of 1,460 bytes and the length of a read. Printed
+# is the minimum CPU time of 7 runs each, which alternate.
 set -eu
 . "$(dirname "$0")/common.sh"
 build wire_bench packets 40 1

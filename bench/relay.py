@@ -1,14 +1,14 @@
 #!/usr/bin/env python3
-"""A way with losses and delay between two ends: relay.py LISTEN TARGET LOSS DELAY_MS SEED [SWAPPED]
+"""A path with losses and delay between two ends: relay.py LISTEN TARGET LOSS DELAY_MS SEED [SWAPPED]
 
-LOSS and SWAPPED are percents of the packets, each way: a lost one doesn't come, and a swapped one comes DELAY_MS and 2 ms later than sent, so behind later
-ones. Which ones these are follows from SEED. LISTEN and TARGET are one of these two:
+LOSS and SWAPPED are percents of the packets, in each direction: a lost one doesn't arrive, and a swapped one arrives DELAY_MS and 2 ms after it was sent, so after
+later ones. SEED determines which ones these are. LISTEN and TARGET are one of these two:
 
-    ADDRESS:PORT ADDRESS:PORT   datagrams of `ftnode`: its client speaks to LISTEN in the place of the server at TARGET. As their packets name both ends, the
-                                addresses and ports are changed in them, as a network address translator does, and the sums with them
+    ADDRESS:PORT ADDRESS:PORT   datagrams of `ftnode`: its client sends to LISTEN instead of the server at TARGET. Their packets contain the addresses of both ends,
+                                so addresses, ports and checksums are changed in them, as in network address translation
     tun:NAME tun:NAME           packets between two TUN devices, which it makes, for sockets of the kernel in two network namespaces; it needs root
 
-It says `up` once it listens, runs until it is ended by SIGTERM, and then says how many packets came, were lost and were swapped.
+It prints `up` once it listens, runs until SIGTERM, and then prints how many packets arrived, were lost and were swapped.
 """
 import fcntl
 import heapq

@@ -1,9 +1,9 @@
 #!/usr/bin/env bash
-# Times `ftreplay run` on schedules of 10,000 and 100,000 events, and prints the best of five runs of each, their ratio, and the
-# memory that a run took, beside what its packets, schedule and report are: eight clients send their scripts byte by byte, each byte is logged, echoed and acknowledged
-# before the next, and at each 1,000th event the server crashes and restarts from the log (bench/crash_schedule.awk). Then the same with one client and no crash.
-# Then the lines of the larger report, but for its opening and its end, as wire_bench writes them from events and packets as bytes, beside a C
-# loop of fprintf of the same lines (gcc -O2); and the reading of a schedule of 8 MiB. Of each the least processor time of 7 turns.
+# Times `ftreplay run` on schedules of 10,000 and 100,000 events. Printed are the minimum of five runs of each, their ratio, and the memory of a run, with the sizes
+# of its packets, schedule and report. Eight clients send their scripts byte by byte, each byte is logged, echoed and acknowledged before the next, and at every
+# 1,000th event the server crashes and restarts from the log (bench/crash_schedule.awk). Then the same with one client and no crash. Then the lines of the larger
+# report, without its first and last ones, as wire_bench writes them from events and packets as bytes, compared with a C loop of fprintf of the same lines (gcc
+# -O2); and the reading of a schedule of 8 MiB. Of each the minimum CPU time of 7 runs.
 set -eu
 . "$(dirname "$0")/common.sh"
 build ftreplay run <crates/ftreplay/stdin

@@ -1,8 +1,8 @@
 #!/usr/bin/env bash
-# The restart, by node_bench: an entry whose output is all acknowledged is fetched from a log by messages as bytes, replayed and spliced. Echo, with
-# 15,000,000 bytes in reads of 2,048, and Meter, with 1 MiB in reads of 1 byte: the bytes of input and the messages, questions and answers together, a
-# second. Of each the least processor time of 5 runs with 40 restarts, less that of 5 runs that only fill the log, taken in turn. Then the most memory
-# that a run with one restart holds, less what a run without it holds: the largest difference of three.
+# The restart, by node_bench: an entry whose output is all acknowledged is fetched from a log by messages as bytes, replayed and spliced. Measured with Echo and
+# 15,000,000 bytes in reads of 2,048, and with Meter and 1 MiB in reads of 1 byte: the bytes of input a second, and the messages a second, questions and answers
+# together. Of each the minimum CPU time of 5 runs with 40 restarts, minus that of 5 runs that only fill the log, which alternate. Then the peak memory of a run
+# with one restart, minus that of a run without it: the largest difference of three.
 set -eu
 . "$(dirname "$0")/common.sh"
 build node_bench restart echo 1000 1 1

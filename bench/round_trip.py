@@ -1,9 +1,9 @@
 #!/usr/bin/env python3
 """Reads back what `ftreplay` wrote: round_trip.py FTREPLAY SCHEDULES [SEED].
 
-It makes schedules whose events may happen, spells each in a way of its own (leading zeros, spaces, comments, blank lines, upper-case hexadecimal, a
-last line without its line feed), and has it played. The report's lines of service, server and clients, and its events without their numbers, must be
-the schedule in its plain spelling; and as a schedule they must give the same report again.
+It draws schedules whose events are allowed, writes each in an unusual spelling (leading zeros, spaces, comments, blank lines, upper-case hexadecimal, a last line
+without a line feed), and has it played. The report's lines of service, server and clients, and its events without their numbers, must be the schedule in its plain
+spelling; played as a schedule they must give the same report again.
 """
 import random
 import subprocess

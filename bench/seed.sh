@@ -1,6 +1,6 @@
 #!/usr/bin/env bash
-# Times generated runs: `ftreplay seed` with the seeds 1 to 50 and 20,000 events each, with 1, 8 and 16 clients. Printed are the events a second of processor
-# time, user's and system's, and what one run of one event takes, which the others have in them too.
+# Times generated runs: `ftreplay seed` with the seeds 1 to 50 and 20,000 events each, with 1, 8 and 16 clients. Printed are the events a second of CPU time (user
+# and system), and the time of a run with one event, which is included in the others.
 set -eu
 . "$(dirname "$0")/common.sh"
 build ftreplay run <crates/ftreplay/stdin

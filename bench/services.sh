@@ -1,6 +1,6 @@
 #!/usr/bin/env bash
-# Times each service on an input made here, and prints how many megabytes of input and of output it takes a second: the best of three
-# runs. Echo, Line and Meter read 256 MiB of lines of 64 bytes, and Transfer reads 1 MiB of requests for 2,047 bytes each.
+# Times each service on an input made here, and prints how many megabytes of input and of output it processes a second: the best of three runs. Echo, Line and Meter
+# read 256 MiB of lines of 64 bytes, and Transfer reads 1 MiB of requests for 2,047 bytes each.
 set -eu
 . "$(dirname "$0")/common.sh"
 build endpoint_bench service echo <crates/endpoint_bench/stdin

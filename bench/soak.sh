@@ -1,25 +1,25 @@
 #!/usr/bin/env bash
-# A server that is killed again and again under many clients, and a logger with it where KILL says so: CLIENTS clients of the kernel, each in a network namespace and
-# behind a tools/bridge.py of its own, send BYTES bytes each to an echo of ftnode and compare what comes back. Meanwhile the server is killed (kill -9) KILLS times,
-# and in turn with it the logger as often. Where clients send at a rate the kills come evenly over the time that this takes, and else each time that another part of
-# all bytes has come back. Each is started again PAUSE seconds later: the server with the next boot number, the logger with its journal. As many clients send the
-# same to an echo server of the kernel over paths (bench/relay.py) with the same loss, without window scaling and selective acknowledgements; nothing is killed
-# there, and the pauses that ftnode's clients had are added to the time. Both run at each loss. Printed are resets, bytes lost, the longest time in which a client
-# got nothing, and the time.
-# The goal: no reset, no byte lost, and all clients done within three times. Status 0 where it is met, 1 where it is missed, 2 where it can't run.
-#     sudo bench/soak.sh [PROGRAM]        a built ftnode, else this checkout's
-# In the environment may stand:
-#     CLIENTS   16; at most 64, since a log takes no more
+# A server that is killed again and again while many clients use it, and, if KILL says so, its logger too. CLIENTS clients of the kernel, each in its own network
+# namespace and with its own tools/bridge.py, send BYTES bytes each to an echo of ftnode and compare what is returned. Meanwhile the server is killed (kill -9) KILLS
+# times, and the logger as often, alternately. If clients send at a rate, the kills are distributed evenly over the time that this takes; else one comes each time
+# that a further part of all bytes has been returned. Each process is started again PAUSE seconds later: the server with the next boot number, the logger with its
+# journal. As many clients send the same to an echo server of the kernel over paths (bench/relay.py) with the same loss, without window scaling and selective
+# acknowledgements; nothing is killed there, and the pauses that ftnode's clients had are added to the time. Both run at each loss. Printed are resets, bytes lost,
+# the longest time in which a client received nothing, and the time.
+# The goal: no reset, no byte lost, and all clients done within three times the kernel's time. Status 0 if it is met, 1 if it is missed, 2 if it can't run.
+#     sudo bench/soak.sh [PROGRAM]        a built ftnode, by default this checkout's
+# The environment may set:
+#     CLIENTS   16; at most 64, since a log has room for no more
 #     KILLS     100, of each process
 #     KILL      "server"; or "server logger", and then the logger has a journal
 #     BYTES     400000, of each client
 #     LOSS      "0 1 5", in percent
 #     PAUSE     0.2, in seconds
-#     RATE      4000, or 2000 with the logger: bytes that a client sends in a second, so that one kill a second comes; 0: as fast as it can
-#     LIMIT     400, or 800 with the logger: seconds after which a half of a loss is ended
+#     RATE      4000, or 2000 with the logger: bytes that a client sends in a second, so that there is one kill a second; 0: as fast as it can
+#     LIMIT     400, or 800 with the logger: seconds after which one of the two runs at a loss is ended
 #     RTO_MAX   the longest retransmission timeout of the clients, in milliseconds, at least 1000, on Linux 6.15 or later; the kernel's own is 120,000
-# It takes eleven minutes, or 22 with the logger, and at most LIMIT and half a minute for each half of a loss. It makes network namespaces and TUN devices, and
-# removes them in the end.
+# It takes eleven minutes, or 22 with the logger, and at most LIMIT and half a minute for each run. It makes network namespaces and TUN devices, and removes them at
+# the end.
 set -eu
 program=${1:+$(realpath "$1")}
 . "$(dirname "$0")/common.sh"

@@ -4,11 +4,11 @@
     soak_clients.py serve HOST PORT                                   an echo server
     soak_clients.py ask HOST PORT BYTES RATE KILLS LIMIT SPACE..      a client in each of these network namespaces, all in this process
 
-Each client sends BYTES bytes of its own, at most RATE bytes a second (as fast as its socket takes them where RATE is 0), ends its side, and compares what comes
-back. Printed are `kill SECONDS` each time that the next kill is due, KILLS times in all; `client N: WHY` for a client that got less than all, with
-the kernel's timeout where it wasn't done in time; and at last `end SECONDS RESETS LOST WRONG SILENCE DONE`: how long it took, connections that were reset, bytes
-that didn't come, bytes that came and were others, the longest time in which nothing came to a client that waited, in seconds, and how many clients got all. It
-ends after LIMIT seconds at the latest.
+Each client sends its own BYTES bytes, at most RATE bytes a second (as fast as its socket takes them if RATE is 0), closes its side, and compares what is returned.
+It prints `kill SECONDS` each time that the next kill is due, KILLS times in all; `client N: WHY` for a client that received less than all, with the kernel's timeout
+if it wasn't done in time; and finally `end SECONDS RESETS LOST WRONG SILENCE DONE`: the time, the number of connections that were reset, of bytes that didn't arrive
+and of wrong bytes, the longest time in seconds in which a waiting client received nothing, and the number of clients that received all. It ends after LIMIT seconds
+at the latest.
 """
 import ctypes
 import os

@@ -1,7 +1,7 @@
 #!/usr/bin/env python3
-"""Two sockets of the kernel for bench/loss.sh: `socket_echo.py serve HOST PORT` sends back to one client what it says, and `socket_echo.py ask HOST PORT FILE`
-says the bytes of a file and prints the seconds until all have come back. It ends with 1 where other bytes come, or not all of them within five minutes: after
-many losses the kernel itself waits up to two minutes until it sends again."""
+"""Two sockets of the kernel for bench/loss.sh: `socket_echo.py serve HOST PORT` returns to one client what it sends, and `socket_echo.py ask HOST PORT FILE`
+sends the bytes of a file and prints the seconds until all are returned. It ends with status 1 if other bytes arrive, or not all within five minutes: after many
+losses the kernel waits up to two minutes before it retransmits."""
 import select
 import socket
 import sys

@@ -1,7 +1,7 @@
 #!/usr/bin/env python3
 """Asks a server for a connection, and never acknowledges its SYN-ACK: ticks.py SERVER CLIENT COUNT, both ADDRESS:PORT.
 
-It prints how many milliseconds after the first SYN-ACK each of the next COUNT came: the times at which the server sent it again.
+It prints for each of the next COUNT SYN-ACKs how many milliseconds after the first it arrived: the times of the server's retransmissions.
 """
 import os
 import socket

@@ -1,8 +1,8 @@
 #!/usr/bin/env bash
-# When the server of ftnode sends a SYN-ACK again that isn't acknowledged, with ftnode's logger beside it: in silence, and among stray datagrams that
-# another port sends it, one each 10 ms, one each millisecond, and 20,000 a second. Printed are the milliseconds from the first SYN-ACK to each of the next five,
-# of three runs the least. Each has to come within twice its time in silence; the first comes with the next tick, so less than a tick counts as one, 24 ms.
-#     bench/ticks.sh [PORT] [PROGRAM]       three ports from PORT (7300) on; a PROGRAM that is given isn't built
+# When ftnode's server retransmits a SYN-ACK that isn't acknowledged, with ftnode's logger: without other traffic, and with stray datagrams that another port sends
+# to it, one every 10 ms, one every millisecond, and 20,000 a second. Printed are the milliseconds from the first SYN-ACK to each of the next five, the minimum of
+# three runs. Each must arrive within twice its time without traffic; the first is sent at the next tick, so a time below one tick counts as one, 24 ms.
+#     bench/ticks.sh [PORT] [PROGRAM]       three ports from PORT (default 7300) on; a PROGRAM that is given isn't built
 set -eu
 . "$(dirname "$0")/common.sh"
 base=${1:-7300} ours=${2:-} at=127.0.0.1 count=5 pids=()

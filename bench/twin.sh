@@ -1,6 +1,6 @@
 #!/usr/bin/env bash
-# Two loggers that act as one, by twin_bench, beside one log, in one run: how many messages of 100 bytes a second each takes in memory, of 7 turns the
-# least processor time each, taken in turn; and how many Forwards a burst of messages makes before anything that was forwarded arrives.
+# Two loggers that act as one, by twin_bench, compared with one log, in one run: how many messages of 100 bytes a second each takes in memory, by the minimum CPU
+# time of 7 runs each, which alternate; and how many Forwards a burst of messages causes before any of them arrives.
 set -eu
 . "$(dirname "$0")/common.sh"
 build twin_bench one 1000 1
