@@ -11,7 +11,7 @@ ghost use Rattle.server_node.specs.Sending.{ArePut, sent_to, wires_of, segment_t
 use crate::out_packet::To;
 use crate::outgoing::Outgoing;
 use ft_io::{Key, NoMemory};
-use logger_wire::{Msg, write_msg};
+use logger_wire::{Msg, put_msg};
 use std::alloc::Global;
 use wrapped_conn::TurnOut;
 
@@ -21,8 +21,8 @@ pub(crate) fn tell(alloc: Global, message: &Msg<'_>, sent: &mut Outgoing) -> Res
     requires bare { behind_of (body_of message.now.body) ≡ [] }
     ensures { OnOk result (ArePut (To_logger (message_of message.now) ∷ []) sent.old.items sent.new.items) }
 {
-    let mut text = [0; 2_048];
-    let len = write_msg(message, &mut text);
+    let mut text = [0; 64];
+    let len = put_msg(message, &mut text);
     sent.send(alloc, To::Logger, &text[..len])
 }
 

@@ -1,6 +1,6 @@
 //! How far a node is, and what an input does to it.
 
-ghost use Rattle.std.specs.Prelude.{◌≡◌, ◌≤◌, ◌∷◌, [], ℕ, List, Ok, None, Some, IsOk, IfSome, OnOk, IfOk, IfErr, IsErrOf, option_copied, false};
+ghost use Rattle.std.specs.Prelude.{◌≡◌, ◌≤◌, ◌∷◌, [], ℕ, List, length, Ok, None, Some, IsOk, IfSome, OnOk, IfOk, IfErr, IsErrOf, option_copied, false};
 ghost use Rattle.std.specs.List.{AllByRecursion};
 ghost use Rattle.seq_arith.specs.Packet.{Segment};
 ghost use Rattle.seq_arith.specs.PacketGrammar.{reading};
@@ -38,6 +38,9 @@ use segment_codec::{read_accepted, read_packet};
 use server_trait::Service;
 use std::alloc::Global;
 use wrapped_conn::{Conn, TurnOut};
+
+/// A packet of at most so many bytes is short.
+const SHORT_PACKET: usize = 128;
 
 /// How far a node is.
 #[derive(Drop)]
@@ -266,7 +269,7 @@ fn on_packet<S: Service>(
     }
 }
 
-/// The same on a copy, whose numbers the connection changes in place.
+/// The same on a copy, whose numbers the connection changes in place. A short packet is copied into a short room, which takes less time to clear.
 fn serve_bytes<S: Service>(
     alloc: Global,
     who: Identity,
@@ -292,17 +295,58 @@ fn serve_bytes<S: Service>(
     ensures sound { OnOk result (AllSound who serving.new.slots.entries) }
     ensures counted { OnOk result (IsCounted who.isn serving.new.next.0) }
 {
-    let mut text = [0; 1_500];
-    let copy = copied(packet, &mut text);
+    if packet.len() <= SHORT_PACKET {
+        return serve_copy(alloc, who, packet, &mut [0; 128], serving, out, sent);
+    }
+    short(packet);
+    serve_copy(alloc, who, packet, &mut [0; 1_500], serving, out, sent)
+}
+
+/// The same, with the copy in this room.
+fn serve_copy<S: Service>(
+    alloc: Global,
+    who: Identity,
+    packet: &[u8],
+    room: &mut [u8],
+    serving: &mut Serving<S>,
+    out: &mut TurnOut,
+    sent: &mut Outgoing,
+) -> Result<(), NoMemory>
+    requires room { length packet.now ≤ length room.old }
+    requires boot { 1 ≤ who.boot }
+    requires accepted { IsOk (reading packet.now) }
+    requires sound { AllSound who serving.old.slots.entries }
+    requires counted { IsCounted who.isn serving.old.next.0 }
+    ensures turn { OnOk result ((stage : Standing) (opened : ℕ) (places : List Place) (segment : Segment) → reading packet.now ≡ Ok segment
+        → AllByRecursion (IsNearTo who.local segment) places
+        → ServingStands (machine (S.started who.kind) S.after) (node_of who stage) opened places serving.old
+        → ServingGoes (machine (S.started who.kind) S.after) (node_of who stage)
+        (Packet_comes segment) opened places serving.new sent.old.items sent.new.items) }
+    ensures alone { OnOk result ((stage : Standing) (segment : Segment) → reading packet.now ≡ Ok segment
+        → ServesAlone (machine (S.started who.kind) S.after) (node_of who stage) (Packet_comes segment) serving.old serving.new
+        sent.old.items sent.new.items) }
+    ensures untouched { OnOk result ((segment : Segment) → reading packet.now ≡ Ok segment → is_for who.local segment ≡ false
+        → (serving.new ≡ serving.old) × (sent.new.items ≡ sent.old.items)) }
+    ensures sound { OnOk result (AllSound who serving.new.slots.entries) }
+    ensures counted { OnOk result (IsCounted who.isn serving.new.next.0) }
+{
+    let copy = copied(packet, room);
     serve_packet(alloc, who, copy, serving, out, sent)
 }
 
-/// The bytes of a packet at the front of this room.
-fn copied<'a>(packet: &[u8], room: &'a mut [u8; 1_500]) -> &'a mut [u8]
+/// A fact for proofs: a packet that is read has at most 1,500 bytes.
+fn short(packet: &[u8])
     requires { IsOk (reading packet.now) }
-    ensures { result.now ≡ packet.now }
+    ensures { length packet.now ≤ 1500 }
 {
     let _ = read_accepted(packet);
+}
+
+/// The bytes of a packet at the front of this room.
+fn copied<'a>(packet: &[u8], room: &'a mut [u8]) -> &'a mut [u8]
+    requires { length packet.now ≤ length room.old }
+    ensures { result.now ≡ packet.now }
+{
     let text = &mut room[..packet.len()];
     text.copy_from_slice(packet);
     text

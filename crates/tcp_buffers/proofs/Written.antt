@@ -1,7 +1,7 @@
 -- Bytes written over others: what is there then, and how a gap is filled, bytes are set and others appended one after another.
-use Rattle.std.proofs.Common.{◌≡◌, ℕ, zero, suc, ◌+◌, ◌-◌, ◌<◌, ◌≤◌, refl, sym, ap, arith, ◌∙◌, List, [], ◌∷◌, ◌++◌, length, append-nil, take, drop, min, max}
-use Rattle.std.specs.Prelude.{slice_set}
-use Rattle.std.proofs.lemmas.List.{take_min, drop_min}
+use Rattle.std.proofs.Common.{◌≡◌, ℕ, zero, suc, ◌+◌, ◌-◌, ◌<◌, ◌≤◌, refl, sym, ap, arith, ◌∙◌, List, [], ◌∷◌, ◌++◌, length, length-append, append_assoc, append-nil, take, drop, min, max}
+use Rattle.std.specs.Prelude.{slice_set, replicate}
+use Rattle.std.proofs.lemmas.List.{take_min, drop_min, take-append-drop, take-replicate, length-replicate}
 use Rattle.std.proofs.Math.Seq.{drop-nil, take-nil}
 use Rattle.std.proofs.Math.Nat.{min_comm}
 use Rattle.tcp_buffers.specs.Runs.{written}
@@ -124,3 +124,28 @@ plus_one n = omega arith
 
 pub set_next : (at x : ℕ) (bytes items : List ℕ) → at < length items → written (at + 1) bytes (slice_set items at x) ≡ written at (x ∷ bytes) items
 set_next at x bytes items h = ap (λ k. written k bytes (slice_set items at x)) (plus_one at) ∙ set_one at x bytes items h
+
+-- some zeros of a gap
+pub pad_more : (at : ℕ) (bytes items : List ℕ) (n : ℕ) → 0 < length bytes → length items + n ≤ at → written at bytes (items ++ replicate n 0) ≡ written at bytes items
+pad_more at bytes items zero some h = ap (λ l. written at bytes l) (append-nil items)
+pad_more at bytes items (suc n) some h =
+    ap (λ l. written at bytes l) (sym (append_assoc items (0 ∷ []) (replicate n 0)))
+    ∙ pad_more at bytes (items ++ 0 ∷ []) n some (omega (arith, length-append items (0 ∷ []), h))
+    ∙ pad_one at bytes items some (omega (arith, h))
+
+pub zeros_count : (zeros : List ℕ) → zeros ≡ replicate 512 0 → length zeros ≡ 512
+zeros_count zeros e = ap length e ∙ length-replicate {A = ℕ} 512 0
+
+pub zeros_after : (items zeros after : List ℕ) (count : ℕ) → zeros ≡ replicate 512 0 → count ≤ 512 → after ≡ items ++ take count zeros → after ≡ items ++ replicate count 0
+zeros_after items zeros after count e few a = a ∙ ap (λ l. items ++ l) (ap (λ l. take count l) e ∙ take-replicate {X = ℕ} count 512 0 few)
+
+pub zeros_longer : (items after : List ℕ) (count : ℕ) → after ≡ items ++ replicate count 0 → length after ≡ length items + count
+zeros_longer items after count a = ap length a ∙ length-append items (replicate count 0) ∙ ap (λ n. length items + n) (length-replicate {A = ℕ} count 0)
+
+-- bytes copied over others
+pub written_within : (at : ℕ) (bytes items : List ℕ) → at ≤ length items → take at items ++ (bytes ++ drop (length bytes) (drop at items)) ≡ written at bytes items
+unfolding written
+written_within at [] items h = take-append-drop at items
+written_within zero (x ∷ bytes) items h = sym (written_front (x ∷ bytes) items)
+written_within (suc k) (x ∷ bytes) [] h = absurd (omega (arith, h))
+written_within (suc k) (x ∷ bytes) (y ∷ items) h = ap (λ l. y ∷ l) (written_within k (x ∷ bytes) items (omega (arith, h)))

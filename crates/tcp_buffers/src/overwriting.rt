@@ -1,6 +1,6 @@
 //! Overwriting a queue's bytes, and writing past its end.
 
-ghost use Rattle.std.specs.Prelude.{◌≡◌, ℕ, ◌+◌, ◌<◌, ◌≤◌, List, ◌++◌, length, max, slice_set};
+ghost use Rattle.std.specs.Prelude.{◌≡◌, ℕ, ◌+◌, ◌<◌, ◌≤◌, List, ◌++◌, length, max, replicate, slice_set};
 ghost use Rattle.tcp_buffers.specs.Runs.{written};
 
 use circular_buffer::HeapCircularBuffer;
@@ -23,7 +23,6 @@ pub(crate) fn overwrite(queue: &mut HeapCircularBuffer<u8>, from: usize, bytes: 
 }
 
 /// Fills a queue with zeros up to place `to`.
-#[tactic(auto, using(crate::proofs::Written::pad_one))]
 fn pad(queue: &mut HeapCircularBuffer<u8>, to: usize)
     requires fits { to ≤ 65535 }
     requires room { queue.old.capacity ≡ 65535 }
@@ -32,8 +31,24 @@ fn pad(queue: &mut HeapCircularBuffer<u8>, to: usize)
     ensures longer { length queue.new.items ≡ max (length queue.old.items) to }
     ensures room { queue.new.capacity ≡ 65535 }
 {
+    if queue.len() < to {
+        pad_with(&[0; 512], queue, to);
+    }
+}
+
+/// The same by these zeros, as often as it takes.
+fn pad_with(zeros: &[u8], queue: &mut HeapCircularBuffer<u8>, to: usize)
+    requires zeros { zeros.now ≡ replicate 512 0 }
+    requires fits { to ≤ 65535 }
+    requires short { length queue.old.items < to }
+    requires room { queue.old.capacity ≡ 65535 }
+    ensures items { (bytes : List ℕ) → 0 < length bytes → written to bytes queue.new.items ≡ written to bytes queue.old.items }
+    ensures long { length queue.new.items ≡ to }
+    ensures room { queue.new.capacity ≡ 65535 }
+{
     while queue.len() < to {
-        append(queue, &[0]);
+        let count = zeros.len().min(to - queue.len());
+        append(queue, &zeros[..count]);
     }
 }
 
@@ -48,9 +63,46 @@ fn append(queue: &mut HeapCircularBuffer<u8>, bytes: &[u8])
     queue.fill_from_slice(bytes);
 }
 
-/// Writes bytes over those of a queue from place `from` on.
-#[tactic(auto, using(crate::proofs::Written::set_one, crate::proofs::Written::length_set), unfolding(crate::specs::Runs::written))]
+/// Writes bytes over those of a queue from place `from` on. Where the queue continues at the beginning of its room, to move it would cost more.
 fn set_all(queue: &mut HeapCircularBuffer<u8>, from: usize, bytes: &[u8])
+    requires within { from + length bytes.now ≤ length queue.old.items }
+    requires fits { from + length bytes.now ≤ 65535 }
+    ensures items { queue.new.items ≡ written from bytes.now queue.old.items }
+    ensures long { length queue.new.items ≡ length queue.old.items }
+    ensures room { queue.new.capacity ≡ queue.old.capacity }
+{
+    let (_, wrapped) = queue.as_slices();
+    if wrapped.is_empty() {
+        set_slice(queue, from, bytes);
+    } else {
+        set_each(queue, from, bytes);
+    }
+}
+
+/// The same by one copy.
+fn set_slice(queue: &mut HeapCircularBuffer<u8>, from: usize, bytes: &[u8])
+    requires within { from + length bytes.now ≤ length queue.old.items }
+    requires fits { from + length bytes.now ≤ 65535 }
+    ensures items { queue.new.items ≡ written from bytes.now queue.old.items }
+    ensures long { length queue.new.items ≡ length queue.old.items }
+    ensures room { queue.new.capacity ≡ queue.old.capacity }
+{
+    copy_over(queue.make_contiguous(), from, bytes);
+}
+
+/// Writes bytes over others from place `from` on.
+fn copy_over(items: &mut [u8], from: usize, bytes: &[u8])
+    requires within { from + length bytes.now ≤ length items.old }
+    requires fits { from + length bytes.now ≤ 65535 }
+    ensures items { items.new ≡ written from bytes.now items.old }
+    ensures long { length items.new ≡ length items.old }
+{
+    items[from..from + bytes.len()].copy_from_slice(bytes);
+}
+
+/// The same byte by byte.
+#[tactic(auto, using(crate::proofs::Written::set_one, crate::proofs::Written::length_set), unfolding(crate::specs::Runs::written))]
+fn set_each(queue: &mut HeapCircularBuffer<u8>, from: usize, bytes: &[u8])
     requires within { from + length bytes.now ≤ length queue.old.items }
     requires fits { from + length bytes.now ≤ 65535 }
     ensures items { queue.new.items ≡ written from bytes.now queue.old.items }

@@ -1,9 +1,9 @@
 //! The messages of a connection to the logger.
 
 ghost use Rattle.std.specs.Prelude.{◌≡◌, ◌≤◌, ◌<◌, ◌+◌, ◌*◌, ◌^◌, ◌∷◌, ◌++◌, [], length};
-ghost use Rattle.seq_arith.specs.MessageGrammar.{spelling};
+ghost use Rattle.seq_arith.specs.MessageGrammar.{spelling, message_length};
 ghost use Rattle.seq_arith.specs.Message.Body.{DataMsg};
-ghost use Rattle.logger_wire.specs.Value.{message_of, IsSendable};
+ghost use Rattle.logger_wire.specs.Value.{body_of, message_of, IsSendable};
 ghost use Rattle.north_wrap.specs.Standing.{messages_of};
 ghost use Rattle.tcp_endpoint.specs.Packets.{byte_count};
 ghost use Rattle.wrapped_conn.specs.Telling.{spelled, dones, text_length, most_text, AreShort, AreTellable, with_done};
@@ -11,13 +11,13 @@ ghost use Rattle.wrapped_conn.specs.Telling.{spelled, dones, text_length, most_t
 use crate::conn::Conn;
 use crate::stage::ConnStage;
 use ft_io::Key;
-use logger_wire::{Body, Msg, write_msg};
+use logger_wire::{Body, Msg, put_msg};
 use north_wrap::ReadRecords;
 use server_trait::Service;
 use tcp_endpoint::Outbox;
 
-/// The room of a message, in bytes.
-const MESSAGE: usize = 2_048;
+/// A Data with at most so much text is written into a short room, which takes less time to clear.
+const SHORT_TEXT: usize = 97;
 
 impl<S: Service> Conn<S> {
     /// Sends a part of the client's stream.
@@ -53,7 +53,11 @@ impl<S: Service> Conn<S> {
             fin: u8::from(fin),
             bytes,
         };
-        tell(self.boot, body, out);
+        if bytes.len() <= SHORT_TEXT {
+            tell(self.boot, body, &mut [0; 128], out)
+        } else {
+            tell(self.boot, body, &mut [0; 1_491], out)
+        }
     }
 
     /// Reports the reads of this turn.
@@ -82,22 +86,27 @@ impl<S: Service> Conn<S> {
         }
         self.stage = ConnStage::Ending;
         fit(self.key, self.boot);
-        tell(self.boot, Body::DoneMsg { key: self.key }, out);
+        tell(
+            self.boot,
+            Body::DoneMsg { key: self.key },
+            &mut [0; 22],
+            out,
+        );
     }
 }
 
-/// Sends one message.
-fn tell(boot: u64, body: Body<'_>, out: &mut Outbox)
+/// Sends one message, which is written into this room first.
+fn tell(boot: u64, body: Body<'_>, room: &mut [u8], out: &mut Outbox)
     requires sendable { IsSendable (record { boot = boot; body = body }) }
+    requires room { message_length (body_of body) ≤ length room.old }
     requires few { length out.old ≤ 80 }
     requires short { byte_count out.old + text_length body ≤ 64 * length out.old + most_text }
     ensures told { out.new ≡ out.old ++ spelling (message_of (record { boot = boot; body = body.entry })) ∷ [] }
     ensures few { length out.new ≡ length out.old + 1 }
     ensures short { byte_count out.new ≤ byte_count out.old + 64 + text_length body.entry }
 {
-    let mut message = [0u8; MESSAGE];
-    let len = write_msg(&Msg { boot, body }, &mut message);
-    out.push(&message[..len]);
+    let len = put_msg(&Msg { boot, body }, room);
+    out.push(&room[..len]);
 }
 
 /// Sends a Read for each of these reads, by index.
@@ -113,7 +122,12 @@ fn tell_reads(boot: u64, key: Key, reads: &ReadRecords, out: &mut Outbox)
     fit(key, boot);
     for i in 0..reads.len() {
         let (index, length) = reads.get(i);
-        tell(boot, Body::ReadMsg { key, index, length }, out);
+        tell(
+            boot,
+            Body::ReadMsg { key, index, length },
+            &mut [0; 28],
+            out,
+        );
     }
 }
 

@@ -1,6 +1,6 @@
 use Rattle.std.proofs.Common.{◌≡◌, ◌+◌, ◌≤◌, length}
 use Rattle.tcp_buffers.specs.Runs.{written}
-use Rattle.tcp_buffers.proofs.overwriting.set_all.Given as goal
+use Rattle.tcp_buffers.proofs.overwriting.set_each.Given as goal
 
 abbrev pub invariant-loop-byte : goal.invariant-loop-byte
 invariant-loop-byte l = record {

@@ -1,12 +1,11 @@
-use Rattle.std.proofs.Common.{◌≡◌, ℕ, ◌-◌, ◌<◌, ◌≤◌, List, length, max}
+use Rattle.std.proofs.Common.{◌≡◌, ℕ, ◌-◌, ◌<◌, ◌≤◌, List, length}
 use Rattle.tcp_buffers.specs.Runs.{written}
-use Rattle.tcp_buffers.proofs.overwriting.pad.Given as goal
+use Rattle.tcp_buffers.proofs.overwriting.pad_with.Given as goal
 
 abbrev pub invariant-loop-queue : goal.invariant-loop-queue
 invariant-loop-queue l = record {
   items : (bytes : List ℕ) → 0 < length bytes → written l.to bytes l.queue.items ≡ written l.to bytes l.fn.queue.items;
-  more : length l.fn.queue.items ≤ length l.queue.items;
-  longer : length l.queue.items ≤ max (length l.fn.queue.items) l.to;
+  within : length l.queue.items ≤ l.to;
   room : l.queue.capacity ≡ 65535;
 }
 
