@@ -10,7 +10,7 @@ use Rattle.ft_io.specs.declared.Addr.{Addr}
 use Rattle.ft_model.specs.Words.{words_of, lines_of}
 use Rattle.ft_model.specs.Spelling.{numeral, number_of, within, addr_of, is_hex, hex_bytes, script_of}
 use Rattle.ft_model.specs.Grammar.Refusal.{TooLong}
-use Rattle.ft_model.specs.Grammar.{◌>>=◌, line_of, line_of_words, line_behind, line_from, may_stand, may_join, keyword_of, verb_of, names_no_service, is_printable, client_line, free_address, is_taken, service_line, server_line, event_line, client_number, long_number, Objection, no_objection, unless_objected, after_line, read_lines, read_with, read_text, with_line, is_passed_over, is_too_much, at_line}
+use Rattle.ft_model.specs.Grammar.{◌>>=◌, line_of, line_of_words, line_behind, line_from, may_stand, may_join, keyword_of, verb_of, names_no_service, is_printable, client_line, free_address, is_taken, service_line, server_line, bare_line, event_line, client_number, long_number, Objection, no_objection, unless_objected, after_line, read_lines, read_with, read_text, with_line, is_passed_over, is_too_much, at_line}
 use Rattle.ft_model.specs.Accepted.{AreApart, IsAccepted}
 use Rattle.ft_model.specs.Schedule.{bytes_of}
 use Rattle.ft_model.specs.declared.event.Event.{Event}
@@ -79,16 +79,24 @@ passes : (draft : Draft) (text : List ℕ) (l : Line) → line_of draft text ≡
 unfolding line_of
 passes draft text l e = passes_words draft text (words_of text) l refl (provided (is_printable text) why.Character (line_of_words draft (words_of text)) l e).1
 
+-- a line of one word says nothing else
+pub bare_says : {Says : Type 0} (own : Says) (words : List (List ℕ)) (said : Says) → (own ≡ said → ⊥) → bare_line own words ≡ Ok said → ⊥
+unfolding bare_line
+bare_says own [] said other e = other (cc)
+bare_says own (word ∷ more) said other e = absurd (cc)
+
 -- an event is announced by a verb, and a client by its keyword
 says_event : (draft : Draft) (k : Keyword) (words : List (List ℕ)) (e : Event) → line_from draft k words ≡ Ok (line.Event e) → (v : Verb) × (k ≡ keyword.Event v)
 says_event draft keyword.Service words e h = let b = bind_ok (service_line words) (λ kind. Ok (line.Service kind)) (line.Event e) h in absurd (cc b.2)
 says_event draft keyword.Server words e h = let b = bind_ok (server_line words) (λ addr. Ok (line.Server addr)) (line.Event e) h in absurd (cc b.2)
+says_event draft keyword.Twin words e h = absurd (bare_says line.Twin words (line.Event e) (λ f. cc) h)
 says_event draft keyword.Client words e h = let b = bind_ok (client_line draft words) (λ client. Ok (line.Client client)) (line.Event e) h in absurd (cc b.2)
 says_event draft (keyword.Event v) words e h = (v, refl)
 
 pub says_client : (draft : Draft) (k : Keyword) (words : List (List ℕ)) (c : ClientLine) → line_from draft k words ≡ Ok (line.Client c) → (k ≡ keyword.Client) × (client_line draft words ≡ Ok c)
 says_client draft keyword.Service words c h = let b = bind_ok (service_line words) (λ kind. Ok (line.Service kind)) (line.Client c) h in absurd (cc b.2)
 says_client draft keyword.Server words c h = let b = bind_ok (server_line words) (λ addr. Ok (line.Server addr)) (line.Client c) h in absurd (cc b.2)
+says_client draft keyword.Twin words c h = absurd (bare_says line.Twin words (line.Client c) (λ f. cc) h)
 says_client draft keyword.Client words c h = let b = bind_ok (client_line draft words) (λ client. Ok (line.Client client)) (line.Client c) h in (refl, (cc (b.1, b.2)))
 says_client draft (keyword.Event v) words c h = let b = bind_ok (event_line v words) (λ e. Ok (line.Event e)) (line.Client c) h in absurd (cc b.2)
 
@@ -102,7 +110,7 @@ verb_in None v e = absurd (cc)
 
 verb_behind : (word : List ℕ) (v : Verb) → keyword_of word ≡ Some (keyword.Event v) → verb_of word ≡ Some v
 unfolding keyword_of
-verb_behind word v e = verb_in (verb_of word) v (another _ keyword.Client (keyword.Event v) _ (λ h. cc) (another _ keyword.Server (keyword.Event v) _ (λ h. cc) (another _ keyword.Service (keyword.Event v) _ (λ h. cc) e)))
+verb_behind word v e = verb_in (verb_of word) v (another _ keyword.Client (keyword.Event v) _ (λ h. cc) (another _ keyword.Twin (keyword.Event v) _ (λ h. cc) (another _ keyword.Server (keyword.Event v) _ (λ h. cc) (another _ keyword.Service (keyword.Event v) _ (λ h. cc) e))))
 
 -- A script has at most 2^24 bytes.
 half : (digits : List ℕ) → 2 * length (hex_bytes digits) ≤ length digits
@@ -196,6 +204,10 @@ with_event s e h room = record {
   events = omega (arith, length-append {A = Event});
 }
 
+with_pair : (s : Schedule) → IsAccepted s → IsAccepted (record s { twin = true })
+unfolding is_taken
+with_pair s h = record { clients = h.clients; addresses = h.addresses; scripts = h.scripts; events = h.events }
+
 abbrev Kept : Draft → Type 0
 Kept Empty = Unit {0}
 Kept (Named kind) = Unit {0}
@@ -212,14 +224,17 @@ room_for_event s text word words v e f h = leb-false _ _ (not_both _ _ h (rw (e,
 line_kept : (draft : Draft) (text : List ℕ) (l : Line) → Kept draft → is_too_much draft text ≡ false → Passes draft text l → Kept (with_line draft l)
 line_kept Empty text (line.Service kind) h few p = tt
 line_kept Empty text (line.Server addr) h few p = tt
+line_kept Empty text line.Twin h few p = tt
 line_kept Empty text (line.Client c) h few p = tt
 line_kept Empty text (line.Event e) h few p = tt
 line_kept (Named kind) text (line.Service name) h few p = tt
 line_kept (Named kind) text (line.Server addr) h few p = record { clients = omega arith; addresses = tt; scripts = tt; events = omega arith }
+line_kept (Named kind) text line.Twin h few p = tt
 line_kept (Named kind) text (line.Client c) h few p = tt
 line_kept (Named kind) text (line.Event e) h few p = tt
 line_kept (Begun s) text (line.Service kind) h few p = h
 line_kept (Begun s) text (line.Server addr) h few p = h
+line_kept (Begun s) text line.Twin h few p = with_pair s h
 line_kept (Begun s) text (line.Client c) h few p =
     let said = says_client (Begun s) p.k p.words c p.says in
     let kept = client_kept (Begun s) p.words c said.1 in

@@ -22,6 +22,7 @@ suits_either kind events.Crash move e = none_is_some move e
 suits_either kind events.Tick move e = none_is_some move e
 suits_either kind (events.Deliver n) move e = none_is_some move e
 suits_either kind (events.Flip n bit) move e = none_is_some move e
+suits_either kind (events.Stop part) move e = none_is_some move e
 
 -- A client that has sent its SYN, and a RST with another number than the one after it.
 abbrev pub refusal : Segment

@@ -23,7 +23,7 @@ use Rattle.ft_model.specs.Node.Input.{Packet_comes, Message_comes, Noise_comes, 
 use Rattle.ft_model.specs.Lawful.{LawfulTurn, hello}
 use Rattle.ft_model.specs.World.{World, Moment, IsNextBoot, NothingHappens, segment_or_noise, message_or_noise, ClientReads, LogReads, Flipped, ServerMoves, ServerTurn, Delivered, Moves, Happens, Joint, IsStart, world_after, with_client}
 use Rattle.ft_model.specs.declared.event.Event.{Event}
-use Rattle.ft_model.specs.declared.event.Event.TheVariants.{Boot, Crash, Tick, Deliver, Flip, Begin, Send, Fin, Ack, Reset}
+use Rattle.ft_model.specs.declared.event.Event.TheVariants.{Boot, Crash, Tick, Deliver, Flip, Begin, Send, Fin, Ack, Reset, Stop}
 use Rattle.ft_model.proofs.Lists.{all_slice_get, none_is_some}
 
 -- the packet was sent before
@@ -149,6 +149,7 @@ happened service before (Send client from len) sent after h = inl (client_moved 
 happened service before (Fin client) sent after h = inl (client_moved client h)
 happened service before (Ack client window) sent after h = inl (client_moved client h)
 happened service before (Reset client) sent after h = inl (client_moved client h)
+happened service before (Stop part) sent after h = absurd h
 
 -- what holds of all packets sent holds of one that is delivered
 pub all_sent : (P : Packet → Type 0) (w : World) (packet : Packet) → AllByRecursion P w.packets → IsUnderWay w packet → P packet

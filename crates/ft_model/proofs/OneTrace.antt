@@ -24,7 +24,7 @@ use Rattle.ft_model.specs.Schedule.{kind_of}
 use Rattle.ft_model.specs.World.{World, Moment, ServerTurn, ServerMoves, ClientReads, LogReads, segment_or_noise, message_or_noise, DeliveredAs, Flipped, Delivered, Moves, Happens, Joint, world_after, events_of, with_client}
 use Rattle.ft_model.specs.Legal.{start_of, IsScripted, IsAllowed, AllAllowed, IsLegalFor}
 use Rattle.ft_model.specs.declared.event.Event.{Event}
-use Rattle.ft_model.specs.declared.event.Event.TheVariants.{Boot, Crash, Tick, Deliver, Flip, Begin, Send, Fin, Ack, Reset}
+use Rattle.ft_model.specs.declared.event.Event.TheVariants.{Boot, Crash, Tick, Deliver, Flip, Begin, Send, Fin, Ack, Reset, Stop}
 use Rattle.ft_model.specs.declared.schedule.Schedule.{Schedule}
 use Rattle.ft_model.proofs.TurnOnce.{turn_once}
 use Rattle.ft_model.proofs.Lists.{some_is}
@@ -115,6 +115,7 @@ module _ {State : Type 0} (service : Machine State) where
   happens_once (Fin client) before w x s t p q a b = by_script (Fin client) client Fin_move before w x s t refl p q a b
   happens_once (Ack client window) before w x s t p q a b = by_script (Ack client window) client Acknowledge before w x s t refl p q a b
   happens_once (Reset client) before w x s t p q a b = by_script (Reset client) client Rst before w x s t refl p q a b
+  happens_once (Stop part) before w x s t p q a b = absurd p
 
   -- what was sent stays
   pub goes_on : (event : Event) (before w : World) (s : List Packet) → Happens service before event s w → w.packets ≡ before.packets ++ s
@@ -148,6 +149,7 @@ module _ {State : Type 0} (service : Machine State) where
   goes_on (Fin client) before w s p = ap (λ v. v.packets) p.after_is
   goes_on (Ack client window) before w s p = ap (λ v. v.packets) p.after_is
   goes_on (Reset client) before w s p = ap (λ v. v.packets) p.after_is
+  goes_on (Stop part) before w s p = absurd p
 
   sent_once : (event : Event) (before w x : World) (s t : List Packet) → Happens service before event s w → Happens service before event t x → w ≡ x → s ≡ t
   sent_once event before w x s t p q e =

@@ -12,7 +12,7 @@ use Rattle.ft_model.specs.Network.{Packet}
 use Rattle.ft_model.specs.Network.Packet.{To_server, To_client, To_logger, From_logger}
 use Rattle.ft_io.specs.declared.Addr.{Addr}
 use Rattle.ft_model.specs.declared.way.Way.{Way}
-use Rattle.ft_model.specs.declared.way.Way.TheVariants.{ClientToServer, ServerToClient, ServerToLogger, LoggerToServer}
+use Rattle.ft_model.specs.declared.way.Way.TheVariants.{ClientToServer, ServerToClient, ServerToLogger, LoggerToServer, HeadToTail, TailToHead}
 use Rattle.ft_model.specs.Texts.{or_dash, hex_text, list_text, behind_commas, address_text, key_text, flag_letters, flags_text, mss_text, bit_text, way_text}
 use Rattle.ft_model.specs.Report.{segment_words, name_of, numbers_words, kept_words, entry_words, part_words, field_words, message_words, content_words}
 use Rattle.ft_model.specs.Readable.{IsWord, Fits, FitsOption, FitsWay, FitsKey, IsReadable}
@@ -72,6 +72,8 @@ word_way (ClientToServer n) p = all_append (λ c. 32 < c) (decimal n) (codes ">S
 word_way (ServerToClient n) p = all_append (λ c. 32 < c) (codes "S>") (decimal n) (lit (codes "S>") refl) (word_decimal n p)
 word_way ServerToLogger p = lit (codes "S>L") refl
 word_way LoggerToServer p = lit (codes "L>S") refl
+word_way HeadToTail p = lit (codes "H>T") refl
+word_way TailToHead p = lit (codes "T>H") refl
 
 joined_with : (d : List ℕ) (c : ℕ) (r : List ℕ) → IsWord d → 32 < c → IsWord r → IsWord (d ++ c ∷ r)
 joined_with d c r p h q = all_append (λ x. 32 < x) d (c ∷ r) p (h, q)

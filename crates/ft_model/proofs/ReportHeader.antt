@@ -1,5 +1,5 @@
 -- The header of a report tells what was asked: the service, the server's address, and the clients.
-use Rattle.std.proofs.Common.{◌≡◌, ℕ, ◌<◌, ◌≤◌, ◌^◌, ◌+◌, ◌/◌, List, [], ◌∷◌, ◌++◌, codes, decimal, length, drop, refl, sym, ap, ◌∙◌, subst, arith, append_assoc, Ok}
+use Rattle.std.proofs.Common.{◌≡◌, ℕ, Bool, true, false, ◌<◌, ◌≤◌, ◌^◌, ◌+◌, ◌/◌, List, [], ◌∷◌, ◌++◌, codes, decimal, length, drop, refl, sym, ap, ◌∙◌, subst, arith, append_assoc, Ok}
 use Rattle.std.specs.List.{AllByRecursion, flat_map}
 use Rattle.std.proofs.lemmas.Fmt.{decimal_injective, decimal_nonempty}
 use Rattle.std.proofs.lemmas.List.{append_cancel_left}
@@ -18,7 +18,7 @@ use Rattle.ft_model.specs.Client.{Client}
 use Rattle.ft_model.specs.Log.{Entry}
 use Rattle.ft_model.specs.World.{World, Moment}
 use Rattle.ft_model.specs.Texts.{spaced, line, address_text, key_text, hex_text, service_text, script_text, phase_text}
-use Rattle.ft_model.specs.Report.{schedule_line, schedule_lines, header, event_lines, phase_line, client_line, client_lines, entry_line, log_line, end_line, closing_lines}
+use Rattle.ft_model.specs.Report.{schedule_line, schedule_lines, twin_line, header, event_lines, phase_line, client_line, client_lines, entry_line, log_line, end_line, closing_lines}
 use Rattle.ft_model.specs.Readable.{IsWord, Fits, FitsKey, FitsScript, FitsClient, FitsSchedule}
 use Rattle.ft_model.proofs.ReportWords.{cut, all_append, IsDigit, digits_decimal, word_decimal}
 use Rattle.ft_model.proofs.ReportParts.{address_same}
@@ -195,6 +195,20 @@ client_mark n asked r = refl
 other_mark : (text : List ℕ) → (mark text ≡ mark (codes "cl") → ⊥) → NoClient text
 other_mark text h = λ n asked more fits client e. h (ap mark e ∙ client_mark n asked more)
 
+-- a text that doesn't go on with the line on two loggers
+abbrev pub NoTwin : List ℕ → Type 0
+NoTwin text = mark text ≡ mark (codes "tw") → ⊥
+
+twin_cut : (a b : Bool) (r s : List ℕ) → NoTwin r → NoTwin s → twin_line a ++ r ≡ twin_line b ++ s → (a ≡ b) × (r ≡ s)
+twin_cut true true r s nr ns e = (refl, append_cancel_left (twin_line true) r s e)
+twin_cut true false r s nr ns e = absurd (ns (sym (ap mark e)))
+twin_cut false true r s nr ns e = absurd (nr (ap mark e))
+twin_cut false false r s nr ns e = (refl, e)
+
+clients_no_twin : (n : ℕ) (asked : List ClientLine) (r : List ℕ) → NoTwin r → NoTwin (schedule_lines n asked ++ r)
+clients_no_twin n [] r h = h
+clients_no_twin n (a ∷ asked) r h = λ f. omega (arith, f, ap mark (append_assoc (schedule_line n a) (schedule_lines (n + 1) asked) r) ∙ client_mark n a (schedule_lines (n + 1) asked ++ r))
+
 -- how a run ends: clients, entries of the log, and the count of events
 phase_mark : (n : ℕ) (phase : Phase) (accepted r : List ℕ) → mark (phase_line n phase accepted ++ r) ≡ mark (codes "cl")
 unfolding phase_line
@@ -212,15 +226,16 @@ pub record IsClosing (text : List ℕ) : Type 0 where
   pub packet : NoPacket text
   pub event : NoEvent text
   pub client : NoClient text
+  pub twin : NoTwin text
 
-of_mark : (text : List ℕ) (m : ℕ) → mark text ≡ m → (m ≡ mark (codes "pa") → ⊥) → (m ≡ mark (codes "ev") → ⊥) → (m ≡ mark (codes "cl") → ⊥) → IsClosing text
-of_mark text m at p e c = record { packet = λ f. p (sym at ∙ f); event = λ f. e (sym at ∙ f); client = other_mark text (λ f. c (sym at ∙ f)) }
+of_mark : (text : List ℕ) (m : ℕ) → mark text ≡ m → (m ≡ mark (codes "pa") → ⊥) → (m ≡ mark (codes "ev") → ⊥) → (m ≡ mark (codes "cl") → ⊥) → (m ≡ mark (codes "tw") → ⊥) → IsClosing text
+of_mark text m at p e c t = record { packet = λ f. p (sym at ∙ f); event = λ f. e (sym at ∙ f); client = other_mark text (λ f. c (sym at ∙ f)); twin = λ f. t (sym at ∙ f) }
 
 ends : (clients : List Client) (entries : List Entry) (n : ℕ) → IsClosing (client_lines 1 clients ++ (flat_map log_line entries ++ end_line n))
-ends [] [] n = of_mark (end_line n) (mark (codes "en")) (end_mark n) (λ f. omega (arith, f)) (λ f. omega (arith, f)) (λ f. omega (arith, f))
+ends [] [] n = of_mark (end_line n) (mark (codes "en")) (end_mark n) (λ f. omega (arith, f)) (λ f. omega (arith, f)) (λ f. omega (arith, f)) (λ f. omega (arith, f))
 ends [] (e ∷ entries) n =
     of_mark _ (mark (codes "lo")) (ap mark (append_assoc (log_line e) (flat_map log_line entries) (end_line n)) ∙ entry_mark e _)
-    (λ f. omega (arith, f)) (λ f. omega (arith, f)) (λ f. omega (arith, f))
+    (λ f. omega (arith, f)) (λ f. omega (arith, f)) (λ f. omega (arith, f)) (λ f. omega (arith, f))
 ends (c ∷ clients) entries n =
     let rest : List ℕ = flat_map log_line entries ++ end_line n in
     let whole = append_assoc (client_line 1 c) (client_lines 2 clients) rest in
@@ -229,6 +244,7 @@ ends (c ∷ clients) entries n =
       packet = λ f. omega (arith, at, f);
       event = λ f. omega (arith, at, f);
       client = λ n asked more fits client e. phase_apart 1 n c.phase c.accepted asked _ more (omega arith) fits client (sym whole ∙ e);
+      twin = λ f. omega (arith, at, f);
     }
 
 pub closing_ends : (w : World) (n : ℕ) → IsClosing (closing_lines w n)
@@ -239,28 +255,36 @@ pub no_client : (clients : List Client) (trace : List Moment) (r : List ℕ) →
 no_client clients [] r h = h
 no_client clients (m ∷ earlier) r h = let at = events_lead clients m earlier r in other_mark (event_lines clients (m ∷ earlier) ++ r) (λ f. omega (arith, at, f))
 
+pub no_twin : (clients : List Client) (trace : List Moment) (r : List ℕ) → NoTwin r → NoTwin (event_lines clients trace ++ r)
+no_twin clients [] r h = h
+no_twin clients (m ∷ earlier) r h = let at = events_lead clients m earlier r in λ f. omega (arith, at, f)
+
 -- the whole header
 header_then : (schedule : Schedule) (r : List ℕ)
     → header schedule ++ r ≡ line (codes "ftreplay") (codes "1" ∷ []) ++ (line (codes "service") (service_text schedule.service ∷ [])
-    ++ (line (codes "server") (address_text schedule.server.ip schedule.server.port ∷ []) ++ (schedule_lines 1 schedule.clients ++ r)))
+    ++ (line (codes "server") (address_text schedule.server.ip schedule.server.port ∷ [])
+    ++ (twin_line schedule.twin ++ (schedule_lines 1 schedule.clients ++ r))))
 unfolding header
 header_then schedule r =
     let first : List ℕ = line (codes "ftreplay") (codes "1" ∷ []) in
     let service : List ℕ = line (codes "service") (service_text schedule.service ∷ []) in
     let server : List ℕ = line (codes "server") (address_text schedule.server.ip schedule.server.port ∷ []) in
+    let twin : List ℕ = twin_line schedule.twin in
     let clients : List ℕ = schedule_lines 1 schedule.clients in
-    append_assoc first (service ++ (server ++ clients)) r
-    ∙ ap (λ t. first ++ t) (append_assoc service (server ++ clients) r ∙ ap (λ t. service ++ t) (append_assoc server clients r))
+    append_assoc first (service ++ (server ++ (twin ++ clients))) r
+    ∙ ap (λ t. first ++ t) (append_assoc service (server ++ (twin ++ clients)) r
+    ∙ ap (λ t. service ++ t) (append_assoc server (twin ++ clients) r ∙ ap (λ t. server ++ t) (append_assoc twin clients r)))
 
 -- the same was asked, but for the events
 pub record IsSameHeader (schedule other : Schedule) : Type 0 where
   pub service : schedule.service ≡ other.service
   pub server : schedule.server ≡ other.server
+  pub twin : schedule.twin ≡ other.twin
   pub clients : schedule.clients ≡ other.clients
 
 pub header_cut : (schedule other : Schedule) (r s : List ℕ) → FitsSchedule schedule → FitsSchedule other → NoClient r → NoClient s
-    → header schedule ++ r ≡ header other ++ s → IsSameHeader schedule other × (r ≡ s)
-header_cut schedule other r s p q nr ns e =
+    → NoTwin r → NoTwin s → header schedule ++ r ≡ header other ++ s → IsSameHeader schedule other × (r ≡ s)
+header_cut schedule other r s p q nr ns tr ts e =
     let all = append_cancel_left (line (codes "ftreplay") (codes "1" ∷ [])) _ _ (sym (header_then schedule r) ∙ (e ∙ header_then other s)) in
     let service = line_cut (codes "service") (service_text schedule.service ∷ []) (service_text other.service ∷ []) _ _
     (word_service schedule.service, tt) (word_service other.service, tt) all in
@@ -269,10 +293,13 @@ header_cut schedule other r s p q nr ns e =
     (word_key (record { ip = other.server.ip; port = other.server.port }) (q.ip, q.port), tt) service.1 in
     let addresses : address_text schedule.server.ip schedule.server.port ≡ address_text other.server.ip other.server.port = ap verb server.0 in
     let address = address_same schedule.server.ip other.server.ip schedule.server.port other.server.port p.ip q.ip p.port q.port addresses in
-    let clients = clients_cut 1 schedule.clients other.clients r s p.clients q.clients (omega (arith, p.count)) (omega (arith, q.count)) nr ns server.1 in (
+    let twin = twin_cut schedule.twin other.twin (schedule_lines 1 schedule.clients ++ r) (schedule_lines 1 other.clients ++ s)
+    (clients_no_twin 1 schedule.clients r tr) (clients_no_twin 1 other.clients s ts) server.1 in
+    let clients = clients_cut 1 schedule.clients other.clients r s p.clients q.clients (omega (arith, p.count)) (omega (arith, q.count)) nr ns twin.1 in (
       record {
         service = service_same schedule.service other.service (ap verb service.0);
         server = λ i. record { ip = address.0 i; port = address.1 i };
+        twin = twin.0;
         clients = clients.0;
       },
       clients.1,

@@ -5,7 +5,7 @@ use Rattle.std.proofs.lemmas.Fmt.{decimal_injective}
 use Rattle.std.proofs.lemmas.List.{append_cancel_left}
 use Rattle.ft_io.specs.declared.Addr.{Addr}
 use Rattle.ft_model.specs.declared.event.Event.{Event}
-use Rattle.ft_model.specs.declared.event.Event.TheVariants.{Boot, Crash, Tick, Deliver, Flip, Begin, Send, Fin, Ack, Reset}
+use Rattle.ft_model.specs.declared.event.Event.TheVariants.{Boot, Crash, Tick, Deliver, Flip, Begin, Send, Fin, Ack, Reset, Stop}
 use Rattle.ft_model.specs.Client.{Client}
 use Rattle.ft_model.specs.Network.{Packet}
 use Rattle.ft_model.specs.declared.way.Way.{Way}
@@ -81,6 +81,7 @@ words_event (Send client from len) h = (lit (codes "send") refl, (word_decimal c
 words_event (Fin client) h = (lit (codes "fin") refl, (word_decimal client h, tt))
 words_event (Ack client window) h = (lit (codes "ack") refl, (word_decimal client h.0, (word_decimal window (omega (arith, h.1)), tt)))
 words_event (Reset client) h = (lit (codes "reset") refl, (word_decimal client h, tt))
+words_event (Stop part) h = (lit (codes "stop") refl, (word_decimal part h, tt))
 
 -- a number that differs from verb to verb
 abbrev digest : List ℕ → ℕ
@@ -113,6 +114,7 @@ event_same (Ack m x) (Ack n y) p q e =
     let a : m ≡ n = decimal_injective m n p.0 q.0 (cc) in
     let b : x ≡ y = decimal_injective x y (omega (arith, p.1)) (omega (arith, q.1)) (cc) in λ i. Ack (a i) (b i)
 event_same (Reset m) (Reset n) p q e = ap Reset (decimal_injective m n p q (cc))
+event_same (Stop m) (Stop n) p q e = ap Stop (decimal_injective m n p q (cc))
 event_same a b p q e = absurd (omega (arith, ap (λ ws. digest (verb ws)) e))
 
 pub event_cut : (n : ℕ) (a b : Event) (r s : List ℕ) → FitsEvent a → FitsEvent b → event_line n a ++ r ≡ event_line n b ++ s → (a ≡ b) × (r ≡ s)

@@ -7,7 +7,7 @@ use Rattle.std.proofs.lemmas.List.Sums.{sum_by-append}
 use Rattle.hex.specs.Hex.{IsBytes, decode_of, encode_lower, encode_with}
 use Rattle.hex.proofs.HexLemmas.{decode_of-encode_lower}
 use Rattle.ft_model.specs.declared.way.Way.{Way}
-use Rattle.ft_model.specs.declared.way.Way.TheVariants.{ClientToServer, ServerToClient, ServerToLogger, LoggerToServer}
+use Rattle.ft_model.specs.declared.way.Way.TheVariants.{ClientToServer, ServerToClient, ServerToLogger, LoggerToServer, HeadToTail, TailToHead}
 use Rattle.ft_model.specs.Texts.{or_dash, hex_text, list_text, behind_commas, address_text, flag_letters, flags_text, mss_text, bit_text, way_text}
 use Rattle.ft_model.specs.Readable.{Fits, FitsOption, FitsWay}
 use Rattle.ft_model.proofs.ReportWords.{Starts, cut, IsDigit, digits_decimal}
@@ -171,21 +171,28 @@ flags_told flags h = weight_of_dash (flag_letters flags) ∙ weight_of_letters f
 pub flags_same : (m n : ℕ) → m < 256 → n < 256 → flags_text m ≡ flags_text n → m ≡ n
 flags_same m n p q e = sym (flags_told m p) ∙ ap (sum_by weight) e ∙ flags_told n q
 
+first_letter : List ℕ → ℕ
+first_letter [] = 0
+first_letter (c ∷ text) = c
+
 pub way_same : (v w : Way) → FitsWay v → FitsWay w → way_text v ≡ way_text w → v ≡ w
-unfolding way_text
+unfolding way_text first_letter
 way_same (ClientToServer m) (ClientToServer n) p q e = ap ClientToServer (decimal_injective m n p q (append_cancel_right _ _ _ e))
 way_same (ClientToServer m) (ServerToClient n) p q e = absurd (decimal_begin 83 m _ _ (inr (omega arith)) p (sym e))
 way_same (ClientToServer m) ServerToLogger p q e = absurd (decimal_begin 83 m _ _ (inr (omega arith)) p (sym e))
 way_same (ClientToServer m) LoggerToServer p q e = absurd (decimal_begin 76 m _ _ (inr (omega arith)) p (sym e))
+way_same (ClientToServer m) HeadToTail p q e = absurd (decimal_begin 72 m _ _ (inr (omega arith)) p (sym e))
+way_same (ClientToServer m) TailToHead p q e = absurd (decimal_begin 84 m _ _ (inr (omega arith)) p (sym e))
 way_same (ServerToClient m) (ClientToServer n) p q e = absurd (decimal_begin 83 n _ _ (inr (omega arith)) q e)
 way_same (ServerToClient m) (ServerToClient n) p q e = ap ServerToClient (decimal_injective m n p q (cc))
 way_same (ServerToClient m) ServerToLogger p q e = absurd (decimal_begin 76 m [] [] (inr (omega arith)) p (ap (drop 2) (sym e) ∙ sym (append-nil (decimal m))))
-way_same (ServerToClient m) LoggerToServer p q e = absurd (apart_bytes 83 76 _ _ (omega arith) e)
 way_same ServerToLogger (ClientToServer n) p q e = absurd (decimal_begin 83 n _ _ (inr (omega arith)) q e)
 way_same ServerToLogger (ServerToClient n) p q e = absurd (decimal_begin 76 n [] [] (inr (omega arith)) q (ap (drop 2) e ∙ sym (append-nil (decimal n))))
 way_same ServerToLogger ServerToLogger p q e = refl
-way_same ServerToLogger LoggerToServer p q e = absurd (apart_bytes 83 76 _ _ (omega arith) e)
 way_same LoggerToServer (ClientToServer n) p q e = absurd (decimal_begin 76 n _ _ (inr (omega arith)) q e)
-way_same LoggerToServer (ServerToClient n) p q e = absurd (apart_bytes 76 83 _ _ (omega arith) e)
-way_same LoggerToServer ServerToLogger p q e = absurd (apart_bytes 76 83 _ _ (omega arith) e)
 way_same LoggerToServer LoggerToServer p q e = refl
+way_same HeadToTail (ClientToServer n) p q e = absurd (decimal_begin 72 n _ _ (inr (omega arith)) q e)
+way_same HeadToTail HeadToTail p q e = refl
+way_same TailToHead (ClientToServer n) p q e = absurd (decimal_begin 84 n _ _ (inr (omega arith)) q e)
+way_same TailToHead TailToHead p q e = refl
+way_same v w p q e = absurd (omega (arith, ap first_letter e))

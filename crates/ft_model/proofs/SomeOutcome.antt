@@ -27,7 +27,7 @@ use Rattle.ft_model.specs.Legal.{start_of, refusal, refusal_of_client, refusal_o
 use Rattle.ft_model.specs.Outcome.{HasOutcome}
 use Rattle.ft_model.specs.Readable.{FitsEvent}
 use Rattle.ft_model.specs.declared.event.Event.{Event}
-use Rattle.ft_model.specs.declared.event.Event.TheVariants.{Boot, Crash, Tick, Deliver, Flip, Begin, Send, Fin, Ack, Reset}
+use Rattle.ft_model.specs.declared.event.Event.TheVariants.{Boot, Crash, Tick, Deliver, Flip, Begin, Send, Fin, Ack, Reset, Stop}
 use Rattle.ft_model.specs.declared.event.EventWhy.{EventWhy}
 use Rattle.ft_model.specs.declared.event.EventWhy.TheVariants as why
 use Rattle.ft_model.specs.declared.schedule.Schedule.{Schedule}
@@ -146,6 +146,7 @@ window_fits client Crash move h e = none_is_some move e
 window_fits client Tick move h e = none_is_some move e
 window_fits client (Deliver n) move h e = none_is_some move e
 window_fits client (Flip n bit) move h e = none_is_some move e
+window_fits client (Stop part) move h e = none_is_some move e
 
 asks_for : (event : Event) (number : ℕ) (move : Move) → move_asked event ≡ Some (number, move) → move_of event ≡ Some move
 asks_for event number move e = subst (λ o. option_map (λ a. a.1) o ≡ Some move) (sym e) refl
@@ -224,6 +225,7 @@ event_can service small writes start trace j (Send client from len) h e = move_c
 event_can service small writes start trace j (Fin client) h e = move_can (world_after start trace) (Fin client) client Fin_move h refl e
 event_can service small writes start trace j (Ack client window) h e = move_can (world_after start trace) (Ack client window) client Acknowledge h refl e
 event_can service small writes start trace j (Reset client) h e = move_can (world_after start trace) (Reset client) client Rst h refl e
+event_can service small writes start trace j (Stop part) h e = none_is_some why.Stop (sym e)
 
 -- the events that are left, from where some are played
 module _ {State : Type 0} (service : ℕ → Machine State) (small : (kind : ℕ) → HasSmallOutputs (service kind)) (writes : (kind : ℕ) → WritesBytes (service kind)) where

@@ -198,6 +198,7 @@ move_asked events.Crash = None
 move_asked events.Tick = None
 move_asked (events.Deliver packet) = None
 move_asked (events.Flip packet bit) = None
+move_asked (events.Stop part) = None
 
 -- only the client, and only the move
 abbrev pub mover_of : Event → Option ℕ
@@ -218,6 +219,7 @@ window_of client events.Crash = 0
 window_of client events.Tick = 0
 window_of client (events.Deliver packet) = 0
 window_of client (events.Flip packet bit) = 0
+window_of client (events.Stop part) = 0
 
 -- why the client's state doesn't allow the move
 abbrev pub refusal_of_move : Client → Move → Option EventWhy

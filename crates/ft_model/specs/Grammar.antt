@@ -1,8 +1,8 @@
 -- The grammar of a schedule's text: the schedule that it spells, or the first line that is refused and why.
 --
--- First `service NAME`, then `server ADDRESS`, then 0 to 16 times `client N ADDRESS ISN SCRIPT` with N from 1 in order, then events: `boot BOOT ISN`, `crash`,
--- `tick`, `deliver P`, `flip P BIT`, `open N W`, `send N FROM LEN`, `fin N`, `ack N W`, `reset N`. A line without words, or whose first byte is `#`, is
--- skipped, but counted.
+-- First `service NAME`, then `server ADDRESS`, then `twin` where there are two loggers, then 0 to 16 times `client N ADDRESS ISN SCRIPT` with N from 1 in order,
+-- then events: `boot BOOT ISN`, `crash`, `tick`, `deliver P`, `flip P BIT`, `open N W`, `send N FROM LEN`, `fin N`, `ack N W`, `reset N`, `stop PART`. A line
+-- without words, or whose first byte is `#`, is skipped, but counted.
 use Rattle.std.specs.Prelude.{ℕ, Bool, true, false, ◌+◌, ◌-◌, ◌^◌, ◌==◌, ◌&&◌, ◌||◌, not, nat_lt, nat_le, Option, Some, None, is_none, option_map, Result, Ok, Err, List, [], ◌∷◌, ◌++◌, length, codes, if◌then◌else◌}
 use Rattle.std.specs.List.{list_all, list_any}
 use Rattle.std.specs.Option.{ok_or}
@@ -55,6 +55,10 @@ client_number word = number 1 16 word
 abbrev pub window : List ℕ → Result ℕ LineWhy
 window word = number 0 65535 word
 
+-- one of two loggers: 1 is the head, 2 the tail
+abbrev pub part_number : List ℕ → Result ℕ LineWhy
+part_number word = number 1 2 word
+
 -- a number of 32 bits: an initial number, a bit, an offset or a length
 abbrev pub long_number : List ℕ → Result ℕ LineWhy
 long_number word = number 0 (2 ^ 32 - 1) word
@@ -68,9 +72,9 @@ boot_line (boot ∷ isn ∷ []) = do
 boot_line _ = Err why.Count
 
 -- a line of one word
-unfoldable pub bare_line : Event → List (List ℕ) → Result Event LineWhy
-bare_line e [] = Ok e
-bare_line e _ = Err why.Count
+unfoldable pub bare_line : {Says : Type 0} → Says → List (List ℕ) → Result Says LineWhy
+bare_line said [] = Ok said
+bare_line said _ = Err why.Count
 
 unfoldable pub deliver_line : List (List ℕ) → Result Event LineWhy
 deliver_line (packet ∷ []) = do
@@ -106,6 +110,12 @@ unfoldable pub client_alone : List (List ℕ) → Result ℕ LineWhy
 client_alone (client ∷ []) = client_number client
 client_alone _ = Err why.Count
 
+unfoldable pub stop_line : List (List ℕ) → Result Event LineWhy
+stop_line (part ∷ []) = do
+  p ← part_number part
+  Ok (event.Stop p)
+stop_line _ = Err why.Count
+
 abbrev pub event_line : Verb → List (List ℕ) → Result Event LineWhy
 event_line verb.Boot words = boot_line words
 event_line verb.Crash words = bare_line event.Crash words
@@ -117,6 +127,7 @@ event_line verb.Send words = send_line words
 event_line verb.Fin words = client_alone words >>= λ c. Ok (event.Fin c)
 event_line verb.Ack words = client_and_window words >>= λ m. Ok (event.Ack m.0 m.1)
 event_line verb.Reset words = client_alone words >>= λ c. Ok (event.Reset c)
+event_line verb.Stop words = stop_line words
 
 -- The lines before the events, likewise.
 unfoldable pub service_line : List (List ℕ) → Result ServiceKind LineWhy
@@ -153,6 +164,7 @@ client_line draft _ = Err why.Count
 abbrev pub line_from : Draft → Keyword → List (List ℕ) → Result Line LineWhy
 line_from draft keyword.Service words = service_line words >>= λ kind. Ok (line.Service kind)
 line_from draft keyword.Server words = server_line words >>= λ addr. Ok (line.Server addr)
+line_from draft keyword.Twin words = bare_line line.Twin words
 line_from draft keyword.Client words = client_line draft words >>= λ client. Ok (line.Client client)
 line_from draft (keyword.Event v) words = event_line v words >>= λ e. Ok (line.Event e)
 
@@ -169,6 +181,7 @@ verbs =
     ∷ (codes "fin", verb.Fin)
     ∷ (codes "ack", verb.Ack)
     ∷ (codes "reset", verb.Reset)
+    ∷ (codes "stop", verb.Stop)
     ∷ []
 
 -- what such a table has for a word
@@ -184,8 +197,9 @@ unfoldable pub keyword_of : List ℕ → Option Keyword
 keyword_of word =
     if bytes_eq word (codes "service") then Some keyword.Service
     else (if bytes_eq word (codes "server") then Some keyword.Server
+    else (if bytes_eq word (codes "twin") then Some keyword.Twin
     else (if bytes_eq word (codes "client") then Some keyword.Client
-    else option_map keyword.Event (verb_of word)))
+    else option_map keyword.Event (verb_of word))))
 
 -- a service line without a name is left to the test `count`
 unfoldable pub names_no_service : Keyword → List (List ℕ) → Bool
@@ -206,9 +220,14 @@ has_next_number count (client ∷ more) = is_next count (numeral 20 client)
 unfoldable pub may_join : Schedule → List (List ℕ) → Bool
 may_join schedule words = length schedule.events == 0 && nat_lt (length schedule.clients) 16 && has_next_number (length schedule.clients) words
 
+-- that there are two loggers is said directly behind the server's line
+unfoldable pub may_pair : Schedule → Bool
+may_pair schedule = length schedule.events == 0 && length schedule.clients == 0 && not schedule.twin
+
 abbrev pub may_stand : Draft → Keyword → List (List ℕ) → Bool
 may_stand Empty keyword.Service words = true
 may_stand (Named kind) keyword.Server words = true
+may_stand (Begun schedule) keyword.Twin words = may_pair schedule
 may_stand (Begun schedule) keyword.Client words = may_join schedule words
 may_stand (Begun schedule) (keyword.Event v) words = true
 may_stand _ _ words = false
@@ -235,7 +254,8 @@ line_of draft text = if is_printable text then line_of_words draft (words_of tex
 -- what a line adds to the lines before it
 abbrev pub with_line : Draft → Line → Draft
 with_line Empty (line.Service kind) = Named kind
-with_line (Named kind) (line.Server addr) = Begun (record { service = kind; server = addr; clients = []; events = [] })
+with_line (Named kind) (line.Server addr) = Begun (record { service = kind; server = addr; twin = false; clients = []; events = [] })
+with_line (Begun schedule) line.Twin = Begun (record schedule { twin = true })
 with_line (Begun schedule) (line.Client client) = Begun (record schedule { clients = schedule.clients ++ client ∷ [] })
 with_line (Begun schedule) (line.Event e) = Begun (record schedule { events = schedule.events ++ e ∷ [] })
 with_line draft _ = draft

@@ -10,7 +10,7 @@ use Rattle.ft_model.specs.Wire.{wire_of}
 use Rattle.ft_model.specs.Schedule.{kind_of, clients_of}
 use Rattle.ft_model.specs.World.{World, Moment, client_at, with_client, world_after, events_of, Joint}
 use Rattle.ft_model.specs.declared.event.Event.{Event}
-use Rattle.ft_model.specs.declared.event.Event.TheVariants.{Boot, Crash, Tick, Deliver, Flip, Begin, Send, Fin, Ack, Reset}
+use Rattle.ft_model.specs.declared.event.Event.TheVariants.{Boot, Crash, Tick, Deliver, Flip, Begin, Send, Fin, Ack, Reset, Stop}
 use Rattle.ft_model.specs.declared.event.EventWhy.{EventWhy}
 use Rattle.ft_model.specs.declared.event.EventWhy.TheVariants as why
 use Rattle.ft_model.specs.declared.schedule.Schedule.{Schedule}
@@ -46,6 +46,7 @@ refusal w (Send client from len) = refusal_of_asked w.clients (move_asked (Send 
 refusal w (Fin client) = refusal_of_asked w.clients (move_asked (Fin client))
 refusal w (Ack client window) = refusal_of_asked w.clients (move_asked (Ack client window))
 refusal w (Reset client) = refusal_of_asked w.clients (move_asked (Reset client))
+refusal w (Stop part) = Some why.Stop
 
 -- a client makes the move that the event asks for, with the scripted client's window: it sends that move's packet, and is then the client after the move
 abbrev pub IsScripted : World → Event → List Packet → World → Type 0

@@ -11,13 +11,13 @@ use Rattle.ft_model.specs.Wire.{HasWire}
 use Rattle.ft_model.specs.World.{Moment}
 use Rattle.ft_model.specs.Report.{number_of_client}
 use Rattle.ft_model.specs.declared.event.Event.{Event}
-use Rattle.ft_model.specs.declared.event.Event.TheVariants.{Boot, Crash, Tick, Deliver, Flip, Begin, Send, Fin, Ack, Reset}
+use Rattle.ft_model.specs.declared.event.Event.TheVariants.{Boot, Crash, Tick, Deliver, Flip, Begin, Send, Fin, Ack, Reset, Stop}
 use Rattle.ft_model.specs.declared.schedule.Script.{Script}
 use Rattle.ft_model.specs.declared.schedule.Script.TheVariants.{Bytes, Fill}
 use Rattle.ft_model.specs.declared.schedule.ClientLine.{ClientLine}
 use Rattle.ft_model.specs.declared.schedule.Schedule.{Schedule}
 use Rattle.ft_model.specs.declared.way.Way.{Way}
-use Rattle.ft_model.specs.declared.way.Way.TheVariants.{ClientToServer, ServerToClient, ServerToLogger, LoggerToServer}
+use Rattle.ft_model.specs.declared.way.Way.TheVariants.{ClientToServer, ServerToClient, ServerToLogger, LoggerToServer, HeadToTail, TailToHead}
 
 -- no byte of the word is a space, a line feed or another control character
 abbrev pub IsWord : List ℕ → Type 0
@@ -36,6 +36,8 @@ FitsWay (ClientToServer n) = Fits n
 FitsWay (ServerToClient n) = Fits n
 FitsWay ServerToLogger = Unit {0}
 FitsWay LoggerToServer = Unit {0}
+FitsWay HeadToTail = Unit {0}
+FitsWay TailToHead = Unit {0}
 
 abbrev pub FitsAddr : Addr → Type 0
 FitsAddr at = (at.ip < 2 ^ 32) × (at.port < 2 ^ 16)
@@ -73,6 +75,7 @@ FitsEvent (Send client from len) = Fits client × Fits from × Fits len
 FitsEvent (Fin client) = Fits client
 FitsEvent (Ack client window) = Fits client × (window < 2 ^ 16)
 FitsEvent (Reset client) = Fits client
+FitsEvent (Stop part) = Fits part
 
 abbrev pub FitsScript : Script → Type 0
 FitsScript (Bytes bytes) = IsBytes bytes

@@ -1,5 +1,5 @@
 -- The report of a run: what was asked for, each event with the packets that it sent, and the state of clients and log at the end.
-use Rattle.std.specs.Prelude.{ℕ, Bool, codes, ◌+◌, position, List, [], ◌∷◌, ◌++◌, length, map}
+use Rattle.std.specs.Prelude.{ℕ, Bool, true, false, codes, ◌+◌, position, List, [], ◌∷◌, ◌++◌, length, map}
 use Rattle.std.specs.List.{flat_map}
 use Rattle.std.specs.Option.{option_map_or}
 use Rattle.std.specs.Fmt.{decimal}
@@ -17,7 +17,7 @@ use Rattle.ft_model.specs.Schedule.{clients_of}
 use Rattle.ft_model.specs.World.{World, Moment, world_after}
 use Rattle.ft_model.specs.Legal.{start_of}
 use Rattle.ft_model.specs.declared.event.Event.{Event}
-use Rattle.ft_model.specs.declared.event.Event.TheVariants.{Boot, Crash, Tick, Deliver, Flip, Begin, Send, Fin, Ack, Reset}
+use Rattle.ft_model.specs.declared.event.Event.TheVariants.{Boot, Crash, Tick, Deliver, Flip, Begin, Send, Fin, Ack, Reset, Stop}
 use Rattle.ft_model.specs.declared.phase.Phase.{Phase}
 use Rattle.ft_model.specs.declared.way.Way.{Way}
 use Rattle.ft_model.specs.declared.way.Way.TheVariants.{ClientToServer, ServerToClient, ServerToLogger, LoggerToServer}
@@ -33,10 +33,16 @@ abbrev pub schedule_lines : ℕ → List ClientLine → List ℕ
 schedule_lines n [] = []
 schedule_lines n (asked ∷ others) = schedule_line n asked ++ schedule_lines (n + 1) others
 
+-- that there are two loggers
+abbrev pub twin_line : Bool → List ℕ
+twin_line true = line (codes "twin") []
+twin_line false = []
+
 unfoldable pub header : Schedule → List ℕ
 header schedule =
     line (codes "ftreplay") (codes "1" ∷ []) ++ (line (codes "service") (service_text schedule.service ∷ [])
-    ++ (line (codes "server") (address_text schedule.server.ip schedule.server.port ∷ []) ++ schedule_lines 1 schedule.clients))
+    ++ (line (codes "server") (address_text schedule.server.ip schedule.server.port ∷ [])
+    ++ (twin_line schedule.twin ++ schedule_lines 1 schedule.clients)))
 
 -- an event, as a schedule spells it
 abbrev pub event_words : Event → List (List ℕ)
@@ -50,6 +56,7 @@ event_words (Send client from len) = codes "send" ∷ decimal client ∷ decimal
 event_words (Fin client) = codes "fin" ∷ decimal client ∷ []
 event_words (Ack client window) = codes "ack" ∷ decimal client ∷ decimal window ∷ []
 event_words (Reset client) = codes "reset" ∷ decimal client ∷ []
+event_words (Stop part) = codes "stop" ∷ decimal part ∷ []
 
 unfoldable pub event_line : ℕ → Event → List ℕ
 event_line n event = line (codes "event") (decimal n ∷ event_words event)
@@ -132,9 +139,20 @@ content_words (To_client segment) = segment_words segment
 content_words (To_logger message) = message_words message
 content_words (From_logger message) = message_words message
 
+-- What goes between two loggers: a message that the head forwards, with its number; and up to which number the tail has applied them
+unfoldable pub forward_words : ℕ → Message → List (List ℕ)
+forward_words number message = codes "Forward" ∷ codes "number" ∷ decimal number ∷ message_words message
+
+unfoldable pub got_words : ℕ → List (List ℕ)
+got_words number = codes "Got" ∷ codes "number" ∷ decimal number ∷ []
+
+-- the line of a packet: its number, its direction and its content
+abbrev pub line_of_packet : ℕ → Way → List (List ℕ) → List ℕ
+line_of_packet n way content = line (codes "packet") (decimal n ∷ way_text way ∷ content)
+
 -- a packet with its number and its direction
 unfoldable pub packet_line : ℕ → Way → Packet → List ℕ
-packet_line n way packet = line (codes "packet") (decimal n ∷ way_text way ∷ content_words packet)
+packet_line n way packet = line_of_packet n way (content_words packet)
 
 -- the number of a client: its place, counted from 1; 0 for none
 abbrev pub number_of_client : List Client → Key → ℕ

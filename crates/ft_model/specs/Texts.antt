@@ -7,7 +7,7 @@ use Rattle.hex.specs.Hex.{encode_lower}
 use Rattle.ft_io.specs.declared.Key.{Key}
 use Rattle.seq_arith.specs.Packet.{has}
 use Rattle.ft_model.specs.declared.way.Way.{Way}
-use Rattle.ft_model.specs.declared.way.Way.TheVariants.{ClientToServer, ServerToClient, ServerToLogger, LoggerToServer}
+use Rattle.ft_model.specs.declared.way.Way.TheVariants.{ClientToServer, ServerToClient, ServerToLogger, LoggerToServer, HeadToTail, TailToHead}
 use Rattle.ft_model.specs.declared.phase.Phase.{Phase}
 use Rattle.ft_model.specs.declared.phase.Phase.TheVariants.{New, Opening, Established, Ended, Reset}
 use Rattle.ft_model.specs.declared.schedule.ServiceKind.{ServiceKind}
@@ -72,12 +72,14 @@ unfoldable pub bit_text : Bool → List ℕ
 bit_text true = codes "1"
 bit_text false = codes "0"
 
--- from whom to whom: a client as its number, the server as S, the logger as L
+-- from whom to whom: a client as its number, the server as S, the logger as L, and of two loggers the head as H and the tail as T
 unfoldable pub way_text : Way → List ℕ
 way_text (ClientToServer n) = decimal n ++ codes ">S"
 way_text (ServerToClient n) = codes "S>" ++ decimal n
 way_text ServerToLogger = codes "S>L"
 way_text LoggerToServer = codes "L>S"
+way_text HeadToTail = codes "H>T"
+way_text TailToHead = codes "T>H"
 
 unfoldable pub service_text : ServiceKind → List ℕ
 service_text Echo = codes "echo"

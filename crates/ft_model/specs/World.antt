@@ -23,7 +23,7 @@ use Rattle.ft_model.specs.Node.{Node, Input, booted}
 use Rattle.ft_model.specs.Node.Input.{Packet_comes, Message_comes, Noise_comes, Tick_comes}
 use Rattle.ft_model.specs.Lawful.{LawfulTurn, hello}
 use Rattle.ft_model.specs.declared.event.Event.{Event}
-use Rattle.ft_model.specs.declared.event.Event.TheVariants.{Boot, Crash, Tick, Deliver, Flip, Begin, Send, Fin, Ack, Reset}
+use Rattle.ft_model.specs.declared.event.Event.TheVariants.{Boot, Crash, Tick, Deliver, Flip, Begin, Send, Fin, Ack, Reset, Stop}
 
 pub record World : Type 0 where
   pub server : Addr
@@ -128,7 +128,7 @@ abbrev pub IsNextBoot : World → ℕ → Type 0
 IsNextBoot w boot = (w.boot < boot) × (boot < 2 ^ 64)
 
 -- what may happen: from the world before, by this event, with these packets sent, to the world after. Boot numbers rise, one server is up at a time, and a
--- server that crashes loses all its state
+-- server that crashes loses all its state. The only log never stops
 abbrev pub Happens : {State : Type 0} → Machine State → World → Event → List Packet → World → Type 0
 Happens service before (Boot boot isn) sent after =
     (before.node ≡ None) × IsNextBoot before boot × (sent ≡ hello (booted before.server boot isn))
@@ -145,6 +145,7 @@ Happens service before (Send client from len) sent after = Moves before client s
 Happens service before (Fin client) sent after = Moves before client sent after
 Happens service before (Ack client window) sent after = Moves before client sent after
 Happens service before (Reset client) sent after = Moves before client sent after
+Happens service before (Stop part) sent after = ⊥
 
 pub record Moment : Type 0 where
   pub event : Event

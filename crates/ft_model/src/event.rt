@@ -23,6 +23,8 @@ pub enum Event {
     Ack { client: u8, window: u16 },
     /// A client resets its connection.
     Reset { client: u8 },
+    /// One of two loggers stops, and the other learns of it: 1 is the head, 2 the tail.
+    Stop { part: u8 },
 }
 
 /// Why an event may not happen, in the order of the tests.
@@ -38,6 +40,8 @@ pub enum EventWhy {
     Packet,
     /// A bit past the packet's end.
     Bit,
+    /// A stop where there is only one logger, or after another stop.
+    Stop,
     /// A client that the schedule does not have.
     Client,
     /// A move that the client's state does not allow.

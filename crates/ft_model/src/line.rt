@@ -18,6 +18,7 @@ pub enum Verb {
     Fin,
     Ack,
     Reset,
+    Stop,
 }
 
 /// The first word of a line, which announces what the line is.
@@ -25,6 +26,7 @@ pub enum Verb {
 pub enum Keyword {
     Service,
     Server,
+    Twin,
     Client,
     Event(Verb),
 }
@@ -34,6 +36,8 @@ pub enum Keyword {
 pub enum Line {
     Service(ServiceKind),
     Server(Addr),
+    /// There are two loggers.
+    Twin,
     Client(ClientLine),
     Event(Event),
 }

@@ -7,17 +7,18 @@ ghost use Rattle.hex.specs.Hex.{IsBytes};
 ghost use Rattle.ft_model.specs.Readable.{IsReadable, FitsSchedule, IsReadableTurn, IsWord, Fits, FitsOption, FitsWay};
 ghost use Rattle.ft_model.specs.Texts.{line, hex_text, list_text, mss_text, bit_text, address_text, flags_text, way_text};
 ghost use Rattle.ft_io.specs.declared.Addr.{Addr};
+ghost use Rattle.seq_arith.specs.Message.Body.{HelloMsg};
 ghost use Rattle.ft_model.specs.Client.{Client};
 ghost use Rattle.ft_model.specs.Network.{Packet};
 ghost use Rattle.ft_model.specs.FirstPath.{client_key, from_client, from_server, hello, opening, bytes_to_log, read, stable, reads, entry, part, cuts, lens};
-ghost use Rattle.ft_model.specs.Report.{event_line, packet_line, way_of, turns_of, report, phase_line, entry_line, end_line};
+ghost use Rattle.ft_model.specs.Report.{event_line, packet_line, line_of_packet, forward_words, got_words, way_of, turns_of, report, phase_line, entry_line, end_line};
 ghost use Rattle.ft_model.specs.Schedule.{clients_of};
 ghost use Rattle.ft_model.specs.World.{Moment};
 ghost use Rattle.ft_model.specs.Legal.{Legal, machines};
 ghost use Rattle.ft_model.specs.declared.schedule.Schedule.{Schedule};
 ghost use Rattle.ft_model.specs.declared.way.Way.{Way};
-ghost use Rattle.ft_model.specs.declared.way.Way.TheVariants.{ClientToServer, ServerToClient, ServerToLogger, LoggerToServer};
-ghost use Rattle.ft_model.specs.declared.event.Event.TheVariants.{Begin, Boot, Deliver, Send};
+ghost use Rattle.ft_model.specs.declared.way.Way.TheVariants.{ClientToServer, ServerToClient, ServerToLogger, LoggerToServer, HeadToTail, TailToHead};
+ghost use Rattle.ft_model.specs.declared.event.Event.TheVariants.{Begin, Boot, Deliver, Send, Stop};
 ghost use Rattle.ft_model.specs.declared.phase.Phase.TheVariants.{Established};
 
 use server_trait::Service;
@@ -28,6 +29,7 @@ pub fn worked_lines()
     ensures deliver { event_line 2 (Deliver 1) ≡ codes "event 2 deliver 1\n" }
     ensures begin { event_line 4 (Begin 1 65535) ≡ codes "event 4 open 1 65535\n" }
     ensures send { event_line 11 (Send 1 0 5) ≡ codes "event 11 send 1 0 5\n" }
+    ensures stop { event_line 9 (Stop 1) ≡ codes "event 9 stop 1\n" }
 
     ensures syn { packet_line 3 (ClientToServer 1) (from_client 1000 0 2 [])
         ≡ codes "packet 3 1>S S seq 1000 ack 0 window 65535 mss - data -\n" }
@@ -55,6 +57,9 @@ pub fn worked_lines()
     ensures cuts { packet_line 22 ServerToLogger cuts ≡ codes "packet 22 S>L Cuts boot 2 key 192.0.2.1:40000 first 0\n" }
     ensures lens { packet_line 23 LoggerToServer lens
         ≡ codes "packet 23 L>S Lens boot 2 key 192.0.2.1:40000 first 0 lens 2,1\n" }
+
+    ensures forward { line_of_packet 2 HeadToTail (forward_words 1 (record { boot = 1; body = HelloMsg })) ≡ codes "packet 2 H>T Forward number 1 Hello boot 1\n" }
+    ensures got { line_of_packet 4 TailToHead (got_words 1) ≡ codes "packet 4 T>H Got number 1\n" }
 
     ensures client { phase_line 1 Established (codes "hello") ≡ codes "client 1 open accepted 5 68656c6c6f\n" }
     ensures log { entry_line client_key 5 false 0 false (5 ∷ [])
@@ -95,7 +100,7 @@ pub fn turns_of_reports()
         → AllByRecursion (IsReadableTurn schedule.server (clients_of schedule.server schedule.clients)) trace
         → AllByRecursion (IsReadableTurn other.server (clients_of other.server other.clients)) also
         → report schedule trace ≡ report other also
-        → (schedule.service ≡ other.service) × (schedule.server ≡ other.server) × (schedule.clients ≡ other.clients) × (turns_of trace ≡ turns_of also) }
+        → (schedule.service ≡ other.service) × (schedule.server ≡ other.server) × (schedule.twin ≡ other.twin) × (schedule.clients ≡ other.clients) × (turns_of trace ≡ turns_of also) }
 {}
 
 /// A report determines its schedule and its trace: two legal traces have the same report only where their schedules are the same, and the traces too.

@@ -162,6 +162,8 @@ pub struct Schedule {
     pub service: ServiceKind,
     /// The server's address and port.
     pub server: Addr,
+    /// Whether two loggers keep the log, a head and a tail.
+    pub twin: bool,
     /// At most 16 in a schedule that a text spells.
     pub clients: ClientLines,
     /// At most 100,000 in a schedule that a text spells.

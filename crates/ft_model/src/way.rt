@@ -7,4 +7,8 @@ pub enum Way {
     ServerToClient(u8),
     ServerToLogger,
     LoggerToServer,
+    /// From the head of two loggers to the tail.
+    HeadToTail,
+    /// From the tail to the head.
+    TailToHead,
 }

@@ -115,6 +115,7 @@ happens_beside service before after (events.Send client from len) sent others w 
 happens_beside service before after (events.Fin client) sent others w h = (events.Fin client, moves before after client sent others h)
 happens_beside service before after (events.Ack client window) sent others w h = (events.Ack client window, moves before after client sent others h)
 happens_beside service before after (events.Reset client) sent others w h = (events.Reset client, moves before after client sent others h)
+happens_beside service before after (events.Stop part) sent others w h = absurd h
 
 -- one more moment after a joint trace
 pub shown_calm : {State : Type 0} (service : Machine State) (start before after : World) (event : Event) (sent : List Packet) → IsShown service start before

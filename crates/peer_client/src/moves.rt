@@ -31,7 +31,8 @@ pub fn of_event(event: &Event) -> Option<Move>
         | Event::Crash
         | Event::Tick
         | Event::Deliver { .. }
-        | Event::Flip { .. } => None,
+        | Event::Flip { .. }
+        | Event::Stop { .. } => None,
     }
 }
 

@@ -136,6 +136,7 @@ moment_own service start before (events.Ack client window) sent after k h a s =
     scripted_own service start before client (events.Ack client window) Acknowledge sent after k h refl refl a (λ c e. (s client Acknowledge c refl e).0)
 moment_own service start before (events.Reset client) sent after k h a s =
     scripted_own service start before client (events.Reset client) Rst sent after k h refl refl a (λ c e. (s client Rst c refl e).0)
+moment_own service start before (events.Stop part) sent after k h a s = absurd h
 
 legal_own : {State : Type 0} (service : Machine State) → HasSmallOutputs service → (start : World) (trace : List Moment) → Joint service start trace → AllAllowed start trace
     → AllByRecursion (OwnNear (isn_of start)) (world_after start trace).packets

@@ -20,6 +20,7 @@ abbrev pub schedule : Schedule
 schedule = record {
   service = Echo;
   server = server;
+  twin = false;
   clients = record { key = key; isn = 1000; script = Bytes hello_text } ∷ [];
   events = Boot 1 5000 ∷ Deliver 1 ∷ Deliver 2 ∷ Begin 1 0 ∷ Deliver 3 ∷ Deliver 4 ∷ Deliver 5 ∷ Deliver 6 ∷ Ack 1 0 ∷ Deliver 7 ∷ Send 1 0 5 ∷ Deliver 8
       ∷ Deliver 10 ∷ Deliver 12 ∷ Deliver 11 ∷ Deliver 14 ∷ Tick ∷ Tick ∷ Tick ∷ Ack 1 5 ∷ Deliver 17 ∷ Tick ∷ Tick ∷ Tick ∷ Tick ∷ [];

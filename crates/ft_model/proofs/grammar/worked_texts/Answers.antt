@@ -12,4 +12,10 @@ returns c = record {
   comment = refl;
   few_words = refl;
   two_clients = refl;
+  two_loggers = refl;
+  late_pair = refl;
+  second_pair = refl;
+  long_pair = refl;
+  early_pair = refl;
+  third_logger = refl;
 }
