@@ -1,6 +1,6 @@
 -- What a server may send to a logger has 16 to 1,491 bytes, and what goes between the loggers is read as what was sent.
-use Rattle.std.proofs.Common.{◌≡◌, ℕ, ◌+◌, ◌^◌, ◌<◌, ◌≤◌, Bool, true, false, not, List, [], length, refl, sym, ap, ◌∙◌, arith, true≢false}
-use Rattle.std.specs.Prelude.{Option, None, Some, Result, Ok, Err, IsOk, nat_eq, nat_lt, nat_le, ◌||◌, ◌&&◌, slice_index, if◌then◌else◌}
+use Rattle.std.proofs.Common.{◌≡◌, ℕ, ◌+◌, ◌^◌, ◌<◌, ◌≤◌, Bool, true, false, not, List, length, refl, sym, ap, ◌∙◌, arith, true≢false}
+use Rattle.std.specs.Prelude.{Option, None, Some, Result, Ok, Err, IsOk, nat_eq, nat_lt, nat_le, ◌||◌, slice_index, if◌then◌else◌}
 use Rattle.std.proofs.lemmas.Bool.{ltb-false, not-false, le-leb, and_from}
 use Rattle.ft_io.proofs.Booleans.{right_false}
 use Rattle.seq_arith.specs.declared.kinds.BadMsg.{BadMsg}
@@ -14,9 +14,10 @@ use Rattle.seq_arith.specs.TwinGrammar as twins
 use Rattle.seq_arith.proofs.MessageSpelling.{bounded, room}
 use Rattle.seq_arith.proofs.Refused.{goes_on}
 use Rattle.seq_arith.proofs.TwinSpelling.{twin_is_read}
-use Rattle.twin_laws.specs.Twin.{Request, Comes, told, asked, forwarded_as, datagram_of, bytes_of}
+use Rattle.twin_laws.specs.Twin.{Request, told, asked, forwarded_as, datagram_of, bytes_of}
 use Rattle.twin_laws.specs.Twin.Between.{Forward, Got}
-use Rattle.twin_laws.specs.Twin.Comes.{Asks, Tells}
+use Rattle.twin_laws.specs.Twin.Comes.{Tells}
+use Rattle.twin_laws.specs.TwinWorld.{CanBeSent}
 
 length_of : (kind : Option Kind) (bytes : List ℕ) → IsOk (messages.reading_if kind bytes) → length bytes ≤ 1491
 unfolding messages.reading_of
@@ -71,12 +72,18 @@ asks_so : (r : Request) → messages.reading r.bytes ≡ Ok r.message → is_ans
 unfolding twins.is_asking
 asks_so r is asking = ap twins.says_asking is ∙ ap not asking
 
+-- what is sent between the loggers is written
+pub forward_is_sent : (number : ℕ) (r : Request) → messages.reading r.bytes ≡ Ok r.message → is_answer r.message.body ≡ false → 1 ≤ number → number < 2 ^ 64 → CanBeSent (Forward number r)
+unfolding bytes_of
+forward_is_sent number r is asking some few = twin_is_read (datagram_of (Forward number r)) (forward_spells number r some few (asks_so r is asking))
+
+pub got_is_sent : (number : ℕ) → 1 ≤ number → number < 2 ^ 64 → CanBeSent (Got number)
+unfolding bytes_of
+got_is_sent number some few = twin_is_read (datagram_of (Got number)) (got_spells number some few)
+
 pub forward_is_read : (number : ℕ) (r : Request) → messages.reading r.bytes ≡ Ok r.message → is_answer r.message.body ≡ false → 1 ≤ number → number < 2 ^ 64
     → told (twins.reading (bytes_of (Forward number r))) ≡ Tells (Forward number r)
-unfolding bytes_of
-forward_is_read number r is asking some few =
-    ap told (twin_is_read (datagram_of (Forward number r)) (forward_spells number r some few (asks_so r is asking))) ∙ says number r is
+forward_is_read number r is asking some few = ap told (forward_is_sent number r is asking some few) ∙ says number r is
 
 pub got_is_read : (number : ℕ) → 1 ≤ number → number < 2 ^ 64 → told (twins.reading (bytes_of (Got number))) ≡ Tells (Got number)
-unfolding bytes_of
-got_is_read number some few = ap told (twin_is_read (datagram_of (Got number)) (got_spells number some few))
+got_is_read number some few = ap told (got_is_sent number some few)

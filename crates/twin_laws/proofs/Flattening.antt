@@ -1,26 +1,28 @@
 -- A joint trace with two loggers, made flat, is joint: each of its turns happens in the world that the others see.
-use Rattle.std.proofs.Common.{◌≡◌, ℕ, zero, suc, ◌+◌, ◌-◌, ◌*◌, ◌<◌, ◌≤◌, ◌==◌, ◌&&◌, not, Bool, true, false, refl, sym, ap, ap₂, ◌∙◌, subst, true≢false, Option, Some, None, List, [], ◌∷◌, ◌++◌, map, length, take, drop, slice_get, append-nil, append_assoc, take-append-drop, le_refl, arith, eqb-true, nat_lt, nat_le, if◌then◌else◌, option_map}
+use Rattle.std.proofs.Common.{◌≡◌, ℕ, zero, suc, ◌+◌, ◌*◌, ◌<◌, ◌≤◌, ◌==◌, ◌&&◌, not, Bool, true, false, refl, sym, ap, ◌∙◌, subst, true≢false, Option, Some, None, List, [], ◌∷◌, ◌++◌, map, length, take, drop, slice_get, append-nil, append_assoc, take-append-drop, le_refl, arith, eqb-true, nat_lt, nat_le, if◌then◌else◌, option_map}
 use Rattle.std.specs.List.{AllByRecursion}
 use Rattle.std.specs.Option.{option_to_list}
 use Rattle.seq_arith.specs.Message.{Message, is_answer}
 use Rattle.server_trait.specs.Service.{Machine}
 use Rattle.ft_io.proofs.Choices.{holds_if, if_false}
-use Rattle.ft_model.specs.Log.{Log, empty_log, log_after, answer_to}
+use Rattle.ft_model.specs.Log.{empty_log, log_after, answer_to}
 use Rattle.ft_model.specs.Network.{Packet, packet_at, destination_of}
 use Rattle.ft_model.specs.Network.Packet.{To_server, To_client, To_logger, From_logger}
 use Rattle.ft_model.specs.Node.Input.{Packet_comes, Message_comes}
-use Rattle.ft_model.specs.World.{World, Moment, Happens, Delivered, LogHears, LogReads, Flipped, Joint, IsStart, world_after}
+use Rattle.ft_model.specs.World.{World, Happens, Delivered, LogReads, Flipped, Joint, world_after}
 use Rattle.ft_model.specs.declared.event.Event.{Event}
 use Rattle.ft_model.specs.declared.event.Event.TheVariants.{Boot, Crash, Tick, Deliver, Flip, Begin, Send, Fin, Ack, Reset}
-use Rattle.ft_model.proofs.Lists.{all_append, all_weaker, all_slice_get, none_is_some}
-use Rattle.twin_laws.specs.Twin.{Request, Between, Comes, Head, Tail, Does, head_does, tail_does, head_takes, with_taken, waiting, head_paired, head_alone, tail_alone, tail_applies, nothing, has_room, confirmed_to, sends_waiting, applies_next, confirms_again, told, asked, datagram_of, bytes_of}
+use Rattle.ft_model.specs.declared.event.Event.TheVariants as events
+use Rattle.ft_model.proofs.Lists.{all_append, all_slice_get, none_is_some}
+use Rattle.twin_laws.specs.Twin.{Request, Between, Comes, Head, Tail, Does, head_does, tail_does, with_taken, waiting, head_paired, head_alone, tail_alone, tail_applies, nothing, has_room, confirmed_to, sends_waiting, applies_next, confirms_again, told, asked, datagram_of, bytes_of}
 use Rattle.twin_laws.specs.Twin.Between.{Forward, Got}
 use Rattle.twin_laws.specs.Twin.Comes.{Asks, Tells, Is_noise}
-use Rattle.twin_laws.specs.Pair.{Pair, new_pair, head_has, tail_has, stopped_by, log_over}
+use Rattle.twin_laws.specs.Pair.{Pair, head_has, tail_has, stopped_by, log_over}
 use Rattle.twin_laws.specs.declared.part.Part.{Part}
 use Rattle.twin_laws.specs.declared.part.Part.TheVariants as parts
-use Rattle.twin_laws.specs.TwinWorld.{Parcel, TwinWorld, TwinEvent, TwinMoment, TwinJoint, TwinHappens, IsTwinStart, Elsewhere, HeadHas, TailHas, LoggerHas, ParcelComes, ParcelFlipped, ChangedFor, CanBeSent, request_of, serving, seen, sent_by, parcel_at, twin_after}
+use Rattle.twin_laws.specs.TwinWorld.{Parcel, TwinWorld, TwinEvent, TwinMoment, TwinJoint, TwinHappens, Elsewhere, HeadHas, TailHas, LoggerHas, ParcelComes, ParcelFlipped, request_of, serving, seen, sent_by, parcel_at, twin_after}
 use Rattle.twin_laws.specs.TwinWorld.Parcel.{Outside, Inside}
+use Rattle.ft_model.specs.declared.event.Event.TheVariants as events
 use Rattle.twin_laws.specs.TwinWorld.TwinEvent.{Usual, Stop}
 use Rattle.twin_laws.specs.Flat.{Flat, flat, flat_step, kept_as, kept_alone, left_out, asked_flat, forwarded_flat, delivered_flat, flipped_flat, stopped_flat, delivered_to_log, both, outside, numbers_of, number_at, new_number}
 use Rattle.twin_laws.proofs.Folds.{log_append}
@@ -30,11 +32,9 @@ use Rattle.twin_laws.proofs.Elsewhere.{with_packets, server_elsewhere, client_el
 use Rattle.twin_laws.proofs.Noise.{flipped_is_noise, asked_nothing}
 use Rattle.seq_arith.specs.TwinGrammar as twins
 use Rattle.seq_arith.specs.MessageGrammar as messages
-use Rattle.seq_arith.specs.declared.kinds.BadMsg.{BadMsg}
 use Rattle.seq_arith.specs.Damage.{flipped}
 use Rattle.ft_model.specs.Wire.{CanBeTold}
 use Rattle.ft_model.proofs.Happened.{nothing_read, message_bit_changed}
-use Rattle.std.specs.Prelude.{Result, Ok, Err, IsErr}
 
 -- what goes between the loggers is true of them
 abbrev pub IsTrueOf : Pair → Parcel → Type 0
@@ -600,6 +600,7 @@ one_turn service first before after (Usual (Send c from len)) sent f s h = usual
 one_turn service first before after (Usual (Fin c)) sent f s h = usual service first before after (Fin c) sent f tt s h
 one_turn service first before after (Usual (Ack c w)) sent f s h = usual service first before after (Ack c w) sent f tt s h
 one_turn service first before after (Usual (Reset c)) sent f s h = usual service first before after (Reset c) sent f tt s h
+one_turn service first before after (Usual (events.Stop part)) sent f s h = absurd h.2
 one_turn service first before after (Stop part) sent f s h =
     subst (λ a. Flattens service first a (stopped_flat before part (moment_of (Stop part) sent a) f)) (sym h.3)
     (subst (λ x. Flattens service first (with_pair before (stopped_by part before.pair) x) (stopped_flat before part (moment_of (Stop part) x (with_pair before (stopped_by part before.pair) x)) f)) (sym h.2)

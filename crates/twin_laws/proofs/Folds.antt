@@ -1,5 +1,5 @@
 -- The fold of a log over messages, and its answers, with one message more.
-use Rattle.std.proofs.Common.{◌≡◌, ℕ, zero, suc, ◌+◌, refl, sym, ap, ap₂, ◌∙◌, Option, Some, None, List, [], ◌∷◌, ◌++◌, take, slice_get, append-nil, append_assoc, arith}
+use Rattle.std.proofs.Common.{◌≡◌, ℕ, zero, suc, ◌+◌, refl, sym, ap, ◌∙◌, Some, List, [], ◌∷◌, ◌++◌, take, slice_get, append-nil, append_assoc, arith}
 use Rattle.std.specs.Option.{option_to_list}
 use Rattle.ft_model.specs.Log.{Log, log_after, answer_to}
 use Rattle.ft_model.proofs.Lists.{none_is_some, some_is}

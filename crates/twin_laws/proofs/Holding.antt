@@ -1,5 +1,5 @@
 -- What holds of a pair, part by part: its logs, its answers and its numbers, whichever of the two has stopped.
-use Rattle.std.proofs.Common.{◌≡◌, ℕ, ◌+◌, ◌<◌, ◌≤◌, Bool, true, false, refl, sym, ap, ap₂, ◌∙◌, subst, Option, Some, None, List, [], ◌∷◌, ◌++◌, length, take, slice_get, append-nil, append_assoc, length-append, arith}
+use Rattle.std.proofs.Common.{◌≡◌, ℕ, ◌+◌, ◌<◌, ◌≤◌, Bool, true, false, sym, ap, ap₂, ◌∙◌, Some, List, [], ◌∷◌, ◌++◌, length, take, slice_get, append-nil, append_assoc, length-append, arith}
 use Rattle.std.proofs.lemmas.List.{take-append-le}
 use Rattle.std.proofs.lemmas.Option.{slice_get_within}
 use Rattle.std.specs.Option.{option_to_list}

@@ -1,15 +1,13 @@
 -- What a program keeps of a head or a tail does what the definition says.
-use Rattle.std.proofs.Common.{◌≡◌, ℕ, zero, suc, ◌+◌, ◌-◌, ◌<◌, ◌≤◌, ◌==◌, ◌&&◌, Bool, true, false, refl, sym, ap, ◌∙◌, Option, Some, None, List, [], ◌∷◌, ◌++◌, map, length, drop, append-nil, arith, length-append, nat_lt, nat_le, if◌then◌else◌}
-use Rattle.std.specs.Option.{option_to_list}
+use Rattle.std.proofs.Common.{◌≡◌, ℕ, ◌+◌, ◌-◌, ◌<◌, ◌≤◌, ◌==◌, ◌&&◌, Bool, true, false, refl, sym, ap, ◌∙◌, List, [], ◌∷◌, ◌++◌, map, length, drop, append-nil, arith, length-append, nat_lt, nat_le, if◌then◌else◌}
 use Rattle.std.proofs.lemmas.Bool.{and_parts, ltb-true}
 use Rattle.std.proofs.lemmas.List.{length-drop, length-map, drop-map, drop-drop, drop-append-le, map-append}
-use Rattle.seq_arith.specs.Message.{Message, is_answer}
-use Rattle.seq_arith.specs.MessageGrammar as messages
+use Rattle.seq_arith.specs.Message.{is_answer}
 use Rattle.ft_model.specs.Log.{Log, log_after, answer_to}
 use Rattle.twin_laws.specs.declared.part.Part.TheVariants as parts
 use Rattle.twin_laws.specs.declared.part.Side.{Side}
 use Rattle.twin_laws.specs.declared.part.Side.TheVariants as sides
-use Rattle.twin_laws.specs.Twin.{Request, Between, Comes, Head, Tail, Does, head_does, tail_does, head_takes, with_taken, may_take, has_room, numbered, waiting, sends_waiting, confirmed_to, applies_next, confirms_again, nothing, bytes_of}
+use Rattle.twin_laws.specs.Twin.{Request, Comes, Head, Tail, head_does, tail_does, head_takes, with_taken, may_take, numbered, waiting, sends_waiting, confirmed_to, applies_next, confirms_again, nothing, bytes_of}
 use Rattle.twin_laws.specs.Twin.Between.{Forward, Got}
 use Rattle.twin_laws.specs.Twin.Comes.{Asks, Tells, Is_noise}
 use Rattle.twin_laws.specs.Kept.{Kept, KeptDoes, kept_head, kept_tail, comes_from, does_of, kept_does, in_bytes, forwards_sent, sent_to_other, answers_sent, sends_kept, sends_nothing, keeps_too, keeps_request, kept_confirmed, applies_kept}

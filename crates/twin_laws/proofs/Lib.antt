@@ -1,10 +1,14 @@
+mod Allowed
 pub mod Asking
-mod Elsewhere
+pub mod Elsewhere
 mod Flattening
 mod Folds
 mod Holding
-mod Keeping
+pub mod Keeping
 mod Noise
-mod Numbering
+pub mod Numbering
+mod OneOutcome
+pub mod OneTurn
 mod Steps
 mod WorkedPair
+mod Written

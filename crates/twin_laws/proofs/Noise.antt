@@ -1,5 +1,5 @@
 -- What the grammars refuse is noise to a logger, and so is whatever reached it with one bit changed.
-use Rattle.std.proofs.Common.{◌≡◌, ℕ, ◌<◌, ◌*◌, List, length, refl, sym, ◌∙◌, true≢false}
+use Rattle.std.proofs.Common.{◌≡◌, ℕ, ◌<◌, ◌*◌, List, length, refl, sym, true≢false}
 use Rattle.std.specs.Prelude.{Result, Ok, Err, IsErr}
 use Rattle.seq_arith.specs.declared.kinds.BadMsg.{BadMsg}
 use Rattle.seq_arith.specs.declared.twin.BadTwin.{BadTwin}

@@ -1,20 +1,19 @@
 -- Every delivery keeps what holds of a pair.
-use Rattle.std.proofs.Common.{◌≡◌, ℕ, zero, suc, ◌+◌, ◌-◌, ◌<◌, ◌≤◌, ◌==◌, ◌&&◌, Bool, true, false, refl, sym, ap, ap₂, ◌∙◌, subst, true≢false, Option, Some, None, List, [], ◌∷◌, ◌++◌, length, take, drop, slice_get, append-nil, append_assoc, length-append, le_refl, arith, eqb-true, ltb-true, nat_lt, nat_le, if◌then◌else◌}
+use Rattle.std.proofs.Common.{◌≡◌, ℕ, zero, suc, ◌+◌, ◌≤◌, ◌==◌, ◌&&◌, Bool, true, false, refl, sym, ap, ◌∙◌, subst, true≢false, Option, Some, None, List, [], ◌∷◌, ◌++◌, length, drop, slice_get, append-nil, le_refl, arith, eqb-true, nat_lt, nat_le, if◌then◌else◌}
 use Rattle.std.specs.List.{AllByRecursion}
 use Rattle.std.specs.Option.{option_to_list}
-use Rattle.std.proofs.lemmas.Bool.{and_parts}
 use Rattle.seq_arith.specs.Message.{Message, is_answer}
-use Rattle.ft_io.proofs.Choices.{holds_if, by_cases}
-use Rattle.ft_model.specs.Log.{Log, empty_log, log_after, answer_to}
-use Rattle.ft_model.proofs.Lists.{all_append, all_weaker, all_slice_get, none_is_some, some_is}
-use Rattle.twin_laws.specs.Twin.{Request, Between, Comes, Head, Tail, Does, new_head, new_tail, head_does, tail_does, head_takes, with_taken, waiting, numbered, confirmed_to, tail_applies, has_room, head_paired, head_alone, tail_alone, nothing, sends_waiting, applies_next, confirms_again}
+use Rattle.ft_io.proofs.Choices.{holds_if}
+use Rattle.ft_model.specs.Log.{log_after, answer_to}
+use Rattle.ft_model.proofs.Lists.{all_append, all_weaker, all_slice_get, none_is_some}
+use Rattle.twin_laws.specs.Twin.{Request, Between, Head, Tail, Does, head_takes, with_taken, waiting, numbered, confirmed_to, tail_applies, has_room, head_paired, head_alone, tail_alone, nothing, sends_waiting, applies_next, confirms_again}
 use Rattle.twin_laws.specs.Twin.Comes.{Asks, Tells, Is_noise}
 use Rattle.twin_laws.specs.Twin.Between.{Forward, Got}
-use Rattle.twin_laws.specs.Pair.{Pair, Delivery, new_pair, told_by, told_at, head_has, tail_has, stopped_by, pair_after, pair_over, ActsAsOne, log_over, answers_over, given_if, asked_in}
+use Rattle.twin_laws.specs.Pair.{Pair, Delivery, new_pair, told_by, head_has, tail_has, pair_after, pair_over, ActsAsOne}
 use Rattle.twin_laws.specs.declared.part.Part.{Part}
 use Rattle.twin_laws.specs.declared.part.Part.TheVariants as parts
 use Rattle.twin_laws.specs.Pair.Delivery.{Server_asks, Other_tells, Noise_comes_to, Stops}
-use Rattle.twin_laws.proofs.Holding.{Holds, Paired, paired_from, holds_from, took, applies, confirms, tail_given, head_given, head_stops, tail_stops}
+use Rattle.twin_laws.proofs.Holding.{Holds, Paired, paired_from, holds_from, took, applies, tail_given, head_given, head_stops, tail_stops}
 
 -- a Forward that was sent has a message of the head's at its number
 abbrev pub IsForwarded : List Request → Between → Type 0

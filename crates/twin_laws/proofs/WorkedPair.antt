@@ -1,13 +1,11 @@
 -- The worked run is joint, and flat it is the boot and the delivery of its Hello.
-use Rattle.std.proofs.Common.{◌≡◌, ℕ, ◌<◌, ◌^◌, refl, arith, List, [], ◌∷◌, ◌++◌}
+use Rattle.std.proofs.Common.{◌≡◌, refl, arith, [], ◌∷◌}
 use Rattle.server_trait.specs.Service.{Machine}
 use Rattle.ft_model.specs.Log.{log_after, answer_to}
 use Rattle.ft_model.specs.Network.Packet.{To_logger}
-use Rattle.ft_model.specs.World.{World, Happens, IsStart}
 use Rattle.ft_model.specs.declared.event.Event.TheVariants.{Boot, Deliver}
-use Rattle.twin_laws.specs.Twin.{Between}
 use Rattle.twin_laws.specs.Twin.Between.{Forward}
-use Rattle.twin_laws.specs.TwinWorld.{TwinJoint, TwinHappens, IsTwinStart, seen, request_of}
+use Rattle.twin_laws.specs.TwinWorld.{TwinJoint, TwinHappens, IsTwinStart, request_of}
 use Rattle.twin_laws.specs.TwinWorld.Parcel.{Outside, Inside}
 use Rattle.twin_laws.specs.TwinWorld.TwinEvent.{Usual}
 use Rattle.twin_laws.specs.Flat.{flat}

@@ -1,5 +1,5 @@
 -- A trace with two loggers as one with a single log. What is sent between the loggers is left out, and the packets are renumbered.
-use Rattle.std.specs.Prelude.{ℕ, ◌+◌, ◌-◌, ◌==◌, ◌&&◌, not, Bool, Option, Some, None, option_map, List, [], ◌∷◌, ◌++◌, length, drop, slice_get, if◌then◌else◌}
+use Rattle.std.specs.Prelude.{ℕ, ◌+◌, ◌-◌, ◌==◌, ◌&&◌, not, Option, Some, None, option_map, List, [], ◌∷◌, ◌++◌, length, drop, slice_get, if◌then◌else◌}
 use Rattle.std.specs.Option.{option_map_or, option_to_list}
 use Rattle.seq_arith.specs.Message.{Message, is_answer}
 use Rattle.ft_model.specs.Log.{log_after, answer_to}
@@ -10,9 +10,8 @@ use Rattle.ft_model.specs.declared.event.Event.{Event}
 use Rattle.ft_model.specs.declared.event.Event.TheVariants.{Deliver, Flip}
 use Rattle.twin_laws.specs.declared.part.Part.{Part}
 use Rattle.twin_laws.specs.declared.part.Part.TheVariants as parts
-use Rattle.twin_laws.specs.Twin.{Request, Between, has_room}
+use Rattle.twin_laws.specs.Twin.{Request, has_room}
 use Rattle.twin_laws.specs.Twin.Between.{Forward, Got}
-use Rattle.twin_laws.specs.Pair.{Pair}
 use Rattle.twin_laws.specs.TwinWorld.{Parcel, TwinWorld, TwinEvent, TwinMoment, seen, parcel_at, twin_after}
 use Rattle.twin_laws.specs.TwinWorld.Parcel.{Outside, Inside}
 use Rattle.twin_laws.specs.TwinWorld.TwinEvent.{Usual, Stop}

@@ -13,7 +13,7 @@ use Rattle.twin_laws.specs.declared.part.Side.{Side}
 use Rattle.twin_laws.specs.declared.part.Side.TheVariants as sides
 use Rattle.twin_laws.specs.Twin.{Request, Between, Comes, Head, Tail, Does, may_take, asked, told, bytes_of}
 use Rattle.twin_laws.specs.Twin.Between.{Forward, Got}
-use Rattle.twin_laws.specs.Twin.Comes.{Asks, Tells, Is_noise}
+use Rattle.twin_laws.specs.Twin.Comes.{Asks, Tells}
 
 pub record Kept : Type 0 where
   pub part : Part

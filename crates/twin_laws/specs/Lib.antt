@@ -4,3 +4,7 @@ pub mod Pair
 pub mod TwinWorld
 pub mod Flat
 pub mod WorkedPair
+pub mod TwinLegal
+pub mod TwinReport
+pub mod Written
+pub mod TwinOutcome

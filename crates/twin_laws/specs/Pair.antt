@@ -101,3 +101,10 @@ pub record ActsAsOne (p : Pair) : Type 0 where
       ++ answers_over (log_over empty_log p.head.taken) (given_if p.tail_stopped p.given))
   pub one : (p.head_stopped && p.tail_stopped) ≡ false
   pub none : p.head_stopped ≡ false → p.tail_stopped ≡ false → p.given ≡ []
+
+-- each serves alone exactly where the other has stopped, and the tail confirms nothing that the head didn't take
+pub record IsPaired (p : Pair) : Type 0 where
+  pub head_alone : p.head.alone ≡ p.tail_stopped
+  pub tail_alone : p.tail.alone ≡ p.head_stopped
+  pub one : (p.head_stopped && p.tail_stopped) ≡ false
+  pub confirmed : p.head.confirmed ≤ length p.head.taken

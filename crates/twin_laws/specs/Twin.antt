@@ -1,6 +1,6 @@
 -- Two loggers that act as one: a chain of two (chain replication, van Renesse and Schneider, OSDI 2004). The head takes the server's messages, numbers them and
 -- forwards them. The tail applies them in that order and answers. One of them may stop, and the other then serves alone.
-use Rattle.std.specs.Prelude.{ℕ, Bool, true, false, ◌+◌, ◌-◌, ◌^◌, ◌==◌, ◌&&◌, nat_lt, nat_le, Result, Ok, Err, List, [], ◌∷◌, ◌++◌, length, drop, if◌then◌else◌}
+use Rattle.std.specs.Prelude.{ℕ, Bool, false, ◌+◌, ◌-◌, ◌^◌, ◌==◌, ◌&&◌, nat_lt, nat_le, Result, Ok, Err, List, [], ◌∷◌, ◌++◌, length, drop, if◌then◌else◌}
 use Rattle.std.specs.Option.{option_to_list}
 use Rattle.seq_arith.specs.declared.kinds.BadMsg.{BadMsg}
 use Rattle.seq_arith.specs.declared.twin.BadTwin.{BadTwin}

@@ -1,8 +1,7 @@
 -- The world with two loggers: clients, network and server as in the world with one, and a head and a tail in place of its log. What isn't a logger's turn
 -- happens as it does there.
-use Rattle.std.specs.Prelude.{◌≡◌, ℕ, zero, suc, ◌<◌, ◌*◌, Bool, true, false, length, map, Result, Ok, Err, Option, Some, None, List, [], ◌∷◌, ◌++◌, slice_get, if◌then◌else◌}
+use Rattle.std.specs.Prelude.{◌≡◌, ℕ, zero, suc, ◌<◌, ◌*◌, Bool, true, false, length, map, Ok, Option, Some, None, List, [], ◌∷◌, ◌++◌, slice_get, if◌then◌else◌}
 use Rattle.ft_io.specs.declared.Addr.{Addr}
-use Rattle.seq_arith.specs.declared.kinds.BadMsg.{BadMsg}
 use Rattle.seq_arith.specs.Damage.{flipped}
 use Rattle.seq_arith.specs.Message.{Message}
 use Rattle.seq_arith.specs.MessageGrammar as messages
@@ -11,7 +10,7 @@ use Rattle.server_trait.specs.Service.{Machine}
 use Rattle.ft_model.specs.Client.{Client}
 use Rattle.ft_model.specs.Log.{Log}
 use Rattle.ft_model.specs.Network.{Packet}
-use Rattle.ft_model.specs.Network.Packet.{To_server, To_client, To_logger, From_logger}
+use Rattle.ft_model.specs.Network.Packet.{To_logger, From_logger}
 use Rattle.ft_model.specs.Node.{Node}
 use Rattle.ft_model.specs.Wire.{CanBeTold}
 use Rattle.ft_model.specs.World.{World, Delivered, Flipped, Happens, IsStart}

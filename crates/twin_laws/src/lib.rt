@@ -2,24 +2,35 @@
 //! function is a theorem.
 #![tactic(auto)]
 
-ghost use Rattle.std.specs.Prelude.{ℕ, List, [], ◌≡◌, ◌<◌, ◌≤◌, ◌*◌, ◌^◌, false, length, Ok};
+ghost use Rattle.std.specs.Prelude.{ℕ, List, [], Some, ◌≡◌, ◌<◌, ◌≤◌, ◌*◌, ◌^◌, false, length, Ok};
+ghost use Rattle.std.specs.List.{AllByRecursion};
 ghost use Rattle.seq_arith.specs.Damage.{flipped};
 ghost use Rattle.seq_arith.specs.Message.{is_answer};
 ghost use Rattle.seq_arith.specs.MessageGrammar.{reading as message_reading};
 ghost use Rattle.seq_arith.specs.TwinDatagram.{TwinDatagram};
 ghost use Rattle.seq_arith.specs.TwinGrammar.{reading};
 ghost use Rattle.server_trait.specs.Service.{machine};
+ghost use Rattle.ft_model.specs.Legal.{machines, start_of, IsLegalFor};
 ghost use Rattle.ft_model.specs.Masked.{Masked};
-ghost use Rattle.ft_model.specs.World.{Joint};
+ghost use Rattle.ft_model.specs.Network.{Packet};
+ghost use Rattle.ft_model.specs.Schedule.{kind_of};
+ghost use Rattle.ft_model.specs.World.{Joint, WasSent, events_of, world_after};
+ghost use Rattle.ft_model.specs.declared.event.Event.{Event};
+ghost use Rattle.ft_model.specs.declared.schedule.Schedule.{Schedule};
 ghost use Rattle.twin_laws.specs.Flat.{flat};
-ghost use Rattle.twin_laws.specs.Pair.{Delivery, ActsAsOne, pair_over, new_pair};
+ghost use Rattle.twin_laws.specs.Pair.{Delivery, ActsAsOne, IsPaired, pair_over, new_pair};
 ghost use Rattle.twin_laws.specs.Kept.{kept_head, kept_tail, kept_does, comes_from, in_bytes};
 ghost use Rattle.twin_laws.specs.Twin.{Request, Head, Tail, head_does, tail_does, told, bytes_of};
 ghost use Rattle.twin_laws.specs.Twin.Between.{Forward, Got};
 ghost use Rattle.twin_laws.specs.Twin.Comes.{Tells, Is_noise};
-ghost use Rattle.twin_laws.specs.TwinWorld.{TwinWorld, TwinMoment, TwinJoint, seen};
+ghost use Rattle.twin_laws.specs.TwinLegal.{IsTwinLegalFor, twin_start};
+ghost use Rattle.twin_laws.specs.TwinOutcome.{IsTwinWhole, IsTwinRefused, IsTwinPastPackets};
+ghost use Rattle.twin_laws.specs.TwinWorld.{TwinWorld, TwinMoment, TwinJoint, seen, parcel_at, twin_after};
+ghost use Rattle.twin_laws.specs.TwinWorld.Parcel.{Outside};
+ghost use Rattle.twin_laws.specs.Written.{IsWritten};
 ghost use Rattle.twin_laws.specs.WorkedPair.{at_first, worked, events_in, flat_events};
 
+use ft_model::wire::packets_have_wires;
 pub use part::{Part, Side};
 use server_trait::Service;
 
@@ -37,6 +48,35 @@ pub fn flat_traces_are_masked<S: Service>()
         → Joint (machine (S.started kind) S.after) (seen start []) (flat start trace).trace }
     ensures masked { (kind : ℕ) (start : TwinWorld) (trace : List TwinMoment) → TwinJoint (machine (S.started kind) S.after) start trace
         → Masked (machine (S.started kind) S.after) (seen start []) (flat start trace).trace }
+{}
+
+/// A legal trace of a schedule with two loggers, made flat, is a legal one with a single log, for its own events. So its clients see one server that never
+/// crashed.
+pub fn legal_traces_are_masked<S: Service>()
+    ensures legal { (schedule : Schedule) (events : List Event) (trace : List TwinMoment) → IsTwinLegalFor (machines S.started S.after) schedule events trace
+        → IsLegalFor (machines S.started S.after) schedule (events_of (flat (twin_start schedule) trace).trace) (flat (twin_start schedule) trace).trace }
+    ensures masked { (schedule : Schedule) (events : List Event) (trace : List TwinMoment) → IsTwinLegalFor (machines S.started S.after) schedule events trace
+        → Masked (machines S.started S.after (kind_of schedule.service)) (start_of schedule) (flat (twin_start schedule) trace).trace }
+{}
+
+/// All that was sent in a joint trace can be written and is read as what was sent.
+pub fn parcels_are_written<S: Service>()
+    ensures { (kind : ℕ) (start : TwinWorld) (trace : List TwinMoment) → TwinJoint (machine (S.started kind) S.after) start trace
+        → AllByRecursion IsWritten (twin_after start trace).parcels }
+{
+    packets_have_wires::<S>();
+}
+
+/// The flat trace ends in the world that all others see, and in it was sent whatever was sent to the server and to the clients. A logger of the pair serves alone
+/// exactly where the other has stopped, and the tail confirms nothing that the head didn't take.
+pub fn flat_traces_show_all<S: Service>()
+    ensures world { (kind : ℕ) (start : TwinWorld) (trace : List TwinMoment) → TwinJoint (machine (S.started kind) S.after) start trace
+        → world_after (seen start []) (flat start trace).trace ≡ seen (twin_after start trace) (flat start trace).packets }
+    ensures sent { (kind number : ℕ) (start : TwinWorld) (trace : List TwinMoment) (packet : Packet) → TwinJoint (machine (S.started kind) S.after) start trace
+        → parcel_at (twin_after start trace).parcels number ≡ Some (Outside packet)
+        → WasSent (seen (twin_after start trace) (flat start trace).packets) packet }
+    ensures pair { (kind : ℕ) (start : TwinWorld) (trace : List TwinMoment) → TwinJoint (machine (S.started kind) S.after) start trace
+        → IsPaired (twin_after start trace).pair }
 {}
 
 /// A datagram between the loggers with one bit changed is noise where it arrives.
@@ -64,4 +104,14 @@ pub fn what_is_sent_is_read()
 pub fn worked_pair_is_joint<S: Service>()
     ensures joint { (kind : ℕ) → TwinJoint (machine (S.started kind) S.after) at_first worked }
     ensures flat { events_in (flat at_first worked).trace ≡ flat_events }
+{}
+
+/// A schedule with two loggers has one outcome: never two of the three.
+pub fn twin_schedules_have_one_outcome<S: Service>()
+    ensures whole_or_refused { (schedule : Schedule)
+        → IsTwinWhole (machines S.started S.after) schedule → IsTwinRefused (machines S.started S.after) schedule → ⊥ }
+    ensures whole_or_past { (schedule : Schedule)
+        → IsTwinWhole (machines S.started S.after) schedule → IsTwinPastPackets (machines S.started S.after) schedule → ⊥ }
+    ensures refused_or_past { (schedule : Schedule)
+        → IsTwinRefused (machines S.started S.after) schedule → IsTwinPastPackets (machines S.started S.after) schedule → ⊥ }
 {}

@@ -1,0 +1,163 @@
+-- A schedule with two loggers has one outcome: of two legal traces the longer begins with the shorter.
+use Rattle.std.proofs.Common.{◌≡◌, ◌∙◌, ℕ, ◌+◌, ◌<◌, ◌≤◌, refl, sym, ap, subst, arith, None, List, [], ◌∷◌, ◌++◌, length, length-append, append_assoc}
+use Rattle.std.proofs.lemmas.Option.{none-some}
+use Rattle.server_trait.specs.Service.{Machine}
+use Rattle.ft_model.specs.Schedule.{kind_of}
+use Rattle.ft_model.specs.declared.event.Event.{Event}
+use Rattle.ft_model.specs.declared.schedule.Schedule.{Schedule}
+use Rattle.twin_laws.specs.TwinWorld.{TwinWorld, TwinMoment, TwinHappens, TwinJoint, twin_after}
+use Rattle.twin_laws.specs.TwinLegal.{twin_start, twin_refusal, twin_events_of, event_of, IsTwinAllowed, AllTwinAllowed, IsTwinLegalFor, twin_packets_sent}
+use Rattle.twin_laws.specs.TwinOutcome.{IsTwinWhole, IsTwinRefused, IsTwinPastPackets}
+use Rattle.twin_laws.proofs.OneTurn.{twin_once, named_once, twin_goes_on}
+
+-- an allowed event is done by scripted clients
+record Goes {State : Type 0} (service : Machine State) (before : TwinWorld) (event : Event) (after : TwinWorld) : Type 0 where
+  pub moment : TwinMoment
+  pub happens : TwinHappens service before moment.event moment.sent moment.world
+  pub allowed : IsTwinAllowed before moment
+  pub is : event_of moment.event ≡ event
+  pub ends : moment.world ≡ after
+
+-- events, oldest first, lead from one world to another
+abbrev Runs : {State : Type 0} → Machine State → TwinWorld → List Event → TwinWorld → Type 0
+Runs service before [] after = after ≡ before
+Runs service before (event ∷ events) after = (next : TwinWorld) × Goes service before event next × Runs service next events after
+
+-- two ways to cut a list in two: one front begins with the other
+data Fronts {A : Type 0} (xs ys zs us : List A) : Type 0 where
+  longer : (middle : List A) → zs ≡ xs ++ middle → ys ≡ middle ++ us → Fronts xs ys zs us
+  shorter : (middle : List A) → xs ≡ zs ++ middle → us ≡ middle ++ ys → Fronts xs ys zs us
+
+fronts : {A : Type 0} (xs ys zs us : List A) → xs ++ ys ≡ zs ++ us → Fronts xs ys zs us
+fronts [] ys zs us e = longer zs refl e
+fronts (x ∷ xs) ys [] us e = shorter (x ∷ xs) refl (sym e)
+fronts (x ∷ xs) ys (z ∷ zs) us e = further (fronts xs ys zs us (cc))
+  where
+    first : x ≡ z
+    first = cc
+
+    further : Fronts xs ys zs us → Fronts (x ∷ xs) ys (z ∷ zs) us
+    further (longer middle p q) = longer middle (ap (λ w. w ∷ zs) (sym first) ∙ ap (λ ws. x ∷ ws) p) q
+    further (shorter middle p q) = shorter middle (ap (λ w. w ∷ xs) first ∙ ap (λ ws. z ∷ ws) p) q
+
+module _ {State : Type 0} (service : Machine State) where
+  goes_once : (event : Event) (before w x : TwinWorld) → Goes service before event w → Goes service before event x → w ≡ x
+  goes_once event before w x g h =
+      let same : g.moment.event ≡ h.moment.event = named_once service g.moment.event h.moment.event before g.moment.world h.moment.world g.moment.sent h.moment.sent g.happens h.happens (g.is ∙ sym h.is) in
+      sym g.ends
+      ∙ (twin_once service h.moment.event before g.moment.world h.moment.world g.moment.sent h.moment.sent
+      (subst (λ e. TwinHappens service before e g.moment.sent g.moment.world) same g.happens) h.happens
+      (subst (λ e. IsTwinAllowed before (record g.moment { event = e })) same g.allowed).scripted h.allowed.scripted
+      ∙ h.ends)
+
+  goes_on : (event : Event) (before w : TwinWorld) → Goes service before event w → length before.parcels ≤ length w.parcels
+  goes_on event before w g =
+      let grown : w.parcels ≡ before.parcels ++ g.moment.sent = ap (λ v. v.parcels) (sym g.ends) ∙ twin_goes_on service g.moment.event before g.moment.world g.moment.sent g.happens in
+      let long : length w.parcels ≡ length before.parcels + length g.moment.sent = ap length grown ∙ length-append before.parcels g.moment.sent in
+      omega arith
+
+  is_allowed : (event : Event) (before w : TwinWorld) → Goes service before event w → twin_refusal before event ≡ None
+  is_allowed event before w g = ap (twin_refusal before) (sym g.is) ∙ g.allowed.allowed
+
+  runs_on : (events : List Event) (before w : TwinWorld) → Runs service before events w → length before.parcels ≤ length w.parcels
+  runs_on [] before w r = subst (λ v. length before.parcels ≤ length v.parcels) (sym r) (omega arith)
+  runs_on (event ∷ events) before w r = omega (arith, goes_on event before r.0 r.1, runs_on events r.0 w r.2)
+
+  -- the longer run begins with the shorter one
+  runs_split : (events more : List Event) (before w x : TwinWorld) → Runs service before events w → Runs service before (events ++ more) x → Runs service w more x
+  runs_split [] more before w x r t = subst (λ v. Runs service v more x) (sym r) t
+  runs_split (event ∷ events) more before w x r t =
+      let same : t.0 ≡ r.0 = goes_once event before t.0 r.0 t.1 r.1 in
+      runs_split events more r.0 w x r.2 (subst (λ v. Runs service v (events ++ more) x) same t.2)
+
+  runs_last : (events : List Event) (event : Event) (before w x : TwinWorld) → Runs service before events w → Goes service w event x → Runs service before (events ++ event ∷ []) x
+  runs_last [] event before w x r g = (x, subst (λ v. Goes service v event x) r g, refl)
+  runs_last (first ∷ events) event before w x r g = (r.0, r.1, runs_last events event r.0 w x r.2 g)
+
+  runs_of : (start : TwinWorld) (trace : List TwinMoment) → TwinJoint service start trace → AllTwinAllowed start trace → Runs service start (twin_events_of trace) (twin_after start trace)
+  runs_of start [] joint allowed = refl
+  runs_of start (moment ∷ earlier) joint allowed =
+      runs_last (twin_events_of earlier) (event_of moment.event) start (twin_after start earlier) moment.world (runs_of start earlier joint.0 allowed.0)
+      (record { moment = moment; happens = joint.1; allowed = allowed.1; is = refl; ends = refl })
+
+-- with these first events more packets are sent than may be
+record Passed {State : Type 0} (service : ℕ → Machine State) (schedule : Schedule) : Type 0 where
+  pub played : List Event
+  pub others : List Event
+  pub trace : List TwinMoment
+  pub events : schedule.events ≡ played ++ others
+  pub legal : IsTwinLegalFor service schedule played trace
+  pub over : 200000 < twin_packets_sent schedule trace
+
+passed_with : {State : Type 0} (service : ℕ → Machine State) (schedule : Schedule) → IsTwinPastPackets service schedule → Passed service schedule
+passed_with service schedule p = record {
+  played = p.played ++ p.event ∷ [];
+  others = p.others;
+  trace = p.moment ∷ p.earlier;
+  events = p.events ∙ sym (append_assoc p.played (p.event ∷ []) p.others);
+  legal = p.legal;
+  over = p.over;
+}
+
+module _ {State : Type 0} (services : ℕ → Machine State) (schedule : Schedule) where
+  abbrev service : Machine State
+  service = services (kind_of schedule.service)
+
+  abbrev start : TwinWorld
+  start = twin_start schedule
+
+  runs_legal : (events : List Event) (trace : List TwinMoment) → IsTwinLegalFor services schedule events trace → Runs service start events (twin_after start trace)
+  runs_legal events trace l = subst (λ es. Runs service start es (twin_after start trace)) l.events_are (runs_of service start trace l.joint l.allowed)
+
+  -- all events, played or not, in one run
+  runs_whole : (played others : List Event) (trace : List TwinMoment) → schedule.events ≡ played ++ others → IsTwinLegalFor services schedule schedule.events trace
+      → Runs service start (played ++ others) (twin_after start trace)
+  runs_whole played others trace e l = subst (λ es. Runs service start es (twin_after start trace)) e (runs_legal schedule.events trace l)
+
+  pub whole_or_refused : IsTwinWhole services schedule → IsTwinRefused services schedule → ⊥
+  whole_or_refused a b =
+      let rest = runs_split service b.played (b.event ∷ b.others) start (twin_after start b.trace) (twin_after start a.trace) (runs_legal b.played b.trace b.legal)
+      (runs_whole b.played (b.event ∷ b.others) a.trace b.events a.legal) in
+      none-some b.why (sym (is_allowed service b.event (twin_after start b.trace) rest.0 rest.1) ∙ b.refused)
+
+  pub whole_or_past : IsTwinWhole services schedule → IsTwinPastPackets services schedule → ⊥
+  whole_or_past a p =
+      let b : Passed services schedule = passed_with services schedule p in
+      let rest = runs_split service b.played b.others start (twin_after start b.trace) (twin_after start a.trace) (runs_legal b.played b.trace b.legal)
+      (runs_whole b.played b.others a.trace b.events a.legal) in
+      let few : twin_packets_sent schedule b.trace ≤ twin_packets_sent schedule a.trace = runs_on service b.others (twin_after start b.trace) (twin_after start a.trace) rest in
+      omega (arith, a.within, b.over, few)
+
+  pub refused_or_past : IsTwinRefused services schedule → IsTwinPastPackets services schedule → ⊥
+  refused_or_past a p = by_fronts (fronts a.played (a.event ∷ a.others) b.played b.others (sym a.events ∙ b.events))
+    where
+      b : Passed services schedule
+      b = passed_with services schedule p
+
+      refused : TwinWorld
+      refused = twin_after start a.trace
+
+      passed : TwinWorld
+      passed = twin_after start b.trace
+
+      one : Runs service start a.played refused
+      one = runs_legal a.played a.trace a.legal
+
+      other : Runs service start b.played passed
+      other = runs_legal b.played b.trace b.legal
+
+      over : length passed.parcels ≤ length refused.parcels → ⊥
+      over h =
+          let low : twin_packets_sent schedule a.trace ≤ 200000 = a.within in
+          let high : 200000 < twin_packets_sent schedule b.trace = b.over in
+          omega arith
+
+      on_from : (middle : List Event) → a.event ∷ a.others ≡ middle ++ b.others → Runs service refused middle passed → ⊥
+      on_from [] e r = over (subst (λ v. length passed.parcels ≤ length v.parcels) r (omega arith))
+      on_from (event ∷ middle) e r =
+          let same : event ≡ a.event = cc in
+          none-some a.why (sym (subst (λ x. twin_refusal refused x ≡ None) same (is_allowed service event refused r.0 r.1)) ∙ a.refused)
+
+      by_fronts : Fronts a.played (a.event ∷ a.others) b.played b.others → ⊥
+      by_fronts (longer middle p q) = on_from middle q (runs_split service a.played middle start refused passed one (subst (λ es. Runs service start es passed) p other))
+      by_fronts (shorter middle p q) = over (runs_on service middle passed refused (runs_split service b.played middle start passed refused other (subst (λ es. Runs service start es refused) p one)))
