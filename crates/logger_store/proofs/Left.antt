@@ -6,9 +6,11 @@ use Rattle.std.proofs.Math.Seq.{drop-append-add}
 use Rattle.seq_arith.specs.Message.{Part}
 use Rattle.ft_model.specs.Log.{Entry, with_bytes, with_its_fin, with_part, with_read, is_next_read}
 use Rattle.ft_model.proofs.Services.{sum_more}
-use Rattle.logger_store.specs.Pages.{pages, zeroed, zeroing}
+use Rattle.logger_store.specs.Pages.{pages, zeroed, levelled, reads_on, without}
+use Rattle.logger_store.specs.Stored.{acknowledging}
 use Rattle.logger_store.specs.Trimmed.{IsLeft}
 use Rattle.logger_store.specs.declared.trimming.Trim.{Trim}
+use Rattle.logger_store.proofs.Levels.{levelled_count, levelled_sum, levelled_closing, levelled_more, levelled_twice}
 
 pub low : (b n : ℕ) → b ≤ n → pages b ≤ n
 low b n h = omega (arith, h)
@@ -36,21 +38,22 @@ same_rest n at xs h =
 either : {A : Type 0} (c d : Bool) (x y u v : A) → c ≡ d → x ≡ u → y ≡ v → (if c then x else y) ≡ (if d then u else v)
 either c d x y u v e p q = λ i. if e i then p i else q i
 
-zeroing_if : (b : ℕ) (c : Bool) (x y : Entry) → (if c then zeroing b x else zeroing b y) ≡ zeroing b (if c then x else y)
-zeroing_if b true x y = refl
-zeroing_if b false x y = refl
+without_if : (b r : ℕ) (c : Bool) (x y : Entry) → (if c then without b r x else without b r y) ≡ without b r (if c then x else y)
+without_if b r true x y = refl
+without_if b r false x y = refl
 
-bytes_commute : (b : ℕ) (part : Part) (e : Entry) → b ≤ length e.bytes → with_bytes part (zeroing b e) ≡ zeroing b (with_bytes part e)
-bytes_commute b part e h =
+bytes_commute : (b r : ℕ) (part : Part) (e : Entry) → b ≤ length e.bytes → with_bytes part (without b r e) ≡ without b r (with_bytes part e)
+bytes_commute b r part e h =
     let n : pages b ≤ length e.bytes = low b (length e.bytes) h in
     let size : length (zeroed (pages b) e.bytes) ≡ length e.bytes = same_length (pages b) e.bytes n in
     let grown : Entry = record e { bytes = e.bytes ++ drop (length e.bytes - part.offset) part.bytes } in
-    either (e.fin || nat_lt (length (zeroed (pages b) e.bytes)) part.offset) (e.fin || nat_lt (length e.bytes) part.offset) (zeroing b e)
-    (record (zeroing b e) { bytes = zeroed (pages b) e.bytes ++ drop (length (zeroed (pages b) e.bytes) - part.offset) part.bytes }) (zeroing b e) (zeroing b grown)
+    let plain : Entry = without b r e in
+    either (e.fin || nat_lt (length (zeroed (pages b) e.bytes)) part.offset) (e.fin || nat_lt (length e.bytes) part.offset) (without b r e)
+    (record (without b r e) { bytes = zeroed (pages b) e.bytes ++ drop (length (zeroed (pages b) e.bytes) - part.offset) part.bytes }) (without b r e) (without b r grown)
     (ap (λ k. e.fin || nat_lt k part.offset) size) refl
-    (ap (λ l. let x : Entry = record e { bytes = l } in x)
+    (ap (λ l. let x : Entry = record plain { bytes = l } in x)
     (ap (λ k. zeroed (pages b) e.bytes ++ drop (k - part.offset) part.bytes) size ∙ more_behind (pages b) e.bytes (drop (length e.bytes - part.offset) part.bytes) n))
-    ∙ zeroing_if b (e.fin || nat_lt (length e.bytes) part.offset) e grown
+    ∙ without_if b r (e.fin || nat_lt (length e.bytes) part.offset) e grown
 
 grown_length : (part : Part) (e : Entry) → length e.bytes ≤ length (with_bytes part e).bytes
 grown_length part e = by (e.fin || nat_lt (length e.bytes) part.offset)
@@ -60,12 +63,12 @@ grown_length part e = by (e.fin || nat_lt (length e.bytes) part.offset)
     by true = omega arith
     by false = let more = length-append e.bytes (drop (length e.bytes - part.offset) part.bytes) in omega (arith, more)
 
-fin_commute : (b : ℕ) (part : Part) (e : Entry) → b ≤ length e.bytes → with_its_fin part (zeroing b e) ≡ zeroing b (with_its_fin part e)
-fin_commute b part e h =
+fin_commute : (b r : ℕ) (part : Part) (e : Entry) → b ≤ length e.bytes → with_its_fin part (without b r e) ≡ without b r (with_its_fin part e)
+fin_commute b r part e h =
     let size : length (zeroed (pages b) e.bytes) ≡ length e.bytes = same_length (pages b) e.bytes (low b (length e.bytes) h) in
     let ended : Entry = record e { fin = true } in
-    ap (λ k. if part.fin && part.offset + length part.bytes == k then zeroing b ended else zeroing b e) size
-    ∙ zeroing_if b (part.fin && part.offset + length part.bytes == length e.bytes) ended e
+    ap (λ k. if part.fin && part.offset + length part.bytes == k then without b r ended else without b r e) size
+    ∙ without_if b r (part.fin && part.offset + length part.bytes == length e.bytes) ended e
 
 fin_length : (part : Part) (e : Entry) → length (with_its_fin part e).bytes ≡ length e.bytes
 fin_length part e = by (part.fin && part.offset + length part.bytes == length e.bytes)
@@ -74,11 +77,11 @@ fin_length part e = by (part.fin && part.offset + length part.bytes == length e.
     by true = refl
     by false = refl
 
-part_commute : (b : ℕ) (part : Part) (e : Entry) → b ≤ length e.bytes → with_part part (zeroing b e) ≡ zeroing b (with_part part e)
-part_commute b part e h =
+part_commute : (b r : ℕ) (part : Part) (e : Entry) → b ≤ length e.bytes → with_part part (without b r e) ≡ without b r (with_part part e)
+part_commute b r part e h =
     let grown = grown_length part e in
-    let both : with_its_fin part (with_bytes part (zeroing b e)) ≡ zeroing b (with_its_fin part (with_bytes part e)) =
-    ap (with_its_fin part) (bytes_commute b part e h) ∙ fin_commute b part (with_bytes part e) (omega (arith, grown, h)) in
+    let both : with_its_fin part (with_bytes part (without b r e)) ≡ without b r (with_its_fin part (with_bytes part e)) =
+    ap (with_its_fin part) (bytes_commute b r part e h) ∙ fin_commute b r part (with_bytes part e) (omega (arith, grown, h)) in
     ap (λ x. let y : Entry = record x { acknowledged = max e.acknowledged part.acked } in y) both
 
 bytes_lengths : (part : Part) (e : Entry) → (with_bytes part e).lengths ≡ e.lengths
@@ -104,17 +107,24 @@ part_left t left e part l =
     record {
       logged = subst (λ ls. t.reads ≤ length ls) (sym lengths) l.logged;
       took = l.took ∙ ap (λ ls. sum (take t.reads ls)) (sym lengths);
+      on = ap (λ ls. reads_on (take t.reads ls)) lengths ∙ l.on;
       within = omega (arith, grown, ended, low_enough);
-      same = ap (with_part part) l.same ∙ part_commute t.bytes part e l.within;
+      same = ap (with_part part) l.same ∙ part_commute t.bytes t.reads part e l.within;
     }
 
-read_commute : (b index n : ℕ) (e : Entry) → b ≤ length e.bytes → with_read index n (zeroing b e) ≡ zeroing b (with_read index n e)
-read_commute b index n e h =
+read_commute : (b r index n : ℕ) (e : Entry) → b ≤ length e.bytes → r ≤ length e.lengths → reads_on (take r e.lengths) ≡ true
+    → with_read index n (without b r e) ≡ without b r (with_read index n e)
+read_commute b r index n e h few on =
     let size : length (zeroed (pages b) e.bytes) ≡ length e.bytes = same_length (pages b) e.bytes (low b (length e.bytes) h) in
+    let count : length (levelled r e.lengths) ≡ length e.lengths = levelled_count r e.lengths few in
+    let total : sum (levelled r e.lengths) ≡ sum e.lengths = levelled_sum r e.lengths in
+    let closing : list_any (λ j. j == 0) (levelled r e.lengths) ≡ list_any (λ j. j == 0) e.lengths = levelled_closing r e.lengths few on in
     let more : Entry = record e { lengths = e.lengths ++ n ∷ [] } in
-    let test : is_next_read (zeroing b e) index n ≡ is_next_read e index n =
-    ap (λ k. let x : Bool = index == length e.lengths && (not (list_any (λ j. j == 0) e.lengths) && nat_le (sum e.lengths + n) k && (nat_lt 0 n || (e.fin && sum e.lengths == k))) in x) size in
-    ap (λ c. if c then zeroing b more else zeroing b e) test ∙ zeroing_if b (is_next_read e index n) more e
+    let test : is_next_read (without b r e) index n ≡ is_next_read e index n =
+    (λ i. index == count i && (not (closing i) && nat_le (total i + n) (size i) && (nat_lt 0 n || (e.fin && total i == size i)))) in
+    either (is_next_read (without b r e) index n) (is_next_read e index n) (record (without b r e) { lengths = levelled r e.lengths ++ n ∷ [] }) (without b r e)
+    (without b r more) (without b r e) test (ap (λ ls. let x : Entry = record (without b r e) { lengths = ls } in x) (levelled_more r e.lengths (n ∷ []) few)) refl
+    ∙ without_if b r (is_next_read e index n) more e
 
 read_length : (index n : ℕ) (e : Entry) → length (with_read index n e).bytes ≡ length e.bytes
 read_length index n e = by (is_next_read e index n)
@@ -140,13 +150,18 @@ read_left t left e index n l =
     record {
       logged = reads.0;
       took = l.took ∙ ap sum (sym reads.1);
+      on = ap reads_on reads.1 ∙ l.on;
       within = omega (arith, same_size, low_enough);
-      same = ap (with_read index n) l.same ∙ read_commute t.bytes index n e l.within;
+      same = ap (with_read index n) l.same ∙ read_commute t.bytes t.reads index n e l.within l.logged l.on;
     }
 
 pub end_left : (t : Trim) (left e : Entry) → IsLeft t left e → IsLeft t (record left { done = true }) (record e { done = true })
 end_left t left e l =
-    record { logged = l.logged; took = l.took; within = l.within; same = ap (λ x. let y : Entry = record x { done = true } in y) l.same }
+    record { logged = l.logged; took = l.took; on = l.on; within = l.within; same = ap (λ x. let y : Entry = record x { done = true } in y) l.same }
+
+pub acknowledged_left : (t : Trim) (left e : Entry) (units : ℕ) → IsLeft t left e → IsLeft t (acknowledging units left) (acknowledging units e)
+acknowledged_left t left e units l =
+    record { logged = l.logged; took = l.took; on = l.on; within = l.within; same = ap (acknowledging units) l.same }
 
 -- what is given up may be more later
 zeroed_twice : (n m : ℕ) (xs : List ℕ) → n ≤ m → zeroed m (zeroed n xs) ≡ zeroed m xs
@@ -162,15 +177,17 @@ sum_front (suc k) (suc j) (n ∷ ns) h =
     let two = sum_more n (take j ns) in omega (arith, rest, one, two)
 
 pub further_left : (t u : Trim) (left e : Entry) → IsLeft t left e → t.reads ≤ u.reads → u.reads ≤ length e.lengths → u.bytes ≡ sum (take u.reads e.lengths)
-    → u.bytes ≤ length e.bytes → IsLeft u (zeroing u.bytes left) e
-further_left t u left e l on logged took within =
-    let more : t.bytes ≤ u.bytes = let front = sum_front t.reads u.reads e.lengths on in let was = l.took in omega (arith, front, was, took) in
+    → reads_on (take u.reads e.lengths) ≡ true → u.bytes ≤ length e.bytes → IsLeft u (without u.bytes u.reads left) e
+further_left t u left e l further logged took on within =
+    let more : t.bytes ≤ u.bytes = let front = sum_front t.reads u.reads e.lengths further in let was = l.took in omega (arith, front, was, took) in
     record {
       logged = logged;
       took = took;
+      on = on;
       within = within;
-      same = ap (zeroing u.bytes) l.same ∙ ap (λ xs. let y : Entry = record e { bytes = xs } in y) (zeroed_twice (pages t.bytes) (pages u.bytes) e.bytes (further t.bytes u.bytes more));
+      same = ap (without u.bytes u.reads) l.same
+          ∙ (λ i. let y : Entry = record e { bytes = zeroed_twice (pages t.bytes) (pages u.bytes) e.bytes (at_later t.bytes u.bytes more) i; lengths = levelled_twice t.reads u.reads e.lengths further logged i } in y);
     }
   where
-    further : (b c : ℕ) → b ≤ c → pages b ≤ pages c
-    further b c h = omega (arith, h)
+    at_later : (b c : ℕ) → b ≤ c → pages b ≤ pages c
+    at_later b c h = omega (arith, h)

@@ -1,23 +1,24 @@
 -- What is left of all entries of a log: it takes each message as they do, and answers alike where it isn't asked for what is trimmed.
-use Rattle.std.proofs.Common.{◌≡◌, ◌∙◌, ℕ, zero, suc, ◌+◌, ◌<◌, ◌≤◌, ◌==◌, ◌&&◌, ◌||◌, nat_lt, nat_le, not, Bool, true, false, refl, sym, ap, ap₂, subst, cond, arith, Option, Some, None, option_map, List, [], ◌∷◌, ◌++◌, length, take, drop, map, find, slice_get, slice_set, sum, true≢false, if◌then◌else◌}
-use Rattle.std.specs.List.{list_any, position, prefix_len}
+use Rattle.std.proofs.Common.{◌≡◌, ◌∙◌, ℕ, zero, suc, ◌+◌, ◌<◌, ◌≤◌, ◌==◌, ◌&&◌, ◌||◌, nat_lt, nat_le, not, Bool, true, false, refl, sym, ap, ap₂, subst, cond, arith, Option, Some, None, option_map, List, [], ◌∷◌, ◌++◌, length, take, drop, map, find, replicate, slice_get, slice_set, sum, true≢false, if◌then◌else◌}
+use Rattle.std.specs.List.{list_any, position, prefix_len, AllByRecursion}
 use Rattle.std.specs.Option.{option_map_or}
 use Rattle.std.proofs.lemmas.Bool.{ltb-true, ltb-false}
 use Rattle.ft_io.specs.declared.Key.{Key}
 use Rattle.ft_io.specs.Key.{key_eq}
 use Rattle.seq_arith.specs.Message.{Numbers, Body, Message, is_answer}
 use Rattle.seq_arith.specs.Message.Body.{HelloMsg, SummaryMsg, ListMsg, EntryMsg, BytesMsg, PartMsg, CutsMsg, LensMsg, OpenMsg, OpenedMsg, DataMsg, StableMsg, ReadMsg, ReadsMsg, DoneMsg, EndedMsg, StaleMsg, FullMsg}
-use Rattle.ft_model.specs.Log.{Log, Entry, log_after, answer_to, told, with_body, with_part, with_read, new_entry, part_of, lens_of, head_of, kept_of, on_entry, opened_answer, is_hello}
+use Rattle.ft_model.specs.Log.{Log, Entry, log_after, answer_to, told, with_body, with_part, with_read, new_entry, with_entry, part_of, lens_of, head_of, kept_of, on_entry, opened_answer, is_hello}
 use Rattle.ft_model.proofs.PlayableLemmas.{same_either_way}
-use Rattle.logger_store.specs.Pages.{changed_at, pages, zeroed, zeroing}
-use Rattle.logger_store.specs.Stored.{bytes_of, lengths_of}
+use Rattle.logger_store.specs.Pages.{changed_at, pages, zeroed, reads_on, took, without}
+use Rattle.logger_store.specs.Stored.{acknowledging, bytes_of, lengths_of}
 use Rattle.logger_store.specs.Trimmed.{TrimmedLog, no_trim, trim_at, is_trimmed, answer_left, with_trim, MayTrim, IsLeft, AreLeft, IsLeftOf}
 use Rattle.logger_store.specs.declared.trimming.Trim.{Trim}
 use Rattle.logger_store.proofs.Entries.{changed}
 use Rattle.logger_store.proofs.Asking.{bytes_stay, cuts_stay}
-use Rattle.logger_store.proofs.Left.{same_length, same_rest, low, part_left, read_left, end_left, further_left}
+use Rattle.logger_store.proofs.Levels.{levelled_count, levelled_front, levelled_rest, levelled_front_closing}
+use Rattle.logger_store.proofs.Left.{same_length, same_rest, low, part_left, read_left, end_left, acknowledged_left, further_left}
 
-same_key_left : (t : Trim) (l e : Entry) (key : Key) → IsLeft t l e → key_eq l.key key ≡ key_eq e.key key
+pub same_key_left : (t : Trim) (l e : Entry) (key : Key) → IsLeft t l e → key_eq l.key key ≡ key_eq e.key key
 same_key_left t l e key a = ap (λ x. key_eq x.key key) a.same
 
 -- a change that keeps what is left of an entry does so in all of them
@@ -37,7 +38,7 @@ changed_left key change f (t ∷ trims) (l ∷ left) (e ∷ es) a =
     by false true p = absurd (true≢false (sym p))
 
 no_entry : (n : Numbers) (t : Trim) → t ≡ no_trim → IsLeft t (new_entry n) (new_entry n)
-no_entry n t none = subst (λ u. IsLeft u (new_entry n) (new_entry n)) (sym none) (record { logged = omega arith; took = refl; within = omega arith; same = refl })
+no_entry n t none = subst (λ u. IsLeft u (new_entry n) (new_entry n)) (sym none) (record { logged = omega arith; took = refl; on = refl; within = omega arith; same = refl })
 
 -- a new entry is whole
 added_left : (n : Numbers) (trims : List Trim) (left es : List Entry) → AreLeft trims left es → AreLeft trims (left ++ new_entry n ∷ []) (es ++ new_entry n ∷ [])
@@ -48,7 +49,7 @@ added_left n (t ∷ trims) [] (e ∷ es) a = absurd a
 added_left n (t ∷ trims) (l ∷ left) [] a = absurd a
 added_left n (t ∷ trims) (l ∷ left) (e ∷ es) a = (a.0, added_left n trims left es a.1)
 
-same_count : (trims : List Trim) (left es : List Entry) → AreLeft trims left es → length left ≡ length es
+pub same_count : (trims : List Trim) (left es : List Entry) → AreLeft trims left es → length left ≡ length es
 same_count [] left es a = ap length a
 same_count (t ∷ trims) [] [] a = refl
 same_count (t ∷ trims) [] (e ∷ es) a = absurd a
@@ -92,21 +93,35 @@ same_at tell alike zero (t ∷ trims) (l ∷ left) (e ∷ es) a = alike t l e a.
 same_at tell alike (suc i) (t ∷ trims) (l ∷ left) (e ∷ es) a = same_at tell alike i trims left es a.1
 
 -- all but the bytes of an entry is told alike
-size_left : (t : Trim) (l e : Entry) → IsLeft t l e → length l.bytes ≡ length e.bytes
+pub size_left : (t : Trim) (l e : Entry) → IsLeft t l e → length l.bytes ≡ length e.bytes
 size_left t l e a = ap (λ x. length x.bytes) a.same ∙ same_length (pages t.bytes) e.bytes (low t.bytes (length e.bytes) a.within)
 
-of_lengths : (tell : Entry → ℕ → Body) → ((b n : ℕ) (e : Entry) → tell (zeroing b e) n ≡ tell e n) → TellsAlike (λ o. on_entry (λ e. Some (tell e (length e.bytes))) o)
+pub count_left : (t : Trim) (l e : Entry) → IsLeft t l e → length l.lengths ≡ length e.lengths
+count_left t l e a = ap (λ x. length x.lengths) a.same ∙ levelled_count t.reads e.lengths a.logged
+
+-- what the first reads took, past the trim
+pub same_front : (t : Trim) (l e : Entry) (n : ℕ) → IsLeft t l e → t.reads ≤ n → n ≤ length e.lengths → sum (take n l.lengths) ≡ sum (take n e.lengths)
+same_front t l e n a further within = ap (λ x. sum (take n x.lengths)) a.same ∙ levelled_front t.reads n e.lengths further within
+
+pub same_closing : (t : Trim) (l e : Entry) (n : ℕ) → IsLeft t l e → t.reads ≤ n → n ≤ length e.lengths → reads_on (take n l.lengths) ≡ reads_on (take n e.lengths)
+same_closing t l e n a further within =
+    ap (λ x. reads_on (take n x.lengths)) a.same ∙ ap not (levelled_front_closing t.reads n e.lengths further within a.on)
+
+of_lengths : (tell : Entry → ℕ → ℕ → Body) → ((b r n k : ℕ) (e : Entry) → tell (without b r e) n k ≡ tell e n k)
+    → TellsAlike (λ o. on_entry (λ e. Some (tell e (length e.bytes) (length e.lengths))) o)
 of_lengths tell same t l e a =
-    ap (λ n. Some (tell l n)) (size_left t l e a) ∙ (ap (λ x. Some (tell x (length e.bytes))) a.same ∙ ap Some (same t.bytes (length e.bytes) e))
+    (λ i. Some (tell l (size_left t l e a i) (count_left t l e a i)))
+    ∙ (ap (λ x. Some (tell x (length e.bytes) (length e.lengths))) a.same ∙ ap Some (same t.bytes t.reads (length e.bytes) (length e.lengths) e))
 
 heads_alike : (i : ℕ) → TellsAlike (on_entry (λ e. Some (EntryMsg i (head_of e))))
-heads_alike i = of_lengths (λ e n. EntryMsg i (record { key = e.key; cisn = e.cisn; sisn = e.sisn; mss = e.mss; length = n; fin = e.fin; done = e.done; reads = length e.lengths; acked = e.acknowledged })) (λ b n e. refl)
+heads_alike i = of_lengths (λ e n k. EntryMsg i (record { key = e.key; cisn = e.cisn; sisn = e.sisn; mss = e.mss; length = n; fin = e.fin; done = e.done; reads = k; acked = e.acknowledged }))
+    (λ b r n k e. refl)
 
 stable_alike : TellsAlike (on_entry (λ e. Some (StableMsg (kept_of e))))
-stable_alike = of_lengths (λ e n. StableMsg (record { key = e.key; length = n; fin = e.fin; reads = length e.lengths })) (λ b n e. refl)
+stable_alike = of_lengths (λ e n k. StableMsg (record { key = e.key; length = n; fin = e.fin; reads = k })) (λ b r n k e. refl)
 
 reads_alike : TellsAlike (on_entry (λ e. Some (ReadsMsg (kept_of e))))
-reads_alike = of_lengths (λ e n. ReadsMsg (record { key = e.key; length = n; fin = e.fin; reads = length e.lengths })) (λ b n e. refl)
+reads_alike = of_lengths (λ e n k. ReadsMsg (record { key = e.key; length = n; fin = e.fin; reads = k })) (λ b r n k e. refl)
 
 -- bytes past the trim are told alike
 part_alike : (t : Trim) (l e : Entry) (offset : ℕ) → IsLeft t l e → t.bytes ≤ offset → part_of l offset ≡ part_of e offset
@@ -120,7 +135,13 @@ part_alike t l e offset a past =
     below : (b n : ℕ) → b ≤ n → pages b ≤ n
     below b n h = omega (arith, h)
 
-one_less : (m n : ℕ) → nat_lt (suc m) (suc n) ≡ nat_lt m n
+-- .. and lengths past it
+lens_alike : (t : Trim) (l e : Entry) (first : ℕ) → IsLeft t l e → t.reads ≤ first → lens_of l first ≡ lens_of e first
+lens_alike t l e first a past =
+    ap (λ x. lens_of x first) a.same
+    ∙ (λ i. if nat_lt first (levelled_count t.reads e.lengths a.logged i) then Some (LensMsg e.key first (take 512 (levelled_rest t.reads first e.lengths past i))) else None)
+
+pub one_less : (m n : ℕ) → nat_lt (suc m) (suc n) ≡ nat_lt m n
 one_less m n = go (nat_lt (suc m) (suc n)) (nat_lt m n) refl refl
   where
     go : (c d : Bool) → nat_lt (suc m) (suc n) ≡ c → nat_lt m n ≡ d → nat_lt (suc m) (suc n) ≡ nat_lt m n
@@ -129,26 +150,29 @@ one_less m n = go (nat_lt (suc m) (suc n)) (nat_lt m n) refl refl
     go true false p q = let less = ltb-true (suc m) (suc n) p in let more = ltb-false m n q in absurd (omega (arith, less, more))
     go false true p q = let more = ltb-false (suc m) (suc n) p in let less = ltb-true m n q in absurd (omega (arith, less, more))
 
-one_more : (n : ℕ) → 1 + n ≡ suc n
+pub one_more : (n : ℕ) → 1 + n ≡ suc n
 one_more n = omega arith
 
-some_more : (n : ℕ) → nat_lt 0 (suc n) ≡ true
+pub some_more : (n : ℕ) → nat_lt 0 (suc n) ≡ true
 some_more n = go (nat_lt 0 (suc n)) refl
   where
     go : (c : Bool) → nat_lt 0 (suc n) ≡ c → nat_lt 0 (suc n) ≡ true
     go true p = p
     go false p = let none = ltb-false 0 (suc n) p in absurd (omega (arith, none))
 
-past_trim : (key : Key) (offset : ℕ) (trims : List Trim) (left es : List Entry) → AreLeft trims left es
-    → nat_lt offset (option_map_or (trim_at trims) (position (key_eq key) (map (λ e. e.key) left)) no_trim).bytes ≡ false
-    → on_entry (λ e. part_of e offset) (find (λ e. key_eq e.key key) left) ≡ on_entry (λ e. part_of e offset) (find (λ e. key_eq e.key key) es)
-past_trim key offset [] left es a past = ap (λ xs. on_entry (λ e. part_of e offset) (find (λ e. key_eq e.key key) xs)) a
-past_trim key offset (t ∷ trims) [] [] a past = refl
-past_trim key offset (t ∷ trims) [] (e ∷ es) a past = absurd a
-past_trim key offset (t ∷ trims) (l ∷ left) [] a past = absurd a
-past_trim key offset (t ∷ trims) (l ∷ left) (e ∷ es) a past =
-    by (key_eq l.key key) (key_eq e.key key) (key_eq key l.key) (same_key_left t l e key a.0) (same_either_way l.key key) (λ h. past_trim key offset trims left es a.1 h)
-    (subst (λ k. nat_lt offset (option_map_or (trim_at (t ∷ trims)) (cond (nat_lt (cond (not (key_eq key l.key)) k 0) (suc count)) (Some (cond (not (key_eq key l.key)) k 0)) None) no_trim).bytes ≡ false)
+-- what is asked of the key's entry past its trim, in bytes or in reads
+past_trim : (measure : Trim → ℕ) (at : ℕ) (tell : Entry → Option Body) → ((t : Trim) (l e : Entry) → IsLeft t l e → measure t ≤ at → tell l ≡ tell e) → (key : Key)
+    (trims : List Trim) (left es : List Entry) → AreLeft trims left es
+    → nat_lt at (measure (option_map_or (trim_at trims) (position (key_eq key) (map (λ e. e.key) left)) no_trim)) ≡ false
+    → on_entry tell (find (λ e. key_eq e.key key) left) ≡ on_entry tell (find (λ e. key_eq e.key key) es)
+past_trim measure at tell alike key [] left es a past = ap (λ xs. on_entry tell (find (λ e. key_eq e.key key) xs)) a
+past_trim measure at tell alike key (t ∷ trims) [] [] a past = refl
+past_trim measure at tell alike key (t ∷ trims) [] (e ∷ es) a past = absurd a
+past_trim measure at tell alike key (t ∷ trims) (l ∷ left) [] a past = absurd a
+past_trim measure at tell alike key (t ∷ trims) (l ∷ left) (e ∷ es) a past =
+    by (key_eq l.key key) (key_eq e.key key) (key_eq key l.key) (same_key_left t l e key a.0) (same_either_way l.key key)
+    (λ h. past_trim measure at tell alike key trims left es a.1 h)
+    (subst (λ k. nat_lt at (measure (option_map_or (trim_at (t ∷ trims)) (cond (nat_lt (cond (not (key_eq key l.key)) k 0) (suc count)) (Some (cond (not (key_eq key l.key)) k 0)) None) no_trim)) ≡ false)
     (one_more first) past)
   where
     first : ℕ
@@ -157,21 +181,20 @@ past_trim key offset (t ∷ trims) (l ∷ left) (e ∷ es) a past =
     count : ℕ
     count = length (map (λ x. x.key) left)
 
-    shifted : (c d : Bool) → c ≡ d → nat_lt offset (option_map_or (trim_at (t ∷ trims)) (cond c (Some (suc first)) None) no_trim).bytes ≡ false
-        → nat_lt offset (option_map_or (trim_at trims) (cond d (Some first) None) no_trim).bytes ≡ false
+    shifted : (c d : Bool) → c ≡ d → nat_lt at (measure (option_map_or (trim_at (t ∷ trims)) (cond c (Some (suc first)) None) no_trim)) ≡ false
+        → nat_lt at (measure (option_map_or (trim_at trims) (cond d (Some first) None) no_trim)) ≡ false
     shifted true true p h = h
     shifted false false p h = h
     shifted true false p h = absurd (true≢false p)
     shifted false true p h = absurd (true≢false (sym p))
 
     by : (c d f : Bool) → c ≡ d → c ≡ f
-        → (nat_lt offset (option_map_or (trim_at trims) (cond (nat_lt first count) (Some first) None) no_trim).bytes ≡ false
-        → on_entry (λ x. part_of x offset) (find (λ x. key_eq x.key key) left) ≡ on_entry (λ x. part_of x offset) (find (λ x. key_eq x.key key) es))
-        → nat_lt offset (option_map_or (trim_at (t ∷ trims)) (cond (nat_lt (cond (not f) (suc first) 0) (suc count)) (Some (cond (not f) (suc first) 0)) None) no_trim).bytes ≡ false
-        → on_entry (λ x. part_of x offset) (cond c (Some l) (find (λ x. key_eq x.key key) left))
-        ≡ on_entry (λ x. part_of x offset) (cond d (Some e) (find (λ x. key_eq x.key key) es))
-    by true true true p q rest h = part_alike t l e offset a.0
-        (ltb-false offset t.bytes (subst (λ b. nat_lt offset (option_map_or (trim_at (t ∷ trims)) (cond b (Some 0) None) no_trim).bytes ≡ false) (some_more count) h))
+        → (nat_lt at (measure (option_map_or (trim_at trims) (cond (nat_lt first count) (Some first) None) no_trim)) ≡ false
+        → on_entry tell (find (λ x. key_eq x.key key) left) ≡ on_entry tell (find (λ x. key_eq x.key key) es))
+        → nat_lt at (measure (option_map_or (trim_at (t ∷ trims)) (cond (nat_lt (cond (not f) (suc first) 0) (suc count)) (Some (cond (not f) (suc first) 0)) None) no_trim)) ≡ false
+        → on_entry tell (cond c (Some l) (find (λ x. key_eq x.key key) left)) ≡ on_entry tell (cond d (Some e) (find (λ x. key_eq x.key key) es))
+    by true true true p q rest h = alike t l e a.0
+        (ltb-false at (measure t) (subst (λ b. nat_lt at (measure (option_map_or (trim_at (t ∷ trims)) (cond b (Some 0) None) no_trim)) ≡ false) (some_more count) h))
     by false false false p q rest h = rest (shifted (nat_lt (suc first) (suc count)) (nat_lt first count) (one_less first count) h)
     by true false f p q rest h = absurd (true≢false p)
     by false true f p q rest h = absurd (true≢false (sym p))
@@ -232,14 +255,24 @@ pub after_left : (t : TrimmedLog) (log : Log) (message : Message) → IsLeftOf t
 after_left t log message a =
     let both = both_after t.trims message t.log log (record { boot = a.boot; entries = a.entries }) in record { boot = both.boot; entries = both.entries }
 
+pub none_trimmed : (n : ℕ) → AllByRecursion (λ u. u ≡ no_trim) (replicate n no_trim)
+none_trimmed zero = tt
+none_trimmed (suc n) = (refl, none_trimmed n)
+
+pub more_acknowledged : (t : TrimmedLog) (log : Log) (key : Key) (units : ℕ) → IsLeftOf t log
+    → IsLeftOf (record t { log = with_entry key (acknowledging units) t.log }) (with_entry key (acknowledging units) log)
+more_acknowledged t log key units a =
+    record { boot = a.boot; entries = changed_left key (acknowledging units) (λ u l e b. acknowledged_left u l e units b) t.trims t.log.entries log.entries a.entries }
+
 -- what is told once both logs have taken a message
 told_alike : (trims : List Trim) (body : Body) (left log : Log) → AreBoth trims left log → is_trimmed (record { log = left; trims = trims }) body ≡ false
     → told body left ≡ told body log
 told_alike trims HelloMsg left log a past = ap (λ n. Some (SummaryMsg n)) (same_count trims left.entries log.entries a.entries)
 told_alike trims (ListMsg i) left log a past = same_at (on_entry (λ e. Some (EntryMsg i (head_of e)))) (heads_alike i) i trims left.entries log.entries a.entries
-told_alike trims (BytesMsg key offset) left log a past = past_trim key offset trims left.entries log.entries a.entries past
+told_alike trims (BytesMsg key offset) left log a past =
+    past_trim (λ t. t.bytes) offset (λ e. part_of e offset) (λ t l e b h. part_alike t l e offset b h) key trims left.entries log.entries a.entries past
 told_alike trims (CutsMsg key first) left log a past =
-    same_found (on_entry (λ e. lens_of e first)) (λ t l e b. ap (λ x. lens_of x first) b.same) key trims left.entries log.entries a.entries
+    past_trim (λ t. t.reads) first (λ e. lens_of e first) (λ t l e b h. lens_alike t l e first b h) key trims left.entries log.entries a.entries past
 told_alike trims (OpenMsg n) left log a past =
     same_found (opened_answer n.key) (λ t l e b. ap (λ x. opened_answer n.key (Some x)) b.same) n.key trims left.entries log.entries a.entries
 told_alike trims (DataMsg part) left log a past = same_found (on_entry (λ e. Some (StableMsg (kept_of e)))) stable_alike part.key trims left.entries log.entries a.entries
@@ -342,22 +375,24 @@ answers_left t log message a =
 
 -- an entry that is trimmed further
 at_left : (i : ℕ) (u : Trim) (trims : List Trim) (left es : List Entry) → i < length trims → i < length left → (trim_at trims i).reads ≤ u.reads
-    → u.reads ≤ length (lengths_of (slice_get left i)) → u.bytes ≡ sum (take u.reads (lengths_of (slice_get left i))) → u.bytes ≤ length (bytes_of (slice_get left i))
-    → AreLeft trims left es → AreLeft (slice_set trims i u) (changed_at i (zeroing u.bytes) left) es
-at_left i u [] left es in_trims in_log on logged took within a = absurd (omega (arith, in_trims))
-at_left i u (t ∷ trims) [] es in_trims in_log on logged took within a = absurd (omega (arith, in_log))
-at_left i u (t ∷ trims) (l ∷ left) [] in_trims in_log on logged took within a = absurd a
-at_left zero u (t ∷ trims) (l ∷ left) (e ∷ es) in_trims in_log on logged took within a =
-    let lengths : l.lengths ≡ e.lengths = ap (λ x. x.lengths) a.0.same in
+    → u.reads ≤ length (lengths_of (slice_get left i)) → u.bytes ≡ sum (take u.reads (lengths_of (slice_get left i)))
+    → reads_on (take u.reads (lengths_of (slice_get left i))) ≡ true → u.bytes ≤ length (bytes_of (slice_get left i))
+    → AreLeft trims left es → AreLeft (slice_set trims i u) (changed_at i (without u.bytes u.reads) left) es
+at_left i u [] left es in_trims in_log further logged took on within a = absurd (omega (arith, in_trims))
+at_left i u (t ∷ trims) [] es in_trims in_log further logged took on within a = absurd (omega (arith, in_log))
+at_left i u (t ∷ trims) (l ∷ left) [] in_trims in_log further logged took on within a = absurd a
+at_left zero u (t ∷ trims) (l ∷ left) (e ∷ es) in_trims in_log further logged took on within a =
     let size = size_left t l e a.0 in
-    (further_left t u l e a.0 on (subst (λ ls. u.reads ≤ length ls) lengths logged) (took ∙ ap (λ ls. sum (take u.reads ls)) lengths) (omega (arith, within, size)), a.1)
-at_left (suc i) u (t ∷ trims) (l ∷ left) (e ∷ es) in_trims in_log on logged took within a =
-    (a.0, at_left i u trims left es (omega (arith, in_trims)) (omega (arith, in_log)) on logged took within a.1)
+    let count = count_left t l e a.0 in
+    let enough : u.reads ≤ length e.lengths = omega (arith, count, logged) in
+    (further_left t u l e a.0 further enough (took ∙ same_front t l e u.reads a.0 further enough) (sym (same_closing t l e u.reads a.0 further enough) ∙ on) (omega (arith, within, size)), a.1)
+at_left (suc i) u (t ∷ trims) (l ∷ left) (e ∷ es) in_trims in_log further logged took on within a =
+    (a.0, at_left i u trims left es (omega (arith, in_trims)) (omega (arith, in_log)) further logged took on within a.1)
 
 pub trim_left : (t : TrimmedLog) (log : Log) (i bytes reads : ℕ) → IsLeftOf t log → i < length t.trims → MayTrim i bytes reads t
     → bytes ≤ length (bytes_of (slice_get t.log.entries i)) → IsLeftOf (with_trim i bytes reads t) log
 trim_left t log i bytes reads a in_trims may within =
     record {
       boot = a.boot;
-      entries = at_left i (record { bytes = bytes; reads = reads }) t.trims t.log.entries log.entries in_trims may.in_log may.further may.logged may.took within a.entries;
+      entries = at_left i (record { bytes = bytes; reads = reads }) t.trims t.log.entries log.entries in_trims may.in_log may.further may.logged may.took may.on within a.entries;
     }

@@ -1,10 +1,10 @@
 -- Lengths of reads, in runs and in two bytes each.
-use Rattle.std.proofs.Common.{◌≡◌, ◌∙◌, ℕ, zero, suc, ◌+◌, ◌*◌, ◌-◌, ◌/◌, ◌%◌, ◌<◌, ◌≤◌, ◌^◌, ◌==◌, refl, sym, ap, subst, arith, List, [], ◌∷◌, ◌++◌, length, take, drop, slice_get, get_or, min, append_assoc, eqb-true, true, false, replicate, inl, inr}
+use Rattle.std.proofs.Common.{◌≡◌, ◌∙◌, ℕ, zero, suc, ◌+◌, ◌*◌, ◌-◌, ◌/◌, ◌%◌, ◌<◌, ◌≤◌, ◌^◌, ◌==◌, refl, sym, ap, subst, arith, List, [], ◌∷◌, ◌++◌, length, take, drop, slice_get, get_or, min, append-nil, append_assoc, eqb-true, true, false, replicate, inl, inr}
 use Rattle.std.specs.Prelude.{Some}
 use Rattle.std.specs.List.{flat_map}
 use Rattle.std.specs.Option.{option_map_or}
 use Rattle.std.specs.Int.{to_be_bytes, w16}
-use Rattle.std.proofs.lemmas.List.{length-append, take_all, drop_all, drop-append-le, length-replicate, replicate_more, drop-replicate, take-replicate, flat_map_more, take_more}
+use Rattle.std.proofs.lemmas.List.{length-append, length-take, take_all, drop_all, drop-append-le, length-replicate, replicate_more, drop-replicate, take-replicate, flat_map_more, take_more}
 use Rattle.std.proofs.lemmas.Bool.{cases_lt}
 use Rattle.std.proofs.Math.Seq.{drop-append-add, take-append-add}
 use Rattle.seq_arith.specs.MessageGrammar.{lens_in}
@@ -70,12 +70,13 @@ behind_both n xs ys = elim (cases_lt n (length xs)) [ inl less ↦ inside less |
         ∙ (drop-append-add xs ys (n - length xs) ∙ ap (λ zs. zs ++ drop (n - length xs) ys) (sym (drop_all n xs h)))
 
 -- one run more
-pub lengths_more : (first skip : ℕ) (done now run : List ℕ) → now ≡ take 512 (drop first done) → skip ≡ first - length done
-    → take 512 (now ++ drop skip run) ≡ take 512 (drop first (done ++ run))
-lengths_more first skip done now run is left =
+pub lengths_more : (first skip : ℕ) (old done now run : List ℕ) → now ≡ take 512 (old ++ drop first done) → skip ≡ first - length done
+    → take 512 (now ++ drop skip run) ≡ take 512 (old ++ drop first (done ++ run))
+lengths_more first skip old done now run is left =
     ap (λ xs. take 512 (xs ++ drop skip run)) is
-    ∙ (cut_first 512 (drop first done) (drop skip run)
-    ∙ ap (take 512) (ap (λ n. drop first done ++ drop n run) left ∙ sym (behind_both first done run)))
+    ∙ (cut_first 512 (old ++ drop first done) (drop skip run)
+    ∙ ap (take 512) (append_assoc old (drop first done) (drop skip run)
+    ∙ ap (λ xs. old ++ xs) (ap (λ n. drop first done ++ drop n run) left ∙ sym (behind_both first done run))))
 
 -- the last of some lengths is that of the last run
 last_there : (ys : List ℕ) (y : ℕ) → slice_get (ys ++ y ∷ []) (length ys) ≡ Some y
@@ -96,19 +97,41 @@ last_length xs n y len some is =
     back : (n : ℕ) → 0 < n → n ≡ n - 1 + 1
     back n h = omega (arith, h)
 
+pub none_spelled : (first : ℕ) (lens : List ℕ) → length lens ≤ 512 → (lens ≡ take 512 (lens ++ drop first [])) × (first ≡ first - 0)
+none_spelled first lens within =
+    (sym (ap (λ xs. take 512 (lens ++ xs)) (drop_all first [] (omega arith)) ∙ (ap (take 512) (append-nil lens) ∙ take_all 512 lens within)), omega arith)
+
+pub spelled_fits : (xs now : List ℕ) → now ≡ take 512 xs → length now ≤ 512
+spelled_fits xs now is = let size = length-take 512 xs in omega (arith, size, ap length is)
+
+-- two runs and what comes after them, one after the other
+pub three_spelled : (low high : Run) (rest lens one two three : List ℕ) (first skip next : ℕ) → lens ≡ [] → one ≡ take 512 (lens ++ drop first (lengths_in low))
+    → skip ≡ first - low.count → two ≡ take 512 (one ++ drop skip (lengths_in high)) → next ≡ skip - high.count → three ≡ take 512 (two ++ drop next rest)
+    → three ≡ take 512 (drop first (lengths_in low ++ (lengths_in high ++ rest)))
+three_spelled low high rest lens one two three first skip next empty one_is skip_is two_is next_is three_is =
+    let both : List ℕ = lengths_in low ++ lengths_in high in
+    let past_low : skip ≡ first - length (lengths_in low) = skip_is ∙ ap (λ n. first - n) (sym (length-replicate {A = ℕ} low.count low.length)) in
+    let past_both : next ≡ first - length both =
+    let parts = length-append (lengths_in low) (lengths_in high) in
+    let l = length-replicate {A = ℕ} low.count low.length in
+    let h = length-replicate {A = ℕ} high.count high.length in omega (arith, next_is, skip_is, parts, l, h) in
+    let front : two ≡ take 512 (lens ++ drop first both) = two_is ∙ lengths_more first skip lens (lengths_in low) one (lengths_in high) one_is past_low in
+    three_is ∙ (lengths_more first next lens both two rest front past_both
+    ∙ (ap (λ xs. take 512 (xs ++ drop first (both ++ rest))) empty ∙ ap (λ xs. take 512 (drop first xs)) (append_assoc (lengths_in low) (lengths_in high) rest)))
+
 -- the lengths of one run more
-pub run_more : (runs : List Run) (i first skip left : ℕ) (d : Run) (now next : List ℕ) → i < length runs
-    → (now ≡ take 512 (drop first (flat_map lengths_in (take i runs)))) × (skip ≡ first - length (flat_map lengths_in (take i runs)))
+pub run_more : (runs : List Run) (i first skip left : ℕ) (d : Run) (old now next : List ℕ) → i < length runs
+    → (now ≡ take 512 (old ++ drop first (flat_map lengths_in (take i runs)))) × (skip ≡ first - length (flat_map lengths_in (take i runs)))
     → next ≡ take 512 (now ++ drop skip (lengths_in (get_or runs i d))) → left ≡ skip - (get_or runs i d).count
-    → (next ≡ take 512 (drop first (flat_map lengths_in (take (i + 1) runs)))) × (left ≡ first - length (flat_map lengths_in (take (i + 1) runs)))
-run_more runs i first skip left d now next there before added after =
+    → (next ≡ take 512 (old ++ drop first (flat_map lengths_in (take (i + 1) runs)))) × (left ≡ first - length (flat_map lengths_in (take (i + 1) runs)))
+run_more runs i first skip left d old now next there before added after =
     let run : Run = get_or runs i d in
     let done : List ℕ = flat_map lengths_in (take i runs) in
     let more : done ++ lengths_in run ≡ flat_map lengths_in (take (i + 1) runs) =
     flat_map_more lengths_in [] (take i runs) run ∙ ap (flat_map lengths_in) (sym (take_more runs i d there)) in
     let long : length (flat_map lengths_in (take (i + 1) runs)) ≡ length done + run.count =
     ap length (sym more) ∙ (length-append done (lengths_in run) ∙ ap (λ n. length done + n) (length-replicate run.count run.length)) in (
-      added ∙ (lengths_more first skip done now (lengths_in run) before.0 before.1 ∙ ap (λ xs. take 512 (drop first xs)) more),
+      added ∙ (lengths_more first skip old done now (lengths_in run) before.0 before.1 ∙ ap (λ xs. take 512 (old ++ drop first xs)) more),
       after ∙ (ap (λ n. n - run.count) before.1 ∙ (apart first (length done) run.count ∙ ap (λ n. first - n) (sym long))),
     )
   where

@@ -2,12 +2,15 @@ pub mod Filling
 pub mod Paging
 pub mod GivenUp
 pub mod Lengths
+pub mod Levels
+pub mod Cutting
 pub mod Took
 pub mod Answers
 pub mod Changed
 pub mod Entries
 pub mod Places
 pub mod Left
+pub mod Without
 pub mod LeftLogs
 pub mod Asking
 pub mod Fronts

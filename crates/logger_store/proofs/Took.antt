@@ -1,5 +1,5 @@
 -- How many bytes the first reads took, run by run.
-use Rattle.std.proofs.Common.{◌≡◌, ◌∙◌, ℕ, zero, suc, ◌+◌, ◌*◌, ◌-◌, ◌<◌, ◌≤◌, ◌^◌, ◌==◌, ◌||◌, Bool, true, false, refl, sym, ap, subst, arith, List, [], ◌∷◌, ◌++◌, length, take, drop, min, sum, replicate, append-nil, append_assoc, Option, Some, None, IfSome, option_map, is_some, true≢false, inl, inr, if◌then◌else◌, get_or, le_trans}
+use Rattle.std.proofs.Common.{◌≡◌, ◌∙◌, ℕ, zero, suc, ◌+◌, ◌*◌, ◌-◌, ◌<◌, ◌≤◌, ◌^◌, ◌==◌, ◌||◌, not, Bool, true, false, refl, sym, ap, subst, arith, List, [], ◌∷◌, ◌++◌, length, take, drop, min, sum, replicate, append-nil, append_assoc, Option, Some, None, IfSome, option_map, is_some, true≢false, inl, inr, if◌then◌else◌, get_or, le_trans}
 use Rattle.std.specs.List.{list_any, flat_map}
 use Rattle.std.proofs.Math.Nat.{suc-mul, zero-mul, mul-le-mul_right}
 use Rattle.std.proofs.Math.Seq.{take-append-add}
@@ -9,10 +9,10 @@ use Rattle.std.proofs.lemmas.List.Folds.{list_any-append}
 use Rattle.ft_io.proofs.Choices.{same_some}
 use Rattle.ft_model.proofs.Services.{sum_more}
 use Rattle.logger_store.specs.declared.runs.Run.{Run}
-use Rattle.logger_store.specs.Pages.{lengths_in, took}
+use Rattle.logger_store.specs.Pages.{lengths_in, reads_on, took}
 use Rattle.logger_store.proofs.Lengths.{front_of_equals}
 
-take_both : (n : ℕ) (xs ys : List ℕ) → take n (xs ++ ys) ≡ take n xs ++ take (n - length xs) ys
+pub take_both : (n : ℕ) (xs ys : List ℕ) → take n (xs ++ ys) ≡ take n xs ++ take (n - length xs) ys
 take_both n xs ys = elim (cases_lt n (length xs)) [ inl less ↦ inside less | inr more ↦ beyond more ]
   where
     nothing : (n m : ℕ) → n < m → 0 ≡ n - m
@@ -52,6 +52,20 @@ took_both reads xs ys =
     ∙ ((λ i. if list_any-append (λ n. n == 0) front rest i then None else Some (sum_of front rest i))
     ∙ parts (list_any (λ n. n == 0) front) (list_any (λ n. n == 0) rest) (sum front) (sum rest))
 
+-- of two runs and of what comes after them
+pub took_three : (reads : ℕ) (low high : Run) (rest : List ℕ)
+    → took reads (lengths_in low ++ (lengths_in high ++ rest))
+    ≡ plus (took reads (lengths_in low)) (plus (took (reads - low.count) (lengths_in high)) (took (reads - low.count - high.count) rest))
+took_three reads low high rest =
+    took_both reads (lengths_in low) (lengths_in high ++ rest)
+    ∙ ap (plus (took reads (lengths_in low)))
+    (ap (λ n. took (reads - n) (lengths_in high ++ rest)) (length-replicate {A = ℕ} low.count low.length)
+    ∙ (took_both (reads - low.count) (lengths_in high) rest
+    ∙ ap (λ n. plus (took (reads - low.count) (lengths_in high)) (took (reads - low.count - n) rest)) (length-replicate {A = ℕ} high.count high.length)))
+
+pub three_summed : (a b c : ℕ) → a + b + c ≡ a + (b + c)
+three_summed a b c = omega arith
+
 -- equal reads
 pub sum_same : (k y : ℕ) → sum (replicate k y) ≡ k * y
 sum_same zero y = sym (zero-mul y)
@@ -60,7 +74,7 @@ sum_same (suc k) y =
     let rest = sum_same k y in
     let all = suc-mul k y in omega (arith, one, rest, all)
 
-none_same : (k y : ℕ) → (y == 0) ≡ false → list_any (λ n. n == 0) (replicate k y) ≡ false
+pub none_same : (k y : ℕ) → (y == 0) ≡ false → list_any (λ n. n == 0) (replicate k y) ≡ false
 none_same zero y e = refl
 none_same (suc k) y e = ap (λ b. b || list_any (λ n. n == 0) (replicate k y)) e ∙ none_same k y e
 
@@ -143,6 +157,14 @@ run_closing runs i reads left total d last whole there so_far closing =
 pub sum_took : (reads : ℕ) (xs : List ℕ) (o : Option ℕ) → o ≡ took reads xs → IfSome o (λ n. n ≡ sum (take reads xs))
 sum_took reads xs None is = tt
 sum_took reads xs (Some n) is = some_of reads n xs (sym is)
+
+pub on_took : (reads : ℕ) (xs : List ℕ) (o : Option ℕ) → o ≡ took reads xs → IfSome o (λ n. reads_on (take reads xs) ≡ true)
+on_took reads xs None is = tt
+on_took reads xs (Some n) is = by (list_any (λ m. m == 0) (take reads xs)) (sym is)
+  where
+    by : (c : Bool) → (if c then None else Some (sum (take reads xs))) ≡ Some n → not c ≡ true
+    by true p = absurd (true≢false (sym (ap is_some p)))
+    by false p = refl
 
 pub few_took : (reads bytes : ℕ) (xs : List ℕ) (o : Option ℕ) → o ≡ took reads xs → sum xs ≤ bytes → IfSome o (λ n. n ≤ bytes)
 few_took reads bytes xs None is few = tt

@@ -1,5 +1,5 @@
 -- How the bytes of an entry stand in pages, and its lengths in runs.
-use Rattle.std.specs.Prelude.{zero, suc, ◌≡◌, ◌≤◌, ◌<◌, ◌-◌, ◌*◌, ◌/◌, ◌%◌, ◌==◌, ℕ, Bool, false, List, length, take, drop, slice_get, replicate, ◌++◌, [], ◌∷◌, Option, Some, None, unwrap_or, map, sum, if◌then◌else◌}
+use Rattle.std.specs.Prelude.{zero, suc, ◌≡◌, ◌≤◌, ◌<◌, ◌+◌, ◌-◌, ◌*◌, ◌/◌, ◌%◌, ◌==◌, ℕ, Bool, false, not, List, length, take, drop, slice_get, replicate, ◌++◌, [], ◌∷◌, Option, Some, None, unwrap_or, map, sum, if◌then◌else◌}
 use Rattle.std.specs.List.{flat_map, list_any}
 use Rattle.std.specs.Option.{option_map_or}
 use Rattle.std.specs.List.{position}
@@ -37,9 +37,21 @@ zeroed n bytes = replicate n 0 ++ drop n bytes
 abbrev pub pages : ℕ → ℕ
 pages bytes = 4096 * (bytes / 4096)
 
--- an entry without the whole pages of its first bytes
-abbrev pub zeroing : ℕ → Entry → Entry
-zeroing bytes e = record e { bytes = zeroed (pages bytes) e.bytes }
+-- the lengths of so many reads that took so many bytes, where each read took as many as the others, or one more
+abbrev pub level : (reads bytes : ℕ) → List ℕ
+level reads bytes = replicate (reads - bytes % reads) (bytes / reads) ++ replicate (bytes % reads) (bytes / reads + 1)
+
+-- lengths of which the first were given up: level ones stand for these, as many and of the same sum
+abbrev pub levelled : ℕ → List ℕ → List ℕ
+levelled reads lengths = level reads (sum (take reads lengths)) ++ drop reads lengths
+
+-- an entry without its first reads, and without the whole pages of the bytes that these took
+abbrev pub without : (bytes reads : ℕ) → Entry → Entry
+without bytes reads e = record e { bytes = zeroed (pages bytes) e.bytes; lengths = levelled reads e.lengths }
+
+-- no closing read is among them
+abbrev pub reads_on : List ℕ → Bool
+reads_on lengths = not (list_any (λ n. n == 0) lengths)
 
 -- the entry at a place, changed
 abbrev pub changed_at : ℕ → (Entry → Entry) → List Entry → List Entry

@@ -1,5 +1,5 @@
 -- What the store keeps, in the plain records of messages and log, the ranges in which it keeps its numbers, and which messages want memory.
-use Rattle.std.specs.Prelude.{ℕ, Bool, true, false, not, List, [], length, sum, ◌≡◌, ◌==◌, ◌≤◌, ◌+◌, ◌-◌, ◌^◌, ◌&&◌, ◌||◌, nat_le, nat_lt, Option, Some, None, option_map, IsOk, ◌⊎◌}
+use Rattle.std.specs.Prelude.{ℕ, Bool, true, false, not, List, [], length, sum, ◌≡◌, ◌==◌, ◌≤◌, ◌+◌, ◌-◌, ◌^◌, ◌&&◌, ◌||◌, nat_le, nat_lt, max, Option, Some, None, option_map, IsOk, ◌⊎◌}
 use Rattle.std.specs.List.{list_any, list_all}
 use Rattle.std.specs.Option.{option_map_or}
 use Rattle.ft_io.specs.Key.{key_eq}
@@ -7,6 +7,7 @@ use Rattle.seq_arith.specs.Message as said
 use Rattle.seq_arith.specs.Message.{Message, Body}
 use Rattle.seq_arith.specs.Message.Body.{OpenMsg, DataMsg, ReadMsg}
 use Rattle.seq_arith.specs.MessageGrammar.{spelling, reading, flag}
+use Rattle.seq_arith.specs.MarkGrammar as marks
 use Rattle.ft_model.specs.Log.{Log, Entry, with_bytes, is_next_read, entry_of}
 use Rattle.logger_wire.specs.Value.{is_set}
 use Rattle.logger_store.specs.Pages.{room_after, ends_with}
@@ -54,6 +55,14 @@ answer_bytes None = []
 -- no bytes, or those of a message
 abbrev pub IsAnswer : List ℕ → Type 0
 IsAnswer bytes = (bytes ≡ []) ⊎ IsOk (reading bytes)
+
+-- .. or those of a message about marks
+abbrev pub IsReply : List ℕ → Type 0
+IsReply bytes = IsAnswer bytes ⊎ IsOk (marks.reading bytes)
+
+-- an entry of whose output at least so many units are acknowledged
+abbrev pub acknowledging : ℕ → Entry → Entry
+acknowledging units e = record e { acknowledged = max e.acknowledged units }
 
 -- What wants memory of an entry: bytes that its last page doesn't take, and a length other than the last one
 abbrev pub adds_page : said.Part → Entry → Bool

@@ -1,12 +1,13 @@
 //! Laws of the log store: the fence, and what trimming leaves.
 
-ghost use Rattle.std.specs.Prelude.{ℕ, ◌≡◌, ◌≤◌, ◌<◌, ◌==◌, ◌&&◌, true, false, Some, None, if◌then◌else◌, length, slice_get};
-ghost use Rattle.logger_store.specs.Stored.{bytes_of};
+ghost use Rattle.ft_io.specs.declared.Key.{Key};
+ghost use Rattle.std.specs.Prelude.{ℕ, ◌≡◌, ◌≤◌, ◌<◌, ◌==◌, ◌&&◌, true, false, List, Option, Some, None, if◌then◌else◌, length, slice_get};
+ghost use Rattle.logger_store.specs.Stored.{IsAnswer, IsReply, acknowledging, answer_bytes, bytes_of};
 ghost use Rattle.seq_arith.specs.Message.{Message, is_answer};
 ghost use Rattle.seq_arith.specs.Message.Body.{StaleMsg};
-ghost use Rattle.ft_model.specs.Log.{Log, log_after, answer_to, is_hello};
+ghost use Rattle.ft_model.specs.Log.{Log, log_after, answer_to, empty_log, is_hello, with_entry};
 ghost use Rattle.ft_model.specs.Growth.{LogGrows};
-ghost use Rattle.logger_store.specs.Trimmed.{TrimmedLog, IsLeftOf, MayTrim, answer_left, is_trimmed, with_trim};
+ghost use Rattle.logger_store.specs.Trimmed.{TrimmedLog, IsLeftOf, MayTrim, answer_left, is_trimmed, untrimmed, with_trim};
 
 /// After a Hello, however far the log has grown since, a message of a smaller boot number changes nothing, and gets Stale unless only the logger
 /// sends its kind.
@@ -18,9 +19,18 @@ pub fn older_boots_get_stale()
         → is_answer message.body ≡ false → answer_to later message ≡ Some (record { boot = message.boot; body = StaleMsg later.boot }) }
 {}
 
-/// A trimmed store keeps following its log: what is left of the log before a message becomes, with that message, what is left of the log after it.
+/// What a log answers is read as a message of a log, and not as one about marks.
+pub fn answers_are_messages()
+    ensures { (answer : Option Message) (bytes : List ℕ) → bytes ≡ answer_bytes answer → IsReply bytes → IsAnswer bytes }
+{}
+
+/// An empty store is left of an empty log, and what a store that has given up fronts is left of a log follows that log: after each message it is left of the log
+/// after it, and also where more output is acknowledged.
 pub fn trimmed_logs_follow()
-    ensures { (t : TrimmedLog) (log : Log) (message : Message) → IsLeftOf t log
+    ensures first { IsLeftOf untrimmed empty_log }
+    ensures acknowledged { (t : TrimmedLog) (log : Log) (key : Key) (units : ℕ) → IsLeftOf t log
+        → IsLeftOf (record t { log = with_entry key (acknowledging units) t.log }) (with_entry key (acknowledging units) log) }
+    ensures next { (t : TrimmedLog) (log : Log) (message : Message) → IsLeftOf t log
         → IsLeftOf (record t { log = log_after t.log message }) (log_after log message) }
 {}
 

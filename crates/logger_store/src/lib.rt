@@ -13,6 +13,7 @@ mod lens;
 mod msg_out;
 mod page;
 mod pages;
+mod read_lengths;
 mod runs;
 mod store;
 mod stored_entry;

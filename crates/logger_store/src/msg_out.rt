@@ -1,8 +1,9 @@
-//! Room for one answer.
+//! Room for one answer: a message of the log, or one about marks.
 
-ghost use Rattle.std.specs.Prelude.{[], ◌≡◌};
+ghost use Rattle.std.specs.Prelude.{[], ◌≡◌, ◌≤◌, IsOk, length};
 ghost use Rattle.seq_arith.specs.MessageGrammar.{spelling};
-ghost use Rattle.logger_store.specs.Stored.{IsAnswer};
+ghost use Rattle.seq_arith.specs.MarkGrammar.{reading as mark_reading};
+ghost use Rattle.logger_store.specs.Stored.{IsReply};
 ghost use Rattle.logger_wire.specs.Value.{message_of, IsSendable};
 
 use logger_wire::{Msg, write_msg};
@@ -19,13 +20,13 @@ pub struct MsgOut {
 
 impl Model for MsgOut {
     ghost use Rattle.std.specs.Prelude.{ℕ, ◌≤◌, List, take};
-    ghost use Rattle.logger_store.specs.Stored.{IsAnswer};
+    ghost use Rattle.logger_store.specs.Stored.{IsReply};
 
     ghost Value = { List ℕ };
 
     ghost view = { λ out. take out.len out.bytes };
 
-    ghost invariant = { λ out. (out.len ≤ 2048) × IsAnswer (take out.len out.bytes) };
+    ghost invariant = { λ out. (out.len ≤ 2048) × IsReply (take out.len out.bytes) };
 }
 
 impl MsgOut {
@@ -42,13 +43,15 @@ impl MsgOut {
     /// The message's bytes, or none.
     pub fn bytes(&self) -> &[u8]
         ensures value { result.now ≡ self.now }
+        ensures within { length result.now ≤ 2048 }
         // What is not empty is read again.
-        ensures readable { IsAnswer result.now }
+        ensures readable { IsReply result.now }
     {
         &self.bytes[..self.len]
     }
 
-    pub(crate) fn clear(&mut self)
+    /// Drops the message.
+    pub fn clear(&mut self)
         ensures { self.new ≡ [] }
     {
         self.len = 0;
@@ -56,10 +59,20 @@ impl MsgOut {
 
     /// Puts a message in place of what there was.
     #[tactic(auto, using(crate::proofs::Answers::message_written))]
-    pub(crate) fn put(&mut self, m: &Msg<'_>)
+    pub fn put(&mut self, m: &Msg<'_>)
         requires { IsSendable m.now }
         ensures { self.new ≡ spelling (message_of m.now) }
     {
         self.len = write_msg(m, &mut self.bytes);
+    }
+
+    /// Puts the bytes of a message about marks in place of what there was.
+    pub fn put_mark(&mut self, bytes: &[u8])
+        requires within { length bytes.now ≤ 2048 }
+        requires readable { IsOk (mark_reading bytes.now) }
+        ensures { self.new ≡ bytes.now }
+    {
+        self.bytes[..bytes.len()].copy_from_slice(bytes);
+        self.len = bytes.len();
     }
 }

@@ -1,6 +1,7 @@
 //! The lengths of an entry's reads, in runs of equal ones.
 
-ghost use Rattle.std.specs.Prelude.{[], ◌≡◌, ◌≤◌, ◌<◌, ◌+◌, ◌-◌, ◌^◌, ◌++◌, ◌∷◌, true, IsOk, OnOk, OnErr, length, take, drop, slice_index, sum};
+ghost use Rattle.std.specs.Prelude.{[], ◌≡◌, ◌≤◌, ◌<◌, ◌+◌, ◌-◌, ◌*◌, ◌^◌, ◌++◌, ◌∷◌, true, IsOk, OnOk, OnErr, List, length, take, drop, slice_index, sum};
+ghost use Rattle.std.specs.List.{flat_map};
 ghost use Rattle.logger_store.specs.Pages.{ends_with, lengths_in, took};
 
 use crate::lens::{LENS, Lens};
@@ -38,7 +39,7 @@ impl Model for Runs {
 
 /// Adds those lengths of a run that come after its first `skip`, as many as there is room for, and says how many are left to be skipped.
 #[tactic(auto, using(crate::proofs::Lengths::run_behind, std::proofs::lemmas::List::replicate_more, std::proofs::Common::append_assoc))]
-fn spell_run(run: Run, skip: usize, lens: &mut Lens) -> usize
+pub fn spell_run(run: Run, skip: usize, lens: &mut Lens) -> usize
     ensures skip { result ≡ skip - run.count }
     ensures lens { lens.new ≡ take 512 (lens.old ++ drop skip (lengths_in run)) }
 {
@@ -52,7 +53,7 @@ fn spell_run(run: Run, skip: usize, lens: &mut Lens) -> usize
 
 /// How many bytes the first reads of a run took; none where they are closing ones.
 #[tactic(auto, using(crate::proofs::Took::took_same, crate::proofs::Took::took_closing, crate::proofs::Took::took_nothing, crate::proofs::Took::few_fit))]
-fn took_of(run: Run, reads: usize) -> Option<u32>
+pub fn took_of(run: Run, reads: usize) -> Option<u32>
     requires { sum (lengths_in run) ≤ 2 ^ 24 }
     ensures value { result ≡ took reads (lengths_in run) }
 {
@@ -64,6 +65,83 @@ fn took_of(run: Run, reads: usize) -> Option<u32>
         return None;
     }
     Some(count as u32 * u32::from(run.length))
+}
+
+/// The first of some runs.
+#[derive(Clone, Copy, Debug)]
+struct Front {
+    /// How many runs these are, ..
+    runs: usize,
+    /// .. how many reads they have, ..
+    reads: u32,
+    /// .. and how many bytes these took.
+    bytes: u32,
+}
+
+/// The longest front that has at most so many reads.
+#[tactic(auto, using(crate::proofs::Cutting::more_reads, crate::proofs::Cutting::more_bytes, crate::proofs::Cutting::few_bytes, crate::proofs::Cutting::stops_there, crate::proofs::Cutting::stops_at_end))]
+fn front_of(runs: &[Run], reads: u32) -> Front
+    requires { sum (flat_map lengths_in runs.now) ≤ 2 ^ 24 }
+    ensures runs { result.runs ≤ length runs.now }
+    ensures reads { result.reads ≡ length (flat_map lengths_in (take result.runs runs.now)) }
+    ensures bytes { result.bytes ≡ sum (flat_map lengths_in (take result.runs runs.now)) }
+    ensures few { result.reads ≤ reads }
+    ensures longest { (run : Run) → (rest : List Run) → drop result.runs runs.now ≡ run ∷ rest → reads < result.reads + run.count }
+{
+    let mut front = Front {
+        runs: 0,
+        reads: 0,
+        bytes: 0,
+    };
+    for run in runs {
+        if reads - front.reads < run.count {
+            return front;
+        }
+        front = Front {
+            runs: front.runs + 1,
+            reads: front.reads + run.count,
+            bytes: front.bytes + run.count * u32::from(run.length),
+        };
+    }
+    front
+}
+
+/// Drops the first reads of a run, and says how many bytes they took.
+#[tactic(auto, using(crate::proofs::Cutting::cut_rest, crate::proofs::Cutting::cut_took, crate::proofs::Cutting::cut_few))]
+fn cut(run: &mut Run, reads: u32) -> u32
+    requires there { reads ≤ run.old.count }
+    requires few { sum (lengths_in run.old) ≤ 2 ^ 24 }
+    ensures rest { lengths_in run.new ≡ drop reads (lengths_in run.old) }
+    ensures took { result ≡ sum (take reads (lengths_in run.old)) }
+{
+    run.count -= reads;
+    reads * u32::from(run.length)
+}
+
+/// Drops the first runs.
+#[tactic(auto, using(crate::proofs::Cutting::turned))]
+fn drop_runs(runs: &mut Vec<Run>, count: usize)
+    requires { count ≤ length runs.old.items }
+    ensures { runs.new.items ≡ drop count runs.old.items }
+{
+    let kept = runs.len() - count;
+    runs.rotate_left(count);
+    runs.truncate(kept);
+}
+
+/// Drops the first reads of the first of some runs, or of the last run where there are no others, and says how many bytes they took.
+#[tactic(auto, using(crate::proofs::Cutting::first_rest, crate::proofs::Cutting::first_took))]
+fn cut_first(runs: &mut Vec<Run>, last: &mut Run, reads: u32) -> u32
+    requires in_run { (run : Run) → (rest : List Run) → runs.old.items ≡ run ∷ rest → reads ≤ run.count }
+    requires in_last { runs.old.items ≡ [] → reads ≤ last.old.count }
+    requires few { sum (flat_map lengths_in runs.old.items ++ lengths_in last.old) ≤ 2 ^ 24 }
+    ensures rest { flat_map lengths_in runs.new.items ++ lengths_in last.new ≡ drop reads (flat_map lengths_in runs.old.items ++ lengths_in last.old) }
+    ensures took { result ≡ sum (take reads (flat_map lengths_in runs.old.items ++ lengths_in last.old)) }
+{
+    match runs.first_mut() {
+        Some(run) => cut(run, reads),
+        None => cut(last, reads),
+    }
 }
 
 impl Runs {
@@ -87,6 +165,7 @@ impl Runs {
         ensures ok { OnOk result (self.new ≡ self.old ++ len ∷ []) }
         ensures err { OnErr result (self.new ≡ self.old) }
         ensures again { ends_with len self.old ≡ true → IsOk result }
+        ensures first { self.old ≡ [] → IsOk result }
     {
         if self.last.length == len {
             self.last.count += 1;
@@ -118,10 +197,10 @@ impl Runs {
         self.last.length
     }
 
-    /// Fills an empty list with the lengths from a place on, at most 512.
+    /// Adds those from a place on, as many as there is room for.
     pub fn copy(&self, first: usize, lens: &mut Lens)
-        requires empty { lens.old ≡ [] }
-        ensures { lens.new ≡ take 512 (drop first self.now) }
+        requires { length lens.old ≤ 512 }
+        ensures { lens.new ≡ take 512 (lens.old ++ drop first self.now) }
     {
         let mut skip = first;
         for run in &self.closed {
@@ -141,5 +220,18 @@ impl Runs {
             left = left.saturating_sub(run.count as usize);
         }
         Some(total + took_of(self.last, left)?)
+    }
+
+    /// Drops the first lengths, and says how many bytes these reads took. It takes no memory.
+    #[tactic(auto, using(crate::proofs::Cutting::all_rest, crate::proofs::Cutting::all_took, crate::proofs::Cutting::behind_few, crate::proofs::Cutting::last_enough))]
+    pub fn drop_first(&mut self, reads: u32) -> u32
+        requires there { reads ≤ length self.old }
+        requires few { sum self.old ≤ 2 ^ 24 }
+        ensures rest { self.new ≡ drop reads self.old }
+        ensures took { result ≡ sum (take reads self.old) }
+    {
+        let front = front_of(&self.closed, reads);
+        drop_runs(&mut self.closed, front.runs);
+        front.bytes + cut_first(&mut self.closed, &mut self.last, reads - front.reads)
     }
 }

@@ -12,8 +12,8 @@ ghost use Rattle.seq_arith.specs.Message.Body.{OpenMsg, DataMsg, ReadMsg, DoneMs
 ghost use Rattle.logger_wire.specs.Value.{body_of, message_of, IsSendable};
 ghost use Rattle.logger_store.specs.Changes.{body_changes, changes};
 ghost use Rattle.std.specs.Prelude.{sum, take};
-ghost use Rattle.logger_store.specs.Pages.{changed_at, took, zeroing, place_of};
-ghost use Rattle.logger_store.specs.Stored.{numbers_value, part_value, head_value, adds, answer_bytes, with_boot, wants_memory, bytes_of, lengths_of};
+ghost use Rattle.logger_store.specs.Pages.{changed_at, reads_on, took, without, place_of};
+ghost use Rattle.logger_store.specs.Stored.{numbers_value, part_value, head_value, adds, answer_bytes, acknowledging, with_boot, wants_memory, bytes_of, lengths_of};
 
 use crate::entry_head::EntryHead;
 use crate::msg_out::MsgOut;
@@ -215,21 +215,35 @@ impl LogStore {
         entry.take_read(index, len)
     }
 
-    /// Gives up the whole pages of the first bytes of the entry at this place, of which its reads took as many. It takes no memory.
-    pub(crate) fn give_up(&mut self, i: u16, bytes: u32)
-        requires { bytes ≤ sum (lengths_of (slice_get self.old.entries i)) }
-        ensures { self.new ≡ record self.old { entries = changed_at i (zeroing bytes) self.old.entries } }
+    /// Gives up the lengths of the first reads of the entry at this place, which took as many bytes, and the whole pages of these. It takes no memory.
+    pub(crate) fn give_up(&mut self, i: u16, bytes: u32, reads: u32)
+        requires there { reads ≤ length (lengths_of (slice_get self.old.entries i)) }
+        requires took { bytes ≡ sum (take reads (lengths_of (slice_get self.old.entries i))) }
+        requires on { reads_on (take reads (lengths_of (slice_get self.old.entries i))) ≡ true }
+        ensures { self.new ≡ record self.old { entries = changed_at i (without bytes reads) self.old.entries } }
     {
         let Some(entry) = self.entries.get_index_mut(usize::from(i)) else {
             return;
         };
-        entry.give_up(bytes);
+        entry.give_up(bytes, reads);
+    }
+
+    /// Notes that so many units of a connection's output are acknowledged.
+    pub(crate) fn acknowledge(&mut self, key: Key, units: u32)
+        requires { units ≤ 2 ^ 24 + 1 }
+        ensures { self.new ≡ with_entry key (acknowledging units) self.old }
+    {
+        let Some(entry) = self.entries.get_mut(&key) else {
+            return;
+        };
+        entry.acknowledge(units);
     }
 
     /// How many bytes the first reads of the entry at this place took; none where there is no entry, or a closing read is among them.
     pub(crate) fn took(&self, i: u16, reads: u32) -> Option<u32>
         ensures value { IfSome result (λ n. n ≡ sum (take reads (lengths_of (slice_get self.now.entries i)))) }
         ensures within { IfSome result (λ n. n ≤ length (bytes_of (slice_get self.now.entries i))) }
+        ensures on { IfSome result (λ n. reads_on (take reads (lengths_of (slice_get self.now.entries i))) ≡ true) }
         ensures all { i < length self.now.entries → result ≡ took reads (lengths_of (slice_get self.now.entries i)) }
     {
         self.at(i)?.took(reads)
@@ -237,7 +251,9 @@ impl LogStore {
 
     /// The place of a key's entry, from 0.
     pub(crate) fn place_of(&self, key: Key) -> Option<u16>
-        ensures { result ≡ place_of key self.now }
+        ensures value { result ≡ place_of key self.now }
+        ensures there { IfSome result (λ i. i < length self.now.entries) }
+        ensures within { length self.now.entries ≤ 64 }
     {
         Some(self.entries.get_index_of(&key)? as u16)
     }

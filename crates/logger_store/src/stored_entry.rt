@@ -4,14 +4,14 @@ ghost use Rattle.std.specs.Prelude.{[], take, drop, ◌≡◌, ◌≤◌, ◌<�
 ghost use Rattle.std.specs.List.{list_all};
 ghost use Rattle.ft_model.specs.Log.{new_entry, with_bytes, with_its_fin, with_part, with_read, is_next_read, head_of, Entry};
 ghost use Rattle.logger_store.specs.Changes.{part_changes};
-ghost use Rattle.logger_store.specs.Pages.{took, zeroing};
-ghost use Rattle.logger_store.specs.Stored.{numbers_value, part_value, head_value, adds_page, begins_run};
+ghost use Rattle.logger_store.specs.Pages.{reads_on, took, without};
+ghost use Rattle.logger_store.specs.Stored.{acknowledging, numbers_value, part_value, head_value, adds_page, begins_run};
 
 use crate::entry_head::EntryHead;
 use crate::lens::Lens;
 use crate::page::PAGE;
 use crate::pages::{PART, Pages};
-use crate::runs::Runs;
+use crate::read_lengths::ReadLengths;
 use arrayvec::ArrayVec;
 use ft_io::{Key, NoMemory};
 use std::alloc::Global;
@@ -55,7 +55,7 @@ pub struct StoredEntry {
     /// Whether the client's FIN is logged.
     fin: bool,
     /// The lengths of the server's reads, in bytes.
-    lengths: Runs,
+    lengths: ReadLengths,
     /// How many reads there are.
     reads: u32,
     /// How many bytes they took.
@@ -102,7 +102,7 @@ impl StoredEntry {
             numbers: *numbers,
             bytes: Pages::new(alloc),
             fin: false,
-            lengths: Runs::new(alloc),
+            lengths: ReadLengths::new(alloc),
             reads: 0,
             read: 0,
             closed: false,
@@ -263,21 +263,34 @@ impl StoredEntry {
     }
 
     /// How many bytes the first reads took; none where a closing read is among them.
-    #[tactic(auto, using(crate::proofs::Took::sum_took, crate::proofs::Took::few_took))]
+    #[tactic(auto, using(crate::proofs::Took::sum_took, crate::proofs::Took::few_took, crate::proofs::Took::on_took))]
     pub fn took(&self, reads: u32) -> Option<u32>
         ensures value { result ≡ took reads self.now.lengths }
         ensures bytes { IfSome result (λ n. n ≡ sum (take reads self.now.lengths)) }
         ensures within { IfSome result (λ n. n ≤ length self.now.bytes) }
+        ensures on { IfSome result (λ n. reads_on (take reads self.now.lengths) ≡ true) }
     {
         self.lengths.took(reads as usize)
     }
 
-    /// Gives up the whole pages of its first bytes. It takes no memory.
-    pub fn give_up(&mut self, bytes: u32)
-        requires { bytes ≤ sum self.old.lengths }
-        ensures { self.new ≡ zeroing bytes self.old }
+    /// Gives up the lengths of its first reads, which took as many bytes, and the whole pages of these. It takes no memory.
+    #[tactic(auto, using(crate::proofs::Without::kept_without, crate::proofs::Without::below_there))]
+    pub fn give_up(&mut self, bytes: u32, reads: u32)
+        requires there { reads ≤ length self.old.lengths }
+        requires took { bytes ≡ sum (take reads self.old.lengths) }
+        requires on { reads_on (take reads self.old.lengths) ≡ true }
+        ensures { self.new ≡ without bytes reads self.old }
     {
         self.bytes.give_up(bytes as usize / PAGE);
+        self.lengths.give_up(reads);
+    }
+
+    /// Notes that so many units of output are acknowledged.
+    pub fn acknowledge(&mut self, units: u32)
+        requires { units ≤ 2 ^ 24 + 1 }
+        ensures { self.new ≡ acknowledging units self.old }
+    {
+        self.acknowledged = self.acknowledged.max(units);
     }
 
     /// Whether the connection has ended.

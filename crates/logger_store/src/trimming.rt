@@ -1,10 +1,10 @@
 //! A log store that can drop the first bytes and reads of its entries.
 
-ghost use Rattle.std.specs.Prelude.{[], ◌≡◌, ◌≤◌, ◌<◌, ◌-◌, ◌&&◌, ◌==◌, true, false, None, option_map, option_copied, IfSome, OnOk, OnErr, IsOk, length, sum, take, slice_get, slice_index, slice_index_or, slice_set, if◌then◌else◌};
-ghost use Rattle.ft_model.specs.Log.{head_of, log_after, answer_to};
+ghost use Rattle.std.specs.Prelude.{[], ◌≡◌, ◌≤◌, ◌<◌, ◌+◌, ◌-◌, ◌^◌, ◌&&◌, ◌==◌, true, false, None, option_map, option_copied, IfSome, OnOk, OnErr, IsOk, length, sum, take, slice_get, slice_index, slice_index_or, slice_set, if◌then◌else◌};
+ghost use Rattle.ft_model.specs.Log.{head_of, with_entry, log_after, answer_to};
 ghost use Rattle.logger_wire.specs.Value.{body_of, message_of, IsSendable};
-ghost use Rattle.logger_store.specs.Stored.{head_value, answer_bytes, wants_memory, bytes_of, lengths_of};
-ghost use Rattle.logger_store.specs.Pages.{pages, took};
+ghost use Rattle.logger_store.specs.Stored.{acknowledging, head_value, answer_bytes, wants_memory, bytes_of, lengths_of};
+ghost use Rattle.logger_store.specs.Pages.{pages, place_of, reads_on, took};
 
 use crate::entry_head::EntryHead;
 use crate::msg_out::MsgOut;
@@ -109,8 +109,8 @@ impl TrimStore {
         }
     }
 
-    /// .. and a key's entry.
-    fn trim_of(&self, key: Key) -> Trim
+    /// Up to where a key's entry is trimmed.
+    pub fn trim_of(&self, key: Key) -> Trim
         ensures { result ≡ trim_of key self.now }
     {
         match self.log.place_of(key) {
@@ -158,10 +158,29 @@ impl TrimStore {
         self.log.answer(alloc, m, out)
     }
 
+    /// The place of a key's entry, from 0.
+    pub fn place_of(&self, key: Key) -> Option<u16>
+        ensures value { result ≡ place_of key self.now.log }
+        ensures there { IfSome result (λ i. i < length self.now.log.entries) }
+        ensures within { length self.now.log.entries ≤ 64 }
+    {
+        self.log.place_of(key)
+    }
+
+    /// Notes that so many units of a connection's output are acknowledged, unless they are already. It takes no memory.
+    pub fn acknowledge(&mut self, key: Key, units: u32)
+        requires { units ≤ 2 ^ 24 + 1 }
+        ensures log { self.new.log ≡ with_entry key (acknowledging units) self.old.log }
+        ensures trims { self.new.trims ≡ self.old.trims }
+    {
+        self.log.acknowledge(key, units);
+    }
+
     /// How many bytes the first `reads` reads of the entry at place `i` took; `None` if there is no such entry, or a closing read is among them.
     pub fn took(&self, i: u16, reads: u32) -> Option<u32>
         ensures value { IfSome result (λ n. n ≡ sum (take reads (lengths_of (slice_get self.now.log.entries i)))) }
         ensures within { IfSome result (λ n. n ≤ length (bytes_of (slice_get self.now.log.entries i))) }
+        ensures on { IfSome result (λ n. reads_on (take reads (lengths_of (slice_get self.now.log.entries i))) ≡ true) }
         ensures all { i < length self.now.log.entries → result ≡ took reads (lengths_of (slice_get self.now.log.entries i)) }
     {
         self.log.took(i, reads)
@@ -175,7 +194,7 @@ impl TrimStore {
         if i >= self.count() {
             return;
         }
-        self.log.give_up(i, bytes);
+        self.log.give_up(i, bytes, reads);
         self.trims[usize::from(i)] = Trim { bytes, reads };
     }
 

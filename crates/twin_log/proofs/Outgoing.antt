@@ -1,5 +1,5 @@
 -- What goes out of a logger: the log's answers, and the bytes of what is forwarded.
-use Rattle.std.proofs.Common.{◌≡◌, ℕ, zero, suc, ◌+◌, ◌^◌, ◌<◌, ◌≤◌, ◌==◌, ⊎_elim, true, false, refl, ap, sym, ◌∙◌, arith, eqb-true, true≢false, subst, get_or, List, [], ◌∷◌, length, drop, Vec}
+use Rattle.std.proofs.Common.{◌≡◌, ℕ, zero, suc, ◌+◌, ◌^◌, ◌<◌, ◌≤◌, ◌==◌, true, false, refl, ap, sym, ◌∙◌, arith, eqb-true, true≢false, subst, get_or, List, [], ◌∷◌, length, drop, Vec}
 use Rattle.std.specs.Prelude.{Option, Some, None, slice_get}
 use Rattle.std.specs.declared.alloc.Global.{Global}
 use Rattle.std.proofs.lemmas.List.{length-map}
@@ -10,16 +10,12 @@ use Rattle.seq_arith.specs.MessageGrammar as messages
 use Rattle.seq_arith.specs.Bytes.{two}
 use Rattle.seq_arith.specs.TwinDatagram.{TwinDatagram as datagrams}
 use Rattle.seq_arith.specs.TwinGrammar.{IsSpellable, is_asking}
-use Rattle.logger_store.specs.Stored.{answer_bytes, IsAnswer}
+use Rattle.logger_store.specs.Stored.{answer_bytes}
 use Rattle.twin_laws.specs.declared.part.Side.TheVariants as sides
 use Rattle.twin_laws.specs.Kept.{answers_sent}
-use Rattle.twin_laws.proofs.Asking.{read_fits, forward_spells, got_spells}
+use Rattle.twin_laws.proofs.Asking.{forward_spells, got_spells}
 use Rattle.twin_log.specs.Outgoing.{answer_out, AreAsking, texts_of}
 use Rattle.twin_log.proofs.Fronts.{at_within}
-
-pub answer_fits : (bytes : List ℕ) → IsAnswer bytes → length bytes ≤ 2048
-answer_fits bytes is =
-    ⊎_elim (λ none. omega (arith, ap length none)) (λ ok. omega (arith, (read_fits bytes ok).1)) is
 
 pub answer_some : (bytes : List ℕ) → (length bytes == 0) ≡ false → answer_out bytes ≡ (sides.Server, bytes) ∷ []
 answer_some [] some = absurd (true≢false some)

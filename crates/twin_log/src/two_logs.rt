@@ -350,7 +350,7 @@ impl TwinLog {
 }
 
 /// Sends the log's answer to the server, if there is one.
-#[tactic(auto, using(crate::proofs::Outgoing::answer_fits, crate::proofs::Outgoing::answer_some, crate::proofs::Outgoing::answer_none))]
+#[tactic(auto, using(crate::proofs::Outgoing::answer_some, crate::proofs::Outgoing::answer_none))]
 fn send_answer(answer: &MsgOut, out: &mut TwinOut)
     requires { out.old ≡ [] }
     ensures { out.new ≡ answer_out answer.now }

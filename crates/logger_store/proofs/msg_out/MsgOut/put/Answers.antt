@@ -1,4 +1,4 @@
-use Rattle.std.proofs.Common.{arith, inr, refl, subst, sym, IsOk}
+use Rattle.std.proofs.Common.{arith, inl, inr, refl, subst, sym, IsOk}
 use Rattle.logger_wire.specs.Value.{message_of}
 use Rattle.logger_wire.proofs.Assembled.{not_longer}
 use Rattle.logger_store.proofs.msg_out.MsgOut.put.Goals as goal
@@ -6,5 +6,5 @@ use Rattle.logger_store.proofs.msg_out.MsgOut.put.Goals as goal
 pub invariant_of-self : goal.invariant_of-self
 invariant_of-self c = (
   omega (arith, c.write_msg-self-inside.ensures.length, not_longer (message_of c.args.m.now) c.requires.spellable),
-  inr (subst IsOk (sym c.write_msg-self-inside.ensures.read) refl),
+  inl (inr (subst IsOk (sym c.write_msg-self-inside.ensures.read) refl)),
 )

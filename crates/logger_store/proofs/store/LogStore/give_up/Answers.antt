@@ -1,8 +1,8 @@
 use Rattle.std.proofs.Common.{◌≡◌, ◌≤◌, ◌∙◌, sym, ap, subst, rules, Some, None}
-use Rattle.std.specs.Prelude.{slice_get, sum}
+use Rattle.std.specs.Prelude.{slice_get, sum, take, length, true}
 use Rattle.std.specs.Map.{values_of}
 use Rattle.ft_model.specs.Log.{Log}
-use Rattle.logger_store.specs.Pages.{changed_at, zeroing}
+use Rattle.logger_store.specs.Pages.{changed_at, reads_on, without}
 use Rattle.logger_store.specs.Stored.{lengths_of}
 use Rattle.logger_store.proofs.Places.{none_there, changed_there, place_kept}
 use Rattle.logger_store.proofs.store.LogStore.give_up.Goals as goal
@@ -10,13 +10,23 @@ use Rattle.logger_store.proofs.store.LogStore.give_up.Goals as goal
 pub returns-in_default : goal.returns-in_default
 returns-in_default c =
     let none : slice_get (values_of c.self.inside.entries.entries) c.args.i ≡ None = search rules in
-    ap (λ xs. let log : Log = record { boot = c.self.inside.boot; entries = xs } in log) (none_there c.args.i (zeroing c.args.bytes) (values_of c.self.inside.entries.entries) none)
-    ∙ ap (λ l. let log : Log = record l { entries = changed_at c.args.i (zeroing c.args.bytes) l.entries } in log) c.self.view_is
+    ap (λ xs. let log : Log = record { boot = c.self.inside.boot; entries = xs } in log) (none_there c.args.i (without c.args.bytes c.args.reads) (values_of c.self.inside.entries.entries) none)
+    ∙ ap (λ l. let log : Log = record l { entries = changed_at c.args.i (without c.args.bytes c.args.reads) l.entries } in log) c.self.view_is
 
-pub give_up-requires : goal.give_up-requires
-give_up-requires c =
+pub give_up-requires-clause-there : goal.give_up-requires-clause-there
+give_up-requires-clause-there c =
     let there : slice_get (values_of c.self.inside.entries.entries) c.args.i ≡ Some c.in-Some.entry.now = search rules in
-    subst (λ o. c.args.bytes ≤ sum (lengths_of o)) (ap (λ l. slice_get l.entries c.args.i) (sym c.self.view_is) ∙ there) c.requires
+    subst (λ o. c.args.reads ≤ length (lengths_of o)) (ap (λ l. slice_get l.entries c.args.i) (sym c.self.view_is) ∙ there) c.requires.there
+
+pub give_up-requires-clause-took : goal.give_up-requires-clause-took
+give_up-requires-clause-took c =
+    let there : slice_get (values_of c.self.inside.entries.entries) c.args.i ≡ Some c.in-Some.entry.now = search rules in
+    subst (λ o. c.args.bytes ≡ sum (take c.args.reads (lengths_of o))) (ap (λ l. slice_get l.entries c.args.i) (sym c.self.view_is) ∙ there) c.requires.took
+
+pub give_up-requires-clause-on : goal.give_up-requires-clause-on
+give_up-requires-clause-on c =
+    let there : slice_get (values_of c.self.inside.entries.entries) c.args.i ≡ Some c.in-Some.entry.now = search rules in
+    subst (λ o. reads_on (take c.args.reads (lengths_of o)) ≡ true) (ap (λ l. slice_get l.entries c.args.i) (sym c.self.view_is) ∙ there) c.requires.on
 
 pub invariant_of-self-2 : goal.invariant_of-self-2
 invariant_of-self-2 c =
@@ -27,6 +37,6 @@ pub returns : goal.returns
 returns c =
     let there : slice_get (values_of c.self.inside.entries.entries) c.from.result ≡ Some c.in-Some.entry.now = search rules in
     ap (λ xs. let log : Log = record { boot = c.self.inside.boot; entries = xs } in log)
-    (changed_there c.from.result (zeroing c.args.bytes) c.self.inside.entries.entries c.in-Some.entry.now c.give_up.new.self there c.give_up.ensures)
-    ∙ (ap (λ i. let log : Log = record { boot = c.self.inside.boot; entries = changed_at i (zeroing c.args.bytes) (values_of c.self.inside.entries.entries) } in log) c.from.ensures
-    ∙ ap (λ l. let log : Log = record l { entries = changed_at c.args.i (zeroing c.args.bytes) l.entries } in log) c.self.view_is)
+    (changed_there c.from.result (without c.args.bytes c.args.reads) c.self.inside.entries.entries c.in-Some.entry.now c.give_up.new.self there c.give_up.ensures)
+    ∙ (ap (λ i. let log : Log = record { boot = c.self.inside.boot; entries = changed_at i (without c.args.bytes c.args.reads) (values_of c.self.inside.entries.entries) } in log) c.from.ensures
+    ∙ ap (λ l. let log : Log = record l { entries = changed_at c.args.i (without c.args.bytes c.args.reads) l.entries } in log) c.self.view_is)

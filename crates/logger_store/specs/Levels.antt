@@ -1,0 +1,8 @@
+-- When two runs are of level lengths: the second of them larger by one, and the first not empty where the second isn't.
+use Rattle.std.specs.Prelude.{◌≡◌, ◌<◌, ◌+◌, ◌^◌, ◌⊎◌}
+use Rattle.logger_store.specs.declared.runs.Run.{Run}
+
+pub record AreLevel (low high : Run) : Type 0 where
+  pub next : high.length ≡ low.length + 1
+  pub some : (high.count ≡ 0) ⊎ (0 < low.count)
+  pub few : low.count + high.count < 2 ^ 32
