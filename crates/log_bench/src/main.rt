@@ -1,7 +1,11 @@
 //! Fills a log and fetches it again, for `bench/log.sh`: `log_bench READS BYTES ROUNDS`. In each of ROUNDS rounds one entry of a new log takes BYTES bytes, at
 //! most 2^24, in Data of 1,460 bytes, and after each Data a Read, and is then fetched completely in Parts and Lens. READS is `equal`, for reads of 1,460 bytes,
 //! or `other`, for reads of 1,459 and 1,461 bytes in turn; or it is `made`, and the messages for `equal` are made and not given to a log. Each message is
-//! spelled, read and answered. It prints how many messages there were, and what the lengths and checksums of all answers add up to.
+//! spelled, read and answered. It prints how many messages there were, and what the lengths and checksums of all answers add up to. A fourth
+//! word, `marked`, gives the messages to a log with marks, of which none is used.
+//!
+//! `log_bench marks READS ROUNDS` fills a log with marks with READS reads, at most 2^20, of 15 and 17 bytes in turn, and a mark after each 64. It prints the most
+//! bytes that were kept, and the minimum time that one of the first 16 and one of the last 16 marks took in nanoseconds, over all rounds.
 #![tactic(auto)]
 
 ghost use Rattle.std.specs.Prelude.{◌≡◌, ◌≤◌, ◌<◌, ◌+◌, ◌^◌, length};
@@ -11,8 +15,12 @@ use anyhow::{Context, Result, ensure};
 use ft_io::{Key, NoMemory};
 use logger_store::{LogStore, MsgOut};
 use logger_wire::{Body, Msg, read_msg, write_msg};
+use mark_store::MarkStore;
+use marking::{Seen, run_marks};
 use std::alloc::Global;
 use std::env;
+
+mod marking;
 
 const KEY: Key = Key {
     ip: 0xC000_0201,
@@ -32,25 +40,49 @@ const STREAM: u32 = 1 << 24;
 
 fn main(rt: HostRuntime) -> Result<()> {
     let words: Vec<String> = env::args(&rt)?.skip(1).collect(rt.alloc())?;
-    let [reads, bytes, rounds] = words.as_slice() else {
+    if let [word, reads, rounds] = words.as_slice()
+        && word.as_str() == "marks"
+    {
+        let reads: u32 = reads.as_str().parse().context("READS")?;
+        let rounds: u32 = rounds.as_str().parse().context("ROUNDS")?;
+        let Seen { first, last, kept } = run_marks(&rt, rt.alloc(), reads, rounds)?;
+        println!(rt; "at most {kept} bytes kept; the first marks {first} ns, the last {last} ns")?;
+        return Ok(());
+    }
+    let [reads, bytes, rounds, rest @ ..] = words.as_slice() else {
         ensure!(false, "log_bench READS BYTES ROUNDS");
         return Ok(());
     };
     let bytes: u32 = bytes.as_str().parse().context("BYTES")?;
     let rounds: u32 = rounds.as_str().parse().context("ROUNDS")?;
     ensure!(bytes <= STREAM, "BYTES is at most 2^24");
+    let tally = play(rt.alloc(), reads.as_str(), bytes, rounds, !rest.is_empty())?;
+    println!(rt; "{} messages, {}", tally.messages, tally.total)?;
+    Ok(())
+}
+
+/// So many rounds, to a log with marks or to one without.
+fn play(alloc: Global, reads: &str, bytes: u32, rounds: u32, is_marked: bool) -> Result<Tally>
+    requires { bytes ≤ 2 ^ 24 }
+{
     let mut tally = Tally {
         messages: 0,
         total: 0,
     };
     for _ in 0..rounds {
-        let mut talk = Talk::new(rt.alloc(), reads.as_str() != "made", tally);
-        let done = round(rt.alloc(), &mut talk, bytes, reads.as_str() == "other");
+        let ear = if is_marked {
+            Ear::Marked(MarkStore::new(alloc))
+        } else if reads == "made" {
+            Ear::Nobody
+        } else {
+            Ear::Log(LogStore::new(alloc))
+        };
+        let mut talk = Talk::new(ear, tally);
+        let done = round(alloc, &mut talk, bytes, reads == "other");
         ensure!(done.is_ok(), "no memory");
         tally = talk.tally;
     }
-    println!(rt; "{} messages, {}", tally.messages, tally.total)?;
-    Ok(())
+    Ok(tally)
 }
 
 /// The messages so far, and what their answers add up to, modulo 2^64.
@@ -74,22 +106,27 @@ impl Tally {
     }
 }
 
+/// Who takes the messages.
+#[derive(Drop)]
+enum Ear {
+    Nobody,
+    Log(LogStore),
+    Marked(MarkStore),
+}
+
 /// A log, and one who sends it messages.
 #[derive(Drop)]
 struct Talk {
-    log: LogStore,
-    /// Whether the log takes the messages.
-    is_heard: bool,
+    ear: Ear,
     datagram: [u8; 2_048],
     out: MsgOut,
     tally: Tally,
 }
 
 impl Talk {
-    fn new(alloc: Global, is_heard: bool, tally: Tally) -> Talk {
+    fn new(ear: Ear, tally: Tally) -> Talk {
         Talk {
-            log: LogStore::new(alloc),
-            is_heard,
+            ear,
             datagram: [0; 2_048],
             out: MsgOut::new(),
             tally,
@@ -101,10 +138,15 @@ impl Talk {
         requires { IsSendable m.now }
     {
         let len = write_msg(m, &mut self.datagram).min(2_048);
-        if self.is_heard
-            && let Ok(message) = read_msg(&self.datagram[..len])
-        {
-            self.log.answer(alloc, &message, &mut self.out)?;
+        let bytes = &self.datagram[..len];
+        match &mut self.ear {
+            Ear::Nobody => {}
+            Ear::Log(log) => {
+                if let Ok(message) = read_msg(bytes) {
+                    log.answer(alloc, &message, &mut self.out)?;
+                }
+            }
+            Ear::Marked(log) => log.answer(alloc, bytes, &mut self.out)?,
         }
         self.tally.count(self.out.bytes());
         Ok(())

@@ -5,6 +5,9 @@
 //! - `state` prints the log's boot number and its count of entries, and `entry I` the entry at place I;
 //! - `byte I AT` and `length I AT` print the byte and the length at place AT of the entry at place I;
 //! - `trim I READS` trims the entry at place I by its first READS reads, and prints how many bytes these took; `kept I` prints how many bytes are kept;
+//! - `marks` begins with an empty log with marks, which is beside the other one; `give HEX` gives it bytes, `mark BOOT IP PORT READS LENGTH MADE STATE` a mark
+//!   with a state in hexadecimal, and `ask BOOT IP PORT` a question for a mark; the answer is printed as `out HEX`, or `out -` where there is none; `kept marked I`
+//!   prints how many bytes it keeps of the entry at place I;
 //! - `random COUNT SEED` gives COUNT datagrams that are drawn from SEED, and prints how many of them were refused, answered and passed over, and a
 //!   number that follows from all answers.
 #![tactic(auto)]
@@ -13,12 +16,15 @@ use ft_io::NoMemory;
 use hex::FromHexError;
 use logger_store::{MsgOut, TrimStore};
 use logger_wire::read_msg;
+use mark_store::MarkStore;
+use marking::{ask_line, give_bytes, kept_marked, mark_line};
 use random::give_random;
 use readers::{byte_at, entry_at, kept_at, length_at};
 use std::alloc::Global;
 use std::io;
 use trimming::trim_at;
 
+mod marking;
 mod random;
 mod readers;
 mod trimming;
@@ -68,9 +74,45 @@ fn answer_to(alloc: Global, log: &mut TrimStore, text: &str) -> Result<String, N
     }
 }
 
-/// Plays a line, and answers what it prints.
-fn play(alloc: Global, log: &mut TrimStore, line: &str) -> Result<String, NoMemory> {
-    let (word, rest) = line.split_once(' ').unwrap_or((line, ""));
+/// The logs of a script: one that is trimmed by lines, and one with marks.
+#[derive(Drop)]
+struct Logs {
+    trimmed: TrimStore,
+    marked: MarkStore,
+}
+
+/// Plays a line of the log with marks, and answers what it prints; None where it is another line.
+fn play_marked(
+    alloc: Global,
+    log: &mut MarkStore,
+    word: &str,
+    rest: &str,
+) -> Result<Option<String>, NoMemory> {
+    let said = match word.as_bytes() {
+        b"marks" => {
+            *log = MarkStore::new(alloc);
+            format!(in alloc; "marks")?
+        }
+        b"give" => give_bytes(alloc, log, rest)?,
+        b"mark" => mark_line(alloc, log, rest)?,
+        b"ask" => ask_line(alloc, log, rest)?,
+        b"kept" => match rest.strip_prefix("marked ") {
+            Some(place) => kept_marked(alloc, log, place)?,
+            None => return Ok(None),
+        },
+        _ => return Ok(None),
+    };
+    Ok(Some(said))
+}
+
+/// Plays a line of the log that is trimmed, and answers what it prints.
+fn play_trimmed(
+    alloc: Global,
+    log: &mut TrimStore,
+    line: &str,
+    word: &str,
+    rest: &str,
+) -> Result<String, NoMemory> {
     match word.as_bytes() {
         b"#" => Ok(format!(in alloc; "{line}")?),
         b"log" => {
@@ -92,18 +134,30 @@ fn play(alloc: Global, log: &mut TrimStore, line: &str) -> Result<String, NoMemo
     }
 }
 
-/// Plays a line. Where memory is refused it is played once more, since the log is then as it was before.
-fn play_again(alloc: Global, log: &mut TrimStore, line: &str) -> Result<String, NoMemory> {
-    match play(alloc, log, line) {
+/// Plays a line, and answers what it prints.
+fn play(alloc: Global, logs: &mut Logs, line: &str) -> Result<String, NoMemory> {
+    let (word, rest) = line.split_once(' ').unwrap_or((line, ""));
+    match play_marked(alloc, &mut logs.marked, word, rest)? {
+        Some(said) => Ok(said),
+        None => play_trimmed(alloc, &mut logs.trimmed, line, word, rest),
+    }
+}
+
+/// Plays a line. Where memory is refused it is played once more, since the logs are then as they were before.
+fn play_again(alloc: Global, logs: &mut Logs, line: &str) -> Result<String, NoMemory> {
+    match play(alloc, logs, line) {
         Ok(text) => Ok(text),
-        Err(NoMemory) => play(alloc, log, line),
+        Err(NoMemory) => play(alloc, logs, line),
     }
 }
 
 fn main(rt: HostRuntime) -> io::Result<()> {
-    let mut log = TrimStore::new(rt.alloc());
+    let mut logs = Logs {
+        trimmed: TrimStore::new(rt.alloc()),
+        marked: MarkStore::new(rt.alloc()),
+    };
     for line in rt.lines(rt.alloc()) {
-        let Ok(text) = play_again(rt.alloc(), &mut log, line?.as_str()) else {
+        let Ok(text) = play_again(rt.alloc(), &mut logs, line?.as_str()) else {
             println!(rt; "no memory")?;
             return Ok(());
         };

@@ -1,0 +1,170 @@
+//! A log with marks that takes a mark after each 64 reads.
+
+ghost use Rattle.std.specs.Prelude.{◌≤◌, ◌+◌, ◌^◌, length};
+ghost use Rattle.logger_wire.specs.Value.{IsSendable};
+
+use crate::KEY;
+use anyhow::{Result, bail, ensure};
+use checkpoint::{MarkBody, MarkMsg, write_mark};
+use ft_io::NoMemory;
+use logger_store::MsgOut;
+use logger_wire::{Body, Msg, write_msg};
+use mark_store::MarkStore;
+use std::alloc::Global;
+use std::time::{Clock, Instant};
+
+/// The reads between two marks.
+const EVERY: u32 = 64;
+
+/// The most reads: they take 16 bytes each, and a stream has at most 2^24.
+const READS: u32 = 1 << 20;
+
+/// How many marks are timed at the front and at the end.
+const TIMED: u32 = 16;
+
+/// A log with marks, and room for what is said.
+#[derive(Drop)]
+struct Talk {
+    log: MarkStore,
+    datagram: [u8; 2_048],
+    out: MsgOut,
+}
+
+impl Talk {
+    /// Spells a message, and gives it to the log.
+    fn say(&mut self, alloc: Global, m: &Msg<'_>) -> Result<(), NoMemory>
+        requires { IsSendable m.now }
+    {
+        let len = write_msg(m, &mut self.datagram).min(2_048);
+        self.log.answer(alloc, &self.datagram[..len], &mut self.out)
+    }
+}
+
+/// An empty log, in which a connection is opened.
+#[tactic(auto, unfolding(seq_arith::specs::MessageGrammar::has_length, seq_arith::specs::MessageGrammar::is_sound))]
+fn begin(alloc: Global) -> Result<Talk, NoMemory> {
+    let mut talk = Talk {
+        log: MarkStore::new(alloc),
+        datagram: [0; 2_048],
+        out: MsgOut::new(),
+    };
+    talk.say(
+        alloc,
+        &Msg {
+            boot: 1,
+            body: Body::HelloMsg,
+        },
+    )?;
+    let body = Body::OpenMsg {
+        key: KEY,
+        cisn: 1_000,
+        sisn: 5_000,
+        mss: 1_460,
+    };
+    talk.say(alloc, &Msg { boot: 1, body })?;
+    Ok(talk)
+}
+
+/// The bytes for the reads up to the next mark, and these reads.
+#[tactic(auto, unfolding(seq_arith::specs::MessageGrammar::has_length, seq_arith::specs::MessageGrammar::is_sound))]
+fn give_reads(alloc: Global, talk: &mut Talk, first: u32) -> Result<(), NoMemory>
+    requires { first + 64 ≤ 2 ^ 20 }
+{
+    let text = [b'a'; 1_024];
+    let body = Body::DataMsg {
+        key: KEY,
+        offset: 16 * first,
+        acked: 0,
+        fin: 0,
+        bytes: &text,
+    };
+    talk.say(alloc, &Msg { boot: 1, body })?;
+    for i in 0..EVERY {
+        let body = Body::ReadMsg {
+            key: KEY,
+            index: first + i,
+            length: if i % 2 == 0 { 15 } else { 17 },
+        };
+        talk.say(alloc, &Msg { boot: 1, body })?;
+    }
+    Ok(())
+}
+
+/// The bytes of a mark of so many reads, and how many they are.
+#[tactic(auto, unfolding(seq_arith::specs::MarkGrammar::has_length, seq_arith::specs::MarkGrammar::is_sound))]
+fn mark_after(reads: u32, datagram: &mut [u8; 2_048]) -> usize
+    requires { (1 ≤ reads) × (reads ≤ 2 ^ 20) }
+    ensures { result ≤ 2048 }
+{
+    let body = MarkBody::Mark {
+        key: KEY,
+        reads,
+        length: 16 * reads,
+        made: 0,
+        state: b"a state.",
+    };
+    write_mark(&MarkMsg { boot: 1, body }, datagram)
+}
+
+/// How long the mark of so many reads takes, in nanoseconds.
+fn time_mark<C: Clock>(clock: &C, alloc: Global, talk: &mut Talk, reads: u32) -> Result<u128>
+    requires { (1 ≤ reads) × (reads ≤ 2 ^ 20) }
+{
+    let len = mark_after(reads, &mut talk.datagram);
+    let since = Instant::now(clock)?;
+    let kept = talk.log.answer(alloc, &talk.datagram[..len], &mut talk.out);
+    let took = Instant::now(clock)?.duration_since(since).as_nanos();
+    ensure!(kept.is_ok(), "no memory");
+    Ok(took)
+}
+
+/// What a run over reads and their marks saw.
+#[derive(Clone, Copy)]
+pub(crate) struct Seen {
+    /// How long one of the first marks took at least, in nanoseconds, ..
+    pub first: u128,
+    /// .. and one of the last.
+    pub last: u128,
+    /// How many bytes were kept at most, just before a mark.
+    pub kept: u32,
+}
+
+/// Gives a new log so many reads with their marks, so many times.
+pub(crate) fn run_marks<C: Clock>(
+    clock: &C,
+    alloc: Global,
+    reads: u32,
+    rounds: u32,
+) -> Result<Seen> {
+    let mut seen = Seen {
+        first: u128::MAX,
+        last: u128::MAX,
+        kept: 0,
+    };
+    for _ in 0..rounds {
+        run_once(clock, alloc, reads, &mut seen)?;
+    }
+    Ok(seen)
+}
+
+/// .. once.
+fn run_once<C: Clock>(clock: &C, alloc: Global, reads: u32, seen: &mut Seen) -> Result<()> {
+    ensure!(reads <= READS, "READS is at most 2^20");
+    let marks = reads / EVERY;
+    let Ok(mut talk) = begin(alloc) else {
+        bail!("no memory");
+    };
+    for i in 0..marks {
+        let given = give_reads(alloc, &mut talk, EVERY * i);
+        ensure!(given.is_ok(), "no memory");
+        seen.kept = seen.kept.max(talk.log.kept(0));
+        let took = time_mark(clock, alloc, &mut talk, EVERY * (i + 1))?;
+        if i < TIMED {
+            seen.first = seen.first.min(took);
+        }
+        if marks - i <= TIMED {
+            seen.last = seen.last.min(took);
+        }
+    }
+    Ok(())
+}

@@ -1,0 +1,161 @@
+//! The lines that play a log with marks.
+
+use checkpoint::{MarkBody, MarkMsg, write_mark};
+use ft_io::{Key, NoMemory};
+use hex::FromHexError;
+use logger_store::MsgOut;
+use mark_store::MarkStore;
+use std::alloc::Global;
+
+/// The most that a length and the output may be, in bytes.
+const STREAM: u32 = 1 << 24;
+
+/// The longest state, in bytes.
+const STATE: usize = 1_100;
+
+/// The bytes that a text in hexadecimal stands for; `-` stands for none.
+fn bytes_of(alloc: Global, text: &str) -> Result<Option<Vec<u8>>, NoMemory> {
+    if text == "-" {
+        return Ok(Some(Vec::new(alloc)));
+    }
+    match hex::decode(alloc, text) {
+        Ok(bytes) => Ok(Some(bytes)),
+        Err(FromHexError::OutOfMemory) => Err(NoMemory),
+        Err(_) => Ok(None),
+    }
+}
+
+/// Gives bytes to the log, and answers what it answers, as a line.
+fn answer_to(alloc: Global, log: &mut MarkStore, bytes: &[u8]) -> Result<String, NoMemory> {
+    let mut out = MsgOut::new();
+    log.answer(alloc, bytes, &mut out)?;
+    if out.bytes().is_empty() {
+        return Ok(format!(in alloc; "out -")?);
+    }
+    let answer = hex::encode(alloc, out.bytes())?;
+    Ok(format!(in alloc; "out {answer}")?)
+}
+
+/// Gives the bytes of a line to the log.
+pub(crate) fn give_bytes(
+    alloc: Global,
+    log: &mut MarkStore,
+    text: &str,
+) -> Result<String, NoMemory> {
+    match bytes_of(alloc, text)? {
+        Some(bytes) => answer_to(alloc, log, bytes.as_slice()),
+        None => Ok(format!(in alloc; "no datagram")?),
+    }
+}
+
+/// A mark's numbers, in a line's order.
+#[derive(Clone, Copy)]
+struct Numbers {
+    boot: u64,
+    key: Key,
+    reads: u32,
+    length: u32,
+    made: u32,
+}
+
+/// The numbers of a line, where a message may say them.
+fn numbers_of(words: &[&str]) -> Option<Numbers> {
+    let [boot, ip, port, reads, length, made] = words else {
+        return None;
+    };
+    Some(Numbers {
+        boot: boot.parse().ok()?,
+        key: Key {
+            ip: ip.parse().ok()?,
+            port: port.parse().ok()?,
+        },
+        reads: reads.parse().ok()?,
+        length: length.parse().ok()?,
+        made: made.parse().ok()?,
+    })
+}
+
+/// Gives a mark to the log.
+#[tactic(auto, unfolding(seq_arith::specs::MarkGrammar::has_length, seq_arith::specs::MarkGrammar::is_sound))]
+fn give_mark(
+    alloc: Global,
+    log: &mut MarkStore,
+    numbers: &Numbers,
+    state: &[u8],
+) -> Result<String, NoMemory> {
+    let Numbers {
+        boot,
+        key,
+        reads,
+        length,
+        made,
+    } = *numbers;
+    if boot == 0
+        || reads == 0
+        || reads > STREAM + 1
+        || length > STREAM
+        || made > STREAM
+        || state.len() > STATE
+    {
+        return Ok(format!(in alloc; "no such line")?);
+    }
+    let body = MarkBody::Mark {
+        key,
+        reads,
+        length,
+        made,
+        state,
+    };
+    let mut bytes = [0; 2_048];
+    let len = write_mark(&MarkMsg { boot, body }, &mut bytes);
+    answer_to(alloc, log, &bytes[..len])
+}
+
+/// Gives the mark of a line to the log.
+pub(crate) fn mark_line(
+    alloc: Global,
+    log: &mut MarkStore,
+    text: &str,
+) -> Result<String, NoMemory> {
+    let words: Vec<&str> = text.split(' ').collect(alloc)?;
+    if let [numbers @ .., state] = words.as_slice()
+        && let Some(numbers) = numbers_of(numbers)
+        && let Some(state) = bytes_of(alloc, state)?
+    {
+        return give_mark(alloc, log, &numbers, state.as_slice());
+    }
+    Ok(format!(in alloc; "no such line")?)
+}
+
+/// Asks the log for the mark of a line's key.
+#[tactic(auto, unfolding(seq_arith::specs::MarkGrammar::has_length, seq_arith::specs::MarkGrammar::is_sound))]
+pub(crate) fn ask_line(alloc: Global, log: &mut MarkStore, text: &str) -> Result<String, NoMemory> {
+    let words: Vec<&str> = text.split(' ').collect(alloc)?;
+    let [boot, ip, port] = words.as_slice() else {
+        return Ok(format!(in alloc; "no such line")?);
+    };
+    let (Ok(boot), Ok(ip), Ok(port)) = (boot.parse::<u64>(), ip.parse::<u32>(), port.parse::<u16>())
+    else {
+        return Ok(format!(in alloc; "no such line")?);
+    };
+    if boot == 0 {
+        return Ok(format!(in alloc; "no such line")?);
+    }
+    let body = MarkBody::Ask {
+        key: Key { ip, port },
+    };
+    let mut bytes = [0; 2_048];
+    let len = write_mark(&MarkMsg { boot, body }, &mut bytes);
+    answer_to(alloc, log, &bytes[..len])
+}
+
+/// How many bytes of an entry are kept, as a line.
+pub(crate) fn kept_marked(alloc: Global, log: &MarkStore, text: &str) -> Result<String, NoMemory> {
+    if let Ok(place) = text.parse::<u16>()
+        && place < log.count()
+    {
+        let kept = log.kept(place);
+        return Ok(format!(in alloc; "kept marked {place} is {kept}")?);
+    }
+    Ok(format!(in alloc; "no such entry")?)
+}

@@ -1,0 +1,24 @@
+use Rattle.std.proofs.Common.{◌≡◌, ◌∙◌, ◌≤◌, sym, ap, subst, rules, None, Some, option_map, length}
+use Rattle.seq_arith.specs.Mark.MarkBody.{MarkedMsg}
+use Rattle.logger_store.specs.Pages.{place_of}
+use Rattle.mark_laws.specs.MarkedLog.{about_mark, no_mark}
+use Rattle.mark_store.specs.Bytes.{reply_bytes}
+use Rattle.mark_store.proofs.Steps.{told_reads, told_no_reads}
+use Rattle.mark_store.proofs.store.MarkStore.tell_marked.Goals as goal
+
+pub returns-in-Some : goal.returns-in-Some
+returns-in-Some c =
+    let few : length c.args.self.now.trimmed.log.entries ≤ 64 = subst (λ s. length s.trimmed.log.entries ≤ 64) c.self.view_is c.place_of.ensures.within in
+    let some : c.place_of.result ≡ Some c.in-Some.place = search rules in
+    let at : place_of c.args.key c.args.self.now.trimmed.log ≡ Some c.in-Some.place =
+    ap (λ s. place_of c.args.key s.trimmed.log) (sym c.self.view_is) ∙ (sym c.place_of.ensures.value ∙ some) in
+    λ l a. c.tell_marked.ensures ∙ (ap (λ m. reply_bytes (Some (about_mark c.args.boot (MarkedMsg c.args.key m.reads)))) c.mark_at.ensures.value
+    ∙ sym (ap (λ o. reply_bytes (option_map (about_mark c.args.boot) o)) (told_reads c.args.self.now l c.args.key c.in-Some.place no_mark a few at)))
+
+pub returns-in_default : goal.returns-in_default
+returns-in_default c =
+    let few : length c.args.self.now.trimmed.log.entries ≤ 64 = subst (λ s. length s.trimmed.log.entries ≤ 64) c.self.view_is c.place_of.ensures.within in
+    let none : c.place_of.result ≡ None = search rules in
+    let at : place_of c.args.key c.args.self.now.trimmed.log ≡ None =
+    ap (λ s. place_of c.args.key s.trimmed.log) (sym c.self.view_is) ∙ (sym c.place_of.ensures.value ∙ none) in
+    λ l a. c.requires.empty ∙ sym (ap (λ o. reply_bytes (option_map (about_mark c.args.boot) o)) (told_no_reads c.args.self.now l c.args.key no_mark a few at))

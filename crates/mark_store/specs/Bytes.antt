@@ -1,0 +1,39 @@
+-- What bytes change in the log with marks, and what is answered to them as bytes.
+use Rattle.std.specs.Prelude.{ℕ, ◌-◌, Option, Some, None, option_map, Result, Ok, Err, List, [], length, slice_get}
+use Rattle.std.specs.Option.{option_map_or}
+use Rattle.seq_arith.specs.Mark.{MarkMessage}
+use Rattle.seq_arith.specs.Message.{Message}
+use Rattle.seq_arith.specs.MarkGrammar as marks
+use Rattle.seq_arith.specs.MessageGrammar as messages
+use Rattle.seq_arith.specs.declared.mark.BadMark.{BadMark}
+use Rattle.seq_arith.specs.declared.kinds.BadMsg.{BadMsg}
+use Rattle.logger_store.specs.Pages.{pages}
+use Rattle.mark_laws.specs.MarkedLog.{MarkedLog, Reply, after_mark, after_message, answer_above, answer_to_mark}
+use Rattle.mark_laws.specs.MarkedLog.Reply.{About_mark, Of_log}
+
+-- bytes are a message, one about marks, or neither
+abbrev pub after_reading : Result Message BadMsg → Result MarkMessage BadMark → MarkedLog → MarkedLog
+after_reading (Ok message) _ l = after_message l message
+after_reading (Err _) (Ok message) l = after_mark l message
+after_reading (Err _) (Err _) l = l
+
+abbrev pub after_bytes : List ℕ → MarkedLog → MarkedLog
+after_bytes bytes l = after_reading (messages.reading bytes) (marks.reading bytes) l
+
+abbrev pub reply_to_reading : Result Message BadMsg → Result MarkMessage BadMark → MarkedLog → Option Reply
+reply_to_reading (Ok message) _ l = option_map Of_log (answer_above l message)
+reply_to_reading (Err _) (Ok message) l = answer_to_mark l message
+reply_to_reading (Err _) (Err _) l = None
+
+abbrev pub reply_bytes : Option Reply → List ℕ
+reply_bytes (Some (About_mark message)) = marks.spelling message
+reply_bytes (Some (Of_log message)) = messages.spelling message
+reply_bytes None = []
+
+-- the bytes of the reply to bytes, or none
+abbrev pub reply_to : List ℕ → MarkedLog → List ℕ
+reply_to bytes l = reply_bytes (reply_to_reading (messages.reading bytes) (marks.reading bytes) l)
+
+-- how many bytes of the entry at a place are kept: those past the whole pages below its mark
+abbrev pub kept_at : ℕ → MarkedLog → ℕ
+kept_at i l = option_map_or (λ e. length e.bytes - pages (l.marks e.key).length) (slice_get l.log.entries i) 0

@@ -1,0 +1,91 @@
+//! The mark that is kept of an entry.
+
+ghost use Rattle.std.specs.Prelude.{◌≡◌, ◌≤◌, ◌+◌, ◌^◌, IfOk, length};
+ghost use Rattle.mark_laws.specs.MarkedLog.{no_mark};
+ghost use Rattle.mark_store.specs.New.{mark_value};
+
+use ft_io::NoMemory;
+use std::alloc::Global;
+use std::marker::Model;
+
+/// The numbers of a mark and the bytes of its state, as a message brings them.
+#[derive(Clone, Copy, Debug)]
+pub(crate) struct NewMark<'a> {
+    /// After how many reads it lies, at most 2^24 + 1.
+    pub reads: u32,
+    /// How many bytes of input these took, at most 2^24.
+    pub length: u32,
+    /// How many bytes of output the service had made by then, at most 2^24.
+    pub made: u32,
+    /// The form of the service's state, at most 1,100 bytes.
+    pub state: &'a [u8],
+}
+
+/// A mark that is kept, or that there is none: then its numbers are 0, and it has no state.
+#[derive(Debug, Drop)]
+pub(crate) struct KeptMark {
+    reads: u32,
+    /// How many bytes of input the reads took.
+    taken: u32,
+    made: u32,
+    state: Vec<u8>,
+}
+
+impl Model for KeptMark {
+    ghost use Rattle.std.specs.Prelude.{◌≤◌, ◌+◌, ◌^◌, length};
+    ghost use Rattle.seq_arith.specs.Mark.{Mark};
+
+    ghost Value = { Mark };
+
+    ghost view = { λ m. record { reads = m.reads; length = m.taken; made = m.made; state = m.state.items } };
+
+    ghost invariant = { λ m. (m.reads ≤ 2 ^ 24 + 1) × (m.taken ≤ 2 ^ 24) × (m.made ≤ 2 ^ 24) × (length m.state.items ≤ 1100) };
+}
+
+impl KeptMark {
+    /// That there is no mark. It takes no memory.
+    pub fn none(alloc: Global) -> KeptMark
+        ensures { result ≡ no_mark }
+    {
+        KeptMark {
+            reads: 0,
+            taken: 0,
+            made: 0,
+            state: Vec::new(alloc),
+        }
+    }
+
+    /// A copy of a mark.
+    pub fn new(alloc: Global, mark: &NewMark<'_>) -> Result<KeptMark, NoMemory>
+        requires reads { mark.now.reads ≤ 2 ^ 24 + 1 }
+        requires length { mark.now.length ≤ 2 ^ 24 }
+        requires made { mark.now.made ≤ 2 ^ 24 }
+        requires state { length mark.now.state.now ≤ 1100 }
+        ensures { IfOk result (λ kept. kept ≡ mark_value mark.now) }
+    {
+        let mut state = Vec::new(alloc);
+        state.extend_from_slice(mark.state)?;
+        Ok(KeptMark {
+            reads: mark.reads,
+            taken: mark.length,
+            made: mark.made,
+            state,
+        })
+    }
+
+    /// The mark as it was brought.
+    pub fn mark(&self) -> NewMark<'_>
+        ensures value { mark_value result ≡ self.now }
+        ensures reads { result.reads ≤ 2 ^ 24 + 1 }
+        ensures length { result.length ≤ 2 ^ 24 }
+        ensures made { result.made ≤ 2 ^ 24 }
+        ensures state { length result.state.now ≤ 1100 }
+    {
+        NewMark {
+            reads: self.reads,
+            length: self.taken,
+            made: self.made,
+            state: self.state.as_slice(),
+        }
+    }
+}

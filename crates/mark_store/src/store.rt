@@ -1,0 +1,298 @@
+//! The log with marks.
+
+ghost use Rattle.std.specs.Prelude.{[], ◌≡◌, ◌≤◌, ◌<◌, ◌+◌, ◌^◌, ◌==◌, ◌&&◌, not, nat_lt, ℕ, true, false, Some, None, OnOk, OnErr, option_map, length, max, slice_get, if◌then◌else◌};
+ghost use Rattle.std.specs.Option.{option_map_or};
+ghost use Rattle.seq_arith.specs.Mark.MarkBody.{MarkMsg as Marking, AskMsg};
+ghost use Rattle.seq_arith.specs.MarkGrammar.{IsSpellable};
+ghost use Rattle.checkpoint.specs.Value.{body_of, message_of};
+ghost use Rattle.ft_model.specs.Log.{head_of};
+ghost use Rattle.logger_store.specs.Stored.{bytes_of, head_value};
+ghost use Rattle.logger_store.specs.Trimmed.{trim_at, MayTrim};
+ghost use Rattle.mark_laws.specs.MarkedLog.{MarkedLog, after_mark, answer_to_mark, is_mark_answer, may_follow, no_mark, nothing_logged, told_of_mark, with_mark_body};
+ghost use Rattle.seq_arith.specs.Message.Body.{StaleMsg};
+ghost use Rattle.mark_laws.specs.MarkedLog.{about_mark};
+ghost use Rattle.mark_laws.specs.MarkedLog.Reply.{Of_log};
+ghost use Rattle.mark_store.specs.Bytes.{after_bytes, kept_at, reply_bytes, reply_to};
+ghost use Rattle.mark_store.specs.New.{mark_value};
+ghost use Rattle.mark_store.specs.Standing.{IsLeftOfMarked, mark_at};
+
+use crate::kept_mark::{KeptMark, NewMark};
+use crate::telling::{tell_held, tell_marked, tell_stale};
+use checkpoint::{MarkBody, MarkMsg, read_mark};
+use ft_io::{Key, NoMemory};
+use logger_store::{EntryHead, MsgOut, TrimStore};
+use logger_wire::read_msg;
+use std::alloc::Global;
+use std::marker::Model;
+
+/// The bytes of a page: only whole pages are given up.
+const PAGE: u32 = 4_096;
+
+/// The log with marks: what a log keeps, and for each of its entries at most one mark. It answers as if it gave up nothing, since what lies below a mark is never
+/// told; but it keeps of an entry only the lengths of the reads after its mark, and the pages from the one that the mark lies in.
+#[derive(Drop)]
+pub struct MarkStore {
+    /// The log, trimmed at the marks.
+    log: TrimStore,
+    /// The mark of the entry at each place, the first first. The entries behind these have none.
+    marks: Vec<KeptMark>,
+}
+
+impl Model for MarkStore {
+    ghost use Rattle.mark_store.specs.Standing.{TrimmedAtMarks};
+
+    ghost Value = { TrimmedAtMarks };
+
+    ghost view = { λ s. record { trimmed = s.log; marks = s.marks.items } };
+}
+
+/// Whether only the logger sends such a body.
+fn is_answer(body: &MarkBody<'_>) -> bool
+    ensures { result ≡ is_mark_answer (body_of body.now) }
+{
+    match body {
+        MarkBody::Marked { .. } | MarkBody::Held { .. } => true,
+        _ => false,
+    }
+}
+
+/// To a message of another boot, that a newer server has started, where it is older and not of a kind that only the logger sends.
+fn tell_newer(newer: u64, m: &MarkMsg<'_>, out: &mut MsgOut)
+    requires boot { 1 ≤ m.now.boot }
+    requires empty { out.old ≡ [] }
+    ensures { out.new ≡ reply_bytes (if nat_lt m.now.boot newer && not (is_mark_answer (body_of m.now.body)) then Some (Of_log (record { boot = m.now.boot; body = StaleMsg newer })) else None) }
+{
+    if m.boot < newer && !is_answer(&m.body) {
+        tell_stale(m.boot, newer, out);
+    }
+}
+
+/// Puts a mark at a place, and no marks at the places between where there were fewer.
+#[tactic(auto, using(crate::proofs::Marks::mark_put))]
+fn put_at(
+    alloc: Global,
+    marks: &mut Vec<KeptMark>,
+    place: u16,
+    mark: KeptMark,
+) -> Result<(), NoMemory>
+    ensures ok { OnOk result ((i : ℕ) → mark_at marks.new.items i ≡ (if i == place then mark else mark_at marks.old.items i)) }
+    ensures few { OnOk result (length marks.new.items ≤ max (length marks.old.items) (place + 1)) }
+    ensures err { OnErr result (marks.new.items ≡ marks.old.items) }
+{
+    let at = usize::from(place);
+    let missing = (at + 1).saturating_sub(marks.len());
+    marks.reserve(missing)?;
+    for _more in 0..missing {
+        marks.push_reserved(KeptMark::none(alloc));
+    }
+    marks[at] = mark;
+    Ok(())
+}
+
+impl MarkStore {
+    /// A log of boot 0 without entries and marks. It takes no memory.
+    pub fn new(alloc: Global) -> MarkStore
+        ensures { IsLeftOfMarked result nothing_logged }
+    {
+        MarkStore {
+            log: TrimStore::new(alloc),
+            marks: Vec::new(alloc),
+        }
+    }
+
+    /// The boot number of the newest server that has said Hello, and 0 before.
+    pub fn boot(&self) -> u64
+        ensures { result ≡ self.now.trimmed.log.boot }
+    {
+        self.log.boot()
+    }
+
+    /// How many entries there are, at most 64.
+    pub fn count(&self) -> u16
+        ensures value { result ≡ length self.now.trimmed.log.entries }
+        ensures within { result ≤ 64 }
+    {
+        self.log.count()
+    }
+
+    /// The entry at this place, from 0, without its bytes and lengths. None exactly where there is none.
+    pub fn entry(&self, i: u16) -> Option<EntryHead>
+        ensures value { (l : MarkedLog) → IsLeftOfMarked self.now l → option_map head_value result ≡ option_map head_of (slice_get l.log.entries i) }
+    {
+        self.log.entry(i)
+    }
+
+    /// Whether a mark may follow that of the entry at this place: it is of more reads, which are logged and took its length, and no closing read is among them.
+    fn follows(&self, place: u16, mark: &NewMark<'_>) -> bool
+        ensures value { result ≡ option_map_or (may_follow (record no_mark { reads = (trim_at self.now.trimmed.trims place).reads }) (mark_value mark.now)) (slice_get self.now.trimmed.log.entries place) false }
+        ensures trims { result ≡ true → MayTrim place mark.now.length mark.now.reads self.now.trimmed }
+        ensures within { result ≡ true → mark.now.length ≤ length (bytes_of (slice_get self.now.trimmed.log.entries place)) }
+    {
+        let Some(entry) = self.log.entry(place) else {
+            return false;
+        };
+        if self.log.trim_at(place).reads >= mark.reads || mark.reads > entry.reads {
+            return false;
+        }
+        match self.log.took(place, mark.reads) {
+            Some(length) => mark.length == length,
+            None => false,
+        }
+    }
+
+    /// Keeps a mark, if it may follow the one before it, and gives up what lies below it.
+    fn take_mark(&mut self, alloc: Global, key: Key, mark: &NewMark<'_>) -> Result<(), NoMemory>
+        requires reads { mark.now.reads ≤ 2 ^ 24 + 1 }
+        requires length { mark.now.length ≤ 2 ^ 24 }
+        requires made { mark.now.made ≤ 2 ^ 24 }
+        requires state { length mark.now.state.now ≤ 1100 }
+        ensures ok { OnOk result ((l : MarkedLog) → IsLeftOfMarked self.old l → IsLeftOfMarked self.new (with_mark_body (Marking key (mark_value mark.now)) l)) }
+        ensures err { OnErr result (self.new ≡ self.old) }
+    {
+        let Some(place) = self.log.place_of(key) else {
+            return Ok(());
+        };
+        if !self.follows(place, mark) {
+            return Ok(());
+        }
+        let kept = KeptMark::new(alloc, mark)?;
+        put_at(alloc, &mut self.marks, place, kept)?;
+        self.log.trim(place, mark.length, mark.reads);
+        self.log.acknowledge(key, mark.made);
+        Ok(())
+    }
+
+    /// Keeps what a message about marks says.
+    fn take(&mut self, alloc: Global, m: &MarkMsg<'_>) -> Result<(), NoMemory>
+        requires { IsSpellable (message_of m.now) }
+        ensures ok { OnOk result ((l : MarkedLog) → IsLeftOfMarked self.old l → IsLeftOfMarked self.new (with_mark_body (body_of m.now.body) l)) }
+        ensures err { OnErr result (self.new ≡ self.old) }
+    {
+        match m.body {
+            MarkBody::Mark {
+                key,
+                reads,
+                length,
+                made,
+                state,
+            } => self.take_mark(
+                alloc,
+                key,
+                &NewMark {
+                    reads,
+                    length,
+                    made,
+                    state,
+                },
+            ),
+            _ => Ok(()),
+        }
+    }
+
+    /// The mark of the entry at this place.
+    fn mark_at(&self, place: u16) -> NewMark<'_>
+        ensures value { mark_value result ≡ mark_at self.now.marks place }
+        ensures reads { result.reads ≤ 2 ^ 24 + 1 }
+        ensures length { result.length ≤ 2 ^ 24 }
+        ensures made { result.made ≤ 2 ^ 24 }
+        ensures state { length result.state.now ≤ 1100 }
+    {
+        match self.marks.get(usize::from(place)) {
+            Some(mark) => mark.mark(),
+            None => NewMark {
+                reads: 0,
+                length: 0,
+                made: 0,
+                state: &[],
+            },
+        }
+    }
+
+    /// Of a known key how many reads its mark has.
+    fn tell_marked(&self, boot: u64, key: Key, out: &mut MsgOut)
+        requires boot { 1 ≤ boot }
+        requires empty { out.old ≡ [] }
+        ensures { (l : MarkedLog) → IsLeftOfMarked self.now l → out.new ≡ reply_bytes (option_map (about_mark boot) (told_of_mark (Marking key no_mark) l)) }
+    {
+        if let Some(place) = self.log.place_of(key) {
+            tell_marked(boot, key, self.mark_at(place).reads, out);
+        }
+    }
+
+    /// Of a known key its mark.
+    fn tell_held(&self, boot: u64, key: Key, out: &mut MsgOut)
+        requires boot { 1 ≤ boot }
+        requires empty { out.old ≡ [] }
+        ensures { (l : MarkedLog) → IsLeftOfMarked self.now l → out.new ≡ reply_bytes (option_map (about_mark boot) (told_of_mark (AskMsg key) l)) }
+    {
+        if let Some(place) = self.log.place_of(key) {
+            tell_held(boot, key, &self.mark_at(place), out);
+        }
+    }
+
+    /// What is told after a message about marks of the log's own boot was taken.
+    fn tell(&self, m: &MarkMsg<'_>, out: &mut MsgOut)
+        requires spellable { IsSpellable (message_of m.now) }
+        requires empty { out.old ≡ [] }
+        ensures { (l : MarkedLog) → IsLeftOfMarked self.now l → out.new ≡ reply_bytes (option_map (about_mark m.now.boot) (told_of_mark (body_of m.now.body) l)) }
+    {
+        match m.body {
+            MarkBody::Mark { key, .. } => self.tell_marked(m.boot, key, out),
+            MarkBody::Ask { key } => self.tell_held(m.boot, key, out),
+            _ => (),
+        }
+    }
+
+    /// Takes a message about marks, and puts the answer to it, or nothing, into the empty room.
+    fn answer_mark(
+        &mut self,
+        alloc: Global,
+        m: &MarkMsg<'_>,
+        out: &mut MsgOut,
+    ) -> Result<(), NoMemory>
+        requires spellable { IsSpellable (message_of m.now) }
+        requires empty { out.old ≡ [] }
+        ensures next { OnOk result ((l : MarkedLog) → IsLeftOfMarked self.old l → IsLeftOfMarked self.new (after_mark l (message_of m.now))) }
+        ensures answer { OnOk result ((l : MarkedLog) → IsLeftOfMarked self.old l → out.new ≡ reply_bytes (answer_to_mark l (message_of m.now))) }
+        ensures refused { OnErr result (self.new ≡ self.old) }
+        ensures empty { OnErr result (out.new ≡ []) }
+    {
+        let boot = self.boot();
+        if m.boot == boot {
+            self.take(alloc, m)?;
+            self.tell(m, out);
+            return Ok(());
+        }
+        tell_newer(boot, m, out);
+        Ok(())
+    }
+
+    /// Takes bytes, which may be a message of a log, one about marks, or neither, and puts the answer, or nothing, in the place of what `out` held. Without memory
+    /// all is as it was, and `out` is empty.
+    pub fn answer(&mut self, alloc: Global, bytes: &[u8], out: &mut MsgOut) -> Result<(), NoMemory>
+        ensures next { OnOk result ((l : MarkedLog) → IsLeftOfMarked self.old l → IsLeftOfMarked self.new (after_bytes bytes.now l)) }
+        ensures answer { OnOk result ((l : MarkedLog) → IsLeftOfMarked self.old l → out.new ≡ reply_to bytes.now l) }
+        ensures refused { OnErr result (self.new ≡ self.old) }
+        ensures empty { OnErr result (out.new ≡ []) }
+    {
+        if let Ok(m) = read_msg(bytes) {
+            return self.log.answer(alloc, &m, out);
+        }
+        out.clear();
+        match read_mark(bytes) {
+            Ok(m) => self.answer_mark(alloc, &m, out),
+            Err(_) => Ok(()),
+        }
+    }
+
+    /// How many bytes of the entry at place i are kept: those past the whole pages below its mark. Where there is no entry, none are.
+    pub fn kept(&self, i: u16) -> u32
+        ensures { (l : MarkedLog) → IsLeftOfMarked self.now l → result ≡ kept_at i l }
+    {
+        let Some(entry) = self.log.entry(i) else {
+            return 0;
+        };
+        let below = self.log.trim_of(entry.key).bytes;
+        entry.length.saturating_sub(below - below % PAGE)
+    }
+}

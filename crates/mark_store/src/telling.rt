@@ -1,0 +1,75 @@
+//! What is told of a mark, each as a message in the room for an answer.
+
+ghost use Rattle.std.specs.Prelude.{◌≡◌, ◌≤◌, ◌<◌, ◌+◌, ◌^◌, length, Some};
+ghost use Rattle.seq_arith.specs.Mark.MarkBody.{MarkedMsg, HeldMsg};
+ghost use Rattle.seq_arith.specs.Message.Body.{StaleMsg};
+ghost use Rattle.seq_arith.specs.MarkGrammar.{IsSpellable, spelling};
+ghost use Rattle.checkpoint.specs.Value.{message_of};
+ghost use Rattle.logger_store.specs.Stored.{answer_bytes};
+ghost use Rattle.mark_laws.specs.MarkedLog.{about_mark};
+ghost use Rattle.mark_store.specs.Bytes.{reply_bytes};
+ghost use Rattle.mark_store.specs.New.{mark_value};
+
+use crate::kept_mark::NewMark;
+use checkpoint::{MarkBody, MarkMsg, write_mark};
+use ft_io::Key;
+use logger_store::MsgOut;
+use logger_wire::{Body, Msg};
+
+/// Puts a message about marks in place of what there was.
+fn put_mark(m: &MarkMsg<'_>, out: &mut MsgOut)
+    requires { IsSpellable (message_of m.now) }
+    ensures { out.new ≡ spelling (message_of m.now) }
+{
+    let mut bytes = [0; 2_048];
+    let len = write_mark(m, &mut bytes);
+    out.put_mark(&bytes[..len]);
+}
+
+/// That the kept mark lies after so many reads.
+#[tactic(auto, unfolding(seq_arith::specs::MarkGrammar::has_length, seq_arith::specs::MarkGrammar::is_sound))]
+pub(crate) fn tell_marked(boot: u64, key: Key, reads: u32, out: &mut MsgOut)
+    requires boot { 1 ≤ boot }
+    requires reads { reads ≤ 2 ^ 24 + 1 }
+    ensures { out.new ≡ reply_bytes (Some (about_mark boot (MarkedMsg key reads))) }
+{
+    let body = MarkBody::Marked { key, reads };
+    put_mark(&MarkMsg { boot, body }, out);
+}
+
+/// The kept mark itself.
+#[tactic(auto, unfolding(seq_arith::specs::MarkGrammar::has_length, seq_arith::specs::MarkGrammar::is_sound))]
+pub(crate) fn tell_held(boot: u64, key: Key, mark: &NewMark<'_>, out: &mut MsgOut)
+    requires boot { 1 ≤ boot }
+    requires reads { mark.now.reads ≤ 2 ^ 24 + 1 }
+    requires length { mark.now.length ≤ 2 ^ 24 }
+    requires made { mark.now.made ≤ 2 ^ 24 }
+    requires state { length mark.now.state.now ≤ 1100 }
+    ensures { out.new ≡ reply_bytes (Some (about_mark boot (HeldMsg key (mark_value mark.now)))) }
+{
+    let NewMark {
+        reads,
+        length,
+        made,
+        state,
+    } = *mark;
+    let body = MarkBody::Held {
+        key,
+        reads,
+        length,
+        made,
+        state,
+    };
+    put_mark(&MarkMsg { boot, body }, out);
+}
+
+/// That a newer server than a message's has started.
+#[tactic(auto, unfolding(seq_arith::specs::MessageGrammar::has_length, seq_arith::specs::MessageGrammar::is_sound))]
+pub(crate) fn tell_stale(boot: u64, newer: u64, out: &mut MsgOut)
+    requires boot { 1 ≤ boot }
+    requires newer { boot < newer }
+    ensures { out.new ≡ answer_bytes (Some (record { boot = boot; body = StaleMsg newer })) }
+{
+    let body = Body::StaleMsg { newer };
+    out.put(&Msg { boot, body });
+}
