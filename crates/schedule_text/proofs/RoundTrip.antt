@@ -1,5 +1,5 @@
 -- The line by which a schedule asks for an event is read as that event: its words are cut apart again, and each number is read back.
-use Rattle.std.proofs.Common.{◌≡◌, ℕ, ◌<◌, ◌≤◌, ◌+◌, ◌-◌, ◌^◌, true, false, List, [], ◌∷◌, ◌++◌, codes, decimal, length, refl, ap, ◌∙◌, arith, append_assoc, append-nil}
+use Rattle.std.proofs.Common.{◌≡◌, ℕ, ◌<◌, ◌≤◌, ◌-◌, ◌^◌, true, false, List, [], ◌∷◌, ◌++◌, codes, decimal, length, refl, ap, ◌∙◌, arith, append_assoc, append-nil}
 use Rattle.std.specs.Prelude.{nat_le, nat_lt, ◌&&◌, Some, Ok, All}
 use Rattle.std.specs.Char.{is_ascii_digit}
 use Rattle.std.specs.Cmp.Derive.{both_true}
@@ -10,14 +10,14 @@ use Rattle.std.proofs.lemmas.Fmt.{decimal_is_IsNumeral, decimal_nonempty, length
 use Rattle.std.proofs.lemmas.List.Elements.{All-nil, All-cons}
 use Rattle.std.proofs.lemmas.List.Folds.{list_all-append}
 use Rattle.std.proofs.lemmas.List.Splits.{slice_split_none, slice_split_at}
-use Rattle.ft_model.specs.Grammar.{keyword_of, verb_of, boot_line, bare_line, deliver_line, flip_line, client_and_window, send_line, client_alone, names_no_service, is_printable, line_behind, line_of}
+use Rattle.ft_model.specs.Grammar.{keyword_of, verb_of, boot_line, bare_line, deliver_line, flip_line, client_and_window, send_line, client_alone, stop_line, names_no_service, is_printable, line_behind, line_of}
 use Rattle.ft_model.specs.Grammar as grammar
 use Rattle.ft_model.specs.Report.{event_line}
 use Rattle.ft_model.specs.Spelling.{numeral, number_of}
 use Rattle.ft_model.specs.Texts.{line as line_with, spaced}
 use Rattle.ft_model.specs.Words.{is, words_of}
 use Rattle.ft_model.specs.declared.event.Event.{Event}
-use Rattle.ft_model.specs.declared.event.Event.TheVariants.{Boot, Crash, Tick, Deliver, Flip, Begin, Send, Fin, Ack, Reset}
+use Rattle.ft_model.specs.declared.event.Event.TheVariants.{Boot, Crash, Tick, Deliver, Flip, Begin, Send, Fin, Ack, Reset, Stop}
 use Rattle.ft_model.specs.declared.line.Draft.TheVariants.{Begun}
 use Rattle.ft_model.specs.declared.line.Keyword.TheVariants as keyword
 use Rattle.ft_model.specs.declared.line.Line.TheVariants as line
@@ -150,6 +150,10 @@ alone_read : (client : ℕ) → 1 ≤ client → client ≤ 16 → client_alone 
 unfolding client_alone
 alone_read client low high = client_read client low high
 
+stop_read : (part : ℕ) → 1 ≤ part → part ≤ 2 → stop_line (decimal part ∷ []) ≡ Ok (Stop part)
+unfolding stop_line
+stop_read part low high = rw (number_read 1 2 part low high (omega (arith, high))) refl
+
 pub read_back : (schedule : Schedule) (e : Event) → IsAskable e → line_of (Begun schedule) (asked_line e) ≡ Ok (line.Event e)
 unfolding keyword_of verb_of bare_line
 read_back s (Boot boot isn) h =
@@ -181,6 +185,9 @@ read_back s (Ack client window) h =
 read_back s (Reset client) h =
     by_words s (codes "reset") (decimal client ∷ []) verb.Reset (Reset client)
     (lit (codes "reset") refl, (numbered client (omega (arith, h.1)), tt)) refl (rw (alone_read client h.0 h.1) refl)
+read_back s (Stop part) h =
+    by_words s (codes "stop") (decimal part ∷ []) verb.Stop (Stop part)
+    (lit (codes "stop") refl, (numbered part (omega (arith, h.1)), tt)) refl (stop_read part h.0 h.1)
 
 -- the words of a line, each after a space, are a space and the joined words
 spaced_joined : (word : List ℕ) (words : List (List ℕ)) → spaced (word ∷ words) ≡ 32 ∷ join_with_byte 32 (word ∷ words)
@@ -204,3 +211,4 @@ asked_in_line n (Send client from len) = behind_number n (codes "send") (decimal
 asked_in_line n (Fin client) = behind_number n (codes "fin") (decimal client ∷ [])
 asked_in_line n (Ack client window) = behind_number n (codes "ack") (decimal client ∷ decimal window ∷ [])
 asked_in_line n (Reset client) = behind_number n (codes "reset") (decimal client ∷ [])
+asked_in_line n (Stop part) = behind_number n (codes "stop") (decimal part ∷ [])

@@ -3,7 +3,7 @@ use Rattle.std.specs.Prelude.{ℕ, ◌<◌, ◌≤◌, ◌^◌, ⊤, List}
 use Rattle.std.specs.List.{join_with_byte}
 use Rattle.ft_model.specs.Report.{event_words}
 use Rattle.ft_model.specs.declared.event.Event.{Event}
-use Rattle.ft_model.specs.declared.event.Event.TheVariants.{Boot, Crash, Tick, Deliver, Flip, Begin, Send, Fin, Ack, Reset}
+use Rattle.ft_model.specs.declared.event.Event.TheVariants.{Boot, Crash, Tick, Deliver, Flip, Begin, Send, Fin, Ack, Reset, Stop}
 
 -- one of the 16 clients
 abbrev pub IsClient : ℕ → Type 0
@@ -25,6 +25,7 @@ IsAskable (Send client from len) = IsClient client × (from < 2 ^ 32) × (len < 
 IsAskable (Fin client) = IsClient client
 IsAskable (Ack client window) = IsClient client × (window < 2 ^ 16)
 IsAskable (Reset client) = IsClient client
+IsAskable (Stop part) = (1 ≤ part) × (part ≤ 2)
 
 -- the words of an event, separated by spaces
 abbrev pub asked_line : Event → List ℕ

@@ -3,7 +3,7 @@
 ghost use Rattle.std.specs.Prelude.{◌≡◌, ◌-◌, ◌^◌, ◌≤◌, ℕ, List, [], ◌∷◌, IfOk, MatchResult};
 ghost use Rattle.ft_model.specs.Words.{words_of};
 ghost use Rattle.ft_model.specs.Grammar.{number, boot_number, packet_number, client_number, window, long_number, boot_line, bare_line, deliver_line, flip_line};
-ghost use Rattle.ft_model.specs.Grammar.{client_and_window, send_line, client_alone, event_line};
+ghost use Rattle.ft_model.specs.Grammar.{client_and_window, send_line, client_alone, part_number, stop_line, event_line};
 
 use crate::spelling::read_number;
 use crate::words::next_word;
@@ -56,6 +56,13 @@ pub(crate) fn read_client_number(word: &[u8]) -> Result<u8, LineWhy>
     ensures { result ≡ client_number word.now }
 {
     Ok(number_in(word, 1, 16)? as u8)
+}
+
+/// One of two loggers: 1 is the head, 2 the tail.
+fn read_part(word: &[u8]) -> Result<u8, LineWhy>
+    ensures { result ≡ part_number word.now }
+{
+    Ok(number_in(word, 1, 2)? as u8)
 }
 
 fn read_window(word: &[u8]) -> Result<u16, LineWhy>
@@ -147,6 +154,16 @@ fn read_client_alone(words: &[u8]) -> Result<u8, LineWhy>
     read_client_number(client)
 }
 
+#[tactic(auto, unfolding(ft_model::specs::Grammar::stop_line))]
+fn read_stop(words: &[u8]) -> Result<Event, LineWhy>
+    ensures { result ≡ stop_line (words_of words.now) }
+{
+    let (part, rest) = word_of(words)?;
+    end_of(rest)?;
+    let part = read_part(part)?;
+    Ok(Event::Stop { part })
+}
+
 /// Reads an event's line, from the words after its first.
 pub(crate) fn read_event(verb: Verb, words: &[u8]) -> Result<Event, LineWhy>
     ensures { result ≡ event_line verb (words_of words.now) }
@@ -172,5 +189,6 @@ pub(crate) fn read_event(verb: Verb, words: &[u8]) -> Result<Event, LineWhy>
         Verb::Reset => Ok(Event::Reset {
             client: read_client_alone(words)?,
         }),
+        Verb::Stop => read_stop(words),
     }
 }

@@ -61,6 +61,7 @@ fn put_event(e: &Event, line: &mut LineOut) -> Result<(), NoMemory>
             line,
         ),
         Event::Reset { client } => put_field(b" reset ", u64::from(client), line),
+        Event::Stop { part } => put_field(b" stop ", u64::from(part), line),
     }
 }
 

@@ -3,7 +3,7 @@
 ghost use Rattle.std.specs.Prelude.{◌≡◌, ◌+◌, ◌++◌, ◌∷◌, ◌==◌, if◌then◌else◌, codes, length, OnOk, OnErr};
 ghost use Rattle.hex.specs.Hex.{encode_lower};
 ghost use Rattle.ft_model.specs.Texts.{address_text, service_text, script_text};
-ghost use Rattle.ft_model.specs.Report.{schedule_line, schedule_lines, header};
+ghost use Rattle.ft_model.specs.Report.{schedule_line, schedule_lines, twin_line, header};
 
 use crate::line_out::LineOut;
 use crate::line_text::{put_address, put_digits, put_hex_digits, put_number, put_word};
@@ -11,7 +11,7 @@ use ft_io::{Addr, NoMemory};
 use ft_model::{ClientLine, Schedule, Script, ServiceKind};
 use std::alloc::Global;
 
-/// Writes the report's name and version and the schedule's lines for service, server and clients. After `NoMemory` `out` is as it was.
+/// Writes the report's name and version and the schedule's lines before its events. After `NoMemory` `out` is as it was.
 pub fn write_header(alloc: Global, s: &Schedule, out: &mut Vec<u8>) -> Result<(), NoMemory>
     ensures ok { OnOk result (out.new.items ≡ out.old.items ++ header s.now) }
     ensures err { OnErr result (out.new.items ≡ out.old.items) }
@@ -29,7 +29,7 @@ fn put_header(s: &Schedule, line: &mut LineOut) -> Result<(), NoMemory>
     line.append(b"ftreplay 1\nservice")?;
     put_word(service_word(s.service), line)?;
     put_server(s.server, line)?;
-    put_clients(s.clients.as_slice(), line)
+    put_rest(s.twin, s.clients.as_slice(), line)
 }
 
 /// The end of the service's line, and the server's line.
@@ -41,6 +41,27 @@ fn put_server(server: Addr, line: &mut LineOut) -> Result<(), NoMemory>
     line.append(b"\nserver")?;
     put_address(server.ip, server.port, line)?;
     line.push(b'\n')
+}
+
+/// The lines behind the server's.
+#[tactic(auto, using(std::proofs::Common::append_assoc))]
+fn put_rest(twin: bool, clients: &[ClientLine], line: &mut LineOut) -> Result<(), NoMemory>
+    ensures ok { OnOk result (line.new.words ≡ line.old.words ++ (twin_line twin ++ schedule_lines 1 clients.now)) }
+    ensures before { line.new.before ≡ line.old.before }
+{
+    put_twin(twin, line)?;
+    put_clients(clients, line)
+}
+
+/// The line that says that there are two loggers.
+fn put_twin(twin: bool, line: &mut LineOut) -> Result<(), NoMemory>
+    ensures ok { OnOk result (line.new.words ≡ line.old.words ++ twin_line twin) }
+    ensures before { line.new.before ≡ line.old.before }
+{
+    if twin {
+        line.append(b"twin\n")?;
+    }
+    Ok(())
 }
 
 /// The name of a service.

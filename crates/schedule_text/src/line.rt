@@ -3,8 +3,8 @@
 ghost use Rattle.std.specs.Prelude.{◌≡◌, ◌==◌, ◌&&◌, ◌||◌, ◌<◌, nat_le};
 ghost use Rattle.std.specs.List.{list_any};
 ghost use Rattle.ft_model.specs.Words.{words_of};
-ghost use Rattle.ft_model.specs.Grammar.{service_line, server_line, is_taken, free_address, client_line, line_from, verb_of, keyword_of, names_no_service};
-ghost use Rattle.ft_model.specs.Grammar.{is_next, has_next_number, may_join, may_stand, is_printable, line_behind, line_of, begins_event};
+ghost use Rattle.ft_model.specs.Grammar.{service_line, server_line, is_taken, free_address, client_line, bare_line, line_from, verb_of, keyword_of, names_no_service};
+ghost use Rattle.ft_model.specs.Grammar.{is_next, has_next_number, may_join, may_pair, may_stand, is_printable, line_behind, line_of, begins_event};
 ghost use Rattle.schedule_text.specs.Reading.{GivesLine};
 
 use crate::end::LineEnd;
@@ -90,6 +90,15 @@ fn read_client_line(alloc: Global, draft: &Draft, words: &[u8]) -> Result<Client
     Ok(ClientLine { key, isn, script })
 }
 
+/// Reads the line that says that there are two loggers.
+#[tactic(auto, unfolding(ft_model::specs::Grammar::bare_line))]
+fn read_twin_line(words: &[u8]) -> Result<Line, LineWhy>
+    ensures { result ≡ bare_line Line.Twin (words_of words.now) }
+{
+    end_of(words)?;
+    Ok(Line::Twin)
+}
+
 /// Reads what a line says, from the words after its keyword.
 fn read_words(alloc: Global, draft: &Draft, keyword: Keyword, words: &[u8]) -> Result<Line, LineEnd>
     ensures { GivesLine result (line_from draft.now keyword (words_of words.now)) }
@@ -97,6 +106,7 @@ fn read_words(alloc: Global, draft: &Draft, keyword: Keyword, words: &[u8]) -> R
     match keyword {
         Keyword::Service => Ok(Line::Service(read_service_line(words)?)),
         Keyword::Server => Ok(Line::Server(read_server_line(words)?)),
+        Keyword::Twin => Ok(read_twin_line(words)?),
         Keyword::Client => Ok(Line::Client(read_client_line(alloc, draft, words)?)),
         Keyword::Event(verb) => Ok(Line::Event(read_event(verb, words)?)),
     }
@@ -127,6 +137,8 @@ fn read_verb(word: &[u8]) -> Option<Verb>
         Some(Verb::Ack)
     } else if word == b"reset".as_slice() {
         Some(Verb::Reset)
+    } else if word == b"stop".as_slice() {
+        Some(Verb::Stop)
     } else {
         None
     }
@@ -141,6 +153,8 @@ fn read_keyword(word: &[u8]) -> Option<Keyword>
         Some(Keyword::Service)
     } else if word == b"server".as_slice() {
         Some(Keyword::Server)
+    } else if word == b"twin".as_slice() {
+        Some(Keyword::Twin)
     } else if word == b"client".as_slice() {
         Some(Keyword::Client)
     } else {
@@ -191,12 +205,27 @@ fn takes_client(schedule: &Schedule, words: &[u8]) -> bool
     fits_number(count, words)
 }
 
+/// Whether it may still be said that there are two loggers: nothing follows the server's line yet.
+#[tactic(auto, unfolding(ft_model::specs::Grammar::may_pair))]
+fn takes_twin(schedule: &Schedule) -> bool
+    ensures { result ≡ may_pair schedule.now }
+{
+    if schedule.events.as_slice().len() != 0 {
+        return false;
+    }
+    if schedule.clients.as_slice().len() != 0 {
+        return false;
+    }
+    !schedule.twin
+}
+
 fn takes_line(draft: &Draft, keyword: Keyword, words: &[u8]) -> bool
     ensures { result ≡ may_stand draft.now keyword (words_of words.now) }
 {
     match (draft, keyword) {
         (Draft::Empty, Keyword::Service) => true,
         (Draft::Named(_), Keyword::Server) => true,
+        (Draft::Begun(schedule), Keyword::Twin) => takes_twin(schedule),
         (Draft::Begun(schedule), Keyword::Client) => takes_client(schedule, words),
         (Draft::Begun(_), Keyword::Event(_)) => true,
         _ => false,

@@ -238,5 +238,7 @@ pub(crate) fn put_way(way: Way, line: &mut LineOut) -> Result<(), NoMemory>
         }
         Way::ServerToLogger => put_word(b"S>L", line),
         Way::LoggerToServer => put_word(b"L>S", line),
+        Way::HeadToTail => put_word(b"H>T", line),
+        Way::TailToHead => put_word(b"T>H", line),
     }
 }

@@ -1,10 +1,11 @@
-//! The line of a packet: a segment or a message, with its fields by name.
+//! The line of a packet: a segment, a message or a datagram between two loggers, with its fields by name.
 
 ghost use Rattle.std.specs.Prelude.{◌≡◌, ◌++◌, ◌∷◌, ◌↔◌, codes, decimal, [], IsTrue, OnOk, OnErr, IsSome, IfSome};
+ghost use Rattle.seq_arith.specs.TwinGrammar.{reading};
 ghost use Rattle.seq_arith.specs.Value.{said};
 ghost use Rattle.ft_model.specs.Texts.{spaced, way_text};
-ghost use Rattle.ft_model.specs.Report.{segment_words, content_words, packet_line};
-ghost use Rattle.schedule_text.specs.Bytes.{packet_in};
+ghost use Rattle.ft_model.specs.Report.{segment_words, line_of_packet};
+ghost use Rattle.schedule_text.specs.Bytes.{content_in, told_words};
 
 use crate::line_out::LineOut;
 use crate::line_text::{put_field, put_flags, put_hex, put_mss, put_number, put_way};
@@ -15,14 +16,27 @@ use logger_wire::read_msg;
 use segment_codec::{read_accepted, read_packet};
 use seq_arith::Head;
 use std::alloc::Global;
+use twin_log::{TwinMsg, read_twin};
 
 /// Whether bytes are a packet of this direction: one that the codec of its kind accepts.
 pub fn is_packet(way: Way, bytes: &[u8]) -> bool
-    ensures { IsTrue result ↔ IsSome (packet_in way bytes.now) }
+    ensures { IsTrue result ↔ IsSome (content_in way bytes.now) }
 {
     match way {
         Way::ClientToServer(_) | Way::ServerToClient(_) => read_packet(bytes).is_ok(),
         Way::ServerToLogger | Way::LoggerToServer => read_msg(bytes).is_ok(),
+        Way::HeadToTail | Way::TailToHead => is_told(bytes),
+    }
+}
+
+/// Whether bytes are a datagram that one of two loggers sends the other.
+fn is_told(bytes: &[u8]) -> bool
+    ensures { IsTrue result ↔ IsSome (told_words (reading bytes.now)) }
+{
+    match read_twin(bytes) {
+        Ok(TwinMsg::Forward { message, .. }) => read_msg(message).is_ok(),
+        Ok(TwinMsg::Got { .. }) => true,
+        _ => false,
     }
 }
 
@@ -35,8 +49,8 @@ pub fn write_packet_line(
     bytes: &[u8],
     out: &mut Vec<u8>,
 ) -> Result<(), NoMemory>
-    requires { IsSome (packet_in way bytes.now) }
-    ensures ok { OnOk result (IfSome (packet_in way bytes.now) (λ packet. out.new.items ≡ out.old.items ++ packet_line n way packet)) }
+    requires { IsSome (content_in way bytes.now) }
+    ensures ok { OnOk result (IfSome (content_in way bytes.now) (λ words. out.new.items ≡ out.old.items ++ line_of_packet n way words)) }
     ensures err { OnErr result (out.new.items ≡ out.old.items) }
 {
     let mut line = LineOut::open(alloc, out);
@@ -44,10 +58,10 @@ pub fn write_packet_line(
     line.close(out, written)
 }
 
-#[tactic(auto, using(std::proofs::Common::append_assoc), unfolding(ft_model::specs::Report::packet_line))]
+#[tactic(auto, using(std::proofs::Common::append_assoc))]
 fn put_packet_line(n: u32, way: Way, bytes: &[u8], line: &mut LineOut) -> Result<(), NoMemory>
-    requires { IsSome (packet_in way bytes.now) }
-    ensures ok { OnOk result (IfSome (packet_in way bytes.now) (λ packet. line.new.words ≡ line.old.words ++ packet_line n way packet)) }
+    requires { IsSome (content_in way bytes.now) }
+    ensures ok { OnOk result (IfSome (content_in way bytes.now) (λ words. line.new.words ≡ line.old.words ++ line_of_packet n way words)) }
     ensures before { line.new.before ≡ line.old.before }
 {
     put_start(n, way, line)?;
@@ -69,8 +83,8 @@ fn put_start(n: u32, way: Way, line: &mut LineOut) -> Result<(), NoMemory>
 /// The words of the packet that bytes spell, each after a space.
 #[tactic(auto, unfolding(ft_model::specs::Report::content_words))]
 fn put_bytes(way: Way, bytes: &[u8], line: &mut LineOut) -> Result<(), NoMemory>
-    requires { IsSome (packet_in way bytes.now) }
-    ensures ok { OnOk result (IfSome (packet_in way bytes.now) (λ packet. line.new.words ≡ line.old.words ++ spaced (content_words packet))) }
+    requires { IsSome (content_in way bytes.now) }
+    ensures ok { OnOk result (IfSome (content_in way bytes.now) (λ words. line.new.words ≡ line.old.words ++ spaced words)) }
     ensures before { line.new.before ≡ line.old.before }
 {
     match way {
@@ -84,6 +98,27 @@ fn put_bytes(way: Way, bytes: &[u8], line: &mut LineOut) -> Result<(), NoMemory>
             };
             put_message(&msg, line)
         }
+        Way::HeadToTail | Way::TailToHead => put_told(bytes, line),
+    }
+}
+
+/// What one of two loggers tells the other: a message with its number, or the number alone.
+#[tactic(auto, using(crate::proofs::LineLemmas::line_rules), unfolding(ft_model::specs::Report::forward_words, ft_model::specs::Report::got_words))]
+fn put_told(bytes: &[u8], line: &mut LineOut) -> Result<(), NoMemory>
+    requires { IsSome (told_words (reading bytes.now)) }
+    ensures ok { OnOk result (IfSome (told_words (reading bytes.now)) (λ words. line.new.words ≡ line.old.words ++ spaced words)) }
+    ensures before { line.new.before ≡ line.old.before }
+{
+    match read_twin(bytes) {
+        Ok(TwinMsg::Forward { number, message }) => {
+            let Ok(msg) = read_msg(message) else {
+                unreachable!()
+            };
+            put_field(b" Forward number ", number, line)?;
+            put_message(&msg, line)
+        }
+        Ok(TwinMsg::Got { number }) => put_field(b" Got number ", number, line),
+        _ => unreachable!(),
     }
 }
 

@@ -66,9 +66,14 @@ fn add_line(alloc: Global, draft: Draft, line: Line) -> Result<Draft, NoMemory>
         (Draft::Named(service), Line::Server(server)) => Ok(Draft::Begun(Schedule {
             service,
             server,
+            twin: false,
             clients: ClientLines::new(Vec::new(alloc)),
             events: Events::new(Vec::new(alloc)),
         })),
+        (Draft::Begun(mut schedule), Line::Twin) => {
+            schedule.twin = true;
+            Ok(Draft::Begun(schedule))
+        }
         (Draft::Begun(mut schedule), Line::Client(client)) => {
             schedule.clients.push(client)?;
             Ok(Draft::Begun(schedule))

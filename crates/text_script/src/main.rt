@@ -5,8 +5,8 @@
 //! - `many COUNT LINE` reads a schedule of a service and a server, followed by COUNT copies of this line, each with a line feed; printed is how many events it
 //!   has, or why it is refused;
 //! - `script WORD` reads a client's script;
-//! - `packet WAY HEX` prints the line of packet 7, which says these bytes; WAY is `up` or `down`, between client 1 and the server, or `out` or `in`,
-//!   between the server and the logger.
+//! - `packet WAY HEX` prints the line of packet 7, which says these bytes; WAY is `up` or `down`, between client 1 and the server, `out` or `in`,
+//!   between the server and the logger, or `on` or `back`, between a head and a tail.
 #![tactic(auto)]
 
 use ft_io::{NoMemory, WriteSink, write_all};
@@ -138,6 +138,8 @@ fn say_packet(alloc: Global, rest: &str, out: &mut Vec<u8>) -> Result<(), NoMemo
         b"up" => Way::ClientToServer(1),
         b"down" => Way::ServerToClient(1),
         b"out" => Way::ServerToLogger,
+        b"on" => Way::HeadToTail,
+        b"back" => Way::TailToHead,
         _ => Way::LoggerToServer,
     };
     match hex::decode(alloc, text) {

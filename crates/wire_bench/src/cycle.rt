@@ -2,7 +2,7 @@
 
 ghost use Rattle.std.specs.Prelude.{◌≡◌, ◌≤◌, ◌<◌, length, IsSome};
 ghost use Rattle.logger_wire.specs.Value.{IsSendable};
-ghost use Rattle.schedule_text.specs.Bytes.{packet_in};
+ghost use Rattle.schedule_text.specs.Bytes.{content_in};
 
 use ft_io::{Key, NoMemory};
 use logger_wire::{Body, Msg, write_msg};
@@ -29,7 +29,7 @@ const SERVER: Key = Key {
 pub(crate) struct Sent {
     pub(crate) way: Way,
     pub(crate) bytes: Vec<u8>,
-    ghost accepted: { IsSome (packet_in way bytes.items) },
+    ghost accepted: { IsSome (content_in way bytes.items) },
 }
 
 /// The packets of all cycles, one after the other.
