@@ -1,5 +1,5 @@
 -- Bytes that come to the addressee of a packet.
-use Rattle.std.proofs.Common.{◌≡◌, ◌∙◌, sym, ap, subst, refl, ℕ, ◌<◌, ◌*◌, true, false, true≢false, Bool, List, [], ◌∷◌, length, cond, Result, Ok, Err, IsErr, arith}
+use Rattle.std.proofs.Common.{◌≡◌, ◌∙◌, sym, ap, ap₂, subst, refl, ℕ, ◌<◌, ◌*◌, true, false, true≢false, Bool, Option, Some, None, List, [], ◌∷◌, length, cond, Result, Ok, Err, IsErr, arith}
 use Rattle.std.proofs.lemmas.List.{length-map}
 use Rattle.ft_io.specs.declared.Key.{Key}
 use Rattle.ft_io.specs.Key.{key_eq}
@@ -15,19 +15,32 @@ use Rattle.seq_arith.proofs.MessageSpelling.{message_is_read}
 use Rattle.seq_arith.proofs.Refused.{flipped_packet_is_refused, flipped_message_is_refused}
 use Rattle.server_trait.specs.Service.{Machine}
 use Rattle.ft_model.specs.Client.{Client}
-use Rattle.ft_model.specs.Network.{Packet, destination_of}
+use Rattle.ft_model.specs.Network.{Packet, source_of, destination_of}
 use Rattle.ft_model.specs.Network.Packet.{To_server, To_client, To_logger, From_logger}
 use Rattle.ft_model.specs.Wire.{wire_of, HasWire}
-use Rattle.ft_model.specs.World.{World as Seen, WasSent, MayCome, ServerMoves, ClientReads, LogReads, Delivered, DeliveredAs, segment_or_noise, message_or_noise, with_client}
-use Rattle.ft_model.specs.declared.way.Way.TheVariants.{ClientToServer, ServerToClient, ServerToLogger, LoggerToServer}
+use Rattle.ft_model.specs.World.{World as Seen, WasSent, MayCome, ServerMoves, ClientReads, LogReads, NothingHappens, Delivered, DeliveredAs, segment_or_noise, message_or_noise, with_client}
+use Rattle.ft_model.specs.declared.way.Way.TheVariants.{ClientToServer, ServerToClient, ServerToLogger, LoggerToServer, HeadToTail, TailToHead}
+use Rattle.ft_model.specs.declared.way.Way.{Way}
 use Rattle.ft_model.proofs.Keys.{AreDistinct}
+use Rattle.ft_model.proofs.Lists.{none_is_some}
 use Rattle.peer_client.specs.Scripted.{delivered, hearing}
 use Rattle.net_schedule.specs.Carried.{number_in, way_along}
-use Rattle.net_schedule.specs.Hearing.{changed_at, delivered_to, logged}
+use Rattle.net_schedule.specs.Actors.{ActorsStand, ActorsGoOn}
+use Rattle.net_schedule.specs.Hearing.{changed_at, delivered_to, with_logs}
+use Rattle.net_schedule.specs.Loggers.{Loggers}
+use Rattle.net_schedule.specs.Logs.{log_in, loggers_in, log_reads, logs_hear}
+use Rattle.net_schedule.specs.declared.logs.Logs.{Logs}
+use Rattle.net_schedule.specs.declared.logs.Logs.TheVariants.{One, Two}
 use Rattle.net_schedule.specs.Premises.{Premises, ComesAs}
 use Rattle.net_schedule.specs.Standing.{Kept, WorldStands, GoesOn}
-use Rattle.net_schedule.proofs.Goings.{client_hears, log_hears, nothing_happens}
+use Rattle.net_schedule.proofs.Goings.{client_hears, log_hears, nothing_happens, actors_of, one_goes}
 use Rattle.net_schedule.proofs.Peers.{keys_in, first_of, apart_distinct, at_first, by_number, changed_past}
+
+-- a direction from one of two loggers to the other
+abbrev is_between : Way → Bool
+is_between HeadToTail = true
+is_between TailToHead = true
+is_between _ = false
 
 -- keys of a legal trace are distinct
 pub distinct_keys : {State : Type 0} (service : Machine State) (v : Seen) → Premises service v → AreDistinct (keys_in v.clients)
@@ -52,15 +65,15 @@ unchanged key (c ∷ cs) = ap (λ x. x ∷ with_client key (λ d. d) cs) (alike 
 
 module _ {State : Type 0} (service : Machine State) where
   -- what a client makes of them
-  reads_client : (w w' : Kept State) (v : Seen) (key : Key) (bytes : List ℕ) (r : Result Segment BadPacket) → segments.reading bytes ≡ r → WorldStands service w v
-      → w' ≡ record w { clients = with_client key (λ c. delivered c bytes) w.clients } → GoesOn service (ClientReads key r v) v w'
+  reads_client : (w w' : Kept State) (v : Seen) (key : Key) (bytes : List ℕ) (r : Result Segment BadPacket) → segments.reading bytes ≡ r → ActorsStand service w v
+      → w' ≡ record w { clients = with_client key (λ c. delivered c bytes) w.clients } → ActorsGoOn service (ClientReads key r v) v w w'
   reads_client w w' v key bytes (Ok segment) e st e' =
       client_hears service w w' v key segment st (e' ∙ ap (λ r. record w { clients = with_client key (λ c. hearing c r) w.clients }) e)
   reads_client w w' v key bytes (Err bad) e st e' =
       nothing_happens service w w' v st (e' ∙ ap (λ r. record w { clients = with_client key (λ c. hearing c r) w.clients }) e ∙ ap (λ cs. record w { clients = cs }) (unchanged key w.clients))
 
-  pub brings_client : (w w' : Kept State) (v : Seen) (packet : Packet) (bytes : List ℕ) (number : ℕ) → WorldStands service w v → Premises service v
-      → ServerToClient number ≡ way_along w.keys (wire_of packet) → w' ≡ record w { clients = delivered_to number bytes w.clients } → GoesOn service (DeliveredAs service v packet bytes) v w'
+  pub brings_client : (w w' : Kept State) (v : Seen) (packet : Packet) (bytes : List ℕ) (number : ℕ) → ActorsStand service w v → Premises service v
+      → ServerToClient number ≡ way_along w.keys (wire_of packet) → w' ≡ record w { clients = delivered_to number bytes w.clients } → ActorsGoOn service (DeliveredAs service v packet bytes) v w w'
   brings_client w w' v (To_client segment) bytes number st p way e' =
       let key : Key = destination_of segment in
       let n : number ≡ number_in (keys_in w.clients) (destination_of segment) =
@@ -75,16 +88,51 @@ module _ {State : Type 0} (service : Machine State) where
   brings_client w w' v (To_logger message) bytes number st p way e' = absurd (cc)
   brings_client w w' v (From_logger message) bytes number st p way e' = absurd (cc)
 
-  reads_log : (w w' : Kept State) (v : Seen) (r : Result Message BadMsg) → WorldStands service w v → w' ≡ logged w r → GoesOn service (LogReads r v) v w'
+  -- what the only logger makes of them
+  reads_log : (w w' : Kept State) (v : Seen) (r : Result Message BadMsg) → WorldStands service w v
+      → w' ≡ record w { log = (log_reads r (w.log, w.packets)).0; packets = (log_reads r (w.log, w.packets)).1 } → GoesOn service (LogReads r v) v w'
   reads_log w w' v (Ok message) st e' = log_hears service w w' v message st e'
-  reads_log w w' v (Err bad) st e' = nothing_happens service w w' v st e'
+  reads_log w w' v (Err bad) st e' = one_goes service (NothingHappens v) w w' v st (nothing_happens service w w' v (actors_of service w v st) e')
 
-  pub brings_logger : (w w' : Kept State) (v : Seen) (packet : Packet) (bytes : List ℕ) → WorldStands service w v
-      → ServerToLogger ≡ way_along w.keys (wire_of packet) → w' ≡ logged w (messages.reading bytes) → GoesOn service (DeliveredAs service v packet bytes) v w'
-  brings_logger w w' v (To_logger message) bytes st way e' = reads_log w w' v (messages.reading bytes) st e'
-  brings_logger w w' v (To_server segment) bytes st way e' = absurd (cc)
-  brings_logger w w' v (To_client segment) bytes st way e' = absurd (cc)
-  brings_logger w w' v (From_logger message) bytes st way e' = absurd (cc)
+  -- two loggers are not one
+  not_two : {P : Type 0} (loggers : Loggers) (o : Option Loggers) → o ≡ Some loggers → o ≡ None → P
+  not_two loggers o e f = none_is_some loggers (sym f ∙ e)
+
+  brings_to_log : (w w' : Kept State) (v : Seen) (packet : Packet) (bytes : List ℕ) (way : Way) (logs : Logs) → WorldStands service w v → way ≡ ServerToLogger
+      → way ≡ way_along w.keys (wire_of packet) → w.log ≡ log_in logs → w.loggers ≡ loggers_in logs → w' ≡ with_logs w (logs_hear way bytes (logs, w.packets))
+      → GoesOn service (DeliveredAs service v packet bytes) v w'
+  brings_to_log w w' v packet bytes way (Two loggers) st is along log two e' = not_two loggers w.loggers two st.single
+  brings_to_log w w' v (To_logger message) bytes way (One log) st is along same two e' =
+      reads_log w w' v (messages.reading bytes) st
+      (e' ∙ ap (λ x. with_logs w (logs_hear x bytes (One log, w.packets))) is
+      ∙ ap₂ (λ l o. record w { log = (log_reads (messages.reading bytes) (l, w.packets)).0; loggers = o; packets = (log_reads (messages.reading bytes) (l, w.packets)).1 }) (sym same) (sym two))
+  brings_to_log w w' v (To_server segment) bytes way (One log) st is along same two e' = absurd (other (sym is ∙ along))
+    where
+      other : ServerToLogger ≡ ClientToServer (number_in w.keys (source_of segment)) → ⊥
+      other e = absurd (cc)
+  brings_to_log w w' v (To_client segment) bytes way (One log) st is along same two e' = absurd (other (sym is ∙ along))
+    where
+      other : ServerToLogger ≡ ServerToClient (number_in w.keys (destination_of segment)) → ⊥
+      other e = absurd (cc)
+  brings_to_log w w' v (From_logger message) bytes way (One log) st is along same two e' = absurd (other (sym is ∙ along))
+    where
+      other : ServerToLogger ≡ LoggerToServer → ⊥
+      other e = absurd (cc)
+
+  pub brings_logger : (w w' : Kept State) (v : Seen) (packet : Packet) (bytes : List ℕ) (logs : Logs) → WorldStands service w v
+      → ServerToLogger ≡ way_along w.keys (wire_of packet) → w.log ≡ log_in logs → w.loggers ≡ loggers_in logs → w' ≡ with_logs w (logs_hear ServerToLogger bytes (logs, w.packets))
+      → GoesOn service (DeliveredAs service v packet bytes) v w'
+  brings_logger w w' v packet bytes logs st way log two e' = brings_to_log w w' v packet bytes ServerToLogger logs st refl way log two e'
+
+  -- no packet of a world with one logger goes between two
+  pub none_between : {P : Type 0} (keys : List Key) (packet : Packet) (way : Way) → is_between way ≡ true → way ≡ way_along keys (wire_of packet) → P
+  none_between keys packet way between e = absurd (true≢false (sym between ∙ ap is_between e ∙ outside keys packet))
+    where
+      outside : (keys : List Key) (packet : Packet) → is_between (way_along keys (wire_of packet)) ≡ false
+      outside keys (To_server segment) = refl
+      outside keys (To_client segment) = refl
+      outside keys (To_logger message) = refl
+      outside keys (From_logger message) = refl
 
   -- what the server makes of them is its turn
   pub packet_comes : (keys : List Key) (v : Seen) (packet : Packet) (bytes : List ℕ) (number : ℕ) → ClientToServer number ≡ way_along keys (wire_of packet) → ComesAs v packet bytes
@@ -94,12 +142,12 @@ module _ {State : Type 0} (service : Machine State) where
   packet_comes keys v (To_logger message) bytes number way comes = absurd (cc)
   packet_comes keys v (From_logger message) bytes number way comes = absurd (cc)
 
-  pub packet_brought : (keys : List Key) (v : Seen) (packet : Packet) (bytes : List ℕ) (number : ℕ) (w' : Kept State) → ClientToServer number ≡ way_along keys (wire_of packet)
-      → GoesOn service (ServerMoves service (segment_or_noise (segments.reading bytes)) v) v w' → GoesOn service (DeliveredAs service v packet bytes) v w'
-  packet_brought keys v (To_server segment) bytes number w' way g = g
-  packet_brought keys v (To_client segment) bytes number w' way g = absurd (cc)
-  packet_brought keys v (To_logger message) bytes number w' way g = absurd (cc)
-  packet_brought keys v (From_logger message) bytes number w' way g = absurd (cc)
+  pub packet_brought : (keys : List Key) (v : Seen) (packet : Packet) (bytes : List ℕ) (number : ℕ) (w w' : Kept State) → ClientToServer number ≡ way_along keys (wire_of packet)
+      → ActorsGoOn service (ServerMoves service (segment_or_noise (segments.reading bytes)) v) v w w' → ActorsGoOn service (DeliveredAs service v packet bytes) v w w'
+  packet_brought keys v (To_server segment) bytes number w w' way g = g
+  packet_brought keys v (To_client segment) bytes number w w' way g = absurd (cc)
+  packet_brought keys v (To_logger message) bytes number w w' way g = absurd (cc)
+  packet_brought keys v (From_logger message) bytes number w w' way g = absurd (cc)
 
   pub message_comes : (keys : List Key) (v : Seen) (packet : Packet) (bytes : List ℕ) → LoggerToServer ≡ way_along keys (wire_of packet) → ComesAs v packet bytes
       → MayCome v (message_or_noise (messages.reading bytes))
@@ -108,12 +156,12 @@ module _ {State : Type 0} (service : Machine State) where
   message_comes keys v (To_client segment) bytes way comes = absurd (cc)
   message_comes keys v (To_logger message) bytes way comes = absurd (cc)
 
-  pub message_brought : (keys : List Key) (v : Seen) (packet : Packet) (bytes : List ℕ) (w' : Kept State) → LoggerToServer ≡ way_along keys (wire_of packet)
-      → GoesOn service (ServerMoves service (message_or_noise (messages.reading bytes)) v) v w' → GoesOn service (DeliveredAs service v packet bytes) v w'
-  message_brought keys v (From_logger message) bytes w' way g = g
-  message_brought keys v (To_server segment) bytes w' way g = absurd (cc)
-  message_brought keys v (To_client segment) bytes w' way g = absurd (cc)
-  message_brought keys v (To_logger message) bytes w' way g = absurd (cc)
+  pub message_brought : (keys : List Key) (v : Seen) (packet : Packet) (bytes : List ℕ) (w w' : Kept State) → LoggerToServer ≡ way_along keys (wire_of packet)
+      → ActorsGoOn service (ServerMoves service (message_or_noise (messages.reading bytes)) v) v w w' → ActorsGoOn service (DeliveredAs service v packet bytes) v w w'
+  message_brought keys v (From_logger message) bytes w w' way g = g
+  message_brought keys v (To_server segment) bytes w w' way g = absurd (cc)
+  message_brought keys v (To_client segment) bytes w w' way g = absurd (cc)
+  message_brought keys v (To_logger message) bytes w w' way g = absurd (cc)
 
   -- a packet's own bytes are the packet
   pub comes_whole : (v : Seen) (packet : Packet) → HasWire packet → WasSent v packet → ComesAs v packet (wire_of packet).bytes
@@ -122,7 +170,7 @@ module _ {State : Type 0} (service : Machine State) where
   comes_whole v (To_logger message) wire sent = tt
   comes_whole v (From_logger message) wire sent = subst (λ r. MayCome v (message_or_noise r)) (sym (message_is_read message wire.0)) sent
 
-  as_whole : (v : Seen) (packet : Packet) (sent : List Packet) (after : Seen) → HasWire packet → DeliveredAs service v packet (wire_of packet).bytes sent after → Delivered service v packet sent after
+  pub as_whole : (v : Seen) (packet : Packet) (sent : List Packet) (after : Seen) → HasWire packet → DeliveredAs service v packet (wire_of packet).bytes sent after → Delivered service v packet sent after
   as_whole v (To_server segment) sent after wire h = subst (λ r. ServerMoves service (segment_or_noise r) v sent after) (spelling_is_read segment wire.0) h
   as_whole v (To_client segment) sent after wire h = subst (λ r. ClientReads (destination_of segment) r v sent after) (spelling_is_read segment wire.0) h
   as_whole v (To_logger message) sent after wire h = subst (λ r. LogReads r v sent after) (message_is_read message wire.0) h

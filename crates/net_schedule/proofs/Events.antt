@@ -20,13 +20,14 @@ use Rattle.ft_model.specs.declared.way.Way.{Way}
 use Rattle.ft_model.proofs.Lists.{all_slice_get, none_is_some}
 use Rattle.server_node.specs.Identity.{node_of}
 use Rattle.server_node.specs.Stages.{StageStands}
+use Rattle.net_schedule.specs.Actors.{ActorsStand, ActorsGoOn, ActorsAdvance}
 use Rattle.net_schedule.specs.AtNumber.{at_number}
 use Rattle.net_schedule.specs.Carried.{with_wires, way_along}
 use Rattle.net_schedule.specs.Premises.{Premises, ComesAs}
 use Rattle.net_schedule.specs.Standing.{Kept, Server, WorldStands, GoesOn, Advances, Refuses, IsForMemory}
 use Rattle.net_schedule.specs.declared.end.StepEnd.{StepEnd}
 use Rattle.net_schedule.specs.declared.end.StepEnd.TheVariants.{NoMemory, BadEvent, PacketLimit}
-use Rattle.net_schedule.proofs.Keeping.{Found, found, none_kept, sent_kept}
+use Rattle.net_schedule.proofs.Keeping.{Found, found, none_sent}
 use Rattle.net_schedule.proofs.Goings.{down, both_up}
 use Rattle.net_schedule.proofs.Bringing.{comes_whole, comes_changed, goes_whole}
 
@@ -42,22 +43,22 @@ all_numbered P ps zero p a e = none_is_some p e
 all_numbered P ps (suc n) p a e = all_slice_get P ps n p a e
 
 -- one that starts, goes down, ticks or delivers asks no client for a move
-no_move : (v : Seen) (event : Event) (sent : List Packet) (after : Seen) → move_asked event ≡ None → IsScripted v event sent after
+pub no_move : (v : Seen) (event : Event) (sent : List Packet) (after : Seen) → move_asked event ≡ None → IsScripted v event sent after
 no_move v event sent after none number move client k h = none_is_some (number, move) (sym none ∙ k)
 
 module _ {State : Type 0} (service : Machine State) where
   -- the server starts
-  pub boots : (w w' : Kept State) (v : Seen) (boot isn : ℕ) (s : Server State) (sent : List Wire) → WorldStands service w v → w.node ≡ None → w.boot < boot → boot < 2 ^ 64
+  pub boots : (w w' : Kept State) (v : Seen) (boot isn : ℕ) (s : Server State) (sent : List Wire) → ActorsStand service w v → w.node ≡ None → w.boot < boot → boot < 2 ^ 64
       → StageStands service (booted w.server boot isn) s.stage → sent ≡ map wire_of (hello (booted w.server boot isn))
       → s.who ≡ record { boot = boot; isn = isn; kind = w.kind; local = w.server }
-      → w' ≡ record w { packets = with_wires w.keys w.packets sent; boot = boot; node = Some s } → Advances service v (events.Boot boot isn) w'
+      → w' ≡ record w { packets = with_wires w.keys w.packets sent; boot = boot; node = Some s } → ActorsAdvance service v (events.Boot boot isn) w w'
   boots w w' v boot isn s wires st is_down more fits stands hello_is who e' =
       let none : v.node ≡ None = down service w.kind w.node v.node st.node is_down in
       let node : Node = booted v.server boot isn in
       let low : v.boot < boot = subst (λ n. n < boot) st.boot more in
       let rises : nat_le boot v.boot ≡ false = grind (arith, nat_tests) in
       let said : wires ≡ map wire_of (hello node) = subst (λ a. wires ≡ map wire_of (hello (booted a boot isn))) st.server hello_is in
-      subst (Advances service v (events.Boot boot isn)) (sym e')
+      subst (ActorsAdvance service v (events.Boot boot isn) w) (sym e')
       (record {
         happens = record {
           sent = hello (booted v.server boot isn);
@@ -67,8 +68,6 @@ module _ {State : Type 0} (service : Machine State) where
             server = st.server;
             keys = st.keys;
             clients = st.clients;
-            log = st.log;
-            packets = ap (with_wires w.keys w.packets) said ∙ sent_kept w.keys w.packets v.packets (hello (booted v.server boot isn)) st.packets;
             boot = refl;
             node = record {
               kind_is = ap (λ i. i.kind) who;
@@ -78,15 +77,20 @@ module _ {State : Type 0} (service : Machine State) where
             };
           };
           grew = refl;
+          quiet = refl;
+          stored = ap (with_wires w.keys w.packets) said;
+          same_keys = refl;
+          same_log = refl;
+          same_loggers = refl;
         };
         allowed = rw none (rw rises refl);
         scripted = no_move v (events.Boot boot isn) (hello (booted v.server boot isn)) (record v { boot = boot; node = Some (booted v.server boot isn); packets = v.packets ++ hello (booted v.server boot isn) }) refl;
       })
 
-  pub refuses_up : (w : Kept State) (v : Seen) (boot isn : ℕ) → WorldStands service w v → is_some w.node ≡ true → refusal v (events.Boot boot isn) ≡ Some why.Up
+  pub refuses_up : (w : Kept State) (v : Seen) (boot isn : ℕ) → ActorsStand service w v → is_some w.node ≡ true → refusal v (events.Boot boot isn) ≡ Some why.Up
   refuses_up w v boot isn st e = let is_up : is_some v.node ≡ true = sym (both_up service w.kind w.node v.node st.node) ∙ e in rw is_up refl
 
-  pub refuses_boot : (w : Kept State) (v : Seen) (boot isn : ℕ) → WorldStands service w v → is_some w.node ≡ false → boot ≤ w.boot → refusal v (events.Boot boot isn) ≡ Some why.Boot
+  pub refuses_boot : (w : Kept State) (v : Seen) (boot isn : ℕ) → ActorsStand service w v → is_some w.node ≡ false → boot ≤ w.boot → refusal v (events.Boot boot isn) ≡ Some why.Boot
   refuses_boot w v boot isn st e old =
       let is_down : is_some v.node ≡ false = sym (both_up service w.kind w.node v.node st.node) ∙ e in
       let low : boot ≤ v.boot = subst (λ n. boot ≤ n) st.boot old in
@@ -94,31 +98,47 @@ module _ {State : Type 0} (service : Machine State) where
       rw is_down (rw rises refl)
 
   -- the server goes down
-  pub crashes : (w w' : Kept State) (v : Seen) → WorldStands service w v → is_some w.node ≡ true → w' ≡ record w { node = None } → Advances service v events.Crash w'
+  pub crashes : (w w' : Kept State) (v : Seen) → ActorsStand service w v → is_some w.node ≡ true → w' ≡ record w { node = None } → ActorsAdvance service v events.Crash w w'
   crashes w w' v st e e' =
       let is_up : is_some v.node ≡ true = sym (both_up service w.kind w.node v.node st.node) ∙ e in
-      subst (Advances service v events.Crash) (sym e')
+      subst (ActorsAdvance service v events.Crash w) (sym e')
       (record {
         happens = record {
           sent = [];
           world = record v { node = None; packets = v.packets ++ [] };
           goes = (is_up, refl, refl);
-          stands = record { server = st.server; keys = st.keys; clients = st.clients; log = st.log; packets = none_kept w.keys w.packets v.packets st.packets; boot = st.boot; node = tt };
+          stands = record { server = st.server; keys = st.keys; clients = st.clients; boot = st.boot; node = tt };
           grew = refl;
+          quiet = refl;
+          stored = none_sent w.keys w.packets;
+          same_keys = refl;
+          same_log = refl;
+          same_loggers = refl;
         };
         allowed = rw is_up refl;
         scripted = no_move v events.Crash [] (record v { node = None; packets = v.packets ++ [] }) refl;
       })
 
-  pub refuses_down : (w : Kept State) (v : Seen) (event : Event) → WorldStands service w v → is_some w.node ≡ false → refusal v event ≡ cond (is_some v.node) None (Some why.Down) → refusal v event ≡ Some why.Down
+  pub refuses_down : (w : Kept State) (v : Seen) (event : Event) → ActorsStand service w v → is_some w.node ≡ false → refusal v event ≡ cond (is_some v.node) None (Some why.Down) → refusal v event ≡ Some why.Down
   refuses_down w v event st e r = let is_down : is_some v.node ≡ false = sym (both_up service w.kind w.node v.node st.node) ∙ e in r ∙ ap (λ b. cond b None (Some why.Down)) is_down
 
   -- a tick
-  pub ticks : (w w' : Kept State) (v : Seen) → WorldStands service w v → is_some w.node ≡ true → GoesOn service (ServerMoves service Tick_comes v) v w' → Advances service v events.Tick w'
+  pub ticks : (w w' : Kept State) (v : Seen) → ActorsStand service w v → is_some w.node ≡ true → ActorsGoOn service (ServerMoves service Tick_comes v) v w w' → ActorsAdvance service v events.Tick w w'
   ticks w w' v st e g =
       let is_up : is_some v.node ≡ true = sym (both_up service w.kind w.node v.node st.node) ∙ e in
       record {
-        happens = record { sent = g.sent; world = g.world; goes = (is_up, g.goes); stands = g.stands; grew = g.grew };
+        happens = record {
+          sent = g.sent;
+          world = g.world;
+          goes = (is_up, g.goes);
+          stands = g.stands;
+          grew = g.grew;
+          quiet = g.quiet;
+          stored = g.stored;
+          same_keys = g.same_keys;
+          same_log = g.same_log;
+          same_loggers = g.same_loggers;
+        };
         allowed = rw is_up refl;
         scripted = no_move v events.Tick g.sent g.world refl;
       }

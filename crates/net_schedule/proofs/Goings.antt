@@ -1,5 +1,5 @@
--- What each actor's turn does to the code's world is what the definitions say of the world at which it stands.
-use Rattle.std.proofs.Common.{◌≡◌, ◌∙◌, sym, ap, subst, refl, ℕ, is_some, Option, Some, None, option_map, List, [], ◌++◌}
+-- What the turn of server or client does to the code's world is what the definitions say of the world at which it stands, with one logger and with two.
+use Rattle.std.proofs.Common.{◌≡◌, ◌∙◌, sym, ap, subst, refl, ℕ, is_some, Option, Some, None, option_map, List, [], ◌++◌, map}
 use Rattle.std.specs.Option.{option_to_list}
 use Rattle.ft_io.specs.declared.Key.{Key}
 use Rattle.seq_arith.specs.Packet.{Segment}
@@ -11,17 +11,19 @@ use Rattle.ft_model.specs.Log.{log_after, answer_to}
 use Rattle.ft_model.specs.Network.{Packet}
 use Rattle.ft_model.specs.Network.Packet.{From_logger}
 use Rattle.ft_model.specs.Node.{Node, Stage, Input}
-use Rattle.ft_model.specs.Wire.{Wire}
-use Rattle.ft_model.specs.World.{World as Seen, MayCome, ServerTurn, ServerMoves, ClientHears, LogHears, NothingHappens, with_client}
+use Rattle.ft_model.specs.Wire.{Wire, wire_of}
+use Rattle.ft_model.specs.World.{World as Seen, MayCome, ServerTurn, ServerMoves, ClientHears, LogHears, NothingHappens, Happens, with_client}
+use Rattle.ft_model.specs.declared.event.Event.{Event}
 use Rattle.ft_model.proofs.FaithfulKept.{received_same}
 use Rattle.ft_model.proofs.Lists.{none_is_some}
 use Rattle.logger_store.specs.Stored.{answer_bytes}
 use Rattle.server_node.specs.Identity.{node_of}
 use Rattle.server_node.specs.Stages.{StageStands, NodeGoes}
-use Rattle.net_schedule.specs.Carried.{with_wires, with_answer}
+use Rattle.net_schedule.specs.Actors.{ActorsStand, ActorsGoOn, ActorsAdvance}
+use Rattle.net_schedule.specs.Carried.{carried, with_wires, with_answer}
 use Rattle.net_schedule.specs.Premises.{Premises}
-use Rattle.net_schedule.specs.Standing.{Kept, Server, IsAt, NodeStands, WorldStands, GoesOn}
-use Rattle.net_schedule.proofs.Keeping.{sent_kept, none_kept, answer_kept}
+use Rattle.net_schedule.specs.Standing.{Kept, Server, IsAt, NodeStands, WorldStands, GoesOn, Advances}
+use Rattle.net_schedule.proofs.Keeping.{sent_kept, none_sent, answer_kept}
 use Rattle.net_schedule.proofs.Peers.{keys_stay}
 
 -- the server is down in both worlds at once, ..
@@ -48,18 +50,18 @@ both_up service kind (Some s) (Some n) h = refl
 
 module _ {State : Type 0} (service : Machine State) where
   -- a lawful turn of the server
-  pub server_goes : (w w' : Kept State) (v : Seen) (input : Input) (s s' : Server State) (sent : List Wire) → WorldStands service w v → Premises service v → MayCome v input → w.node ≡ Some s
+  pub server_goes : (w w' : Kept State) (v : Seen) (input : Input) (s s' : Server State) (sent : List Wire) → ActorsStand service w v → Premises service v → MayCome v input → w.node ≡ Some s
       → s'.who ≡ s.who
       → ((standing : Stage) → IsNearInput s.who.local input standing → IsSoundInput service (node_of s.who standing) input standing → StageStands service (node_of s.who standing) s.stage
       → NodeGoes service (node_of s.who standing) input s.who s'.stage sent)
-      → w' ≡ record w { packets = with_wires w.keys w.packets sent; node = Some s' } → GoesOn service (ServerMoves service input v) v w'
+      → w' ≡ record w { packets = with_wires w.keys w.packets sent; node = Some s' } → ActorsGoOn service (ServerMoves service input v) v w w'
   server_goes w w' v input s s' sent st p comes is_up same turn e' =
       let u : IsUp service w.kind s v.node = up service w.kind s v.node (subst (λ o. NodeStands service w.kind o v.node) is_up st.node) in
       let node : Node = node_of s.who u.at.standing in
       let is : v.node ≡ Some (node_of s.who u.at.standing) = u.up ∙ ap Some u.at.is in
       let g : NodeGoes service (node_of s.who u.at.standing) input s.who s'.stage sent =
       turn u.at.standing (p.near (node_of s.who u.at.standing) input is comes) (p.sound (node_of s.who u.at.standing) input is comes) u.at.stands in
-      subst (GoesOn service (ServerMoves service input v) v) (sym e')
+      subst (ActorsGoOn service (ServerMoves service input v) v w) (sym e')
       (record {
         sent = g.packets;
         world = record v { node = Some (node_of s.who g.after); packets = v.packets ++ g.packets };
@@ -68,8 +70,6 @@ module _ {State : Type 0} (service : Machine State) where
           server = st.server;
           keys = st.keys;
           clients = st.clients;
-          log = st.log;
-          packets = ap (with_wires w.keys w.packets) g.wires ∙ sent_kept w.keys w.packets v.packets g.packets st.packets;
           boot = st.boot;
           node = record {
             kind_is = ap (λ i. i.kind) same ∙ u.at.kind_is;
@@ -79,37 +79,47 @@ module _ {State : Type 0} (service : Machine State) where
           };
         };
         grew = refl;
+        quiet = refl;
+        stored = ap (with_wires w.keys w.packets) g.wires;
+        same_keys = refl;
+        same_log = refl;
+        same_loggers = refl;
       })
 
   -- nothing that may come fences it
-  pub never_fenced : {P : Type 0} (w : Kept State) (v : Seen) (input : Input) (s : Server State) (newer : ℕ) → WorldStands service w v → Premises service v → MayCome v input → w.node ≡ Some s
+  pub never_fenced : {P : Type 0} (w : Kept State) (v : Seen) (input : Input) (s : Server State) (newer : ℕ) → ActorsStand service w v → Premises service v → MayCome v input → w.node ≡ Some s
       → ((standing : Stage) → fence (node_of s.who standing) input ≡ Some newer) → P
   never_fenced w v input s newer st p comes is_up fenced =
       let u : IsUp service w.kind s v.node = up service w.kind s v.node (subst (λ o. NodeStands service w.kind o v.node) is_up st.node) in
       none_is_some newer (sym (p.unfenced (node_of s.who u.at.standing) input (u.up ∙ ap Some u.at.is) comes) ∙ fenced u.at.standing)
 
   -- nothing changes but that nothing is sent
-  rests : (w : Kept State) (v : Seen) → WorldStands service w v → WorldStands service w (record v { packets = v.packets ++ [] })
-  rests w v st = record { server = st.server; keys = st.keys; clients = st.clients; log = st.log; packets = none_kept w.keys w.packets v.packets st.packets; boot = st.boot; node = st.node }
+  rests : (Goes : List Packet → Seen → Type 0) (w : Kept State) (v : Seen) → ActorsStand service w v → Goes [] (record v { packets = v.packets ++ [] }) → ActorsGoOn service Goes v w w
+  rests Goes w v st goes = record {
+    sent = [];
+    world = record v { packets = v.packets ++ [] };
+    goes = goes;
+    stands = record { server = st.server; keys = st.keys; clients = st.clients; boot = st.boot; node = st.node };
+    grew = refl;
+    quiet = refl;
+    stored = none_sent w.keys w.packets;
+    same_keys = refl;
+    same_log = refl;
+    same_loggers = refl;
+  }
 
   -- a server that is down has no turn
-  pub server_rests : (w : Kept State) (v : Seen) (input : Input) → WorldStands service w v → w.node ≡ None → GoesOn service (ServerMoves service input v) v w
+  pub server_rests : (w : Kept State) (v : Seen) (input : Input) → ActorsStand service w v → w.node ≡ None → ActorsGoOn service (ServerMoves service input v) v w w
   server_rests w v input st is_down =
       let none : v.node ≡ None = down service w.kind w.node v.node st.node is_down in
-      record {
-        sent = [];
-        world = record v { packets = v.packets ++ [] };
-        goes = (subst (λ o. ServerTurn service input o [] o) (sym none) (refl, refl), refl);
-        stands = rests w v st;
-        grew = refl;
-      }
+      rests (ServerMoves service input v) w v st (subst (λ o. ServerTurn service input o [] o) (sym none) (refl, refl), refl)
 
   -- a client receives
-  pub client_hears : (w w' : Kept State) (v : Seen) (key : Key) (segment : Segment) → WorldStands service w v
-      → w' ≡ record w { clients = with_client key (λ c. received c segment) w.clients } → GoesOn service (ClientHears key segment v) v w'
+  pub client_hears : (w w' : Kept State) (v : Seen) (key : Key) (segment : Segment) → ActorsStand service w v
+      → w' ≡ record w { clients = with_client key (λ c. received c segment) w.clients } → ActorsGoOn service (ClientHears key segment v) v w w'
   client_hears w w' v key segment st e' =
       let change : Client → Client = λ c. received c segment in
-      subst (GoesOn service (ClientHears key segment v) v) (sym e')
+      subst (ActorsGoOn service (ClientHears key segment v) v w) (sym e')
       (record {
         sent = [];
         world = record v { clients = with_client key (λ c. received c segment) v.clients; packets = v.packets ++ [] };
@@ -118,15 +128,50 @@ module _ {State : Type 0} (service : Machine State) where
           server = st.server;
           keys = st.keys ∙ sym (keys_stay key (λ c. received c segment) v.clients (λ c e. (received_same c segment).key));
           clients = ap (with_client key (λ c. received c segment)) st.clients;
-          log = st.log;
-          packets = none_kept w.keys w.packets v.packets st.packets;
           boot = st.boot;
           node = st.node;
         };
         grew = refl;
+        quiet = refl;
+        stored = none_sent w.keys w.packets;
+        same_keys = refl;
+        same_log = refl;
+        same_loggers = refl;
       })
 
-  -- the logger takes a message and answers
+  -- noise comes to a client
+  pub nothing_happens : (w w' : Kept State) (v : Seen) → ActorsStand service w v → w' ≡ w → ActorsGoOn service (NothingHappens v) v w w'
+  nothing_happens w w' v st e' = subst (ActorsGoOn service (NothingHappens v) v w) (sym e') (rests (NothingHappens v) w v st (refl, refl))
+
+  -- With one logger: what server and clients do is done in the whole world.
+  pub actors_of : (w : Kept State) (v : Seen) → WorldStands service w v → ActorsStand service w v
+  actors_of w v st = record { server = st.server; keys = st.keys; clients = st.clients; boot = st.boot; node = st.node }
+
+  pub one_goes : (Goes : List Packet → Seen → Type 0) (w w' : Kept State) (v : Seen) → WorldStands service w v → ActorsGoOn service Goes v w w' → GoesOn service Goes v w'
+  one_goes Goes w w' v st g = record {
+    sent = g.sent;
+    world = g.world;
+    goes = g.goes;
+    stands = record {
+      server = g.stands.server;
+      keys = g.stands.keys;
+      clients = g.stands.clients;
+      single = g.same_loggers ∙ st.single;
+      log = g.same_log ∙ st.log ∙ sym g.quiet;
+      packets = g.stored ∙ sent_kept w.keys w.packets v.packets g.sent st.packets
+          ∙ ap (λ ps. carried w.keys (map wire_of ps)) (sym g.grew) ∙ ap (λ ks. carried ks (map wire_of g.world.packets)) (sym g.same_keys);
+      boot = g.stands.boot;
+      node = g.stands.node;
+    };
+    grew = g.grew;
+  }
+
+  pub one_advances : (event : Event) (w w' : Kept State) (v : Seen) → WorldStands service w v → ActorsAdvance service v event w w' → Advances service v event w'
+  unfolding one_goes
+  one_advances event w w' v st a =
+      record { happens = one_goes (Happens service v event) w w' v st a.happens; allowed = a.allowed; scripted = a.scripted }
+
+  -- the only logger takes a message and answers
   pub log_hears : (w w' : Kept State) (v : Seen) (message : Message) → WorldStands service w v
       → w' ≡ record w { log = log_after w.log message; packets = with_answer w.packets (answer_bytes (answer_to w.log message)) } → GoesOn service (LogHears message v) v w'
   log_hears w w' v message st e' =
@@ -141,6 +186,7 @@ module _ {State : Type 0} (service : Machine State) where
           server = st.server;
           keys = st.keys;
           clients = st.clients;
+          single = st.single;
           log = ap (λ l. log_after l message) st.log;
           packets = ap (λ l. with_answer w.packets (answer_bytes (answer_to l message))) st.log ∙ answer_kept w.keys w.packets (answer_to v.log message)
               ∙ sent_kept w.keys w.packets v.packets (option_to_list (option_map From_logger (answer_to v.log message))) st.packets;
@@ -150,18 +196,12 @@ module _ {State : Type 0} (service : Machine State) where
         grew = refl;
       })
 
-  -- noise comes to a client or to the logger
-  pub nothing_happens : (w w' : Kept State) (v : Seen) → WorldStands service w v → w' ≡ w → GoesOn service (NothingHappens v) v w'
-  nothing_happens w w' v st e' =
-      subst (GoesOn service (NothingHappens v) v) (sym e')
-      (record { sent = []; world = record v { packets = v.packets ++ [] }; goes = (refl, refl); stands = rests w v st; grew = refl })
-
 -- so it is where the turn is by the service of the server's own kind, which is the world's
 pub server_goes_at : {State : Type 0} (services : ℕ → Machine State) (w w' : Kept State) (v : Seen) (input : Input) (s s' : Server State) (sent : List Wire)
-    → WorldStands (services w.kind) w v → Premises (services w.kind) v → MayCome v input → w.node ≡ Some s → s'.who ≡ s.who
+    → ActorsStand (services w.kind) w v → Premises (services w.kind) v → MayCome v input → w.node ≡ Some s → s'.who ≡ s.who
     → ((standing : Stage) → IsNearInput s.who.local input standing → IsSoundInput (services s.who.kind) (node_of s.who standing) input standing → StageStands (services s.who.kind) (node_of s.who standing) s.stage
     → NodeGoes (services s.who.kind) (node_of s.who standing) input s.who s'.stage sent)
-    → w' ≡ record w { packets = with_wires w.keys w.packets sent; node = Some s' } → GoesOn (services w.kind) (ServerMoves (services w.kind) input v) v w'
+    → w' ≡ record w { packets = with_wires w.keys w.packets sent; node = Some s' } → ActorsGoOn (services w.kind) (ServerMoves (services w.kind) input v) v w w'
 server_goes_at services w w' v input s s' sent st p comes is_up same turn e' =
     let u : IsUp (services w.kind) w.kind s v.node = up (services w.kind) w.kind s v.node (subst (λ o. NodeStands (services w.kind) w.kind o v.node) is_up st.node) in
     server_goes (services w.kind) w w' v input s s' sent st p comes is_up same

@@ -29,8 +29,8 @@ sent_kept keys kept ps qs e =
     ∙ ap (carried keys) (sym (map-append wire_of ps qs))
 
 -- nothing is sent
-pub none_kept : (keys : List Key) (kept : Carried) (ps : List Packet) → kept ≡ carried keys (map wire_of ps) → kept ≡ carried keys (map wire_of (ps ++ []))
-none_kept keys kept ps e = e ∙ ap (λ qs. carried keys (map wire_of qs)) (sym (append-nil ps))
+pub none_sent : (keys : List Key) (kept : Carried) → kept ≡ with_wires keys kept []
+none_sent keys kept = ap₂ pack (sym (append-nil kept.ways)) (sym (append-nil kept.bytes))
 
 -- a packet after others is a wire after theirs
 pub one_wire : (keys : List Key) (kept : Carried) (wires : List Wire) (w : Wire) → with_packet (with_wires keys kept wires) (way_along keys w) w.bytes ≡ with_wires keys kept (wires ++ w ∷ [])
@@ -49,12 +49,9 @@ spelling_begins : (message : Message) → (b : ℕ) × (bytes : List ℕ) × (sp
 unfolding spelling spelled header
 spelling_begins message = (70, drop 1 (spelling message), refl)
 
-no_answer : (keys : List Key) (kept : Carried) → kept ≡ with_wires keys kept []
-no_answer keys kept = ap₂ pack (sym (append-nil kept.ways)) (sym (append-nil kept.bytes))
-
 -- the logger's answer, if it gives one
 pub answer_kept : (keys : List Key) (kept : Carried) (answer : Option Message) → with_answer kept (answer_bytes answer) ≡ with_wires keys kept (map wire_of (option_to_list (option_map From_logger answer)))
-answer_kept keys kept None = no_answer keys kept
+answer_kept keys kept None = none_sent keys kept
 answer_kept keys kept (Some message) =
     let s : (b : ℕ) × (bytes : List ℕ) × (spelling message ≡ b ∷ bytes) = spelling_begins message in
     ap (with_answer kept) s.2 ∙ ap (with_packet kept LoggerToServer) (sym s.2)
@@ -66,29 +63,39 @@ pub record Found (keys : List Key) (ps : List Packet) (n : ℕ) (way : Way) (byt
   pub goes : way ≡ way_along keys (wire_of packet)
   pub spells : bytes ≡ (wire_of packet).bytes
 
-found_at : (keys : List Key) (ps : List Packet) (i : ℕ) (way : Way) (bytes : List ℕ) → slice_get (map (way_along keys) (map wire_of ps)) i ≡ Some way → slice_get (map (λ w. w.bytes) (map wire_of ps)) i ≡ Some bytes
-    → Found keys ps (suc i) way bytes
-found_at keys [] i way bytes e f = none_is_some way e
-found_at keys (p ∷ ps) zero way bytes e f = record { packet = p; is = refl; goes = sym (some_is (way_along keys (wire_of p)) way e); spells = sym (some_is (wire_of p).bytes bytes f) }
-found_at keys (p ∷ ps) (suc i) way bytes e f =
-    let r : Found keys ps (suc i) way bytes = found_at keys ps i way bytes e f in
-    record { packet = r.packet; is = r.is; goes = r.goes; spells = r.spells }
+-- an element of a list by its place, as its direction and its bytes are stored
+pub record FoundAt {X : Type 0} (way_of : X → Way) (bytes_of : X → List ℕ) (xs : List X) (i : ℕ) (way : Way) (bytes : List ℕ) : Type 0 where
+  pub one : X
+  pub is : slice_get xs i ≡ Some one
+  pub goes : way ≡ way_of one
+  pub spells : bytes ≡ bytes_of one
+
+pub found_at : {X : Type 0} (way_of : X → Way) (bytes_of : X → List ℕ) (xs : List X) (i : ℕ) (way : Way) (bytes : List ℕ) → slice_get (map way_of xs) i ≡ Some way
+    → slice_get (map bytes_of xs) i ≡ Some bytes → FoundAt way_of bytes_of xs i way bytes
+found_at way_of bytes_of [] i way bytes e f = none_is_some way e
+found_at way_of bytes_of (x ∷ xs) zero way bytes e f = record { one = x; is = refl; goes = sym (some_is (way_of x) way e); spells = sym (some_is (bytes_of x) bytes f) }
+found_at way_of bytes_of (x ∷ xs) (suc i) way bytes e f =
+    let r : FoundAt way_of bytes_of xs i way bytes = found_at way_of bytes_of xs i way bytes e f in
+    record { one = r.one; is = r.is; goes = r.goes; spells = r.spells }
+
+pub twice : {X Y Z : Type 0} (f : Y → Z) (g : X → Y) (xs : List X) → map f (map g xs) ≡ map (λ x. f (g x)) xs
+twice f g [] = refl
+twice f g (x ∷ xs) = ap (λ ys. f (g x) ∷ ys) (twice f g xs)
 
 pub found : (keys : List Key) (kept : Carried) (ps : List Packet) (n : ℕ) (way : Way) (bytes : List ℕ) → kept ≡ carried keys (map wire_of ps) → at_number kept.ways n ≡ Some way → at_number kept.bytes n ≡ Some bytes
     → Found keys ps n way bytes
 found keys kept ps zero way bytes k e f = none_is_some way e
 found keys kept ps (suc n) way bytes k e f =
-    found_at keys ps n way bytes (subst (λ c. slice_get c.ways n ≡ Some way) k e) (subst (λ c. slice_get c.bytes n ≡ Some bytes) k f)
+    let r = found_at (λ p. way_along keys (wire_of p)) (λ p. (wire_of p).bytes) ps n way bytes
+    (subst (λ ws. slice_get ws n ≡ Some way) (ap (λ c. c.ways) k ∙ twice (way_along keys) wire_of ps) e)
+    (subst (λ bs. slice_get bs n ≡ Some bytes) (ap (λ c. c.bytes) k ∙ twice (λ w. w.bytes) wire_of ps) f) in
+    record { packet = r.one; is = r.is; goes = r.goes; spells = r.spells }
 
 -- there is none of this number
-missing_at : {X : Type 0} (f : Packet → X) (ps : List Packet) (i : ℕ) → slice_get (map f ps) i ≡ None → slice_get ps i ≡ None
+pub missing_at : {A X : Type 0} (f : A → X) (ps : List A) (i : ℕ) → slice_get (map f ps) i ≡ None → slice_get ps i ≡ None
 missing_at f [] i e = refl
 missing_at f (p ∷ ps) zero e = none_is_some (f p) (sym e)
 missing_at f (p ∷ ps) (suc i) e = missing_at f ps i e
-
-pub twice : {X Y Z : Type 0} (f : Y → Z) (g : X → Y) (xs : List X) → map f (map g xs) ≡ map (λ x. f (g x)) xs
-twice f g [] = refl
-twice f g (x ∷ xs) = ap (λ ys. f (g x) ∷ ys) (twice f g xs)
 
 pub no_way : (keys : List Key) (kept : Carried) (ps : List Packet) (n : ℕ) → kept ≡ carried keys (map wire_of ps) → at_number kept.ways n ≡ None → packet_at ps n ≡ None
 no_way keys kept ps zero k e = refl

@@ -10,3 +10,9 @@ pub mod Keys
 pub mod Starting
 pub mod Numbered
 pub mod Sent
+pub mod Parcels
+pub mod TwinActors
+pub mod TwinLoggers
+pub mod TwinEvents
+pub mod TwinTrace
+pub mod TwinSent

@@ -23,8 +23,8 @@ use Rattle.net_schedule.specs.Carried.{with_packet, number_in}
 use Rattle.net_schedule.specs.Hearing.{changed_at, delivered_to}
 use Rattle.peer_client.specs.Scripted.{delivered}
 use Rattle.net_schedule.specs.Premises.{Premises}
-use Rattle.net_schedule.specs.Standing.{Kept, WorldStands, Advances}
-use Rattle.net_schedule.proofs.Keeping.{sent_kept}
+use Rattle.net_schedule.specs.Actors.{ActorsStand, ActorsAdvance}
+use Rattle.net_schedule.specs.Standing.{Kept}
 use Rattle.net_schedule.proofs.Numbered.{past}
 use Rattle.net_schedule.proofs.Peers.{keys_in, number_is, at_first, first_is, keys_stay, changed_past, within}
 use Rattle.net_schedule.proofs.Bringing.{distinct_keys}
@@ -85,6 +85,7 @@ announces client events.Crash move e h = none_is_some move e
 announces client events.Tick move e h = none_is_some move e
 announces client (events.Deliver n) move e h = none_is_some move e
 announces client (events.Flip n bit) move e h = none_is_some move e
+announces client (events.Stop part) move e h = none_is_some move e
 
 happen : {State : Type 0} (service : Machine State) (v after : Seen) (event : Event) (number : ℕ) (sent : List Packet) → mover_of event ≡ Some number → Moves v number sent after → Happens service v event sent after
 happen service v after (events.Begin n window) number sent e m = subst (λ k. Moves v k sent after) (sym (some_is n number e)) m
@@ -97,6 +98,7 @@ happen service v after events.Crash number sent e m = none_is_some number e
 happen service v after events.Tick number sent e m = none_is_some number e
 happen service v after (events.Deliver n) number sent e m = none_is_some number e
 happen service v after (events.Flip n bit) number sent e m = none_is_some number e
+happen service v after (events.Stop part) number sent e m = none_is_some number e
 
 -- the move that is asked of a client
 asks : (o : Option (ℕ × Move)) (number : ℕ) → option_map (λ a. a.0) o ≡ Some number → (move : Move) × (o ≡ Some (number, move))
@@ -120,6 +122,7 @@ refusal_is v events.Crash number move e = none_is_some (number, move) e
 refusal_is v events.Tick number move e = none_is_some (number, move) e
 refusal_is v (events.Deliver n) number move e = none_is_some (number, move) e
 refusal_is v (events.Flip n bit) number move e = none_is_some (number, move) e
+refusal_is v (events.Stop part) number move e = none_is_some (number, move) e
 
 -- the client of a number is changed alone
 abbrev replaced_at : List Client → ℕ → Client → Client → Type 0
@@ -143,10 +146,10 @@ IsPlayedBy v event sent clients x move =
     × (clients ≡ with_client x.key (λ _. moved x move (window_of x event)) v.clients)
 
 module _ {State : Type 0} (service : Machine State) where
-  pub moves : (w w' : Kept State) (v : Seen) (event : Event) (number : ℕ) (client later : Client) (room written : List ℕ) (count : ℕ) → WorldStands service w v → Premises service v
+  pub moves : (w w' : Kept State) (v : Seen) (event : Event) (number : ℕ) (client later : Client) (room written : List ℕ) (count : ℕ) → ActorsStand service w v → Premises service v
       → mover_of event ≡ Some number → client_at w.clients number ≡ Some client → (m : Makes client event room count written later)
       → w' ≡ record w { clients = set w.clients (number - 1) later; packets = with_packet w.packets (ClientToServer number) (spelling (segment_of client m.move (window_of client event))) }
-      → Advances service v event w'
+      → ActorsAdvance service v event w w'
   moves w w' v event number client later room written count st p by e m e' =
       let ce : client_at v.clients number ≡ Some client = subst (λ cs. client_at cs number ≡ Some client) st.clients e in
       let r : replaced_at v.clients number client later = replaced v.clients number client later (distinct_keys service v p) ce in
@@ -156,7 +159,7 @@ module _ {State : Type 0} (service : Machine State) where
       let sent : List Packet = To_server (segment_of client m.move (window_of client event)) ∷ [] in
       let world : Seen = record v { clients = with_client client.key (λ _. later) v.clients; packets = v.packets ++ To_server (segment_of client m.move (window_of client event)) ∷ [] } in
       let same_name : later.key ≡ client.key = ap (λ c. c.key) m.after_is in
-      subst (Advances service v event) (sym e')
+      subst (ActorsAdvance service v event w) (sym e')
       (record {
         happens = record {
           sent = To_server (segment_of client m.move (window_of client event)) ∷ [];
@@ -175,13 +178,15 @@ module _ {State : Type 0} (service : Machine State) where
             server = st.server;
             keys = st.keys ∙ sym (keys_stay client.key (λ _. later) v.clients (λ c k. same_name ∙ sym (same_key c.key client.key k)));
             clients = ap (λ cs. set cs (number - 1) later) st.clients ∙ r.0;
-            log = st.log;
-            packets = ap (λ n. with_packet w.packets (ClientToServer n) (spelling (segment_of client m.move (window_of client event)))) numbered
-                ∙ sent_kept w.keys w.packets v.packets (To_server (segment_of client m.move (window_of client event)) ∷ []) st.packets;
             boot = st.boot;
             node = st.node;
           };
           grew = refl;
+          quiet = refl;
+          stored = ap (λ n. with_packet w.packets (ClientToServer n) (spelling (segment_of client m.move (window_of client event)))) numbered;
+          same_keys = refl;
+          same_log = refl;
+          same_loggers = refl;
         };
         allowed = refusal_is v event number m.move whole ∙ free;
         scripted = λ n move c k h.
@@ -194,14 +199,14 @@ module _ {State : Type 0} (service : Machine State) where
       })
 
   -- what the client machine refuses, the events' tests refuse
-  pub refuses_move : (w : Kept State) (v : Seen) (event : Event) (number : ℕ) (client : Client) (cause : EventWhy) → WorldStands service w v → mover_of event ≡ Some number
+  pub refuses_move : (w : Kept State) (v : Seen) (event : Event) (number : ℕ) (client : Client) (cause : EventWhy) → ActorsStand service w v → mover_of event ≡ Some number
       → client_at w.clients number ≡ Some client → RefusesMove client event cause → refusal v event ≡ Some cause
   refuses_move w v event number client cause st by e r =
       let ce : client_at v.clients number ≡ Some client = subst (λ cs. client_at cs number ≡ Some client) st.clients e in
       refusal_is v event number r.move (both_asked event number r.move by r.asked) ∙ rw ce r.refused
 
   -- there is no such client
-  pub refuses_client : (w : Kept State) (v : Seen) (event : Event) (number : ℕ) → WorldStands service w v → mover_of event ≡ Some number → client_at w.clients number ≡ None
+  pub refuses_client : (w : Kept State) (v : Seen) (event : Event) (number : ℕ) → ActorsStand service w v → mover_of event ≡ Some number → client_at w.clients number ≡ None
       → refusal v event ≡ Some why.Client
   refuses_client w v event number st by e =
       let ce : client_at v.clients number ≡ None = subst (λ cs. client_at cs number ≡ None) st.clients e in

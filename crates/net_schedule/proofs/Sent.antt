@@ -26,7 +26,7 @@ use Rattle.net_schedule.proofs.Starting.{keys_begin}
 use Rattle.net_schedule.proofs.Trace.{keys_after}
 
 -- a way by keys is one by clients
-way_is : (cs : List Client) (p : Packet) → way_along (keys_in cs) (wire_of p) ≡ way_of cs p
+pub way_is : (cs : List Client) (p : Packet) → way_along (keys_in cs) (wire_of p) ≡ way_of cs p
 way_is cs (To_server segment) = ap ClientToServer (number_among cs (source_of segment))
 way_is cs (To_client segment) = ap ServerToClient (number_among cs (destination_of segment))
 way_is cs (To_logger message) = refl

@@ -58,19 +58,22 @@ module _ {State : Type 0} (services : ℕ → Machine State) where
   legal_so_far : (schedule : Schedule) (events : List Event) (trace : List Moment) → IsLegalFor services schedule events trace → Legal services (record schedule { events = events }) trace
   legal_so_far schedule events trace l = record { joint = l.joint; events_are = l.events_are; allowed = l.allowed }
 
+  pub premises_at : AreLaws services → (schedule : Schedule) (events : List Event) (trace : List Moment) → IsLegalFor services schedule events trace
+      → Premises (services (kind_of schedule.service)) (world_after (start_of schedule) trace)
+  premises_at laws schedule events trace l =
+      let legal : Legal services (record schedule { events = events }) trace = legal_so_far schedule events trace l in
+      record {
+        wires = laws.wires (kind_of schedule.service) (start_of schedule) trace l.joint;
+        keys = (start_of schedule, start_is (services (kind_of schedule.service)) (start_of schedule) trace l.joint, keys_after (services (kind_of schedule.service)) (start_of schedule) trace l.joint);
+        near = λ node input is comes. laws.near (record schedule { events = events }) trace node input legal is comes;
+        sound = λ node input is comes. laws.sound (record schedule { events = events }) trace node input legal is comes;
+        unfenced = λ node input is comes. laws.unfenced (record schedule { events = events }) trace node input legal is comes;
+      }
+
   pub premises : AreLaws services → (schedule : Schedule) (events : List Event) (trace : List Moment) (w : Kept State) → StandsAfter services schedule events trace w
       → Premises (services w.kind) (world_after (start_of schedule) trace)
   premises laws schedule events trace w s =
-      let so_far : Schedule = record schedule { events = events } in
-      let legal : Legal services (record schedule { events = events }) trace = legal_so_far schedule events trace s.legal in
-      record {
-        wires = laws.wires (kind_of schedule.service) (start_of schedule) trace s.legal.joint;
-        keys = (start_of schedule, start_is (services (kind_of schedule.service)) (start_of schedule) trace s.legal.joint, keys_after (services (kind_of schedule.service)) (start_of schedule) trace s.legal.joint);
-        near = λ node input is comes. laws.near (record schedule { events = events }) trace node input legal is comes;
-        sound = λ node input is comes.
-            subst (λ k. IsSoundInput (services k) node input node.stage) (sym s.kind) (laws.sound (record schedule { events = events }) trace node input legal is comes);
-        unfenced = λ node input is comes. laws.unfenced (record schedule { events = events }) trace node input legal is comes;
-      }
+      subst (λ k. Premises (services k) (world_after (start_of schedule) trace)) (sym s.kind) (premises_at laws schedule events trace s.legal)
 
   -- what an event does extends the trace
   pub extends : (schedule : Schedule) (events : List Event) (trace : List Moment) (event : Event) (w w' : Kept State) → StandsAfter services schedule events trace w → w'.kind ≡ w.kind

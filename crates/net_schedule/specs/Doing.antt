@@ -2,9 +2,8 @@
 use Rattle.std.specs.Prelude.{◌≡◌, ℕ, List}
 use Rattle.server_trait.specs.Service.{Machine}
 use Rattle.ft_model.specs.Network.{Packet}
-use Rattle.ft_model.specs.Node.{Input}
 use Rattle.ft_model.specs.Wire.{wire_of}
-use Rattle.ft_model.specs.World.{World as Seen, MayCome, ServerMoves, DeliveredAs}
+use Rattle.ft_model.specs.World.{World as Seen, DeliveredAs}
 use Rattle.ft_model.specs.declared.event.Event.{Event}
 use Rattle.ft_model.specs.declared.way.Way.{Way}
 use Rattle.net_schedule.specs.Carried.{way_along}
@@ -21,17 +20,6 @@ Does services event before after =
 abbrev pub Declines : {State : Type 0} → (ℕ → Machine State) → Event → Kept State → StepEnd → Type 0
 Declines services event before end =
     (v : Seen) → WorldStands (services before.kind) before v → Premises (services before.kind) v → Refuses v event end
-
--- the server takes its turn on what may come
-abbrev pub Serves : {State : Type 0} → (ℕ → Machine State) → Input → (before after : Kept State) → Type 0
-Serves services input before after =
-    (v : Seen) → WorldStands (services before.kind) before v → Premises (services before.kind) v → MayCome v input
-    → GoesOn (services before.kind) (ServerMoves (services before.kind) input v) v after
-
--- only a failed allocation prevents that
-abbrev pub ServesNot : {State : Type 0} → (ℕ → Machine State) → Input → Kept State → StepEnd → Type 0
-ServesNot services input before end =
-    (v : Seen) → WorldStands (services before.kind) before v → Premises (services before.kind) v → MayCome v input → IsForMemory end
 
 -- bytes reach the addressee of a packet that has this direction
 abbrev pub Brings : {State : Type 0} → (ℕ → Machine State) → Way → List ℕ → (before after : Kept State) → Type 0

@@ -1,12 +1,10 @@
--- Bytes that arrive at a client or at the logger.
-use Rattle.std.specs.Prelude.{ℕ, zero, suc, List, [], ◌∷◌, Result, Ok, Err}
-use Rattle.seq_arith.specs.Message.{Message}
-use Rattle.seq_arith.specs.declared.kinds.BadMsg.{BadMsg}
+-- Bytes that arrive at a client or at a logger.
+use Rattle.std.specs.Prelude.{ℕ, zero, suc, List, [], ◌∷◌}
 use Rattle.ft_model.specs.Client.{Client}
-use Rattle.ft_model.specs.Log.{log_after, answer_to}
 use Rattle.peer_client.specs.Scripted.{delivered}
-use Rattle.logger_store.specs.Stored.{answer_bytes}
-use Rattle.net_schedule.specs.Carried.{with_answer}
+use Rattle.net_schedule.specs.Carried.{Carried}
+use Rattle.net_schedule.specs.Logs.{log_in, loggers_in}
+use Rattle.net_schedule.specs.declared.logs.Logs.{Logs}
 use Rattle.net_schedule.specs.Standing.{Kept}
 
 -- the element at this place, if there is one, is changed
@@ -20,7 +18,6 @@ abbrev pub delivered_to : ℕ → List ℕ → List Client → List Client
 delivered_to zero bytes clients = clients
 delivered_to (suc n) bytes clients = changed_at n (λ c. delivered c bytes) clients
 
--- the logger takes a message, and its answer is sent. What is no message changes nothing
-abbrev pub logged : {State : Type 0} → Kept State → Result Message BadMsg → Kept State
-logged w (Err bad) = w
-logged w (Ok message) = record w { log = log_after w.log message; packets = with_answer w.packets (answer_bytes (answer_to w.log message)) }
+-- the loggers and the packets are changed
+abbrev pub with_logs : {State : Type 0} → Kept State → Logs × Carried → Kept State
+with_logs w h = record w { log = log_in h.0; loggers = loggers_in h.0; packets = h.1 }

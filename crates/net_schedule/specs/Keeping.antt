@@ -3,6 +3,7 @@ use Rattle.std.specs.Prelude.{option_map}
 use Rattle.server_trait.specs.declared.Service.{Ghosts}
 use Rattle.server_node.specs.declared.node.Node.{Node}
 use Rattle.net_schedule.specs.declared.world.World.{World}
+use Rattle.net_schedule.specs.Logs.{log_in, loggers_in}
 use Rattle.net_schedule.specs.Standing.{Kept, Server}
 
 abbrev pub server_of : {State : Type 0} {ghosts : Ghosts State} → Node State ghosts → Server State
@@ -14,7 +15,8 @@ kept w = record {
   server = w.server;
   keys = w.keys.items;
   clients = w.clients.items;
-  log = w.log;
+  log = log_in w.logs;
+  loggers = loggers_in w.logs;
   packets = w.packets;
   boot = w.boot;
   node = option_map server_of w.node;

@@ -1,9 +1,14 @@
 pub mod AtNumber
 pub mod Carried
+pub mod Loggers
+pub mod Logs
 pub mod Standing
+pub mod Actors
 pub mod Hearing
 pub mod Premises
 pub mod Stepping
 pub mod Keeping
 pub mod Sent
 pub mod Doing
+pub mod TwinStanding
+pub mod TwinStepping

@@ -9,6 +9,10 @@ use Rattle.ft_model.specs.Wire.{wire_of, HasWire}
 use Rattle.ft_model.specs.World.{Moment, world_after}
 use Rattle.ft_model.specs.declared.schedule.Schedule.{Schedule}
 use Rattle.ft_model.specs.declared.way.Way.{Way}
+use Rattle.twin_laws.specs.TwinWorld.{Parcel, TwinMoment, parcel_at, twin_after}
+use Rattle.twin_laws.specs.TwinLegal.{twin_start, bytes_of_parcel}
+use Rattle.twin_laws.specs.TwinReport.{way_of_parcel}
+use Rattle.twin_laws.specs.Written.{IsWritten}
 use Rattle.net_schedule.specs.Carried.{Carried}
 
 -- all packets that were sent up to the end of a trace
@@ -32,3 +36,21 @@ pub record WasSentAs (schedule : Schedule) (trace : List Moment) (number : ℕ) 
   pub wire : HasWire packet
   pub goes : way ≡ reported_way schedule packet
   pub spells : bytes ≡ (wire_of packet).bytes
+
+-- With two loggers: all that was sent up to the end of a trace
+abbrev pub parcels_of : Schedule → List TwinMoment → List Parcel
+parcels_of schedule trace = (twin_after (twin_start schedule) trace).parcels
+
+-- what is stored is the parcels of a trace, each in its one spelling and with the direction that its report names
+pub record KeepsAllParcels (schedule : Schedule) (trace : List TwinMoment) (kept : Carried) : Type 0 where
+  pub ways : kept.ways ≡ map (way_of_parcel (clients_of schedule.server schedule.clients)) (parcels_of schedule trace)
+  pub bytes : kept.bytes ≡ map bytes_of_parcel (parcels_of schedule trace)
+  pub written : AllByRecursion IsWritten (parcels_of schedule trace)
+
+-- this direction and these bytes are those of the trace's parcel with a number
+pub record ParcelSentAs (schedule : Schedule) (trace : List TwinMoment) (number : ℕ) (way : Way) (bytes : List ℕ) : Type 0 where
+  pub parcel : Parcel
+  pub is : parcel_at (parcels_of schedule trace) number ≡ Some parcel
+  pub written : IsWritten parcel
+  pub goes : way ≡ way_of_parcel (clients_of schedule.server schedule.clients) parcel
+  pub spells : bytes ≡ bytes_of_parcel parcel

@@ -10,12 +10,15 @@ ghost use Rattle.ft_model.specs.declared.event.Event.{Event};
 ghost use Rattle.ft_model.specs.declared.schedule.Schedule.{Schedule};
 ghost use Rattle.ft_model.specs.declared.way.Way.{Way};
 ghost use Rattle.net_schedule.specs.AtNumber.{at_number};
-ghost use Rattle.net_schedule.specs.Sent.{KeepsAllSent, WasSentAs};
+ghost use Rattle.net_schedule.specs.Sent.{KeepsAllSent, WasSentAs, KeepsAllParcels, ParcelSentAs};
 ghost use Rattle.net_schedule.specs.Standing.{Kept};
 ghost use Rattle.net_schedule.specs.Stepping.{StandsAfter};
+ghost use Rattle.net_schedule.specs.TwinStepping.{TwinStandsAfter};
+ghost use Rattle.twin_laws.specs.TwinWorld.{TwinMoment};
 
 use ft_model::wire::packets_have_wires;
 use server_trait::Service;
+use twin_laws::{flat_traces_show_all, legal_traces_are_masked, parcels_are_written};
 
 /// The lines of packets depend only on the clients' keys.
 #[tactic(auto, using(crate::proofs::Keys::same_lines))]
@@ -26,9 +29,15 @@ pub fn lines_depend_on_keys()
 
 /// The world's keys are those of the schedule's clients, in order, whatever was done.
 pub fn keys_are_the_schedules<S: Service>()
-    ensures { (schedule : Schedule) (events : List Event) (trace : List Moment) (w : Kept S)
+    ensures one { (schedule : Schedule) (events : List Event) (trace : List Moment) (w : Kept S)
         → StandsAfter (machines S.started S.after) schedule events trace w → w.keys ≡ map (λ line. line.key) schedule.clients }
-{}
+    ensures two { (schedule : Schedule) (events : List Event) (trace : List TwinMoment) (w : Kept S)
+        → TwinStandsAfter (machines S.started S.after) schedule events trace w → w.keys ≡ map (λ line. line.key) schedule.clients }
+{
+    legal_traces_are_masked::<S>();
+    flat_traces_show_all::<S>();
+    parcels_are_written::<S>();
+}
 
 /// The world stores the packets of its trace, each in its one spelling and with the direction that the report names.
 pub fn worlds_keep_what_was_sent<S: Service>()
@@ -37,6 +46,14 @@ pub fn worlds_keep_what_was_sent<S: Service>()
     ensures each { (schedule : Schedule) (events : List Event) (trace : List Moment) (w : Kept S) (number : ℕ) (way : Way)
         (bytes : List ℕ) → StandsAfter (machines S.started S.after) schedule events trace w → at_number w.packets.ways number ≡ Some way
         → at_number w.packets.bytes number ≡ Some bytes → WasSentAs schedule trace number way bytes }
+    ensures twin_all { (schedule : Schedule) (events : List Event) (trace : List TwinMoment) (w : Kept S)
+        → TwinStandsAfter (machines S.started S.after) schedule events trace w → KeepsAllParcels schedule trace w.packets }
+    ensures twin_each { (schedule : Schedule) (events : List Event) (trace : List TwinMoment) (w : Kept S) (number : ℕ) (way : Way)
+        (bytes : List ℕ) → TwinStandsAfter (machines S.started S.after) schedule events trace w → at_number w.packets.ways number ≡ Some way
+        → at_number w.packets.bytes number ≡ Some bytes → ParcelSentAs schedule trace number way bytes }
 {
     packets_have_wires::<S>();
+    legal_traces_are_masked::<S>();
+    flat_traces_show_all::<S>();
+    parcels_are_written::<S>();
 }

@@ -1,4 +1,4 @@
-//! The world of a schedule: clients that follow the script, a network that stores each packet as bytes and delivers what the schedule names, a logger, and a
+//! The world of a schedule: clients that follow the script, a network that stores each packet as bytes and delivers what the schedule names, one logger or two, and a
 //! server that crashes and restarts.
 #![tactic(auto)]
 
@@ -9,7 +9,9 @@ pub use world::World;
 mod clients;
 mod end;
 pub mod laws;
+mod logs;
 mod packets;
+mod pair;
 mod sending;
 mod step_out;
 mod world;

@@ -1,8 +1,9 @@
-//! What the server and the logger send, as the network stores it.
+//! What the server and the loggers send, as the network stores it.
 
 ghost use Rattle.std.specs.Prelude.{◌≡◌, ◌≤◌, length, OnOk};
 ghost use Rattle.server_node.specs.Sending.{party_of};
 ghost use Rattle.net_schedule.specs.Carried.{way_to as way_lem, with_wires, with_answer};
+ghost use Rattle.net_schedule.specs.Loggers.{way_out as way_out_lem, with_datagrams};
 
 use crate::clients::number_of;
 use crate::packets::Packets;
@@ -10,6 +11,7 @@ use ft_io::{Key, NoMemory};
 use ft_model::Way;
 use logger_store::MsgOut;
 use server_node::{OutPacket, To};
+use twin_log::{Part, Side, TwinOut};
 
 /// The direction of a packet from the server.
 fn way_to(keys: &[Key], to: To) -> Way
@@ -42,4 +44,25 @@ pub fn keep_answer(answer: &MsgOut, packets: &mut Packets) -> Result<(), NoMemor
         return Ok(());
     }
     packets.push(Way::LoggerToServer, bytes)
+}
+
+/// The direction of what one of two loggers sends.
+fn way_out(part: Part, to: Side) -> Way
+    ensures { result ≡ way_out_lem part to }
+{
+    match (to, part) {
+        (Side::Server, _) => Way::LoggerToServer,
+        (Side::Other, Part::Head) => Way::HeadToTail,
+        (Side::Other, Part::Tail) => Way::TailToHead,
+    }
+}
+
+/// Stores what one of two loggers sent in a turn.
+pub fn keep_datagrams(part: Part, sent: &TwinOut, packets: &mut Packets) -> Result<(), NoMemory>
+    ensures { OnOk result (packets.new ≡ with_datagrams part packets.old sent.now) }
+{
+    for i in 0..sent.len() {
+        packets.push(way_out(part, sent.to(i)), sent.bytes(i))?;
+    }
+    Ok(())
 }

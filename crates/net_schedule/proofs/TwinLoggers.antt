@@ -1,0 +1,234 @@
+-- What the code's loggers do with bytes that arrive is what the definitions' loggers do.
+use Rattle.std.proofs.Common.{◌≡◌, ◌∙◌, sym, ap, ap₂, subst, refl, ℕ, ◌+◌, ◌≤◌, Bool, true, false, true≢false, Some, List, [], ◌∷◌, ◌++◌, drop, length, if◌then◌else◌, nat_lt, nat_le, ◌==◌, ◌&&◌, Result, Ok, Err, le_refl, length-append, arith}
+use Rattle.std.specs.List.{AllByRecursion}
+use Rattle.ft_io.proofs.Choices.{holds_either_way}
+use Rattle.ft_io.specs.declared.Key.{Key}
+use Rattle.seq_arith.specs.Message.{Message, is_answer}
+use Rattle.seq_arith.specs.MessageGrammar.{reading}
+use Rattle.seq_arith.specs.declared.kinds.BadMsg.{BadMsg}
+use Rattle.server_trait.specs.Service.{Machine}
+use Rattle.ft_model.specs.Log.{Log, answer_to}
+use Rattle.logger_store.specs.Stored.{answer_bytes}
+use Rattle.ft_model.specs.Network.Packet.{To_server, To_client, To_logger, From_logger}
+use Rattle.ft_model.specs.declared.way.Way.{Way}
+use Rattle.ft_model.specs.declared.way.Way.TheVariants.{ClientToServer, ServerToClient, ServerToLogger, LoggerToServer, HeadToTail, TailToHead}
+use Rattle.ft_model.proofs.Lists.{none_is_some, some_is}
+use Rattle.twin_laws.specs.declared.part.Part.{Part}
+use Rattle.twin_laws.specs.declared.part.Part.TheVariants as parts
+use Rattle.twin_laws.specs.declared.part.Side.{Side}
+use Rattle.twin_laws.specs.declared.part.Side.TheVariants as sides
+use Rattle.twin_laws.specs.Twin.{Request, Comes, Head, Tail, Does, nothing, has_room, with_taken, head_takes, numbered, sends_waiting, head_paired, head_alone, confirmed_to, head_does, tail_alone, applies_next, confirms_again, tail_applies, tail_does}
+use Rattle.twin_laws.specs.Twin.Between.{Forward, Got}
+use Rattle.twin_laws.specs.Twin.Comes.{Asks, Tells, Is_noise}
+use Rattle.twin_laws.specs.Kept.{kept_head, kept_tail, kept_does, comes_from, in_bytes}
+use Rattle.twin_laws.specs.Pair.{Pair, IsPaired, head_has, tail_has}
+use Rattle.twin_laws.specs.TwinWorld.{Parcel, TwinWorld, HeadHas, TailHas, LoggerHas, serving, sent_by}
+use Rattle.twin_laws.specs.TwinWorld.Parcel.{Outside, Inside}
+use Rattle.twin_laws.proofs.Keeping.{head_does_so, tail_does_so}
+use Rattle.net_schedule.specs.Carried.{Carried, with_answer}
+use Rattle.net_schedule.specs.Hearing.{with_logs}
+use Rattle.net_schedule.specs.Loggers.{Loggers, serving_log, with_datagrams, head_hears, tail_hears, front_hears, pair_hears}
+use Rattle.net_schedule.specs.Logs.{loggers_in, log_reads, logs_hear}
+use Rattle.net_schedule.specs.Standing.{Kept}
+use Rattle.net_schedule.specs.TwinStanding.{stored_way, carried_parcels, LoggersStand, TwinWorldStands, TwinGoesOn, ParcelComesAs}
+use Rattle.net_schedule.specs.declared.logs.Logs.{Logs}
+use Rattle.net_schedule.specs.declared.logs.Logs.TheVariants.{One, Two}
+use Rattle.net_schedule.proofs.Parcels.{GoesFrom, datagrams_after, datagrams_grow, none_after}
+
+-- a head only forwards, and a tail only confirms
+numbered_forward : (n : ℕ) (rs : List Request) → AllByRecursion (GoesFrom parts.Head) (numbered n rs)
+numbered_forward n [] = tt
+numbered_forward n (r ∷ rs) = (tt, numbered_forward (n + 1) rs)
+
+abbrev Sends : {State : Type 0} → Part → Does State → Type 0
+Sends part d = AllByRecursion (GoesFrom part) d.to_other
+
+head_forwards : (c : Comes) (h : Head) → Sends parts.Head (head_does c h)
+head_forwards (Asks r) h =
+    holds_either_way (Sends parts.Head) h.alone (head_alone r h) (head_paired r h) tt
+    (holds_either_way (Sends parts.Head) (is_answer r.message.body) (nothing h) (sends_waiting (head_takes r h)) tt
+    (numbered_forward (head_takes r h).confirmed (drop (head_takes r h).confirmed (head_takes r h).taken)))
+head_forwards (Tells (Got number)) h = holds_either_way (Sends parts.Head) h.alone (nothing h) (nothing (confirmed_to number h)) tt tt
+head_forwards (Tells (Forward number r)) h = tt
+head_forwards Is_noise h = tt
+
+tail_confirms : (c : Comes) (t : Tail) → Sends parts.Tail (tail_does c t)
+tail_confirms (Asks r) t = holds_either_way (Sends parts.Tail) t.alone (tail_alone r t) (nothing t) tt tt
+tail_confirms (Tells (Forward number r)) t =
+    holds_either_way (Sends parts.Tail) t.alone (nothing t) (tail_applies number r t) tt
+    (holds_either_way (Sends parts.Tail) (number == t.applied + 1) (applies_next r t) _ (tt, tt)
+    (holds_either_way (Sends parts.Tail) (nat_le number t.applied) (confirms_again t) (nothing t) (tt, tt) tt))
+tail_confirms (Tells (Got number)) t = tt
+tail_confirms Is_noise t = tt
+
+-- the loggers and the packets stand at a pair, and at the parcels
+abbrev HeardAt : List Key → List Parcel → Loggers × Carried → Pair → List Parcel → Type 0
+HeardAt keys before h pair sent = LoggersStand h.0 pair × (h.1 ≡ carried_parcels keys (before ++ sent))
+
+-- two choices by what is the same
+alike_if : {X Y Z : Type 0} (P : X → Y → Z → Type 0) (b c : Bool) (x x' : X) (y y' : Y) (z z' : Z) → c ≡ b → P x y z → P x' y' z'
+    → P (if c then x else x') (if b then y else y') (if b then z else z')
+alike_if P true true x x' y y' z z' e p q = p
+alike_if P false false x x' y y' z z' e p q = q
+alike_if P true false x x' y y' z z' e p q = absurd (true≢false (sym e))
+alike_if P false true x x' y y' z z' e p q = absurd (true≢false e)
+
+module _ (keys : List Key) (before : TwinWorld) (l : Loggers) (kept : Carried) (stand : LoggersStand l before.pair) (paired : IsPaired before.pair)
+    (stored : kept ≡ carried_parcels keys before.parcels) where
+  head_heard : (from : Side) (bytes : List ℕ)
+      → HeardAt keys before.parcels (head_hears from bytes (l, kept)) (head_has (comes_from from bytes) before.pair)
+      (if before.pair.head_stopped then [] else sent_by (head_does (comes_from from bytes) before.pair.head))
+  head_heard from bytes =
+      let p : Pair = before.pair in
+      let d : Does Head = head_does (comes_from from bytes) before.pair.head in
+      let does : kept_does from bytes l.head ≡ in_bytes kept_head (head_does (comes_from from bytes) before.pair.head) =
+      ap (kept_does from bytes) stand.head ∙ head_does_so from bytes before.pair.head paired.confirmed in
+      alike_if (HeardAt keys before.parcels) p.head_stopped l.tail.alone (l, kept) _ p _ [] (sent_by d) (ap (λ k. k.alone) stand.tail ∙ paired.tail_alone)
+      (stand, none_after keys kept before.parcels stored) (
+        record { head = ap (λ k. k.next) does; tail = stand.tail },
+        ap (λ k. with_datagrams parts.Head kept k.sent) does ∙ datagrams_after keys parts.Head kept before.parcels d (head_forwards (comes_from from bytes) p.head) stored,
+      )
+
+  tail_heard : (from : Side) (bytes : List ℕ)
+      → HeardAt keys before.parcels (tail_hears from bytes (l, kept)) (tail_has (comes_from from bytes) before.pair)
+      (if before.pair.tail_stopped then [] else sent_by (tail_does (comes_from from bytes) before.pair.tail))
+  tail_heard from bytes =
+      let p : Pair = before.pair in
+      let d : Does Tail = tail_does (comes_from from bytes) before.pair.tail in
+      let does : kept_does from bytes l.tail ≡ in_bytes kept_tail (tail_does (comes_from from bytes) before.pair.tail) =
+      ap (kept_does from bytes) stand.tail ∙ tail_does_so from bytes before.pair.tail in
+      alike_if (HeardAt keys before.parcels) p.tail_stopped l.head.alone (l, kept) _ p _ [] (sent_by d) (ap (λ k. k.alone) stand.head ∙ paired.head_alone)
+      (stand, none_after keys kept before.parcels stored) (
+        record { head = stand.head; tail = ap (λ k. k.next) does },
+        ap (λ k. with_datagrams parts.Tail kept k.sent) does ∙ datagrams_after keys parts.Tail kept before.parcels d (tail_confirms (comes_from from bytes) p.tail) stored,
+      )
+
+-- the log that serves is the serving one
+pub serving_is : (l : Loggers) (p : Pair) → LoggersStand l p → p.head.alone ≡ p.tail_stopped → serving_log l ≡ serving p
+serving_is l p stand alone =
+    ap₂ (λ h t. if h.alone then h.log else t.log) stand.head stand.tail ∙ ap (λ b. if b then p.head.log else p.tail.log) alone
+
+-- what arrives changes nothing of who serves alone
+head_stays : (c : Comes) (h : Head) → (head_does c h).next.alone ≡ h.alone
+head_stays (Asks r) h =
+    holds_either_way (λ d. d.next.alone ≡ h.alone) h.alone (head_alone r h) (head_paired r h) refl
+    (holds_either_way (λ d. d.next.alone ≡ h.alone) (is_answer r.message.body) (nothing h) (sends_waiting (head_takes r h)) refl
+    (holds_either_way (λ x. x.alone ≡ h.alone) (has_room h) (with_taken r h) h refl refl))
+head_stays (Tells (Got number)) h =
+    holds_either_way (λ d. d.next.alone ≡ h.alone) h.alone (nothing h) (nothing (confirmed_to number h)) refl
+    (holds_either_way (λ x. x.alone ≡ h.alone) (nat_lt h.confirmed number && nat_le number (length h.taken)) (record h { confirmed = number }) h refl refl)
+head_stays (Tells (Forward number r)) h = refl
+head_stays Is_noise h = refl
+
+abbrev KnowsAlone : Pair → Type 0
+KnowsAlone p = p.head.alone ≡ p.tail_stopped
+
+head_knows : (c : Comes) (p : Pair) → KnowsAlone p → KnowsAlone (head_has c p)
+head_knows c p k = holds_either_way KnowsAlone p.head_stopped p _ k (head_stays c p.head ∙ k)
+
+tail_knows : (c : Comes) (p : Pair) → KnowsAlone p → KnowsAlone (tail_has c p)
+tail_knows c p k = holds_either_way KnowsAlone p.tail_stopped p _ k k
+
+-- the loggers and the packets are changed
+abbrev heard_in : {State : Type 0} → Kept State → Loggers × Carried → Kept State
+heard_in w h = record w { log = serving_log h.0; loggers = Some h.0; packets = h.1 }
+
+-- a way that leads to a logger
+abbrev leads_to_logger : Way → Bool
+leads_to_logger ServerToLogger = true
+leads_to_logger HeadToTail = true
+leads_to_logger TailToHead = true
+leads_to_logger _ = false
+
+module _ {State : Type 0} (service : Machine State) (w w' : Kept State) (v : TwinWorld) (st : TwinWorldStands service w v) (paired : IsPaired v.pair) where
+  heard_goes : (Goes : List Parcel → TwinWorld → Type 0) (h : Loggers × Carried) (pair : Pair) (sent : List Parcel) → HeardAt w.keys v.parcels h pair sent → KnowsAlone pair
+      → Goes sent (record v { pair = pair; parcels = v.parcels ++ sent }) → w' ≡ heard_in w h → TwinGoesOn service Goes v w'
+  heard_goes Goes h pair sent at alone goes e =
+      subst (TwinGoesOn service Goes v) (sym e)
+      (record {
+        sent = sent;
+        world = record v { pair = pair; parcels = v.parcels ++ sent };
+        goes = goes;
+        stands = record {
+          actors = record { server = st.actors.server; keys = st.actors.keys; clients = st.actors.clients; boot = st.actors.boot; node = st.actors.node };
+          loggers = h.0;
+          double = refl;
+          log = serving_is h.0 pair at.0 alone;
+          pair = at.0;
+          packets = at.1;
+        };
+        grew = refl;
+      })
+
+  head_goes : (from : Side) (bytes : List ℕ) → w' ≡ heard_in w (head_hears from bytes (st.loggers, w.packets)) → TwinGoesOn service (HeadHas (comes_from from bytes) v) v w'
+  head_goes from bytes e =
+      heard_goes (HeadHas (comes_from from bytes) v) (head_hears from bytes (st.loggers, w.packets)) (head_has (comes_from from bytes) v.pair)
+      (if v.pair.head_stopped then [] else sent_by (head_does (comes_from from bytes) v.pair.head))
+      (head_heard w.keys v st.loggers w.packets st.pair paired st.packets from bytes) (head_knows (comes_from from bytes) v.pair paired.head_alone) (refl, refl) e
+
+  tail_goes : (from : Side) (bytes : List ℕ) → w' ≡ heard_in w (tail_hears from bytes (st.loggers, w.packets)) → TwinGoesOn service (TailHas (comes_from from bytes) v) v w'
+  tail_goes from bytes e =
+      heard_goes (TailHas (comes_from from bytes) v) (tail_hears from bytes (st.loggers, w.packets)) (tail_has (comes_from from bytes) v.pair)
+      (if v.pair.tail_stopped then [] else sent_by (tail_does (comes_from from bytes) v.pair.tail))
+      (tail_heard w.keys v st.loggers w.packets st.pair paired st.packets from bytes) (tail_knows (comes_from from bytes) v.pair paired.head_alone) (refl, refl) e
+
+  front_goes : (bytes : List ℕ) (head_stopped : Bool) → st.loggers.tail.alone ≡ head_stopped → w' ≡ heard_in w (front_hears bytes (st.loggers, w.packets))
+      → TwinGoesOn service (LoggerHas head_stopped (comes_from sides.Server bytes) v) v w'
+  front_goes bytes true is e =
+      tail_goes sides.Server bytes
+      (e ∙ ap (λ b. heard_in w (if b then tail_hears sides.Server bytes (st.loggers, w.packets) else head_hears sides.Server bytes (st.loggers, w.packets))) is)
+  front_goes bytes false is e =
+      head_goes sides.Server bytes
+      (e ∙ ap (λ b. heard_in w (if b then tail_hears sides.Server bytes (st.loggers, w.packets) else head_hears sides.Server bytes (st.loggers, w.packets))) is)
+
+  -- bytes arrive at the logger to which a parcel goes
+  goes_by_parcel : (parcel : Parcel) (way : Way) (bytes : List ℕ) → leads_to_logger way ≡ true → way ≡ stored_way w.keys parcel
+      → w' ≡ heard_in w (pair_hears way bytes (st.loggers, w.packets)) → TwinGoesOn service (ParcelComesAs service parcel bytes v) v w'
+  goes_by_parcel (Outside (To_logger message)) way bytes leads is e =
+      front_goes bytes v.pair.head_stopped (ap (λ k. k.alone) st.pair.tail ∙ paired.tail_alone) (e ∙ ap (λ x. heard_in w (pair_hears x bytes (st.loggers, w.packets))) is)
+  goes_by_parcel (Outside (To_server segment)) way bytes leads is e = absurd (true≢false (sym leads ∙ ap leads_to_logger is))
+  goes_by_parcel (Outside (To_client segment)) way bytes leads is e = absurd (true≢false (sym leads ∙ ap leads_to_logger is))
+  goes_by_parcel (Outside (From_logger message)) way bytes leads is e = absurd (true≢false (sym leads ∙ ap leads_to_logger is))
+  goes_by_parcel (Inside (Forward number r)) way bytes leads is e = tail_goes sides.Other bytes (e ∙ ap (λ x. heard_in w (pair_hears x bytes (st.loggers, w.packets))) is)
+  goes_by_parcel (Inside (Got number)) way bytes leads is e = head_goes sides.Other bytes (e ∙ ap (λ x. heard_in w (pair_hears x bytes (st.loggers, w.packets))) is)
+
+  pub brings_loggers : (logs : Logs) (parcel : Parcel) (way : Way) (bytes : List ℕ) → w.loggers ≡ loggers_in logs → leads_to_logger way ≡ true → way ≡ stored_way w.keys parcel
+      → w' ≡ with_logs w (logs_hear way bytes (logs, w.packets)) → TwinGoesOn service (ParcelComesAs service parcel bytes v) v w'
+  brings_loggers (One log) parcel way bytes are leads is e = none_is_some st.loggers (sym are ∙ st.double)
+  brings_loggers (Two l) parcel way bytes are leads is e =
+      goes_by_parcel parcel way bytes leads is (e ∙ ap (λ x. heard_in w (pair_hears way bytes (x, w.packets))) (some_is l st.loggers (sym are ∙ st.double)))
+
+-- what a logger sends is put after what was kept
+answer_grows : (kept : Carried) (bytes : List ℕ) → length kept.bytes ≤ length (with_answer kept bytes).bytes
+answer_grows kept [] = le_refl (length kept.bytes)
+answer_grows kept (b ∷ bytes) = omega (arith, length-append kept.bytes ((b ∷ bytes) ∷ []))
+
+abbrev Grows : {A : Type 0} → Carried → A × Carried → Type 0
+Grows packets h = length packets.bytes ≤ length h.1.bytes
+
+head_grows : (from : Side) (bytes : List ℕ) (l : Loggers) (packets : Carried) → Grows packets (head_hears from bytes (l, packets))
+head_grows from bytes l packets =
+    holds_either_way (Grows packets) l.tail.alone (l, packets) _ (le_refl (length packets.bytes)) (datagrams_grow parts.Head packets (kept_does from bytes l.head).sent)
+
+tail_grows : (from : Side) (bytes : List ℕ) (l : Loggers) (packets : Carried) → Grows packets (tail_hears from bytes (l, packets))
+tail_grows from bytes l packets =
+    holds_either_way (Grows packets) l.head.alone (l, packets) _ (le_refl (length packets.bytes)) (datagrams_grow parts.Tail packets (kept_does from bytes l.tail).sent)
+
+log_grows : (r : Result Message BadMsg) (log : Log) (packets : Carried) → Grows packets (log_reads r (log, packets))
+log_grows (Ok message) log packets = answer_grows packets (answer_bytes (answer_to log message))
+log_grows (Err bad) log packets = le_refl (length packets.bytes)
+
+pub logs_grow : (logs : Logs) (way : Way) (bytes : List ℕ) (packets : Carried) → Grows packets (logs_hear way bytes (logs, packets))
+logs_grow (One log) ServerToLogger bytes packets = log_grows (reading bytes) log packets
+logs_grow (One log) (ClientToServer n) bytes packets = le_refl (length packets.bytes)
+logs_grow (One log) (ServerToClient n) bytes packets = le_refl (length packets.bytes)
+logs_grow (One log) LoggerToServer bytes packets = le_refl (length packets.bytes)
+logs_grow (One log) HeadToTail bytes packets = le_refl (length packets.bytes)
+logs_grow (One log) TailToHead bytes packets = le_refl (length packets.bytes)
+logs_grow (Two l) ServerToLogger bytes packets =
+    holds_either_way (Grows packets) l.tail.alone _ _ (tail_grows sides.Server bytes l packets) (head_grows sides.Server bytes l packets)
+logs_grow (Two l) (ClientToServer n) bytes packets = le_refl (length packets.bytes)
+logs_grow (Two l) (ServerToClient n) bytes packets = le_refl (length packets.bytes)
+logs_grow (Two l) LoggerToServer bytes packets = le_refl (length packets.bytes)
+logs_grow (Two l) HeadToTail bytes packets = tail_grows sides.Other bytes l packets
+logs_grow (Two l) TailToHead bytes packets = head_grows sides.Other bytes l packets

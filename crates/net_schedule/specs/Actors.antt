@@ -1,0 +1,61 @@
+-- What server and clients do: they don't look at the log, so it is the same with one logger and with two.
+use Rattle.std.specs.Prelude.{◌≡◌, ℕ, None, List, ◌++◌, map}
+use Rattle.server_trait.specs.Service.{Machine}
+use Rattle.ft_model.specs.Legal.{refusal, IsScripted}
+use Rattle.ft_model.specs.Network.{Packet}
+use Rattle.ft_model.specs.Node.{Input}
+use Rattle.ft_model.specs.Wire.{wire_of}
+use Rattle.ft_model.specs.World.{World as Seen, Happens, MayCome, ServerMoves}
+use Rattle.ft_model.specs.declared.event.Event.{Event}
+use Rattle.net_schedule.specs.Carried.{with_wires}
+use Rattle.net_schedule.specs.Premises.{Premises}
+use Rattle.net_schedule.specs.Standing.{Kept, NodeStands, Refuses, IsForMemory}
+use Rattle.net_schedule.specs.declared.end.StepEnd.{StepEnd}
+
+-- server and clients of the code's world are at those of a world of the definitions
+pub record ActorsStand {State : Type 0} (service : Machine State) (w : Kept State) (v : Seen) : Type 0 where
+  pub server : w.server ≡ v.server
+  pub keys : w.keys ≡ map (λ c. c.key) v.clients
+  pub clients : w.clients ≡ v.clients
+  pub boot : w.boot ≡ v.boot
+  pub node : NodeStands service w.kind w.node v.node
+
+-- The world becomes a next one, with these packets sent and stored, and the loggers are as before.
+pub record ActorsGoOn {State : Type 0} (service : Machine State) (Goes : List Packet → Seen → Type 0) (v : Seen) (before after : Kept State) : Type 0 where
+  pub sent : List Packet
+  pub world : Seen
+  pub goes : Goes sent world
+  pub stands : ActorsStand service after world
+  pub grew : world.packets ≡ v.packets ++ sent
+  pub quiet : world.log ≡ v.log
+  pub stored : after.packets ≡ with_wires before.keys before.packets (map wire_of sent)
+  pub same_keys : after.keys ≡ before.keys
+  pub same_log : after.log ≡ before.log
+  pub same_loggers : after.loggers ≡ before.loggers
+
+-- An event of theirs is allowed and happens, and the clients follow the script.
+pub record ActorsAdvance {State : Type 0} (service : Machine State) (v : Seen) (event : Event) (before after : Kept State) : Type 0 where
+  pub happens : ActorsGoOn service (Happens service v event) v before after
+  pub allowed : refusal v event ≡ None
+  pub scripted : IsScripted v event happens.sent happens.world
+
+-- the event is allowed and happens
+abbrev pub ActorsDo : {State : Type 0} → (ℕ → Machine State) → Event → (before after : Kept State) → Type 0
+ActorsDo services event before after =
+    (v : Seen) → ActorsStand (services before.kind) before v → Premises (services before.kind) v → ActorsAdvance (services before.kind) v event before after
+
+-- the event isn't done: it is refused, or an allocation failed
+abbrev pub ActorsDecline : {State : Type 0} → (ℕ → Machine State) → Event → Kept State → StepEnd → Type 0
+ActorsDecline services event before end =
+    (v : Seen) → ActorsStand (services before.kind) before v → Premises (services before.kind) v → Refuses v event end
+
+-- the server takes its turn on what may come
+abbrev pub Serves : {State : Type 0} → (ℕ → Machine State) → Input → (before after : Kept State) → Type 0
+Serves services input before after =
+    (v : Seen) → ActorsStand (services before.kind) before v → Premises (services before.kind) v → MayCome v input
+    → ActorsGoOn (services before.kind) (ServerMoves (services before.kind) input v) v before after
+
+-- only a failed allocation prevents that
+abbrev pub ServesNot : {State : Type 0} → (ℕ → Machine State) → Input → Kept State → StepEnd → Type 0
+ServesNot services input before end =
+    (v : Seen) → ActorsStand (services before.kind) before v → Premises (services before.kind) v → MayCome v input → IsForMemory end
