@@ -13,6 +13,7 @@ from model import Client, World
 from seed_model import play, script_of, summary
 
 EVENTS = 100_000  # of a schedule, and more of them are refused
+HEADS = ("service", "server", "twin", "client")
 FOLDER = pathlib.Path(__file__).parent.parent / "crates" / "replay_script"
 
 
@@ -28,7 +29,7 @@ def orders(stored):
 def made(words, text):
     """What is printed of an order, or None where the model can't tell."""
     if words[0] == "crash":
-        return crashes(words[1], text)
+        return crashes(words[1], [["stop", *words[2:]]] if words[2:] else [], text)
     _, name, spoken, *fails, last = words
     spoken = spoken.split("~")
     if fails != ["0", "0", "0"]:
@@ -37,7 +38,7 @@ def made(words, text):
         seed, count, events = map(int, spoken[1:])
         allowed = seed < 2**64 and max(map(len, spoken[1:])) <= 20 and 1 <= count <= 16 and 1 <= events <= 20000
         report, why = (summary(seed, count, events), None) if allowed else (None, None)
-    elif spoken == ["run"] and text.startswith("service ") and len(text.splitlines()) - text.count("\nclient ") - 2 <= EVENTS:
+    elif spoken == ["run"] and text.startswith("service ") and len(text.splitlines()) - text.count("\nclient ") - text.count("\ntwin\n") - 2 <= EVENTS:
         try:
             report, why = play(text)
         except (IndexError, ValueError):
@@ -50,14 +51,15 @@ def made(words, text):
     return "\n".join([f"{name}: status {7 if why else 0}", *told, *report[-int(last) :]]) + "\n"
 
 
-def crashes(name, text):
-    """The first events of a schedule, for each number of them, then a crash and a restart, and the client goes on as far as it must."""
-    (_, service), (_, server), (_, _, key, isn, script), *events = [line.split() for line in text.splitlines()]
+def crashes(name, stops, text):
+    """The first events of a schedule, for each number of them, then a crash, or also a stop, and a restart, and the client goes on as far as it must."""
+    (_, service), (_, server), *twin, (_, _, key, isn, script) = heads = [line.split() for line in text.splitlines() if line.split()[0] in HEADS]
+    events = [line.split() for line in text.splitlines()[len(heads) :]]
     told = ""
     for count in range(1, len(events) + 1):
         client = Client(key, int(isn), script_of(script))
-        world = World(service, server, [client])
-        for verb, *words in [*events[:count], ["crash"]]:
+        world = World(service, server, [client], bool(twin))
+        for verb, *words in [*events[:count], ["crash"], *stops]:
             world.step(verb, [int(word) for word in words])
         go_on(world, client)
         entry = world.log.entries[key]

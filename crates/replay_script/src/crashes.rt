@@ -1,4 +1,5 @@
-//! The crash table: the first events of a schedule, then a crash and a restart, after which the client continues as long as it must.
+//! The crash table: the first events of a schedule, then a crash, with the stop of a logger or without, and a restart, after which the client continues as long as
+//! it must.
 
 ghost use Rattle.std.specs.Prelude.{◌≤◌, length, IfOk};
 ghost use Rattle.ft_model.specs.Playable.{IsPlayable};
@@ -35,6 +36,8 @@ fn schedule_of(alloc: Global, text: &[u8]) -> Result<Schedule, ScheduleEnd>
 struct Driven {
     world: World<AnyService>,
     delivered: u32,
+    /// Which of two loggers stops as the server crashes.
+    stops: Option<u8>,
 }
 
 impl Driven {
@@ -81,6 +84,9 @@ impl Driven {
     fn restart(&mut self, alloc: Global) -> Result<(), StepEnd> {
         self.delivered = self.sent();
         self.world.step(alloc, &Event::Crash)?;
+        if let Some(part) = self.stops {
+            self.world.step(alloc, &Event::Stop { part })?;
+        }
         let boot = Event::Boot {
             boot: 2,
             isn: 900_000,
@@ -139,6 +145,24 @@ impl Driven {
         self.crash(alloc)
     }
 
+    /// The first events of a schedule, a crash, and what the client has at the end, or why an event was refused.
+    fn play_and_tell(
+        &mut self,
+        alloc: Global,
+        events: &[Event],
+        out: &mut Vec<u8>,
+    ) -> Result<(), NoMemory> {
+        match self.play(alloc, events) {
+            Ok(()) => self.tell(alloc, out),
+            Err(StepEnd::NoMemory) => Err(NoMemory),
+            Err(end) => {
+                let text = format!(in alloc; "{end:?}\n")?;
+                out.extend_from_slice(text.as_bytes())?;
+                Ok(())
+            }
+        }
+    }
+
     /// What the client has accepted, and the lengths of the reads of the log's first entry.
     fn tell(&self, alloc: Global, out: &mut Vec<u8>) -> Result<(), NoMemory> {
         if let Some(client) = self.world.client(CLIENT) {
@@ -160,6 +184,7 @@ fn play_crash(
     alloc: Global,
     schedule: &Schedule,
     count: usize,
+    stops: Option<u8>,
     out: &mut Vec<u8>,
 ) -> Result<(), NoMemory>
     requires playable { IsPlayable schedule.now }
@@ -169,23 +194,17 @@ fn play_crash(
     let mut driven = Driven {
         world: World::new(alloc, schedule)?,
         delivered: 0,
+        stops,
     };
     let events = schedule.events.as_slice();
-    match driven.play(alloc, &events[..count]) {
-        Ok(()) => driven.tell(alloc, out),
-        Err(StepEnd::NoMemory) => Err(NoMemory),
-        Err(end) => {
-            let text = format!(in alloc; "{end:?}\n")?;
-            out.extend_from_slice(text.as_bytes())?;
-            Ok(())
-        }
-    }
+    driven.play_and_tell(alloc, &events[..count], out)
 }
 
-/// Plays a crash after each number of the first events of a schedule.
+/// Plays a crash after each number of the first events of a schedule, and with it the stop of a logger, if one is named.
 pub fn play_crashes(
     alloc: Global,
     name: &str,
+    stops: Option<u8>,
     text: &[u8],
     out: &mut Vec<u8>,
 ) -> Result<(), NoMemory> {
@@ -196,7 +215,7 @@ pub fn play_crashes(
     for count in 1..=schedule.events.as_slice().len() {
         let head = format!(in alloc; "{name}, crash after {count}: ")?;
         out.extend_from_slice(head.as_bytes())?;
-        play_crash(alloc, &schedule, count, out)?;
+        play_crash(alloc, &schedule, count, stops, out)?;
     }
     Ok(())
 }

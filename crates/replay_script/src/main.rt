@@ -5,7 +5,8 @@
 //!   source, of the sink of the report and of that of the errors that fails, 0 for none. Printed are the status, what was written to the sink of the errors,
 //!   and the report: its last LAST lines, or all of it for 0. Without lines of its own, it plays those of the one before it;
 //! - `= crash NAME` plays, for each n, the first n of the events in a new world; then the server crashes and restarts, all is delivered that is sent, and the
-//!   client continues. Printed is what it has accepted at the end, and the lengths of the reads in the log.
+//!   client continues. Printed is what it has accepted at the end, and the lengths of the reads in the log;
+//! - `= crash NAME PART` does so, and one of two loggers stops as the server crashes: 1 is the head, 2 the tail.
 //!
 //! Among the lines of a schedule, `*COUNT LINE` means this line COUNT times.
 #![tactic(auto)]
@@ -65,7 +66,14 @@ impl Script {
         }
         match words.as_slice() {
             [_, "play", rest @ ..] => play(alloc, rest, &self.text, out),
-            [_, "crash", name] => play_crashes(alloc, name, &self.text, out),
+            [_, "crash", name] => play_crashes(alloc, name, None, &self.text, out),
+            [_, "crash", name, part] => play_crashes(
+                alloc,
+                name,
+                part.parse().ok(),
+                &self.text,
+                out,
+            ),
             _ => Ok(()),
         }
     }

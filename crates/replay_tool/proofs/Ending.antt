@@ -7,26 +7,25 @@ use Rattle.std.proofs.lemmas.List.{drop_more, length-drop}
 use Rattle.std.proofs.Math.ListN.{drop_of_length-le}
 use Rattle.ft_io.specs.declared.reading.ReadEnd.{ReadEnd}
 use Rattle.ft_io.specs.declared.reading.ReadEnd.TheVariants as reads
-use Rattle.sample_servers.specs.AnyService.{any_machine}
 use Rattle.sample_servers.specs.declared.any_service.AnyService.{AnyService}
 use Rattle.ft_model.specs.Grammar.{read_text, read_with, read_lines, no_objection}
 use Rattle.ft_model.specs.Grammar.{Refusal as reading}
 use Rattle.ft_model.specs.Words.{lines_of}
-use Rattle.ft_model.specs.Legal.{start_of, IsLegalFor}
-use Rattle.ft_model.specs.Report.{header, event_lines, client_lines, log_line, end_line, closing_lines, report}
-use Rattle.ft_model.specs.Schedule.{clients_of}
-use Rattle.ft_model.specs.World.{Moment, IsStart}
+use Rattle.ft_model.specs.Legal.{start_of}
+use Rattle.ft_model.specs.Report.{header, client_lines, log_line, end_line}
+use Rattle.ft_model.specs.World.{IsStart}
 use Rattle.ft_model.specs.declared.event.Event.{Event}
 use Rattle.ft_model.specs.declared.event.EventWhy.{EventWhy}
 use Rattle.ft_model.specs.declared.line.Draft.TheVariants.{Empty}
 use Rattle.ft_model.specs.declared.schedule.Schedule.{Schedule}
 use Rattle.ft_model.specs.declared.schedule.Limit.TheVariants as limits
 use Rattle.net_schedule.specs.Standing.{Kept}
-use Rattle.net_schedule.specs.Stepping.{StandsAfter}
 use Rattle.ft_io.specs.Faults.{Rose}
 use Rattle.replay_tool.specs.Ends.{end_of_read, CountsFaults}
 use Rattle.replay_tool.specs.OnItsWay.{IsOnItsWay, IsFrontOf, Wrote, WroteFront, Holds}
-use Rattle.replay_tool.specs.Played.{IsPlayedTo, lines_so_far, reached, NoneIsAllowed, Spells, ReportsAll, ReportsTill, ReportsToLimit, ReportsFront}
+use Rattle.replay_tool.specs.Standing.{Stands}
+use Rattle.replay_tool.specs.Traces.{traces}
+use Rattle.replay_tool.specs.Played.{IsPlayedTo, lines_so_far, NoneIsAllowed, Spells, ReportsAll, ReportsTill, ReportsToLimit, ReportsFront}
 use Rattle.replay_tool.specs.Playing.{Plays, Reaches, StandsAt, StopsPlaying, HoldsAtEnd, EndsPlaying}
 use Rattle.replay_tool.specs.Runs.{StopsReading, Reports, Refuses, RunStops, KeepsFront}
 use Rattle.replay_tool.specs.Stream.{Stream, HasFailed, HasNotFailed}
@@ -34,7 +33,8 @@ use Rattle.replay_tool.specs.declared.status.TooMuch.TheVariants.{Text, Events, 
 use Rattle.replay_tool.specs.declared.status.RunEnd.{RunEnd}
 use Rattle.replay_tool.specs.declared.status.RunEnd.TheVariants.{Usage, NoMemory, ReadFault, WriteFault, BadLine, BadEvent, TooLong}
 use Rattle.replay_tool.proofs.Fronts.{none_on_its_way, more_held}
-use Rattle.replay_tool.proofs.Playing.{AreSafe, as_many_events, holds_front}
+use Rattle.replay_tool.proofs.Either.{AreSafe, as_many, few_clients, legal_of, no_lines, none_sent, none_legal, closes}
+use Rattle.replay_tool.proofs.Playing.{holds_front, stands_where}
 
 -- what is known where a call ends well, and where it doesn't
 pub when_err : {T E B : Type 0} {A : E → Type 0} (r : Result T E) → IsErrAnd r A → ((end : E) → A end → B) → OnErr r B
@@ -42,30 +42,31 @@ when_err (Ok x) a f = absurd a
 when_err (Err e) a f = f e a
 
 -- before the first event
-abbrev none_played : AreSafe → (schedule : Schedule) → IsLegalFor any_machine schedule [] [] → IsPlayedTo schedule schedule.events
-none_played safe schedule legal = record { events = []; trace = []; split = refl; legal = legal; safe = safe schedule [] [] legal; within = omega arith }
+abbrev none_played : AreSafe → (schedule : Schedule) → (traces schedule).IsLegal schedule [] [] → IsPlayedTo schedule schedule.events
+none_played safe schedule legal = record { events = []; trace = []; split = refl; legal = legal; safe = safe schedule [] [] legal; within = none_sent schedule.twin schedule }
 
-pub begins : AreSafe → (schedule : Schedule) (w : Kept AnyService) (old : Option (List ℕ)) (held : List ℕ) → StandsAfter any_machine schedule [] [] w → held ≡ header schedule
+header_alone : (schedule : Schedule) → lines_so_far schedule [] ≡ header schedule
+header_alone schedule = ap (λ l. header schedule ++ l) (no_lines schedule.twin schedule) ∙ append-nil (header schedule)
+
+pub begins : AreSafe → (schedule : Schedule) (w : Kept AnyService) (old : Option (List ℕ)) (held : List ℕ) → Stands schedule.twin schedule [] [] w → held ≡ header schedule
     → Plays schedule schedule.events w old old held
 begins safe schedule w old held s is = record {
-  played = none_played safe schedule s.legal;
+  played = none_played safe schedule (legal_of schedule.twin schedule [] [] w s);
   stands = s;
-  counted = refl;
-  text = subst (IsOnItsWay old old held) (is ∙ sym (append-nil (header schedule))) (none_on_its_way old held);
+  text = subst (IsOnItsWay old old held) (is ∙ sym (header_alone schedule)) (none_on_its_way old held);
 }
 
 -- .. where memory runs out
 pub ends_before : AreSafe → (schedule : Schedule) (old : Option (List ℕ)) (held : List ℕ) → IsStart (start_of schedule) → IsFrontOf held (header schedule) → Holds old old held (ReportsFront schedule)
-ends_before safe schedule old held start front =
-    let legal : IsLegalFor any_machine schedule [] [] = record { joint = start; events_are = refl; allowed = tt } in (
-      held,
-      none_on_its_way old held,
-      record {
-        others = schedule.events;
-        played = none_played safe schedule legal;
-        front = inl (front.0, front.1 ∙ sym (append-nil (header schedule)));
-      },
-    )
+ends_before safe schedule old held start front = (
+  held,
+  none_on_its_way old held,
+  record {
+    others = schedule.events;
+    played = none_played safe schedule (none_legal schedule.twin schedule start);
+    front = inl (front.0, front.1 ∙ sym (header_alone schedule));
+  },
+)
 
 -- the next event among those that aren't played yet
 pub next_is : (schedule : Schedule) (events : List Event) (event : Event) (i : ℕ) (w : Kept AnyService) (old now : Option (List ℕ)) (held : List ℕ) → events ≡ schedule.events → i < length events
@@ -103,27 +104,26 @@ none_left schedule events i w old now held past r = subst (λ es. Reaches schedu
 
 -- as many moments as events
 moments : (schedule : Schedule) (others : List Event) (p : IsPlayedTo schedule others) → length p.events ≡ length p.trace
-moments schedule others p = ap length (sym p.legal.events_are) ∙ as_many_events p.trace
+moments schedule others p = as_many schedule.twin schedule p.events p.trace p.legal
 
 -- how the world stands is put after the lines so far
 closed : (schedule : Schedule) (others : List Event) (n : ℕ) (w : Kept AnyService) (old now : Option (List ℕ)) (held after : List ℕ) (r : Plays schedule others w old now held) → n ≡ length r.played.trace
-    → after ≡ held ++ (client_lines 1 w.clients ++ (flat_map log_line w.log.entries ++ end_line n)) → IsOnItsWay old now after (report schedule r.played.trace)
+    → after ≡ held ++ (client_lines 1 w.clients ++ (flat_map log_line w.log.entries ++ end_line n)) → IsOnItsWay old now after ((traces schedule).report schedule r.played.trace)
 closed schedule others n w old now held after r at grown =
-    let trace : List Moment = r.played.trace in
-    let ends : client_lines 1 w.clients ++ (flat_map log_line w.log.entries ++ end_line n) ≡ closing_lines (reached schedule trace) (length trace) =
-    ap₂ (λ cs l. client_lines 1 cs ++ (flat_map log_line l.entries ++ end_line n)) r.stands.stands.clients r.stands.stands.log
-    ∙ ap (λ k. client_lines 1 (reached schedule trace).clients ++ (flat_map log_line (reached schedule trace).log.entries ++ end_line k)) at in
-    let way : IsOnItsWay old now (held ++ closing_lines (reached schedule trace) (length trace)) (lines_so_far schedule trace ++ closing_lines (reached schedule trace) (length trace)) =
-    more_held old now held (lines_so_far schedule trace) (closing_lines (reached schedule trace) (length trace)) r.text in
-    subst (λ h. IsOnItsWay old now h (report schedule trace)) (sym (grown ∙ ap (λ l. held ++ l) ends))
-    (subst (IsOnItsWay old now (held ++ closing_lines (reached schedule trace) (length trace)))
-    (append_assoc (header schedule) (event_lines (clients_of schedule.server schedule.clients) trace) (closing_lines (reached schedule trace) (length trace))) way)
+    let trace : List (traces schedule).Turn = r.played.trace in
+    let ends : List ℕ = client_lines 1 w.clients ++ (flat_map log_line w.log.entries ++ end_line n) in
+    let whole : lines_so_far schedule trace ++ ends ≡ (traces schedule).report schedule trace =
+    append_assoc (header schedule) ((traces schedule).lines schedule trace) ends
+    ∙ ap (λ k. header schedule ++ ((traces schedule).lines schedule trace ++ (client_lines 1 w.clients ++ (flat_map log_line w.log.entries ++ end_line k)))) at
+    ∙ sym (closes schedule.twin schedule r.played.events trace w r.stands) in
+    subst (λ h. IsOnItsWay old now h ((traces schedule).report schedule trace)) (sym grown)
+    (subst (IsOnItsWay old now (held ++ ends)) whole (more_held old now held (lines_so_far schedule trace) ends r.text))
 
 pub closes_all : (schedule : Schedule) (n : ℕ) (w : Kept AnyService) (old now : Option (List ℕ)) (held after : List ℕ) → Plays schedule [] w old now held → n ≡ length schedule.events
     → after ≡ held ++ (client_lines 1 w.clients ++ (flat_map log_line w.log.entries ++ end_line n)) → Holds old now after (ReportsAll schedule)
 closes_all schedule n w old now held after r at grown =
     let number : n ≡ length r.played.trace = at ∙ ap length (r.played.split ∙ append-nil r.played.events) ∙ moments schedule [] r.played in
-    (report schedule r.played.trace, closed schedule [] n w old now held after r number grown, record { played = r.played; is = refl })
+    ((traces schedule).report schedule r.played.trace, closed schedule [] n w old now held after r number grown, record { played = r.played; is = refl })
 
 pub closes_till : (schedule : Schedule) (number n : ℕ) (why : EventWhy) (w : Kept AnyService) (old now : Option (List ℕ)) (held after : List ℕ) → StandsAt schedule number why w old now held → n ≡ number - 1
     → after ≡ held ++ (client_lines 1 w.clients ++ (flat_map log_line w.log.entries ++ end_line n)) → Holds old now after (ReportsTill schedule number why)
@@ -132,7 +132,7 @@ closes_till schedule number n why w old now held after s at grown =
     let count : length r.played.events ≡ length r.played.trace = moments schedule (s.event ∷ s.others) r.played in
     let from : number ≡ length r.played.events + 1 = s.number_is in
     let last : n ≡ length r.played.trace = omega (arith, at, count, from) in (
-      report schedule r.played.trace,
+      (traces schedule).report schedule r.played.trace,
       closed schedule (s.event ∷ s.others) n w old now held after r last grown,
       record { event = s.event; others = s.others; played = r.played; number_is = s.number_is; refused = s.refused; is = refl },
     )
@@ -141,6 +141,10 @@ closes_till schedule number n why w old now held after s at grown =
 pub front_till : (schedule : Schedule) (number : ℕ) (why : EventWhy) (w : Kept AnyService) (old now : Option (List ℕ)) (held : List ℕ) → StandsAt schedule number why w old now held
     → Holds old now held (ReportsFront schedule)
 front_till schedule number why w old now held s = holds_front schedule (s.event ∷ s.others) w old now held s.reaches.plays
+
+pub stopped_few : (schedule : Schedule) (number : ℕ) (why : EventWhy) (w : Kept AnyService) (old now : Option (List ℕ)) (held : List ℕ) → StandsAt schedule number why w old now held
+    → length w.keys ≤ 16 → length w.clients ≤ 16
+stopped_few schedule number why w old now held s few = few_clients w (stands_where schedule (s.event ∷ s.others) w old now held s.reaches.plays) few
 
 -- any other end
 pub others_stop : (schedule : Schedule) (w : Kept AnyService) (old now : Option (List ℕ)) (held : List ℕ) (end : RunEnd) → ((number : ℕ) (why : EventWhy) → end ≡ BadEvent number why → ⊥)
@@ -169,10 +173,10 @@ front_of_front schedule front text r f = record { others = r.others; played = r.
     further : (whole : List ℕ) → IsFrontOf text whole → IsFrontOf front whole
     further whole g = (f.0 ++ g.0, sym (append_assoc front f.0 g.0) ∙ ap (λ l. l ++ g.0) f.1 ∙ g.1)
 
-    by_part : IsFrontOf text (lines_so_far schedule r.played.trace) ⊎ (NoneIsAllowed (reached schedule r.played.trace) r.others × IsFrontOf text (report schedule r.played.trace))
-        → IsFrontOf front (lines_so_far schedule r.played.trace) ⊎ (NoneIsAllowed (reached schedule r.played.trace) r.others × IsFrontOf front (report schedule r.played.trace))
+    by_part : IsFrontOf text (lines_so_far schedule r.played.trace) ⊎ (NoneIsAllowed schedule r.played.trace r.others × IsFrontOf text ((traces schedule).report schedule r.played.trace))
+        → IsFrontOf front (lines_so_far schedule r.played.trace) ⊎ (NoneIsAllowed schedule r.played.trace r.others × IsFrontOf front ((traces schedule).report schedule r.played.trace))
     by_part (inl g) = inl (further (lines_so_far schedule r.played.trace) g)
-    by_part (inr g) = inr (g.0, further (report schedule r.played.trace) g.1)
+    by_part (inr g) = inr (g.0, further ((traces schedule).report schedule r.played.trace) g.1)
 
 pub front_of_end : (schedule : Schedule) (end : RunEnd) (front text : List ℕ) → EndsPlaying schedule end text → IsFrontOf front text → ReportsFront schedule front
 front_of_end schedule NoMemory front text e f = front_of_front schedule front text e f

@@ -16,7 +16,8 @@ use Rattle.ft_model.proofs.Lists.{some_is, none_is_some}
 use Rattle.logger_store.specs.Stored.{head_value, lengths_of}
 use Rattle.logger_store.specs.declared.entry_head.EntryHead.{EntryHead}
 use Rattle.net_schedule.specs.Sent.{packets_of, reported_way, WasSentAs}
-use Rattle.schedule_text.specs.Bytes.{packet_in, said_as}
+use Rattle.schedule_text.specs.Bytes.{packet_in, content_in, said_as}
+use Rattle.schedule_text.proofs.Contents.{content_of_packet}
 use Rattle.net_schedule.proofs.Peers.{within as is_within}
 
 -- lines of a list's elements, numbered on from n
@@ -57,43 +58,12 @@ one_line_or_none {X} lines line are nil xs n i now next whole written unwritten 
 pub all_lines : {X : Type 0} (lines : ℕ → List X → List ℕ) → ((n : ℕ) → lines n [] ≡ []) → (xs : List X) (n i : ℕ) (now whole : List ℕ) → length xs ≤ i → now ++ lines n (drop i xs) ≡ whole → now ≡ whole
 all_lines lines nil xs n i now whole past so_far = sym (append-nil now) ∙ ap (λ l. now ++ l) (sym (ap (lines n) (drop_of_length-le xs past) ∙ nil n)) ∙ so_far
 
--- a packet that was sent after others has a number past theirs
-behind_others : (before sent : List Packet) (k : ℕ) → slice_get (before ++ sent) (length before + k) ≡ slice_get sent k
-behind_others [] sent k = let none : 0 + k ≡ k = omega arith in ap (slice_get sent) none
-behind_others (p ∷ before) sent k =
-    let place : length (p ∷ before) + k ≡ suc (length before + k) = omega arith in
-    ap (slice_get (p ∷ (before ++ sent))) place ∙ behind_others before sent k
-
-pub next_packet : (clients : List Client) (packets before sent : List Packet) (first k : ℕ) (now next whole : List ℕ) → packets ≡ before ++ sent → first ≡ length before + 1 → k < length sent
-    → ((p : Packet) → packet_at packets (first + k) ≡ Some p → next ≡ now ++ packet_line (first + k) (way_of clients p) p)
-    → now ++ packet_lines clients (first + k) (drop k sent) ≡ whole → next ++ packet_lines clients (first + (k + 1)) (drop (k + 1) sent) ≡ whole
-next_packet clients packets before sent first k now next whole shape at within written so_far =
-    let number : first + (k + 1) ≡ first + k + 1 = omega arith in
-    let place : first + k ≡ suc (length before + k) = omega arith in
-    let found : packet_at packets (first + k) ≡ slice_get sent k = ap (packet_at packets) place ∙ ap (λ ps. slice_get ps (length before + k)) shape ∙ behind_others before sent k in
-    ap (λ n. next ++ packet_lines clients n (drop (k + 1) sent)) number
-    ∙ one_line (packet_lines clients) (λ n p. packet_line n (way_of clients p) p) (λ n p ps. refl) sent (first + k) k now next whole (λ p e. written p (found ∙ e)) within so_far
-
 -- a packet's bytes are read as the packet
 pub packet_is_read : (schedule : Schedule) (p : Packet) → HasWire p → packet_in (reported_way schedule p) (wire_of p).bytes ≡ Some p
 packet_is_read schedule (To_server segment) w = ap (said_as To_server) (spelling_is_read segment w.0)
 packet_is_read schedule (To_client segment) w = ap (said_as To_client) (spelling_is_read segment w.0)
 packet_is_read schedule (To_logger message) w = ap (said_as To_logger) (message_is_read message w.0)
 packet_is_read schedule (From_logger message) w = ap (said_as From_logger) (message_is_read message w.0)
-
-is_read : (schedule : Schedule) (trace : List Moment) (n : ℕ) (way : Way) (bytes : List ℕ) → (s : WasSentAs schedule trace n way bytes) → packet_in way bytes ≡ Some s.packet
-is_read schedule trace n way bytes s = ap₂ packet_in s.goes s.spells ∙ packet_is_read schedule s.packet s.wire
-
-pub can_be_written : (schedule : Schedule) (trace : List Moment) (n : ℕ) (way : Way) (bytes : List ℕ) → WasSentAs schedule trace n way bytes → IsSome (packet_in way bytes)
-can_be_written schedule trace n way bytes s = ap is_some (is_read schedule trace n way bytes s)
-
-pub packet_written : (schedule : Schedule) (trace : List Moment) (n : ℕ) (way : Way) (bytes now next : List ℕ) (p : Packet) → WasSentAs schedule trace n way bytes
-    → packet_at (packets_of schedule trace) n ≡ Some p → IfSome (packet_in way bytes) (λ packet. next ≡ now ++ packet_line n way packet)
-    → next ≡ now ++ packet_line n (reported_way schedule p) p
-packet_written schedule trace n way bytes now next p s is written =
-    let same : s.packet ≡ p = some_is s.packet p (sym s.is ∙ is) in
-    let line : next ≡ now ++ packet_line n way s.packet = subst (λ o. IfSome o (λ packet. next ≡ now ++ packet_line n way packet)) (is_read schedule trace n way bytes s) written in
-    line ∙ ap₂ (λ w q. now ++ packet_line n w q) (s.goes ∙ ap (reported_way schedule) same) same
 
 -- the client of a number from 1 is that at a place from 0
 pub client_there : (clients : List Client) (i : ℕ) (o : Option Client) → o ≡ client_at clients (i + 1) → slice_get clients i ≡ o

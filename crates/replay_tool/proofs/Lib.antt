@@ -1,5 +1,9 @@
 pub mod Fronts
 pub mod Following
+pub mod Stored
+pub mod OneLog
+pub mod TwoLoggers
+pub mod Either
 pub mod Playing
 pub mod Ending
 pub mod Settling

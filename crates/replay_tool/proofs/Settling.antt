@@ -1,10 +1,10 @@
 -- The status by the text: what each status says of it, and that the text settles the status.
-use Rattle.std.proofs.Common.{◌≡◌, ◌∙◌, ◌⊎◌, inl, inr, ℕ, Bool, true, false, ◌==◌, ◌||◌, eqb-true, Option, None, Some, List, Ok, Err, refl, sym, ap, subst, IfSome, Result, append-nil, arith}
+use Rattle.std.proofs.Common.{◌≡◌, ◌∙◌, ◌⊎◌, inl, inr, ℕ, ◌<◌, ◌≤◌, [], ◌∷◌, ◌++◌, Bool, true, false, ◌==◌, ◌||◌, eqb-true, Option, None, Some, List, Ok, Err, refl, sym, ap, subst, IfSome, Result, append-nil, arith}
 use Rattle.std.specs.Io.KnownBytes.{Appends}
 use Rattle.ft_model.specs.Grammar.{read_text}
 use Rattle.ft_model.specs.Grammar.{Refusal as reading}
 use Rattle.ft_model.specs.Legal.{IsLegalFor}
-use Rattle.ft_model.specs.Outcome.{IsWhole, IsRefused, IsPastPackets}
+use Rattle.ft_model.specs.declared.event.Event.{Event}
 use Rattle.ft_model.specs.declared.event.EventWhy.{EventWhy}
 use Rattle.ft_model.specs.declared.schedule.Schedule.{Schedule}
 use Rattle.ft_model.specs.declared.schedule.LineWhy.{LineWhy}
@@ -12,7 +12,9 @@ use Rattle.ft_model.specs.declared.schedule.Limit.{Limit}
 use Rattle.ft_model.specs.declared.schedule.Limit.TheVariants as limits
 use Rattle.sample_servers.specs.AnyService.{any_machine}
 use Rattle.replay_tool.specs.Ends.{code_of, is_code}
-use Rattle.replay_tool.specs.Causes.{IsInOrder, HasBadLine, HasBadEvent, IsPastLimit, IsSettled}
+use Rattle.twin_laws.specs.TwinLegal.{IsTwinLegalFor}
+use Rattle.replay_tool.specs.Traces.{traces_of}
+use Rattle.replay_tool.specs.Causes.{AllHappen, OneIsRefused, PacketsExceed, IsInOrder, HasBadLine, HasBadEvent, IsPastLimit, IsSettled}
 use Rattle.replay_tool.specs.Causes.IsPastLimit.{by_text, by_packets}
 use Rattle.replay_tool.specs.ErrText.{text_of}
 use Rattle.replay_tool.specs.OnItsWay.{Wrote, WroteFront}
@@ -41,15 +43,39 @@ bad_line text input out NoMemory told e s = cc
 bad_line text input out ReadFault told e s = cc
 bad_line text input out WriteFault told e s = cc
 
-refused_event : (schedule : Schedule) (number : ℕ) (why : EventWhy) (old new : Option (List ℕ)) → Wrote old new (ReportsTill schedule number why) → IsRefused any_machine schedule
+-- with two loggers or with one
+refused_in : (twin : Bool) (schedule : Schedule) (played : List Event) (event : Event) (others : List Event) (why : EventWhy) (trace : List (traces_of twin).Turn)
+    → schedule.events ≡ played ++ event ∷ others → (traces_of twin).IsLegal schedule played trace → (traces_of twin).sent schedule trace ≤ 200000
+    → (traces_of twin).refuses schedule trace event ≡ Some why → OneIsRefused twin schedule
+refused_in true schedule played event others why trace split legal within refused =
+    record { played = played; event = event; others = others; why = why; trace = trace; events = split; legal = legal; within = within; refused = refused }
+refused_in false schedule played event others why trace split legal within refused =
+    record { played = played; event = event; others = others; why = why; trace = trace; events = split; legal = legal; within = within; refused = refused }
+
+past_in : (twin : Bool) (schedule : Schedule) (played : List Event) (event : Event) (others : List Event) (moment : (traces_of twin).Turn) (earlier : List (traces_of twin).Turn)
+    → schedule.events ≡ played ++ event ∷ others → (traces_of twin).IsLegal schedule (played ++ event ∷ []) (moment ∷ earlier) → (traces_of twin).sent schedule earlier ≤ 200000
+    → 200000 < (traces_of twin).sent schedule (moment ∷ earlier) → PacketsExceed twin schedule
+past_in true schedule played event others moment earlier split legal within over =
+    record { played = played; event = event; others = others; moment = moment; earlier = earlier; events = split; legal = legal; within = within; over = over }
+past_in false schedule played event others moment earlier split legal within over =
+    record { played = played; event = event; others = others; moment = moment; earlier = earlier; events = split; legal = legal; within = within; over = over }
+
+whole_in : (twin : Bool) (schedule : Schedule) (events : List Event) (trace : List (traces_of twin).Turn) → schedule.events ≡ events → (traces_of twin).IsLegal schedule events trace
+    → (traces_of twin).sent schedule trace ≤ 200000 → AllHappen twin schedule
+whole_in true schedule events trace split legal within =
+    record { trace = trace; legal = subst (λ es. IsTwinLegalFor any_machine schedule es trace) (sym split) legal; within = within }
+whole_in false schedule events trace split legal within =
+    record { trace = trace; legal = subst (λ es. IsLegalFor any_machine schedule es trace) (sym split) legal; within = within }
+
+refused_event : (schedule : Schedule) (number : ℕ) (why : EventWhy) (old new : Option (List ℕ)) → Wrote old new (ReportsTill schedule number why) → OneIsRefused schedule.twin schedule
 refused_event schedule number why old new w =
     let r : ReportsTill schedule number why w.0 = w.2 in
-    record { played = r.played.events; event = r.event; others = r.others; why = why; trace = r.played.trace; events = r.played.split; legal = r.played.legal; within = r.played.within; refused = r.refused }
+    refused_in schedule.twin schedule r.played.events r.event r.others why r.played.trace r.played.split r.played.legal r.played.within r.refused
 
-past_packets : (schedule : Schedule) (old new : Option (List ℕ)) → Wrote old new (ReportsToLimit schedule) → IsPastPackets any_machine schedule
+past_packets : (schedule : Schedule) (old new : Option (List ℕ)) → Wrote old new (ReportsToLimit schedule) → PacketsExceed schedule.twin schedule
 past_packets schedule old new w =
     let r : ReportsToLimit schedule w.0 = w.2 in
-    record { played = r.played.events; event = r.event; others = r.others; moment = r.moment; earlier = r.played.trace; events = r.played.split; legal = r.legal; within = r.played.within; over = r.over }
+    past_in schedule.twin schedule r.played.events r.event r.others r.moment r.played.trace r.played.split r.legal r.played.within r.over
 
 spelled_at : (input out : Stream) (text : List ℕ) (Is : Schedule → List ℕ → Type 0) → input.before ≡ Some text → Reports input out Is → Spells text (λ schedule. Wrote out.before out.after (Is schedule))
 spelled_at input out text Is told r = when_told (λ t. Spells t (λ schedule. Wrote out.before out.after (Is schedule))) input.before text told r.written
@@ -134,8 +160,8 @@ in_order text input out told r =
     let t : Spells text (λ schedule. Wrote out.before out.after (ReportsAll schedule)) = spelled_at input out text ReportsAll told r in
     record { schedule = t.0; spelled = t.1; whole = in_whole t.0 t.2.0 t.2.2 }
   where
-    in_whole : (schedule : Schedule) (written : List ℕ) → ReportsAll schedule written → IsWhole any_machine schedule
-    in_whole schedule written a = record { trace = a.played.trace; legal = subst (λ es. IsLegalFor any_machine schedule es a.played.trace) (sym (a.played.split ∙ append-nil a.played.events)) a.played.legal; within = a.played.within }
+    in_whole : (schedule : Schedule) (written : List ℕ) → ReportsAll schedule written → AllHappen schedule.twin schedule
+    in_whole schedule written a = whole_in schedule.twin schedule a.played.events a.played.trace (a.played.split ∙ append-nil a.played.events) a.played.legal a.played.within
 
 -- what `tell` says of an end and a status
 abbrev pub TellsEnd : (end : RunEnd) (err : Stream) (code : ℕ) → Type 0
@@ -193,9 +219,9 @@ is_told_code end err code (inl t) = ap is_code t.0 ∙ codes_of end
 is_told_code end err code (inr t) = ap is_code t.0
 
 module _
-    (whole_or_refused : (schedule : Schedule) → IsWhole any_machine schedule → IsRefused any_machine schedule → ⊥)
-    (whole_or_past : (schedule : Schedule) → IsWhole any_machine schedule → IsPastPackets any_machine schedule → ⊥)
-    (refused_or_past : (schedule : Schedule) → IsRefused any_machine schedule → IsPastPackets any_machine schedule → ⊥)
+    (whole_or_refused : (schedule : Schedule) → AllHappen schedule.twin schedule → OneIsRefused schedule.twin schedule → ⊥)
+    (whole_or_past : (schedule : Schedule) → AllHappen schedule.twin schedule → PacketsExceed schedule.twin schedule → ⊥)
+    (refused_or_past : (schedule : Schedule) → OneIsRefused schedule.twin schedule → PacketsExceed schedule.twin schedule → ⊥)
     (text : List ℕ) (code : ℕ) where
   -- a text is read in one way
   same : (s t : Schedule) → read_text text ≡ Ok s → read_text text ≡ Ok t → s ≡ t
@@ -207,11 +233,11 @@ module _
   order_or_line a b = ok_or_err a.schedule (reading.BadLine b.line b.why) (sym a.spelled ∙ b.refused)
 
   order_or_event : IsInOrder text → HasBadEvent text → ⊥
-  order_or_event a b = whole_or_refused b.schedule (subst (IsWhole any_machine) (same a.schedule b.schedule a.spelled b.spelled) a.whole) b.refused
+  order_or_event a b = whole_or_refused b.schedule (subst (λ s. AllHappen s.twin s) (same a.schedule b.schedule a.spelled b.spelled) a.whole) b.refused
 
   order_or_limit : IsInOrder text → IsPastLimit text → ⊥
   order_or_limit a (by_text what e) = ok_or_err a.schedule (reading.TooLong what) (sym a.spelled ∙ e)
-  order_or_limit a (by_packets schedule e p) = whole_or_past schedule (subst (IsWhole any_machine) (same a.schedule schedule a.spelled e) a.whole) p
+  order_or_limit a (by_packets schedule e p) = whole_or_past schedule (subst (λ s. AllHappen s.twin s) (same a.schedule schedule a.spelled e) a.whole) p
 
   line_or_event : HasBadLine text → HasBadEvent text → ⊥
   line_or_event a b = ok_or_err b.schedule (reading.BadLine a.line a.why) (sym b.spelled ∙ a.refused)
@@ -222,7 +248,7 @@ module _
 
   event_or_limit : HasBadEvent text → IsPastLimit text → ⊥
   event_or_limit a (by_text what e) = ok_or_err a.schedule (reading.TooLong what) (sym a.spelled ∙ e)
-  event_or_limit a (by_packets schedule e p) = refused_or_past schedule (subst (IsRefused any_machine) (same a.schedule schedule a.spelled e) a.refused) p
+  event_or_limit a (by_packets schedule e p) = refused_or_past schedule (subst (λ s. OneIsRefused s.twin s) (same a.schedule schedule a.spelled e) a.refused) p
 
   pub settles : is_code code ≡ true → (code ≡ 2 → ⊥) → (code ≡ 4 → ⊥) → (code ≡ 5 → ⊥)
       → (code ≡ 0 → IsInOrder text) → (code ≡ 6 → HasBadLine text) → (code ≡ 7 → HasBadEvent text) → (code ≡ 8 → IsPastLimit text) → IsSettled text code

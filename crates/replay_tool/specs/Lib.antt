@@ -2,7 +2,9 @@ pub mod Ends
 pub mod ErrText
 pub mod Words
 pub mod OnItsWay
+pub mod Traces
 pub mod Played
+pub mod Stored
 pub mod Standing
 pub mod Playing
 pub mod Stream

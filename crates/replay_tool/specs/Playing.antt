@@ -1,17 +1,14 @@
 -- Playing a schedule, event after event: the state in between, and where it ends early.
 use Rattle.std.specs.Prelude.{◌≡◌, ℕ, ◌+◌, ◌<◌, Some, List, ◌∷◌, Option, length}
-use Rattle.ft_model.specs.Legal.{refusal}
-use Rattle.ft_model.specs.Outcome.{packets_sent}
-use Rattle.ft_model.specs.Report.{packet_count}
 use Rattle.ft_model.specs.declared.event.Event.{Event}
 use Rattle.ft_model.specs.declared.event.EventWhy.{EventWhy}
 use Rattle.ft_model.specs.declared.schedule.Schedule.{Schedule}
 use Rattle.net_schedule.specs.Standing.{Kept}
-use Rattle.net_schedule.specs.Stepping.{StandsAfter}
-use Rattle.sample_servers.specs.AnyService.{any_machine}
 use Rattle.sample_servers.specs.declared.any_service.AnyService.{AnyService}
 use Rattle.replay_tool.specs.OnItsWay.{IsOnItsWay, Wrote, Holds}
-use Rattle.replay_tool.specs.Played.{IsPlayedTo, lines_so_far, reached, ReportsTill, ReportsToLimit, ReportsFront}
+use Rattle.replay_tool.specs.Played.{IsPlayedTo, lines_so_far, ReportsTill, ReportsToLimit, ReportsFront}
+use Rattle.replay_tool.specs.Standing.{Stands}
+use Rattle.replay_tool.specs.Traces.{traces}
 use Rattle.replay_tool.specs.declared.status.TooMuch.TheVariants.{Packets}
 use Rattle.replay_tool.specs.declared.status.RunEnd.{RunEnd}
 use Rattle.replay_tool.specs.declared.status.RunEnd.TheVariants.{NoMemory, WriteFault, BadEvent, TooLong}
@@ -23,8 +20,7 @@ piece = 65536
 -- All events but these are played: the world is at that point, and the lines so far are being written to the sink, which had taken `old`.
 pub record Plays (schedule : Schedule) (others : List Event) (w : Kept AnyService) (old now : Option (List ℕ)) (held : List ℕ) : Type 0 where
   pub played : IsPlayedTo schedule others
-  pub stands : StandsAfter any_machine schedule played.events played.trace w
-  pub counted : packets_sent schedule played.trace ≡ packet_count played.trace
+  pub stands : Stands schedule.twin schedule played.events played.trace w
   pub text : IsOnItsWay old now held (lines_so_far schedule played.trace)
 
 -- .. and less than a piece of them is held back. So while the next event is played, at most that and the event's own lines are held back
@@ -51,7 +47,7 @@ pub record StandsAt (schedule : Schedule) (number : ℕ) (why : EventWhy) (w : K
   pub others : List Event
   pub reaches : Reaches schedule (event ∷ others) w old now held
   pub number_is : number ≡ length reaches.plays.played.events + 1
-  pub refused : refusal (reached schedule reaches.plays.played.trace) event ≡ Some why
+  pub refused : (traces schedule).refuses schedule reaches.plays.played.trace event ≡ Some why
 
 -- an event isn't done
 abbrev pub StopsPlaying : Schedule → Kept AnyService → (old now : Option (List ℕ)) → List ℕ → RunEnd → Type 0

@@ -1,20 +1,31 @@
 //! What holds of every trace that a run plays. Nothing here runs.
 
 ghost use Rattle.std.specs.Prelude.{List};
-ghost use Rattle.ft_model.specs.Legal.{IsLegalFor, start_of};
-ghost use Rattle.ft_model.specs.Schedule.{kind_of};
-ghost use Rattle.ft_model.specs.World.{Moment};
 ghost use Rattle.ft_model.specs.declared.event.Event.{Event};
 ghost use Rattle.ft_model.specs.declared.schedule.Schedule.{Schedule};
-ghost use Rattle.sample_servers.specs.AnyService.{any_machine};
-ghost use Rattle.seed_run.specs.Safe.{IsSafe};
+ghost use Rattle.replay_tool.specs.Causes.{AllHappen, OneIsRefused, PacketsExceed};
+ghost use Rattle.replay_tool.specs.Traces.{traces};
 
+use ft_model::laws::schedules_have_one_outcome;
+use sample_servers::AnyService;
 use seed_run::laws::joint_traces_are_safe;
+use twin_laws::{legal_traces_are_masked, twin_schedules_have_one_outcome};
 
-/// A legal trace is joint, and so safe.
+/// A legal trace is safe: with one log it is joint, and with two loggers it becomes a joint trace when it is made flat.
 pub(crate) fn legal_traces_are_safe()
-    ensures { (schedule : Schedule) (events : List Event) (trace : List Moment) → IsLegalFor any_machine schedule events trace
-        → IsSafe (any_machine (kind_of schedule.service)) (start_of schedule) trace }
+    ensures { (schedule : Schedule) (events : List Event) (trace : List (traces schedule).Turn) → (traces schedule).IsLegal schedule events trace
+        → (traces schedule).IsSafe schedule trace }
 {
     joint_traces_are_safe();
+    legal_traces_are_masked::<AnyService>();
+}
+
+/// A schedule's events end in one way, with two loggers as with one.
+pub(crate) fn schedules_end_in_one_way()
+    ensures whole_or_refused { (schedule : Schedule) → AllHappen schedule.twin schedule → OneIsRefused schedule.twin schedule → ⊥ }
+    ensures whole_or_past { (schedule : Schedule) → AllHappen schedule.twin schedule → PacketsExceed schedule.twin schedule → ⊥ }
+    ensures refused_or_past { (schedule : Schedule) → OneIsRefused schedule.twin schedule → PacketsExceed schedule.twin schedule → ⊥ }
+{
+    schedules_have_one_outcome::<AnyService>();
+    twin_schedules_have_one_outcome::<AnyService>();
 }

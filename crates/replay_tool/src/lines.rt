@@ -1,21 +1,14 @@
 //! The lines of a report, as they are appended to a text: those of an event's packets, and those on clients and log at the end.
 
-ghost use Rattle.std.specs.Prelude.{◌≡◌, ℕ, ◌+◌, ◌<◌, ◌≤◌, ◌^◌, Some, None, List, ◌++◌, length, slice_get, IfOk, OnOk};
+ghost use Rattle.std.specs.Prelude.{◌≡◌, ◌+◌, ◌<◌, ◌≤◌, ◌^◌, Some, None, ◌++◌, length, slice_get, IfOk, OnOk};
 ghost use Rattle.std.specs.List.{flat_map};
 ghost use Rattle.ft_model.specs.Client.{Client as Seen};
 ghost use Rattle.ft_model.specs.Log.{Entry};
-ghost use Rattle.ft_model.specs.Network.{Packet, packet_at};
-ghost use Rattle.ft_model.specs.Report.{packet_line, packet_lines, client_line, client_lines, log_line, end_line, event_line};
-ghost use Rattle.ft_model.specs.Schedule.{clients_of};
-ghost use Rattle.ft_model.specs.World.{Moment};
-ghost use Rattle.ft_model.specs.declared.event.Event.{Event as Asked};
-ghost use Rattle.ft_model.specs.declared.schedule.Schedule.{Schedule};
+ghost use Rattle.ft_model.specs.Report.{client_line, client_lines, log_line, end_line, event_line};
 ghost use Rattle.logger_store.specs.Stored.{lengths_of};
 ghost use Rattle.net_schedule.specs.Keeping.{kept};
-ghost use Rattle.net_schedule.specs.Sent.{packets_of, reported_way};
-ghost use Rattle.net_schedule.specs.Stepping.{StandsAfter};
-ghost use Rattle.sample_servers.specs.AnyService.{any_machine};
 ghost use Rattle.replay_tool.specs.Standing.{IsStanding};
+ghost use Rattle.replay_tool.specs.Stored.{stored_line, stored_lines};
 
 use ft_io::NoMemory;
 use ft_model::Event;
@@ -40,9 +33,7 @@ fn write_packet(
     lines: &mut Vec<u8>,
 ) -> Result<(), NoMemory>
     requires { IsStanding (kept world.now) }
-    ensures { OnOk result ((schedule : Schedule) (events : List Asked) (trace : List Moment) (p : Packet)
-        → StandsAfter any_machine schedule events trace (kept world.now) → packet_at (packets_of schedule trace) n ≡ Some p
-        → lines.new.items ≡ lines.old.items ++ packet_line n (reported_way schedule p) p) }
+    ensures { OnOk result (lines.new.items ≡ lines.old.items ++ stored_line world.now.packets n) }
 {
     worlds_keep_what_was_sent::<AnyService>();
     let Some(way) = world.way(n) else {
@@ -54,7 +45,7 @@ fn write_packet(
     write_packet_line(alloc, n, way, bytes, lines)
 }
 
-/// The lines of `count` packets from number `first` on, the last that were sent.
+/// The lines of `count` packets from number `first` on.
 fn write_packets(
     alloc: Global,
     world: &World<AnyService>,
@@ -64,10 +55,7 @@ fn write_packets(
 ) -> Result<(), NoMemory>
     requires stands { IsStanding (kept world.now) }
     requires numbers { first + count < 2 ^ 32 }
-    ensures { OnOk result ((schedule : Schedule) (events : List Asked) (trace : List Moment) (before sent : List Packet)
-        → StandsAfter any_machine schedule events trace (kept world.now) → packets_of schedule trace ≡ before ++ sent → first ≡ length before + 1
-        → count ≡ length sent
-        → lines.new.items ≡ lines.old.items ++ packet_lines (clients_of schedule.server schedule.clients) first sent) }
+    ensures { OnOk result (lines.new.items ≡ lines.old.items ++ stored_lines world.now.packets first count) }
 {
     for k in 0..count {
         write_packet(alloc, world, first + k, lines)?;
@@ -86,10 +74,8 @@ pub(crate) fn write_played(
 ) -> Result<(), NoMemory>
     requires stands { IsStanding (kept world.now) }
     requires numbers { answer.first + answer.count < 2 ^ 32 }
-    ensures { OnOk result ((schedule : Schedule) (events : List Asked) (trace : List Moment) (before sent : List Packet)
-        → StandsAfter any_machine schedule events trace (kept world.now) → packets_of schedule trace ≡ before ++ sent → answer.first ≡ length before + 1
-        → answer.count ≡ length sent
-        → lines.new.items ≡ lines.old.items ++ (event_line n event.now ++ packet_lines (clients_of schedule.server schedule.clients) answer.first sent)) }
+    ensures { OnOk result (lines.new.items
+        ≡ lines.old.items ++ (event_line n event.now ++ stored_lines world.now.packets answer.first answer.count)) }
 {
     write_event(alloc, n, event, lines)?;
     write_packets(alloc, world, answer.first, answer.count, lines)
@@ -183,7 +169,7 @@ pub(crate) fn write_closing(
     lines: &mut Vec<u8>,
 ) -> Result<(), NoMemory>
     requires { length world.now.clients.items ≤ 16 }
-    ensures { OnOk result (lines.new.items ≡ lines.old.items ++ (client_lines 1 world.now.clients.items ++ (flat_map log_line world.now.log.entries
+    ensures { OnOk result (lines.new.items ≡ lines.old.items ++ (client_lines 1 world.now.clients.items ++ (flat_map log_line (kept world.now).log.entries
         ++ end_line n))) }
 {
     write_clients(alloc, world, lines)?;

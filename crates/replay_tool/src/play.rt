@@ -5,6 +5,7 @@ ghost use Rattle.std.specs.List.{flat_map};
 ghost use Rattle.ft_model.specs.Playable.{IsPlayable};
 ghost use Rattle.ft_model.specs.Report.{client_lines, log_line, end_line};
 ghost use Rattle.ft_model.specs.declared.event.Event.{Event as Asked};
+ghost use Rattle.ft_model.specs.declared.event.EventWhy.{EventWhy};
 ghost use Rattle.ft_model.specs.declared.schedule.Schedule.{Schedule as Written};
 ghost use Rattle.net_schedule.specs.Keeping.{kept};
 ghost use Rattle.replay_tool.specs.OnItsWay.{Wrote, Holds};
@@ -12,6 +13,7 @@ ghost use Rattle.replay_tool.specs.Ends.{CountsFaults};
 ghost use Rattle.replay_tool.specs.Played.{ReportsAll};
 ghost use Rattle.replay_tool.specs.Standing.{IsStanding};
 ghost use Rattle.replay_tool.specs.Playing.{Reaches, StopsPlaying, HoldsAtEnd, EndsPlaying};
+ghost use Rattle.replay_tool.specs.declared.status.RunEnd.TheVariants.{BadEvent};
 
 use crate::laws::legal_traces_are_safe;
 use crate::lines::{write_closing, write_played};
@@ -21,6 +23,7 @@ use ft_io::{Failed, NoMemory, Sink};
 use ft_model::Event;
 use ft_model::grammar::playable_schedules_start;
 use net_schedule::World;
+use net_schedule::laws::worlds_keep_what_was_sent;
 use sample_servers::AnyService;
 use schedule_text::{Schedule, write_header};
 use std::alloc::Global;
@@ -45,6 +48,7 @@ fn play_event<O: Sink>(
     ensures faults { CountsFaults (O.fault_count out.old) (O.fault_count out.new) result }
 {
     legal_traces_are_safe();
+    worlds_keep_what_was_sent::<AnyService>();
     let answer = match world.step(alloc, event) {
         Ok(answer) => answer,
         Err(end) => return Err(end_of_step(end, n)),
@@ -90,7 +94,7 @@ fn close(
     requires { length world.now.clients.items ≤ 16 }
     ensures ok { OnOk result (report.new.held.items
         ≡ report.old.held.items
-        ++ (client_lines 1 world.now.clients.items ++ (flat_map log_line world.now.log.entries ++ end_line n))) }
+        ++ (client_lines 1 world.now.clients.items ++ (flat_map log_line (kept world.now).log.entries ++ end_line n))) }
     ensures err { OnErr result (report.new.held.items ≡ report.old.held.items) }
 {
     report.lines.clear();
@@ -123,6 +127,72 @@ fn start<O: Sink>(
     Ok(world)
 }
 
+/// Appends the state of the world after all events of a schedule to the report.
+fn close_whole(
+    alloc: Global,
+    schedule: &Schedule,
+    world: &World<AnyService>,
+    report: &mut Report,
+) -> Result<(), NoMemory>
+    requires stands { IsStanding (kept world.now) }
+    requires events { length schedule.now.events ≤ 100000 }
+    ensures done { OnOk result ((old now : Option (List ℕ)) → Reaches schedule.now [] (kept world.now) old now report.old.held.items
+        → Holds old now report.new.held.items (ReportsAll schedule.now)) }
+    ensures err { OnErr result (report.new.held.items ≡ report.old.held.items) }
+{
+    close(
+        alloc,
+        world,
+        schedule.events.as_slice().len() as u32,
+        report,
+    )?;
+    Ok(())
+}
+
+/// The end of a run that stops early. Where an event is refused, the state of the world before it is appended to the report.
+fn close_early(alloc: Global, world: &World<AnyService>, end: RunEnd, report: &mut Report) -> RunEnd
+    requires { (number : ℕ) (why : EventWhy) → end ≡ BadEvent number why → length world.now.clients.items ≤ 16 }
+    ensures stops { (schedule : Written) (old now : Option (List ℕ)) → StopsPlaying schedule (kept world.now) old now report.old.held.items end
+        → HoldsAtEnd schedule old now report.new.held.items result }
+    ensures faults { (before after : ℕ) → CountsFaults before after (Err end) → CountsFaults before after (Err result) }
+{
+    match end {
+        RunEnd::BadEvent { event, .. } => {
+            match close(alloc, world, event.saturating_sub(1), report) {
+                Ok(()) => end,
+                Err(NoMemory) => RunEnd::NoMemory,
+            }
+        }
+        _ => end,
+    }
+}
+
+/// Plays the events from the start of the world to their end, or to the first that is refused, and appends how the world stands then.
+fn play_to_end<O: Sink>(
+    alloc: Global,
+    schedule: &Schedule,
+    world: &mut World<AnyService>,
+    report: &mut Report,
+    out: &mut O,
+) -> Result<(), RunEnd>
+    requires reaches { (old : Option (List ℕ)) × Reaches schedule.now schedule.now.events (kept world.old) old (O.taken out.old) report.old.held.items }
+    requires few { length schedule.now.events ≤ 100000 }
+    ensures done { OnOk result ((old : Option (List ℕ)) → Reaches schedule.now schedule.now.events (kept world.old) old (O.taken out.old) report.old.held.items
+        → Holds old (O.taken out.new) report.new.held.items (ReportsAll schedule.now)) }
+    ensures stops { IfErr result (λ end. (old : Option (List ℕ))
+        → Reaches schedule.now schedule.now.events (kept world.old) old (O.taken out.old) report.old.held.items
+        → HoldsAtEnd schedule.now old (O.taken out.new) report.new.held.items end) }
+    ensures faults { CountsFaults (O.fault_count out.old) (O.fault_count out.new) result }
+{
+    match play_events(alloc, schedule, world, report, out) {
+        Ok(()) => {
+            close_whole(alloc, schedule, world, report)?;
+            Ok(())
+        }
+        Err(end) => Err(close_early(alloc, world, end, report)),
+    }
+}
+
 /// Plays a schedule, and leaves in the report what is still to be written.
 fn play_whole<O: Sink>(
     alloc: Global,
@@ -139,24 +209,7 @@ fn play_whole<O: Sink>(
     ensures faults { CountsFaults (O.fault_count out.old) (O.fault_count out.new) result }
 {
     let mut world = start(alloc, schedule, report, out)?;
-    match play_events(alloc, schedule, &mut world, report, out) {
-        Ok(()) => {
-            close(
-                alloc,
-                &world,
-                schedule.events.as_slice().len() as u32,
-                report,
-            )?;
-            Ok(())
-        }
-        Err(end) => match end {
-            RunEnd::BadEvent { event, .. } => {
-                close(alloc, &world, event.saturating_sub(1), report)?;
-                Err(end)
-            }
-            _ => Err(end),
-        },
-    }
+    play_to_end(alloc, schedule, &mut world, report, out)
 }
 
 /// Writes what is still to be written where a run ends early, unless the sink has failed.

@@ -9,12 +9,11 @@ ghost use Rattle.replay_tool.specs.Runs.{Reports, RunDoes};
 ghost use Rattle.replay_tool.specs.Played.{ReportsAll};
 ghost use Rattle.replay_tool.specs.Stream.{stream};
 
+use crate::laws::schedules_end_in_one_way;
 use crate::run::run;
 use crate::status::Status;
 use crate::telling::tell;
 use ft_io::{Sink, Source};
-use ft_model::laws::schedules_have_one_outcome;
-use sample_servers::AnyService;
 use std::alloc::Global;
 
 /// Reads a schedule to its end, plays it and writes its report to `out`, and then writes to `err` why the run ended early.
@@ -35,7 +34,7 @@ pub(crate) fn replay_schedule<I: Source, O: Sink, E: Sink>(
         → IfSome (I.left input.old) (λ text. IsSettled text result.code) }
     ensures taken { ConsumesAtMost 8388609 (I.left input.old) (I.left input.new) }
 {
-    schedules_have_one_outcome::<AnyService>();
+    schedules_end_in_one_way();
     match run(alloc, input, out) {
         Ok(()) => Status { code: 0 },
         Err(end) => tell(err, end),

@@ -36,6 +36,7 @@ fn event_word(why: EventWhy) -> &'static [u8]
         EventWhy::Down => b"down",
         EventWhy::Packet => b"packet",
         EventWhy::Bit => b"bit",
+        EventWhy::Stop => b"stop",
         EventWhy::Client => b"client",
         EventWhy::State => b"state",
         EventWhy::Range => b"range",

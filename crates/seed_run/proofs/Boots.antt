@@ -12,7 +12,7 @@ use Rattle.ft_model.specs.Network.{Packet, destination_of}
 use Rattle.ft_model.specs.Network.Packet.{To_server, To_client, To_logger, From_logger}
 use Rattle.ft_model.specs.World.{World, Happens, Delivered, DeliveredAs, ClientReads, LogReads}
 use Rattle.ft_model.specs.declared.event.Event.{Event}
-use Rattle.ft_model.specs.declared.event.Event.TheVariants.{Boot, Crash, Tick, Deliver, Flip, Begin, Send, Fin, Ack, Reset}
+use Rattle.ft_model.specs.declared.event.Event.TheVariants.{Boot, Crash, Tick, Deliver, Flip, Begin, Send, Fin, Ack, Reset, Stop}
 use Rattle.seq_arith.specs.Offset.{one_if}
 use Rattle.seed_run.specs.Summary.{is_boot}
 
@@ -58,3 +58,4 @@ boot_after service before (Send client from len) sent after n h = same before af
 boot_after service before (Fin client) sent after n h = same before after (ap (λ w. w.boot) h.after_is)
 boot_after service before (Ack client window) sent after n h = same before after (ap (λ w. w.boot) h.after_is)
 boot_after service before (Reset client) sent after n h = same before after (ap (λ w. w.boot) h.after_is)
+boot_after service before (Stop part) sent after n h = absurd h

@@ -6,7 +6,7 @@ use Rattle.ft_model.specs.Client.{Client}
 use Rattle.ft_model.specs.Texts.{phase_text}
 use Rattle.ft_model.specs.World.{World, Moment, world_after}
 use Rattle.ft_model.specs.declared.event.Event.{Event}
-use Rattle.ft_model.specs.declared.event.Event.TheVariants.{Boot, Crash, Tick, Deliver, Flip, Begin, Send, Fin, Ack, Reset}
+use Rattle.ft_model.specs.declared.event.Event.TheVariants.{Boot, Crash, Tick, Deliver, Flip, Begin, Send, Fin, Ack, Reset, Stop}
 
 abbrev pub is_boot : Event → Bool
 is_boot (Boot boot isn) = true
@@ -19,6 +19,7 @@ is_boot (Send client from len) = false
 is_boot (Fin client) = false
 is_boot (Ack client window) = false
 is_boot (Reset client) = false
+is_boot (Stop part) = false
 
 abbrev pub is_crash : Event → Bool
 is_crash Crash = true
@@ -31,6 +32,7 @@ is_crash (Send client from len) = false
 is_crash (Fin client) = false
 is_crash (Ack client window) = false
 is_crash (Reset client) = false
+is_crash (Stop part) = false
 
 -- how many moments of a trace have such an event
 abbrev pub count_events : (Event → Bool) → List Moment → ℕ

@@ -67,6 +67,7 @@ pub(crate) fn schedule_for(
     Ok(Schedule {
         service: ServiceKind::Echo,
         server: SERVER,
+        twin: false,
         clients: clients_for(alloc, generator, clients)?,
         events: Events::new(Vec::new(alloc)),
     })

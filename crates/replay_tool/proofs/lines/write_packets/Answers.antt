@@ -1,16 +1,10 @@
-use Rattle.std.proofs.Common.{◌+◌, refl, arith}
-use Rattle.ft_model.specs.Report.{packet_lines}
-use Rattle.ft_model.specs.Schedule.{clients_of}
-use Rattle.net_schedule.specs.Sent.{packets_of}
-use Rattle.replay_tool.proofs.Following.{next_packet, all_lines}
+use Rattle.std.proofs.Common.{arith}
+use Rattle.replay_tool.proofs.Stored.{next_stored, all_stored}
 use Rattle.replay_tool.proofs.lines.write_packets.Goals as goal
 
 pub loop-k-preserved : goal.loop-k-preserved
-loop-k-preserved c = λ schedule events trace before sent stands shape first count.
-    next_packet (clients_of schedule.server schedule.clients) (packets_of schedule trace) before sent c.args.first c.loop-k.k c.loop-k.lines.items c.write_packet.new.lines.items _ shape first (omega arith)
-    (λ p is. c.in_ok-write_packet.ensures schedule events trace p stands is) (c.loop-k.invariant schedule events trace before sent stands shape first count)
+loop-k-preserved c =
+    next_stored c.args.world.now.packets c.args.first c.args.count c.loop-k.k c.loop-k.lines.items c.write_packet.new.lines.items _ (omega arith) c.in_ok-write_packet.ensures c.loop-k.invariant
 
 pub returns : goal.returns
-returns c = λ schedule events trace before sent stands shape first count.
-    all_lines (packet_lines (clients_of schedule.server schedule.clients)) (λ n. refl) sent (c.args.first + c.loop-k.k) c.loop-k.k c.loop-k.lines.items _ (omega arith)
-    (c.loop-k.invariant schedule events trace before sent stands shape first count)
+returns c = all_stored c.args.world.now.packets c.args.first c.args.count c.loop-k.k c.loop-k.lines.items _ (omega arith) c.loop-k.invariant

@@ -2,6 +2,7 @@ use Rattle.std.proofs.Common.{◌∙◌, ◌++◌, [], ap, sym, subst, append-ni
 use Rattle.ft_model.specs.Report.{header}
 use Rattle.net_schedule.specs.Keeping.{kept}
 use Rattle.replay_tool.specs.Playing.{HoldsAtEnd}
+use Rattle.replay_tool.proofs.Either.{stands_first}
 use Rattle.replay_tool.proofs.Ending.{begins, ends_before}
 use Rattle.replay_tool.proofs.Playing.{goes_out, goes_out_in_part}
 use Rattle.replay_tool.proofs.play.start.Goals as goal
@@ -26,7 +27,8 @@ returns-in_err-flush_piece-clause-stops g c =
     of_error c.from_residual-in_err-flush_piece.result c.from_residual-in_err-flush_piece.ensures.1
     (λ end is. subst (HoldsAtEnd c.args.schedule.now (g.O.Sink.taken c.args.out.now) (g.O.Sink.taken c.flush_piece.new.out) c.flush_piece.new.report.held.items) (sym is)
     (goes_out_in_part c.args.schedule.now c.args.schedule.now.events (kept c.in_ok-world.world) (g.O.Sink.taken c.args.out.now) (g.O.Sink.taken c.args.out.now) (g.O.Sink.taken c.flush_piece.new.out) c.write_header.new.out.items
-    (begins c.legal_traces_are_safe.ensures c.args.schedule.now (kept c.in_ok-world.world) (g.O.Sink.taken c.args.out.now) c.write_header.new.out.items c.in_ok-world.ensures
+    (begins c.legal_traces_are_safe.ensures c.args.schedule.now (kept c.in_ok-world.world) (g.O.Sink.taken c.args.out.now) c.write_header.new.out.items
+    (stands_first c.args.schedule.now.twin c.args.schedule.now (kept c.in_ok-world.world) c.in_ok-world.ensures.one c.in_ok-world.ensures.two)
     (c.in_ok-write_header.ensures.ok ∙ ap (λ held. held ++ header c.args.schedule.now) c.requires.empty))
     c.in_err-flush_piece.ensures.err))
 
@@ -34,6 +36,7 @@ pub returns-clause-reaches : goal.returns-clause-reaches
 returns-clause-reaches g c =
     goes_out c.args.schedule.now c.args.schedule.now.events (kept c.in_ok-world.world) (g.O.Sink.taken c.args.out.now) (g.O.Sink.taken c.args.out.now) (g.O.Sink.taken c.flush_piece.new.out) c.write_header.new.out.items
     c.flush_piece.new.report.held.items
-    (begins c.legal_traces_are_safe.ensures c.args.schedule.now (kept c.in_ok-world.world) (g.O.Sink.taken c.args.out.now) c.write_header.new.out.items c.in_ok-world.ensures
+    (begins c.legal_traces_are_safe.ensures c.args.schedule.now (kept c.in_ok-world.world) (g.O.Sink.taken c.args.out.now) c.write_header.new.out.items
+    (stands_first c.args.schedule.now.twin c.args.schedule.now (kept c.in_ok-world.world) c.in_ok-world.ensures.one c.in_ok-world.ensures.two)
     (c.in_ok-write_header.ensures.ok ∙ ap (λ held. held ++ header c.args.schedule.now) c.requires.empty))
     c.in_ok-flush_piece.ensures.ok c.in_ok-flush_piece.ensures.held_back

@@ -8,7 +8,7 @@ returns-in-Ok-clause-ended g c = record { end = Ok tt; did = c.in-Ok.ensures.don
 
 pub returns-in-Ok-clause-settled : goal.returns-in-Ok-clause-settled
 returns-in-Ok-clause-settled g c = λ input out err. of_told (g.I.Source.left c.args.input.now) (λ text told.
-    settles c.schedules_have_one_outcome.ensures.whole_or_refused c.schedules_have_one_outcome.ensures.whole_or_past c.schedules_have_one_outcome.ensures.refused_or_past
+    settles c.schedules_end_in_one_way.ensures.whole_or_refused c.schedules_end_in_one_way.ensures.whole_or_past c.schedules_end_in_one_way.ensures.refused_or_past
     text 0 refl (λ e. cc) (λ e. cc) (λ e. cc)
     (λ e. in_order text (stream g.I.Source.left g.I.Source.fault_count c.args.input.now c.run.new.input) (stream g.O.Sink.taken g.O.Sink.fault_count c.args.out.now c.run.new.out) told c.in-Ok.ensures.done)
     (λ e. cc) (λ e. cc) (λ e. cc))
@@ -34,7 +34,7 @@ returns-in-Err-clause-no_usage g c = λ e.
 
 pub returns-in-Err-clause-settled : goal.returns-in-Err-clause-settled
 returns-in-Err-clause-settled g c = λ input out err. of_told (g.I.Source.left c.args.input.now) (λ text told. ⊎_elim
-    (λ is. settles_end c.schedules_have_one_outcome.ensures.whole_or_refused c.schedules_have_one_outcome.ensures.whole_or_past c.schedules_have_one_outcome.ensures.refused_or_past
+    (λ is. settles_end c.schedules_end_in_one_way.ensures.whole_or_refused c.schedules_end_in_one_way.ensures.whole_or_past c.schedules_end_in_one_way.ensures.refused_or_past
     text c.tell.result.code (stream g.I.Source.left g.I.Source.fault_count c.args.input.now c.run.new.input) (stream g.O.Sink.taken g.O.Sink.fault_count c.args.out.now c.run.new.out) c.in-Err.end told is.0 c.in-Err.ensures.stops
     input out)
     (λ fault. absurd (err fault.1))

@@ -12,7 +12,8 @@ pub play-requires-clause-stands : goal.play-requires-clause-stands
 play-requires-clause-stands c =
     stands_first c.args.asked (kept c.in_ok-world.world) c.new-progress.result
     (subst (λ s. StandsAfter any_machine s [] [] (kept c.in_ok-world.world))
-    (c.in_ok-schedule.ensures.schedule ∙ ap (λ s. schedule_of s c.args.asked.clients []) c.new-generator.ensures) c.in_ok-world.ensures)
+    (c.in_ok-schedule.ensures.schedule ∙ ap (λ s. schedule_of s c.args.asked.clients []) c.new-generator.ensures)
+    (c.in_ok-world.ensures.one (ap (λ s. s.twin) c.in_ok-schedule.ensures.schedule)))
     (ap (λ (p : Progress). p.dice.draws.state) c.new-progress.ensures
     ∙ (c.in_ok-schedule.ensures.state ∙ ap (λ s. after_draws s c.args.asked.clients) c.new-generator.ensures))
     (ap (λ (p : Progress). p.packets) c.new-progress.ensures) (ap (λ (p : Progress). p.boots) c.new-progress.ensures) (ap (λ (p : Progress). p.crashes) c.new-progress.ensures)

@@ -1,0 +1,63 @@
+-- The traces of a schedule's runs: those of the world with one log, and those of the world with a head and a tail. What is said of a run and of its report is
+-- said of either.
+use Rattle.std.specs.Prelude.{ℕ, Bool, true, false, Option, List}
+use Rattle.sample_servers.specs.AnyService.{any_machine}
+use Rattle.ft_model.specs.Legal.{start_of, refusal, IsLegalFor}
+use Rattle.ft_model.specs.Outcome.{packets_sent}
+use Rattle.ft_model.specs.Report.{event_lines, report}
+use Rattle.ft_model.specs.Schedule.{kind_of, clients_of}
+use Rattle.ft_model.specs.World.{Moment, world_after, events_of}
+use Rattle.ft_model.specs.declared.event.Event.{Event}
+use Rattle.ft_model.specs.declared.event.EventWhy.{EventWhy}
+use Rattle.ft_model.specs.declared.schedule.Schedule.{Schedule}
+use Rattle.seed_run.specs.Safe.{IsSafe}
+use Rattle.twin_laws.specs.Flat.{flat}
+use Rattle.twin_laws.specs.TwinLegal.{twin_start, twin_refusal, IsTwinLegalFor, twin_packets_sent}
+use Rattle.twin_laws.specs.TwinReport.{twin_event_lines, twin_report}
+use Rattle.twin_laws.specs.TwinWorld.{TwinMoment, twin_after}
+
+-- Newest moment first. The service is the one that the schedule names
+pub record Traces : Type 1 where
+  pub Turn : Type 0
+  pub IsLegal : Schedule → List Event → List Turn → Type 0  -- a legal trace of these first events
+  pub IsSafe : Schedule → List Turn → Type 0  -- what is proved of it
+  pub sent : Schedule → List Turn → ℕ  -- how many packets were sent up to its end
+  pub refuses : Schedule → List Turn → Event → Option EventWhy  -- why an event may not happen next
+  pub lines : Schedule → List Turn → List ℕ  -- the report's lines on its events
+  pub report : Schedule → List Turn → List ℕ
+
+abbrev pub of_one_log : Traces
+of_one_log = record {
+  Turn = Moment;
+  IsLegal = IsLegalFor any_machine;
+  IsSafe = λ schedule trace. IsSafe (any_machine (kind_of schedule.service)) (start_of schedule) trace;
+  sent = packets_sent;
+  refuses = λ schedule trace event. refusal (world_after (start_of schedule) trace) event;
+  lines = λ schedule trace. event_lines (clients_of schedule.server schedule.clients) trace;
+  report = report;
+}
+
+-- .. with two loggers its moments are of that world, and what is proved of it is said of the trace with one log that it becomes when it is made flat: it is
+-- legal too, and safe
+pub record IsSafeFlat (schedule : Schedule) (trace : List Moment) : Type 0 where
+  pub legal : IsLegalFor any_machine schedule (events_of trace) trace
+  pub safe : IsSafe (any_machine (kind_of schedule.service)) (start_of schedule) trace
+
+abbrev pub of_two_loggers : Traces
+of_two_loggers = record {
+  Turn = TwinMoment;
+  IsLegal = IsTwinLegalFor any_machine;
+  IsSafe = λ schedule trace. IsSafeFlat schedule (flat (twin_start schedule) trace).trace;
+  sent = twin_packets_sent;
+  refuses = λ schedule trace event. twin_refusal (twin_after (twin_start schedule) trace) event;
+  lines = λ schedule trace. twin_event_lines (clients_of schedule.server schedule.clients) trace;
+  report = twin_report;
+}
+
+-- with two loggers or with one
+abbrev pub traces_of : Bool → Traces
+traces_of true = of_two_loggers
+traces_of false = of_one_log
+
+abbrev pub traces : Schedule → Traces
+traces schedule = traces_of schedule.twin
