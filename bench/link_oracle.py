@@ -12,6 +12,7 @@ sys.path.insert(0, str(pathlib.Path(__file__).parent.parent / "tools"))
 
 from endpoint_model import Endpoint  # noqa: E402
 from model import LIMIT, Segment  # noqa: E402
+from twin_model import KINDS, Head, Tail, read_twin, spelled as between  # noqa: E402
 
 script, printed = [], []
 
@@ -105,6 +106,20 @@ allowed += [(CLIENT, "client"), (CLIENT + " --script -", "client"), ("client --s
 allowed += [(PAIR, "pair"), ("pair --turns=600 --second=500 --first=40 --base=7007 --program=ftnode", "pair")]
 allowed += [("pair --program=a=b --base 65533 --first 1000000 --second 1000000 --turns 1000000", "pair"), (without(PAIR, "program") + " --program ~-", "pair")]
 
+# a logger of a pair has both of its options, and no journal; a server may have a second logger; and what tells a logger that it is alone has two options
+PARTED = LOGGER + " --part head --other 127.0.0.1:7041"
+ALONE = "alone --local 127.0.0.1:7050 --to 127.0.0.1:7041"
+DOUBLE = SERVER + " --second 127.0.0.1:7009"
+refused += [without(PARTED, name) for name in ("local", "turns", "part", "other")] + [without(ALONE, name) for name in ("local", "to")]
+refused += [without(PARTED, "part") + " --part" + text for text in (" Head", " middle", " ''", "=", " head~", "")]
+refused += [without(PARTED, "other") + " --other" + text for text in (" localhost:7041", " ''", " 127.0.0.1:0", "")]
+refused += [PARTED + more for more in (" --journal a", " --part tail", " --other 127.0.0.1:7041", " --second 127.0.0.1:7009", " --boot 1", " --", " -")]
+refused += [ALONE + more for more in (" --turns 1", " --to 127.0.0.1:7041", " --part head", " --", " 3")] + ["alone", "Alone" + ALONE[5:], without(ALONE, "to") + " --to 127.0.0.1"]
+refused += [SERVER + " --second" + text for text in ("", " ''", "=", " 127.0.0.1", " 127.0.0.1:65536", " 1")] + [DOUBLE + " --second 127.0.0.1:7009"]
+refused += [words + " --second 127.0.0.1:7009" for words in (LOGGER, CLIENT, ALONE)] + [words + " --part head --other 127.0.0.1:7041" for words in (SERVER, CLIENT, PAIR)]
+allowed += [(PARTED, "head"), ("logger --other=127.0.0.1:7041 --part=tail --turns=3 --local=127.0.0.1:7040", "tail")]
+allowed += [(ALONE, "alone"), ("alone --to=127.0.0.1:7041 --local=127.0.0.1:7050", "alone"), (DOUBLE, "server"), (SERVER + " --second=127.0.0.1:7008", "server")]
+
 line("# words that ask for no role", "# words that ask for no role")
 for words in refused:
     line("ask " + words, "none")
@@ -161,15 +176,16 @@ def logger(net, turns):
     return 0, net.told()
 
 
-def server(net, turns, boot, at):
+def server(net, turns, boot, loggers):
     serving = False
-    net.send(at, hello(boot))
+    for at in loggers:
+        net.send(at, hello(boot))
     for _ in range(turns):
         came = net.receive()
         if came is None:
-            if not serving:
+            for at in [] if serving else loggers:
                 net.send(at, hello(boot))
-        elif came[0] == at and came[1] in KNOWN and KNOWN[came[1]][1] == boot:
+        elif came[0] in loggers and came[1] in KNOWN and KNOWN[came[1]][1] == boot:
             asks = KNOWN[came[1]][0]
             if asks == "summary":
                 serving = True
@@ -178,14 +194,39 @@ def server(net, turns, boot, at):
     return 0, net.told()
 
 
+def part(net, turns, name, other):
+    """One of two loggers. Told that the other has stopped, it serves alone."""
+    it, at = {"head": Head, "tail": Tail}[name](), None
+    for _ in range(turns):
+        came = net.receive()
+        if came is None:
+            continue
+        data = bytes.fromhex(came[1])
+        if read_twin(data) == ("Alone",):
+            it.alone = True
+            continue
+        at = at if came[0] == other else came[0]
+        for to, out in (it.other if came[0] == other else it.server)(data):
+            if to == "other" or at:
+                net.send(other if to == "other" else at, out.hex())
+    return 0, net.told()
+
+
+def alone(net, to):
+    net.send(to, between(b"FU", 3, 0, b"").hex())
+    return 0, f"sent {net.counts['sent']} lost {net.counts['lost']}"
+
+
 KNOWN = {hello(b): ("hello", b) for b in (1, 2, 3)}
 KNOWN.update({summary(b, 0): ("summary", b) for b in (1, 2)})
 KNOWN.update({stale(1, 2): (2, 1), stale(1, 18446744073709551615): (18446744073709551615, 1), stale(2, 3): (3, 2)})
-AT = {"logger": "127.0.0.1:7040", "server": "127.0.0.1:7007"}
+AT = {"logger": "127.0.0.1:7040", "server": "127.0.0.1:7007", "alone": "127.0.0.1:7050"}
 
 
 def run(words, come, bind=0, second_bind=False, send=0, receive=0, write=0, error=0, way="run"):
-    role, turns = words.split(" ")[0], int(words.split(" ")[-1])
+    role, *given = words.replace("=", " ").split(" ")
+    options = dict(zip(given[::2], given[1::2]))
+    turns = int(options.get("--turns", 0))
     for came in come:
         script.append("nothing" if came is None else f"come {came[0]} {came[1]}".rstrip())
     for call, number in (("bind", bind), ("bind", 2 * second_bind), ("send", send), ("receive", receive), ("write", write), ("error", error)):
@@ -196,9 +237,11 @@ def run(words, come, bind=0, second_bind=False, send=0, receive=0, write=0, erro
     if bind:
         status, said = 4, "ftnode: link fault"
     elif role == "logger":
-        status, said = logger(net, turns)
+        status, said = part(net, turns, options["--part"], options["--other"]) if "--part" in options else logger(net, turns)
+    elif role == "alone":
+        status, said = alone(net, options["--to"])
     else:
-        status, said = server(net, turns, 1, "127.0.0.1:7008")
+        status, said = server(net, turns, 1, [options[name] for name in ("--logger", "--second") if name in options])
     if write and status == 0:
         status, said = 5, None
     if error and status:
@@ -208,7 +251,10 @@ def run(words, come, bind=0, second_bind=False, send=0, receive=0, write=0, erro
         printed.append(said)
     if not bind:
         printed.append(f"bound {AT[role]} -")
-    printed.extend(net.calls)
+    if way == "brief":
+        printed[-1:] = [f"receives {net.receives} sends {net.sends}"]
+    else:
+        printed.extend(net.calls)
 
 
 line("# a server whose third send and fifth receive fail", "# a server whose third send and fifth receive fail")
@@ -506,12 +552,13 @@ def kept(length, reads):
     return KEY + long(length) + b"\0" + long(reads)
 
 
-def played(words, steps):
-    """A server with these words: each step is what comes, and what the server then hands to send."""
+def played(words, steps, way="own", second=None):
+    """A server with these words: each step is what comes, and what the server then hands to send. What goes to the logger goes next to the second."""
+    steps = [(came, [s for to, data in sends for s in [(to, data)] + ([(second, data)] if second and to == LOG else [])]) for came, sends in steps]
     for came, sends in steps:
         if came:
             script.append(f"come {came[0]} {came[1]}")
-    script.append("own " + words)
+    script.append(f"{way} {words}")
     calls = [call for came, sends in steps for call in ([f"came {came[0]} {came[1]}"] if came else []) + [f"sent {to} {data}" for to, data in sends]]
     turns = sum(1 for came, sends in steps if came)
     printed.extend(["status 0", f"turns {turns} datagrams {turns} sent {sum(len(s) for c, s in steps)} lost 0 failed 0", "bound 127.0.0.1:7007 -", *calls])
@@ -541,6 +588,99 @@ played(OWN.replace("--boot 1 --isn 5000 --turns 6", "--boot 2 --isn 900000 --tur
     (logs(READS, 2, kept(12, 2)), [hears(ACK, 5003, 1013, b"12\n")]),
 ])
 
+
+# A server with two loggers
+BACK = "127.0.0.1:7009"
+line("# each message goes to the logger and next to the second, and a datagram of either is a message", "# each message goes to the logger and next to the second, and a datagram of either is a message")
+DOUBLED = DOUBLE.replace("--turns 6", "--turns 7")
+played(DOUBLED, [
+    (None, [(LOG, hello(1))]),
+    ((BACK, summary(1, 0)), []),
+    (says(SYN, 1000, 0), [logs(OPEN, 1, OPENING)]),
+    ((BACK, message(OPENED, 1, OPENING)), [hears(SYN | ACK, 5000, 1001, options=MSS)]),
+    (logs(OPENED, 1, OPENING), []),
+    (says(ACK, 1001, 5001, b"hello"), [hears(ACK, 5001, 1001), logs(DATA, 1, KEY + long(0) + long(0) + b"\0hello"), logs(READ, 1, KEY + long(0) + b"\0\x05")]),
+    ((BACK, message(READS, 1, kept(5, 1))), [hears(ACK, 5001, 1006, b"hello")]),
+    (logs(STABLE, 1, kept(5, 1)), []),
+], way="run", second=BACK)
+line("# each send and each receive of it in turn, and what fences it", "# each send and each receive of it in turn, and what fences it")
+for n in range(1, 7):
+    run(DOUBLE, [None, None, (BACK, summary(1, 0)), None, None], send=n)
+    run(DOUBLE, [None, None, (BACK, summary(1, 0)), None, None], receive=n)
+for at in (LOG, BACK, "127.0.0.1:7010"):
+    run(DOUBLE, [(at, stale(1, 2))])
+run(DOUBLE, [], bind=1)
+run(DOUBLE, [], write=1)
+
+# Two loggers, and what tells one that the other has stopped
+OTHER, FROM, STRAY = "127.0.0.1:7041", "127.0.0.1:7007", "10.0.0.9:1"
+NAMES = {"head": PARTED, "tail": PARTED.replace("head", "tail")}
+
+
+def turns_of(name, comes, more=0):
+    return NAMES[name].replace("--turns 3", f"--turns {max(1, len(comes) + more)}")
+
+
+def both(comes, **fails):
+    for name in NAMES:
+        run(turns_of(name, comes), comes, **fails)
+
+
+def forward(number, data):
+    return OTHER, between(b"FU", 1, number, bytes.fromhex(data)).hex()
+
+
+def got(number):
+    return OTHER, between(b"FU", 2, number, b"").hex()
+
+
+TOLD = between(b"FU", 3, 0, b"").hex()
+asks = [hello(1), message(OPEN, 1, OPENING), message(DATA, 1, KEY + long(0) + long(0) + b"\0abc"), message(READ, 1, KEY + long(0) + b"\0\3"), message(15, 1, KEY)]
+asked = [(FROM, data) for data in asks]
+forwards = [forward(i + 1, data) for i, data in enumerate(asks)]
+line("# a head takes and forwards, and a tail applies, answers and confirms", "# a head takes and forwards, and a tail applies, answers and confirms")
+run(turns_of("head", asked + [got(2)] * 2), asked + [got(2), asked[4]])
+run(turns_of("tail", forwards + forwards[:3]), [(FROM, "")] + forwards + [forwards[1], forwards[4]])
+line("# until the server has spoken to a tail, nothing goes to it; where it speaks from is where it is", "# until the server has spoken to a tail, nothing goes to it; where it speaks from is where it is")
+run(turns_of("tail", forwards, 3), forwards[:2] + [(STRAY, "00")] + [forwards[2], (FROM, asks[0]), forwards[3], forwards[4], None])
+line("# an Alone of a stranger, of the other and of the server, and told twice or more", "# an Alone of a stranger, of the other and of the server, and told twice or more")
+for stranger in (STRAY, OTHER, FROM):
+    both(asked[:2] + [(stranger, TOLD)] + asked[1:4])
+    both([(stranger, TOLD), forwards[0], (stranger, TOLD)] + asked[:3] + [(STRAY, TOLD), asked[3], got(1), None])
+both([(STRAY, TOLD), forwards[0], (OTHER, asks[0]), (FROM, asks[1])])
+line("# datagrams of each kind, from the server and from the other, to each part, in a pair and alone", "# datagrams of each kind, from the server and from the other, to each part, in a pair and alone")
+bodies = {"Summary": b"\0\0", "List": b"\0\0", "Entry": b"\0\0" + OPENING + long(0) + b"\0\0" + long(0) + long(0), "Stale": (2).to_bytes(8, "big")}
+bodies |= {name: KEY + long(0) for name in ("Bytes", "Cuts")} | {"Part": KEY + long(0) + b"x", "Lens": KEY + long(0) + b"\0\1", "Open": OPENING, "Opened": OPENING}
+bodies |= {"Hello": b"", "Data": KEY + long(0) + long(0) + b"\0x", "Read": KEY + long(0) + b"\0\1"} | {name: kept(1, 0) for name in ("Stable", "Reads")}
+kinds = [message(i + 1, 1, bodies.get(name, KEY)) for i, name in enumerate(KINDS)]
+for told in ([], [(STRAY, TOLD)]):
+    both(told + [(FROM, data) for data in kinds])
+    both(told + [(OTHER, data) for data in kinds])
+    both(told + [forward(i + 1, data) for i, data in enumerate(kinds)] + [(FROM, forwards[0][1]), (FROM, got(1)[1]), got(1), got(9)])
+line("# sends and receives that fail, each in turn; no bind, and sinks that fail", "# sends and receives that fail, each in turn; no bind, and sinks that fail")
+for n in range(1, 8):
+    both(asked[:1] + forwards[:3] + asked[1:3], send=n)
+    both(asked[:1] + forwards[:3] + asked[1:3], receive=n)
+both([], bind=1)
+both([], second_bind=True)
+both([], bind=1, error=1)
+both(asked[:1], write=1)
+line("# a burst of 70 to a head, of which it takes 64: each message forwards all that waits", "# a burst of 70 to a head, of which it takes 64: each message forwards all that waits")
+burst = [(FROM, message(DATA, 1, KEY + long(0) + long(n) + b"\0")) for n in range(70)]
+run(turns_of("head", burst), burst, way="brief")
+run(turns_of("head", burst, 2), burst + [got(64), burst[0]], way="brief")
+line("# drawn lists of all of these", "# drawn lists of all of these")
+for _ in range(6):
+    drawn_list = [drawn.choice([*asked, *forwards, got(1), got(3), (FROM, asks[0]), (STRAY, asks[2]), None, (OTHER, forwards[2][1][:-2])]) for _ in range(30)]
+    drawn_list[20:20] = [(STRAY, TOLD)]
+    both(drawn_list)
+line("# what tells a logger: one Alone, whether or not its send succeeds", "# what tells a logger: one Alone, whether or not its send succeeds")
+run(ALONE, [])
+run(ALONE, [], send=1)
+run(ALONE, [], bind=1)
+run(ALONE, [], second_bind=True)
+run(ALONE, [], write=1)
+run(ALONE, [], bind=1, error=1)
 
 
 # The whole program as a process on this machine, at HERE; its peer, where it needs one, is at THERE

@@ -2,14 +2,12 @@
 //! words are those of `node`.
 #![tactic(auto)]
 
-pub use program::run_ftnode;
 pub use role::{FileName, JournalRole};
 pub use status::JournalEnd;
 pub use top::node_with;
 
 mod answers;
 mod keeper;
-mod program;
 mod role;
 mod rounds;
 mod status;

@@ -1,4 +1,4 @@
-//! `link_script`: runs `node` over a link in memory, by the lines of a script, which comes from standard input, and prints how each run ends. The lines of a
+//! `link_script`: runs `node_in_pair` over a link in memory, by the lines of a script, which comes from standard input, and prints how each run ends. The lines of a
 //! script:
 //!
 //! - `# ..` is printed as it is;
@@ -8,7 +8,7 @@
 //! - `child N` gives the next child of the next run the status N; without this line it is 0;
 //! - `fail CALL N` makes the call with number N, from 1, of the next run fail: CALL is `bind`, `send`, `receive`, `read`, `write`, `error` or `child`: the
 //!   writes are on out and err, and starts of children and waits for them have one numbering;
-//! - `run WORDS` runs `node`, and prints its status, what it wrote to out and to err, and the calls that the link and the spawner recorded; `brief WORDS`
+//! - `run WORDS` runs `node_in_pair`, and prints its status, what it wrote to out and to err, and the calls that the link and the spawner recorded; `brief WORDS`
 //!   prints of the link's calls only how many were receives and how many sends;
 //! - `own WORDS` is the same as `run`, for `node_of` with the service Counter;
 //! - `start WORDS` starts `ftnode` as a process, and prints its exit status and what it wrote to both outputs. Its shell's command is that of a line `shell
@@ -21,7 +21,6 @@
 use faults::Faults;
 use ft_io::{Addr, Arrival, NoMemory, Octets, WriteSink, write_all};
 use hex::FromHexError;
-use journal_link::run_ftnode;
 use node_link::{Role, read_role};
 use process::Meeting;
 use run::{Setting, Way};
@@ -33,6 +32,8 @@ use std::process::{ExitCode, Processes};
 use std::rt::Env;
 use std::time::Clock;
 use std::{env, io, mem};
+use twin_link::{TwinRole, read_twin_role, run_ftnode};
+use twin_log::Part;
 
 mod children;
 mod faults;
@@ -207,14 +208,35 @@ fn say(line: &str, said: &mut Vec<u8>) -> Result<(), NoMemory> {
 /// Says which role the words ask for.
 fn ask(alloc: Global, text: &str, said: &mut Vec<u8>) -> Result<(), NoMemory> {
     let words = words_of(alloc, text)?;
-    let name = match read_role(alloc, words.as_slice())? {
+    let twin = read_twin_role(alloc, words.as_slice())?;
+    let role = read_role(alloc, words.as_slice())?;
+    let name = match &twin {
+        Some(twin) => name_of_twin(twin),
+        None => name_of(&role),
+    };
+    say(name, said)
+}
+
+/// The name of a role that has to do with two loggers.
+fn name_of_twin<'a>(role: &TwinRole) -> &'a str {
+    match role {
+        TwinRole::Logger(role) => match role.part {
+            Part::Head => "head",
+            Part::Tail => "tail",
+        },
+        TwinRole::Alone(_) => "alone",
+    }
+}
+
+/// The name of a role that `node` has.
+fn name_of<'a>(role: &Option<Role>) -> &'a str {
+    match role {
         None => "none",
         Some(Role::Server(_)) => "server",
         Some(Role::Logger(_)) => "logger",
         Some(Role::Client(_)) => "client",
         Some(Role::Pair(_)) => "pair",
-    };
-    say(name, said)
+    }
 }
 
 /// The words of a text, which single spaces separate. An empty text has none.

@@ -1,19 +1,21 @@
-//! One run of `node` over a link and a spawner in memory, or of `node_of` over a link.
+//! One run of `node_in_pair` over a link and a spawner in memory, or of `node_of` over a link.
 
 use crate::children::say_children;
 use crate::faults::Faults;
 use crate::say;
 use counter_service::Counter;
+use disk::{MemDesk, MemDisk};
 use ft_io::{Addr, Arrival, LinkCall, MemLink, MemSink, MemSource, MemSpawner, NoMemory};
-use node_link::{node, node_of};
+use node_link::node_of;
 use std::alloc::Global;
+use twin_link::node_in_pair;
 
 /// What is run, and how its calls on the link are printed.
 #[derive(Clone, Copy, Debug, PartialEq, Eq)]
 pub enum Way {
-    /// `node`, each call.
+    /// `node_in_pair`, each call.
     Node,
-    /// `node`, how many calls there were.
+    /// `node_in_pair`, how many calls there were.
     Brief,
     /// `node_of` with Counter, each call.
     Own,
@@ -51,6 +53,21 @@ fn link_of(alloc: Global, arrivals: Vec<Arrival>, faults: Faults) -> Result<MemL
     Ok(MemLink::with_bind_fails(alloc, arrivals, sends, receives, binds))
 }
 
+/// A desk with no network and an empty file: no run here keeps a journal.
+fn idle_desk(alloc: Global) -> MemDesk {
+    let none = Vec::new(alloc);
+    let link = MemLink::new(alloc, none, Vec::new(alloc), Vec::new(alloc), false);
+    let disk = MemDisk::new(alloc, Vec::new(alloc), Vec::new(alloc), Vec::new(alloc));
+    MemDesk::new(
+        alloc,
+        link,
+        disk,
+        String::new(alloc),
+        Vec::new(alloc),
+        false,
+    )
+}
+
 /// Runs it between these.
 fn run_between(
     alloc: Global,
@@ -63,8 +80,15 @@ fn run_between(
     mut kids: MemSpawner,
 ) -> Finished {
     let status = match way {
-        Way::Node | Way::Brief => node(
-            alloc, words, &mut link, &mut input, &mut out, &mut err, &mut kids,
+        Way::Node | Way::Brief => node_in_pair(
+            alloc,
+            words,
+            &mut link,
+            &mut input,
+            &mut out,
+            &mut err,
+            &mut kids,
+            &mut idle_desk(alloc),
         ),
         Way::Own => node_of::<Counter, _, _, _>(alloc, words, &mut link, &mut out, &mut err),
     };

@@ -1,12 +1,13 @@
 -- A server's turns follow one another: so do their calls, their counts add up, and they stay lawful as long as the premises hold.
 use Rattle.std.proofs.Common.{◌≡◌, ◌∙◌, inl, inr, ℕ, true, false, suc, ◌+◌, ◌*◌, ◌<◌, ◌≤◌, ◌^◌, cond, add-one, refl, sym, ap, ap₂, subst, Option, None, Some, List, [], ◌∷◌, ◌++◌, length, take, get_or, map, append-nil, length-append, arith, Result, Ok, Err}
-use Rattle.std.proofs.lemmas.List.{map-append, length-map}
+use Rattle.std.proofs.lemmas.List.{map-append, length-map, length-take-le}
+use Rattle.std.proofs.lemmas.List.Concat.{flat_map-append}
 use Rattle.std.proofs.Math.Seq.{take-suc}
 use Rattle.ft_io.specs.declared.Addr.{Addr}
 use Rattle.ft_io.specs.declared.Key.{Key}
 use Rattle.ft_io.specs.declared.Failed.{Failed}
 use Rattle.ft_io.specs.declared.link_call.LinkCall.{LinkCall}
-use Rattle.ft_io.specs.declared.link_call.LinkCall.TheVariants.{Bound}
+use Rattle.ft_io.specs.declared.link_call.LinkCall.TheVariants.{Bound, Handed}
 use Rattle.ft_io.specs.Link.{send_told}
 use Rattle.ft_io.specs.Sink.{AppendsFront}
 use Rattle.ft_io.specs.Told.{Tells}
@@ -23,6 +24,7 @@ use Rattle.server_node.specs.Apart.{TurnsApart}
 use Rattle.server_node.specs.Identity.{node_of}
 use Rattle.server_node.specs.Stages.{StageStands, NodeGoes, IsFence}
 use Rattle.node_link.specs.declared.counts.Counts.{Counts}
+use Rattle.node_link.specs.declared.role.Loggers.{Loggers}
 use Rattle.node_link.specs.declared.role.ServerRole.{ServerRole}
 use Rattle.node_link.specs.declared.status.NodeEnd.{NodeEnd}
 use Rattle.node_link.specs.declared.status.NodeEnd.TheVariants as ends
@@ -31,86 +33,138 @@ use Rattle.node_link.specs.KeyLife.{AreFairFor}
 use Rattle.node_link.specs.KeyLife.KeyStage.{Asks}
 use Rattle.node_link.specs.Received.{Received, datagram, received_as, IsQuiet}
 use Rattle.node_link.specs.Telling.{TellStops}
-use Rattle.node_link.specs.ServerTurns.{is_from, input_from, Sent, wires_in, address_of, sent_as, sending, ServerTurn, turn_calls, server_calls}
+use Rattle.node_link.specs.ServerTurns.{is_from_logger, input_from, Sent, wires_in, address_of, second_for, sent_second, sent_as, sending, ServerTurn, turn_calls, server_calls}
 use Rattle.node_link.specs.Incarnation.{kind_in, service_of, first_of, input_in, IsFairAt, AreFair, fence_in}
 use Rattle.node_link.specs.ServerLife.{IsServer, IsCutServer, ServerStops}
-use Rattle.node_link.specs.Turning.{Standing, HasSent, identity_of, HasBooted, Goes, HasTurned, EndsTurn, TurnStops, Stands, StandsForKey, IsServing, HasServed, IsCutServing, ServeStops}
+use Rattle.node_link.specs.Turning.{Standing, HasHanded, HasSent, identity_of, HasBooted, Goes, HasTurned, EndsTurn, TurnStops, Stands, StandsForKey, IsServing, HasServed, IsCutServing, ServeStops}
 use Rattle.node_link.proofs.KeyGoing.{GoesFor, begins_for, key_goes}
 use Rattle.node_link.proofs.Calls.{tells_on, tells_none, counts_on, with_both, with_none, few_calls, IsFew}
 
 -- what came, as an input
-pub message_in : (logger from : Addr) (bytes : List ℕ) (r : Received) → r ≡ datagram from bytes → is_from logger from ≡ true → message_or_noise (messages.reading bytes) ≡ input_from logger r
-message_in logger from bytes r e is =
-    ap (λ b. cond b (message_or_noise (messages.reading bytes)) (segment_or_noise (packets.reading bytes))) (sym is) ∙ sym (ap (input_from logger) e)
+pub message_in : (loggers : Loggers) (from : Addr) (bytes : List ℕ) (r : Received) → r ≡ datagram from bytes → is_from_logger loggers from ≡ true
+    → message_or_noise (messages.reading bytes) ≡ input_from loggers r
+message_in loggers from bytes r e is =
+    ap (λ b. cond b (message_or_noise (messages.reading bytes)) (segment_or_noise (packets.reading bytes))) (sym is) ∙ sym (ap (input_from loggers) e)
 
-pub packet_in : (logger from : Addr) (bytes : List ℕ) (r : Received) → r ≡ datagram from bytes → is_from logger from ≡ false → segment_or_noise (packets.reading bytes) ≡ input_from logger r
-packet_in logger from bytes r e is =
-    ap (λ b. cond b (message_or_noise (messages.reading bytes)) (segment_or_noise (packets.reading bytes))) (sym is) ∙ sym (ap (input_from logger) e)
+pub packet_in : (loggers : Loggers) (from : Addr) (bytes : List ℕ) (r : Received) → r ≡ datagram from bytes → is_from_logger loggers from ≡ false
+    → segment_or_noise (packets.reading bytes) ≡ input_from loggers r
+packet_in loggers from bytes r e is =
+    ap (λ b. cond b (message_or_noise (messages.reading bytes)) (segment_or_noise (packets.reading bytes))) (sym is) ∙ sym (ap (input_from loggers) e)
 
-pub tick_in : (logger : Addr) (r : Received) → IsQuiet r → law.Input.Tick_comes ≡ input_from logger r
-tick_in logger r (inl e) = sym (ap (input_from logger) e)
-tick_in logger r (inr e) = sym (ap (input_from logger) e)
+pub tick_in : (loggers : Loggers) (r : Received) → IsQuiet r → law.Input.Tick_comes ≡ input_from loggers r
+tick_in loggers r (inl e) = sym (ap (input_from loggers) e)
+tick_in loggers r (inr e) = sym (ap (input_from loggers) e)
 
--- packets that were handed to send so far
-pub sent_none : (logger : Addr) (told : Option (List LinkCall)) (c : Counts) → HasSent logger [] told told c c
-sent_none logger told c = record { sent = []; wires_are = refl; tells = tells_none told; counts_are = sym (with_none c) }
+-- bytes that were handed to send
+pub handed : (to : Addr) (bytes : List ℕ) (old new : Option (List LinkCall)) (c c' : Counts) (r : Result (Unit {0}) Failed) → Tells old new (send_told to bytes r)
+    → c' ≡ with_calls c (send_told to bytes r) → HasHanded to bytes old new c c'
+handed to bytes old new c c' (Ok x) t k = record { is_lost = false; tells = t; counts_are = k }
+handed to bytes old new c c' (Err e) t k = record { is_lost = true; tells = t; counts_are = k }
 
-told_as : (logger : Addr) (wire : Wire) (r : Result (Unit {0}) Failed) → (s : Sent) × (s.wire ≡ wire) × (send_told (address_of logger wire.to) wire.bytes r ≡ sending logger (s ∷ []))
-told_as logger wire (Ok x) = (record { wire = wire; is_lost = false }, refl, refl)
-told_as logger wire (Err e) = (record { wire = wire; is_lost = true }, refl, refl)
+-- a packet that was handed to send once, ..
+pub sent_once : (loggers : Loggers) (wire : Wire) (old new : Option (List LinkCall)) (c c' : Counts) → second_for loggers wire.to ≡ None
+    → HasHanded (address_of loggers.first wire.to) wire.bytes old new c c' → HasSent loggers (wire ∷ []) old new c c'
+sent_once loggers wire old new c c' none h =
+    let s : Sent = record { wire = wire; is_lost = h.is_lost; is_second_lost = false } in
+    let first : LinkCall = Handed (address_of loggers.first wire.to) wire.bytes h.is_lost in
+    let calls : first ∷ [] ≡ sending loggers (s ∷ []) = ap (λ o. first ∷ (sent_second o s ++ [])) (sym none) in
+    record { sent = s ∷ []; wires_are = refl; tells = subst (Tells old new) calls h.tells; counts_are = h.counts_are ∙ ap (with_calls c) calls }
 
-sent_more : (logger : Addr) (wires : List Wire) (wire : Wire) (old mid new : Option (List LinkCall)) (c c' c'' : Counts) (r : Result (Unit {0}) Failed) → HasSent logger wires old mid c c'
-    → Tells mid new (send_told (address_of logger wire.to) wire.bytes r) → c'' ≡ with_calls c' (send_told (address_of logger wire.to) wire.bytes r) → HasSent logger (wires ++ wire ∷ []) old new c c''
-sent_more logger wires wire old mid new c c' c'' r h t k =
-    let (s, is, calls) = told_as logger wire r in
-    let together : sending logger (h.sent ++ s ∷ []) ≡ sending logger h.sent ++ sending logger (s ∷ []) = map-append (sent_as logger) h.sent (s ∷ []) in
+-- .. and one that was handed to both loggers
+pub sent_twice : (loggers : Loggers) (wire : Wire) (second : Addr) (old mid new : Option (List LinkCall)) (c c' c'' : Counts) → second_for loggers wire.to ≡ Some second
+    → HasHanded (address_of loggers.first wire.to) wire.bytes old mid c c' → HasHanded second wire.bytes mid new c' c'' → HasSent loggers (wire ∷ []) old new c c''
+sent_twice loggers wire second old mid new c c' c'' is h k =
+    let s : Sent = record { wire = wire; is_lost = h.is_lost; is_second_lost = k.is_lost } in
+    let first : LinkCall = Handed (address_of loggers.first wire.to) wire.bytes h.is_lost in
+    let next : LinkCall = Handed second wire.bytes k.is_lost in
+    let calls : first ∷ next ∷ [] ≡ sending loggers (s ∷ []) = ap (λ o. first ∷ (sent_second o s ++ [])) (sym is) in
     record {
-      sent = h.sent ++ s ∷ [];
-      wires_are = map-append (λ (x : Sent). x.wire) h.sent (s ∷ []) ∙ ap₂ (λ a b. a ++ b ∷ []) h.wires_are is;
-      tells = subst (Tells old new) (sym together) (tells_on old mid new (sending logger h.sent) (sending logger (s ∷ [])) h.tells (subst (Tells mid new) calls t));
-      counts_are = k ∙ (ap₂ (λ x ys. with_calls x ys) h.counts_are calls ∙ (with_both c (sending logger h.sent) (sending logger (s ∷ [])) ∙ ap (with_calls c) (sym together)));
+      sent = s ∷ [];
+      wires_are = refl;
+      tells = subst (Tells old new) calls (tells_on old mid new (first ∷ []) (next ∷ []) h.tells k.tells);
+      counts_are = k.counts_are ∙ (ap (λ x. with_calls x (next ∷ [])) h.counts_are ∙ (with_both c (first ∷ []) (next ∷ []) ∙ ap (with_calls c) calls));
     }
 
-pub sent_on : (logger : Addr) (wires : List Wire) (i : ℕ) (wire : Wire) (old mid new : Option (List LinkCall)) (c c' c'' : Counts) (r : Result (Unit {0}) Failed) → i < length wires
-    → wire ≡ get_or wires i wire → HasSent logger (take i wires) old mid c c' → Tells mid new (send_told (address_of logger wire.to) wire.bytes r)
-    → c'' ≡ with_calls c' (send_told (address_of logger wire.to) wire.bytes r) → HasSent logger (take (i + 1) wires) old new c c''
-sent_on logger wires i wire old mid new c c' c'' r lt at h t k =
-    let front : take i wires ++ wire ∷ [] ≡ take (i + 1) wires = ap (λ w. take i wires ++ w ∷ []) at ∙ (sym (take-suc wires i wire lt) ∙ ap (λ n. take n wires) (sym (add-one i))) in
-    subst (λ ws. HasSent logger ws old new c c'') front (sent_more logger (take i wires) wire old mid new c c' c'' r h t k)
+-- packets that were handed to send so far
+pub sent_none : (loggers : Loggers) (told : Option (List LinkCall)) (c : Counts) → HasSent loggers [] told told c c
+sent_none loggers told c = record { sent = []; wires_are = refl; tells = tells_none told; counts_are = sym (with_none c) }
 
-length_sent : (logger : Addr) (wires : List Wire) (old new : Option (List LinkCall)) (c counts : Counts) (h : HasSent logger wires old new c counts) → length h.sent ≡ length wires
-length_sent logger wires old new c counts h = sym (length-map h.sent (λ (x : Sent). x.wire)) ∙ ap length h.wires_are
+sent_more : (loggers : Loggers) (wires : List Wire) (wire : Wire) (old mid new : Option (List LinkCall)) (c c' c'' : Counts) → HasSent loggers wires old mid c c'
+    → HasSent loggers (wire ∷ []) mid new c' c'' → HasSent loggers (wires ++ wire ∷ []) old new c c''
+sent_more loggers wires wire old mid new c c' c'' h k =
+    let together : sending loggers (h.sent ++ k.sent) ≡ sending loggers h.sent ++ sending loggers k.sent = flat_map-append (sent_as loggers) h.sent k.sent in
+    record {
+      sent = h.sent ++ k.sent;
+      wires_are = map-append (λ (x : Sent). x.wire) h.sent k.sent ∙ ap₂ (λ a b. a ++ b) h.wires_are k.wires_are;
+      tells = subst (Tells old new) (sym together) (tells_on old mid new (sending loggers h.sent) (sending loggers k.sent) h.tells k.tells);
+      counts_are = k.counts_are
+          ∙ (ap (λ x. with_calls x (sending loggers k.sent)) h.counts_are ∙ (with_both c (sending loggers h.sent) (sending loggers k.sent) ∙ ap (with_calls c) (sym together)));
+    }
+
+pub sent_on : (loggers : Loggers) (wires : List Wire) (i : ℕ) (wire : Wire) (old mid new : Option (List LinkCall)) (c c' c'' : Counts) → i < length wires
+    → wire ≡ get_or wires i wire → HasSent loggers (take i wires) old mid c c' → HasSent loggers (wire ∷ []) mid new c' c'' → HasSent loggers (take (i + 1) wires) old new c c''
+sent_on loggers wires i wire old mid new c c' c'' lt at h k =
+    let front : take i wires ++ wire ∷ [] ≡ take (i + 1) wires = ap (λ w. take i wires ++ w ∷ []) at ∙ (sym (take-suc wires i wire lt) ∙ ap (λ n. take n wires) (sym (add-one i))) in
+    subst (λ ws. HasSent loggers ws old new c c'') front (sent_more loggers (take i wires) wire old mid new c c' c'' h k)
+
+-- each is handed to send at most twice
+at_most_one : (second : Option Addr) (s : Sent) → length (sent_second second s) ≤ 1
+at_most_one None s = omega arith
+at_most_one (Some second) s = omega arith
+
+length_sending : (loggers : Loggers) (sent : List Sent) → length (sending loggers sent) ≤ 2 * length sent
+length_sending loggers [] = omega arith
+length_sending loggers (s ∷ more) =
+    let sum : length (sent_as loggers s ++ sending loggers more) ≡ length (sent_as loggers s) + length (sending loggers more) = length-append (sent_as loggers s) (sending loggers more) in
+    omega (arith, sum, at_most_one (second_for loggers s.wire.to) s, length_sending loggers more)
+
+length_sent : (loggers : Loggers) (wires : List Wire) (old new : Option (List LinkCall)) (c counts : Counts) (h : HasSent loggers wires old new c counts) → length h.sent ≡ length wires
+length_sent loggers wires old new c counts h = sym (length-map h.sent (λ (x : Sent). x.wire)) ∙ ap length h.wires_are
+
+-- there is room for a packet's counts
+pub room_for_packet : (loggers : Loggers) (wires : List Wire) (i : ℕ) (old new : Option (List LinkCall)) (c counts : Counts) → i < length wires → HasRoom (2 * length wires) c
+    → HasSent loggers (take i wires) old new c counts → HasRoom 2 counts
+room_for_packet loggers wires i old new c counts lt room h =
+    let few : IsFew (length (sending loggers h.sent)) (counts_of (sending loggers h.sent)) = few_calls (sending loggers h.sent) in
+    let le : length (sending loggers h.sent) ≤ 2 * length h.sent = length_sending loggers h.sent in
+    let is : length h.sent ≡ i = length_sent loggers (take i wires) old new c counts h ∙ length-take-le i wires (omega (arith, lt)) in
+    subst (HasRoom 2) (sym h.counts_are) (record {
+      turns = omega (arith, room.turns, few.turns, le, is, lt);
+      datagrams = omega (arith, room.datagrams, few.datagrams, le, is, lt);
+      sent = omega (arith, room.sent, few.sent, le, is, lt);
+      lost = omega (arith, room.lost, few.lost, le, is, lt);
+      failed = omega (arith, room.failed, few.failed, le, is, lt);
+    })
 
 -- a turn that ended the node
-pub turn_stops : {State : Type 0} → (logger : Addr) (before : Standing State) (old new : Option (List LinkCall)) (r : Received) (input : law.Input) (e : TurnEnd) → Tells old new (received_as r ∷ [])
-    → input ≡ input_from logger r → IsFence e (λ newer. (standing : law.Stage) → fence (node_of before.who standing) input ≡ Some newer)
-    → (e ≡ end.NoMemory → (standing : law.Stage) → fence (node_of before.who standing) input ≡ None) → TurnStops logger before old new e
-turn_stops logger before old new r input end.NoMemory t is f none =
+pub turn_stops : {State : Type 0} → (loggers : Loggers) (before : Standing State) (old new : Option (List LinkCall)) (r : Received) (input : law.Input) (e : TurnEnd) → Tells old new (received_as r ∷ [])
+    → input ≡ input_from loggers r → IsFence e (λ newer. (standing : law.Stage) → fence (node_of before.who standing) input ≡ Some newer)
+    → (e ≡ end.NoMemory → (standing : law.Stage) → fence (node_of before.who standing) input ≡ None) → TurnStops loggers before old new e
+turn_stops loggers before old new r input end.NoMemory t is f none =
     record { received = r; tells = t; ends = subst (λ i. (standing : law.Stage) → fence (node_of before.who standing) i ≡ None) is (none refl) }
-turn_stops logger before old new r input (end.Fenced newer) t is f none =
+turn_stops loggers before old new r input (end.Fenced newer) t is f none =
     record { received = r; tells = t; ends = subst (λ i. (standing : law.Stage) → fence (node_of before.who standing) i ≡ Some newer) is f }
 
 -- the calls are no longer than this
-longer : (role : ServerRole) (at_boot : List Sent) (turns : List ServerTurn) (turn : ServerTurn) (count : ℕ) → length (server_calls role.logger at_boot turns) ≤ (count + 1) * (2 ^ 64 + 1)
-    → length turn.sent ≤ 2 ^ 64 → length (server_calls role.logger at_boot (turn ∷ turns)) ≤ (count + 1 + 1) * (2 ^ 64 + 1)
+longer : (role : ServerRole) (at_boot : List Sent) (turns : List ServerTurn) (turn : ServerTurn) (count : ℕ) → length (server_calls role.loggers at_boot turns) ≤ (count + 1) * (2 ^ 65 + 1)
+    → length turn.sent ≤ 2 ^ 64 → length (server_calls role.loggers at_boot (turn ∷ turns)) ≤ (count + 1 + 1) * (2 ^ 65 + 1)
 longer role at_boot turns turn count le few =
-    let sum : length (server_calls role.logger at_boot turns ++ turn_calls role.logger turn) ≡ length (server_calls role.logger at_boot turns) + length (turn_calls role.logger turn) =
-    length-append (server_calls role.logger at_boot turns) (turn_calls role.logger turn) in
-    let one : length (turn_calls role.logger turn) ≡ suc (length turn.sent) = ap suc (length-map turn.sent (sent_as role.logger)) in
-    omega (arith, sum, one, le, few)
+    let sum : length (server_calls role.loggers at_boot turns ++ turn_calls role.loggers turn) ≡ length (server_calls role.loggers at_boot turns) + length (turn_calls role.loggers turn) =
+    length-append (server_calls role.loggers at_boot turns) (turn_calls role.loggers turn) in
+    omega (arith, sum, length_sending role.loggers turn.sent, le, few)
 
 module _ {State : Type 0} (services : ℕ → Machine State) where
   -- a turn, from its parts
-  pub turned : (logger : Addr) (before after : Standing State) (old mid new : Option (List LinkCall)) (c between counts : Counts) (r : Received) (input : law.Input) (wires : List Wire)
-      → Tells old mid (received_as r ∷ []) → between ≡ with_calls c (received_as r ∷ []) → input ≡ input_from logger r → length wires ≤ 2 ^ 64 → HasSent logger wires mid new between counts
+  pub turned : (loggers : Loggers) (before after : Standing State) (old mid new : Option (List LinkCall)) (c between counts : Counts) (r : Received) (input : law.Input) (wires : List Wire)
+      → Tells old mid (received_as r ∷ []) → between ≡ with_calls c (received_as r ∷ []) → input ≡ input_from loggers r → length wires ≤ 2 ^ 64 → HasSent loggers wires mid new between counts
       → after.who ≡ before.who → Goes services before input after wires → TurnsApart (services before.who.kind) before.who input before.stage after.stage wires
-      → ((standing : law.Stage) → fence (node_of before.who standing) input ≡ None) → HasTurned services logger before after old new c counts
-  turned logger before after old mid new c between counts r input wires t k is few sent who goes apart unfenced =
+      → ((standing : law.Stage) → fence (node_of before.who standing) input ≡ None) → HasTurned services loggers before after old new c counts
+  turned loggers before after old mid new c between counts r input wires t k is few sent who goes apart unfenced =
       record {
         turn = record { received = r; sent = sent.sent };
-        few = subst (λ n. n ≤ 2 ^ 64) (sym (length_sent logger wires mid new between counts sent)) few;
-        tells = tells_on old mid new (received_as r ∷ []) (sending logger sent.sent) t sent.tells;
-        counts_are = sent.counts_are ∙ (ap (λ x. with_calls x (sending logger sent.sent)) k ∙ with_both c (received_as r ∷ []) (sending logger sent.sent));
+        few = subst (λ n. n ≤ 2 ^ 64) (sym (length_sent loggers wires mid new between counts sent)) few;
+        tells = tells_on old mid new (received_as r ∷ []) (sending loggers sent.sent) t sent.tells;
+        counts_are = sent.counts_are ∙ (ap (λ x. with_calls x (sending loggers sent.sent)) k ∙ with_both c (received_as r ∷ []) (sending loggers sent.sent));
         who = who;
         goes = subst (λ i. Goes services before i after (wires_in sent.sent)) is (subst (Goes services before input after) (sym sent.wires_are) goes);
         apart = subst (λ i. TurnsApart (services before.who.kind) before.who i before.stage after.stage (wires_in sent.sent)) is
@@ -119,13 +173,13 @@ module _ {State : Type 0} (services : ℕ → Machine State) where
       }
 
   -- a boot, from its parts
-  pub booted : (role : ServerRole) (s : Standing State) (old new : Option (List LinkCall)) (c counts : Counts) (wires : List Wire) → HasSent role.logger wires old new c counts
+  pub booted : (role : ServerRole) (s : Standing State) (old new : Option (List LinkCall)) (c counts : Counts) (wires : List Wire) → HasSent role.loggers wires old new c counts
       → wires ≡ map wire_of (hello (first_of role)) → s.who ≡ identity_of role → StageStands (service_of services role) (first_of role) s.stage → HasBooted services role s old new c counts
   booted role s old new c counts wires h is who stands =
       record {
         at_boot = h.sent;
         wires_are = h.wires_are ∙ is;
-        few = subst (λ n. n ≤ 2 ^ 64) (sym (length_sent role.logger wires old new c counts h ∙ ap length is)) (omega arith);
+        few = subst (λ n. n ≤ 2 ^ 64) (sym (length_sent role.loggers wires old new c counts h ∙ ap length is)) (omega arith);
         tells = h.tells;
         counts_are = h.counts_are;
         who = who;
@@ -141,8 +195,8 @@ module _ {State : Type 0} (services : ℕ → Machine State) where
         count_is = refl;
         tells = b.tells;
         serves = record { boots = b.wires_are; lawful = tt; each_key = λ key. tt; unfenced = tt };
-        counts_are = b.counts_are ∙ (ap (λ x. with_calls x (sending role.logger b.at_boot)) none ∙ sym (counts_on [] (sending role.logger b.at_boot)));
-        total = subst (λ n. n ≤ (0 + 1) * (2 ^ 64 + 1)) (sym (length-map b.at_boot (sent_as role.logger))) (omega (arith, b.few));
+        counts_are = b.counts_are ∙ (ap (λ x. with_calls x (sending role.loggers b.at_boot)) none ∙ sym (counts_on [] (sending role.loggers b.at_boot)));
+        total = omega (arith, length_sending role.loggers b.at_boot, b.few);
         who = b.who;
         stands = λ fair. record { turns_by_law = []; standing = law.Stage.Asking; incarnation = record { turns_are = tt; lawful = tt }; node = refl; stands = b.stands };
         each_key = λ key fair. record { at = Asks; run = refl; stands = begins_for services (first_of role) (first_of role) key s.stage (kind_in role.service) b.stands refl };
@@ -182,8 +236,8 @@ module _ {State : Type 0} (services : ℕ → Machine State) where
 
   key_on : (role : ServerRole) (turns : List ServerTurn) (turn : ServerTurn) (s s' : Standing State) (key : Key) → s.who ≡ identity_of role
       → Goes services s (input_in role turn.received) s' (wires_in turn.sent) → TurnsApart (services s.who.kind) s.who (input_in role turn.received) s.stage s'.stage (wires_in turn.sent)
-      → (AreFairFor (service_of services role) (first_of role) key role.logger turns → StandsForKey services role key turns s)
-      → AreFairFor (service_of services role) (first_of role) key role.logger (turn ∷ turns) → StandsForKey services role key (turn ∷ turns) s'
+      → (AreFairFor (service_of services role) (first_of role) key role.loggers turns → StandsForKey services role key turns s)
+      → AreFairFor (service_of services role) (first_of role) key role.loggers (turn ∷ turns) → StandsForKey services role key (turn ∷ turns) s'
   key_on role turns turn s s' key who goes apart stands fair =
       let st : StandsForKey services role key turns s = stands fair.0 in
       let next : GoesFor services (identity_of role) key (input_in role turn.received) st.at (wires_in turn.sent) s'.stage =
@@ -193,11 +247,11 @@ module _ {State : Type 0} (services : ℕ → Machine State) where
       record { at = next.after; run = (st.at, st.run, next.goes); stands = next.stands }
 
   pub serving_on : (role : ServerRole) (i : ℕ) (s s' : Standing State) (old mid new : Option (List LinkCall)) (c counts : Counts) → IsServing services role i s old mid c
-      → HasTurned services role.logger s s' mid new c counts → IsServing services role (i + 1) s' old new counts
+      → HasTurned services role.loggers s s' mid new c counts → IsServing services role (i + 1) s' old new counts
   serving_on role i s s' old mid new c counts h t =
-      let calls : List LinkCall = server_calls role.logger h.at_boot h.turns in
+      let calls : List LinkCall = server_calls role.loggers h.at_boot h.turns in
       let stands : AreFair services role (t.turn ∷ h.turns) → Stands services role (t.turn ∷ h.turns) s' = lawful_on role h.turns t.turn s s' h.who t.goes h.stands in
-      let keys : (key : Key) → AreFairFor (service_of services role) (first_of role) key role.logger (t.turn ∷ h.turns) → StandsForKey services role key (t.turn ∷ h.turns) s' =
+      let keys : (key : Key) → AreFairFor (service_of services role) (first_of role) key role.loggers (t.turn ∷ h.turns) → StandsForKey services role key (t.turn ∷ h.turns) s' =
       λ key. key_on role h.turns t.turn s s' key h.who t.goes t.apart (h.each_key key) in
       let none : fence_in role t.turn.received ≡ None =
       subst (λ w. fence (node_of w law.Stage.Asking) (input_in role t.turn.received) ≡ None) h.who (t.unfenced law.Stage.Asking) in
@@ -205,14 +259,14 @@ module _ {State : Type 0} (services : ℕ → Machine State) where
         at_boot = h.at_boot;
         turns = t.turn ∷ h.turns;
         count_is = ap suc h.count_is ∙ sym (add-one i);
-        tells = tells_on old mid new (server_calls role.logger h.at_boot h.turns) (turn_calls role.logger t.turn) h.tells t.tells;
+        tells = tells_on old mid new (server_calls role.loggers h.at_boot h.turns) (turn_calls role.loggers t.turn) h.tells t.tells;
         serves = record {
           boots = h.serves.boots;
           lawful = (h.serves.lawful, λ fair. ((stands fair).turns_by_law, (stands fair).incarnation));
           each_key = λ key. (h.serves.each_key key, λ fair. ((keys key fair).at, (keys key fair).run));
           unfenced = (none, h.serves.unfenced);
         };
-        counts_are = t.counts_are ∙ (ap (λ x. with_calls x (turn_calls role.logger t.turn)) h.counts_are ∙ sym (counts_on (server_calls role.logger h.at_boot h.turns) (turn_calls role.logger t.turn)));
+        counts_are = t.counts_are ∙ (ap (λ x. with_calls x (turn_calls role.loggers t.turn)) h.counts_are ∙ sym (counts_on (server_calls role.loggers h.at_boot h.turns) (turn_calls role.loggers t.turn)));
         total = longer role h.at_boot h.turns t.turn i h.total t.few;
         who = t.who ∙ h.who;
         stands = stands;
@@ -220,10 +274,10 @@ module _ {State : Type 0} (services : ℕ → Machine State) where
       }
 
   pub room_for_turn : (role : ServerRole) (i most : ℕ) (s : Standing State) (old new : Option (List LinkCall)) (counts : Counts) → i < most → most ≤ 1000000 → IsServing services role i s old new counts
-      → HasRoom (2 ^ 64) counts
+      → HasRoom (2 ^ 65) counts
   room_for_turn role i most s old new counts lt le h =
-      let few : IsFew (length (server_calls role.logger h.at_boot h.turns)) (counts_of (server_calls role.logger h.at_boot h.turns)) = few_calls (server_calls role.logger h.at_boot h.turns) in
-      subst (HasRoom (2 ^ 64)) (sym h.counts_are) (record {
+      let few : IsFew (length (server_calls role.loggers h.at_boot h.turns)) (counts_of (server_calls role.loggers h.at_boot h.turns)) = few_calls (server_calls role.loggers h.at_boot h.turns) in
+      subst (HasRoom (2 ^ 65)) (sym h.counts_are) (record {
         turns = omega (arith, h.total, few.turns);
         datagrams = omega (arith, h.total, few.datagrams);
         sent = omega (arith, h.total, few.sent);
@@ -236,20 +290,20 @@ module _ {State : Type 0} (services : ℕ → Machine State) where
       record { at_boot = h.at_boot; turns = h.turns; count_is = h.count_is ∙ e; tells = h.tells; serves = h.serves; counts_are = h.counts_are }
 
   cut_by : (role : ServerRole) (i : ℕ) (s : Standing State) (old mid new : Option (List LinkCall)) (counts : Counts) (Ends : Received → Type 0) (Why : law.Input → Type 0) → i < role.turns
-      → IsServing services role i s old mid counts → (t : EndsTurn role.logger mid new Why) → ((r : Received) → Why (input_in role r) → Ends r) → IsCutServing services role old new Ends
+      → IsServing services role i s old mid counts → (t : EndsTurn role.loggers mid new Why) → ((r : Received) → Why (input_in role r) → Ends r) → IsCutServing services role old new Ends
   cut_by role i s old mid new counts Ends Why lt h t f =
       record {
         at_boot = h.at_boot;
         turns = h.turns;
         last = t.received;
         within = omega (arith, h.count_is, lt);
-        tells = tells_on old mid new (server_calls role.logger h.at_boot h.turns) (received_as t.received ∷ []) h.tells t.tells;
+        tells = tells_on old mid new (server_calls role.loggers h.at_boot h.turns) (received_as t.received ∷ []) h.tells t.tells;
         serves = h.serves;
         ends = f t.received t.ends;
       }
 
   pub serving_stops : (role : ServerRole) (i : ℕ) (s : Standing State) (old mid new : Option (List LinkCall)) (counts : Counts) (e : TurnEnd) → i < role.turns → IsServing services role i s old mid counts
-      → TurnStops role.logger s mid new e → ServeStops services role old new e
+      → TurnStops role.loggers s mid new e → ServeStops services role old new e
   serving_stops role i s old mid new counts end.NoMemory lt h t =
       inr (cut_by role i s old mid new counts (λ last. fence_in role last ≡ None) (λ input. (standing : law.Stage) → fence (node_of s.who standing) input ≡ None) lt h t
       (λ r f. subst (λ w. fence (node_of w law.Stage.Asking) (input_in role r) ≡ None) h.who (f law.Stage.Asking)))
@@ -264,7 +318,7 @@ module _ {State : Type 0} (services : ℕ → Machine State) where
     at_boot = s.at_boot;
     turns = s.turns;
     count_is = s.count_is;
-    tells = tells_on before mid new (Bound role.local ∷ []) (server_calls role.logger s.at_boot s.turns) b s.tells;
+    tells = tells_on before mid new (Bound role.local ∷ []) (server_calls role.loggers s.at_boot s.turns) b s.tells;
     serves = s.serves;
     written = subst (λ c. Writes (count_line c)) s.counts_are w;
   }
@@ -272,13 +326,13 @@ module _ {State : Type 0} (services : ℕ → Machine State) where
   -- .. whose line wants memory
   untold : (role : ServerRole) (before mid new : Option (List LinkCall)) (counts : Counts) → Tells before mid (Bound role.local ∷ []) → HasServed services role mid new counts → IsCutServer services role before new
   untold role before mid new counts b s =
-      let calls : List LinkCall = server_calls role.logger s.at_boot s.turns in
+      let calls : List LinkCall = server_calls role.loggers s.at_boot s.turns in
       record {
         at_boot = s.at_boot;
         turns = s.turns;
         last = None;
         within = omega (arith, s.count_is);
-        tells = tells_on before mid new (Bound role.local ∷ []) (server_calls role.logger s.at_boot s.turns ++ []) b (subst (Tells mid new) (sym (append-nil (server_calls role.logger s.at_boot s.turns))) s.tells);
+        tells = tells_on before mid new (Bound role.local ∷ []) (server_calls role.loggers s.at_boot s.turns ++ []) b (subst (Tells mid new) (sym (append-nil (server_calls role.loggers s.at_boot s.turns))) s.tells);
         serves = s.serves;
         unfenced = tt;
       }
@@ -305,7 +359,7 @@ module _ {State : Type 0} (services : ℕ → Machine State) where
       turns = s.turns;
       last = Some s.last;
       within = omega (arith, s.within);
-      tells = tells_on before mid new (Bound role.local ∷ []) (server_calls role.logger s.at_boot s.turns ++ received_as s.last ∷ []) b s.tells;
+      tells = tells_on before mid new (Bound role.local ∷ []) (server_calls role.loggers s.at_boot s.turns ++ received_as s.last ∷ []) b s.tells;
       serves = s.serves;
       unfenced = s.ends;
     }),
@@ -320,7 +374,7 @@ module _ {State : Type 0} (services : ℕ → Machine State) where
       turns = s.turns;
       last = s.last;
       within = s.within;
-      tells = tells_on before mid new (Bound role.local ∷ []) (server_calls role.logger s.at_boot s.turns ++ received_as s.last ∷ []) b s.tells;
+      tells = tells_on before mid new (Bound role.local ∷ []) (server_calls role.loggers s.at_boot s.turns ++ received_as s.last ∷ []) b s.tells;
       serves = s.serves;
       fenced = s.ends;
     },

@@ -23,7 +23,7 @@ abbrev pub first_of : ServerRole → Node
 first_of role = booted role.local role.boot role.isn
 
 abbrev pub input_in : ServerRole → Received → Input
-input_in role received = input_from role.logger received
+input_in role received = input_from role.loggers received
 
 -- a turn by the law: its input is what was received, and its packets, each in its one spelling, are what was handed to send
 pub record IsTurn (role : ServerRole) (turn : ServerTurn) (law : Turn) : Type 0 where
@@ -70,5 +70,5 @@ module _ {State : Type 0} (services : ℕ → Machine State) where
   pub record Serves (role : ServerRole) (at_boot : List Sent) (turns : List ServerTurn) : Type 0 where
     pub boots : wires_in at_boot ≡ map wire_of (hello (first_of role))
     pub lawful : AreLawful role turns
-    pub each_key : (key : Key) → AreLawfulFor (service_of role) (first_of role) key role.logger turns
+    pub each_key : (key : Key) → AreLawfulFor (service_of role) (first_of role) key role.loggers turns
     pub unfenced : AllByRecursion (λ turn. fence_in role turn.received ≡ None) turns

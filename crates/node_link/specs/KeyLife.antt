@@ -2,7 +2,6 @@
 use Rattle.std.specs.Prelude.{◌≡◌, MatchOption, ℕ, find, option_map, Option, None, Some, map, List, [], ◌∷◌}
 use Rattle.std.specs.List.{AllByRecursion}
 use Rattle.std.specs.Option.{option_to_list}
-use Rattle.ft_io.specs.declared.Addr.{Addr}
 use Rattle.ft_io.specs.declared.Key.{Key}
 use Rattle.ft_io.specs.Key.{key_eq}
 use Rattle.seq_arith.specs.Message.{Message}
@@ -17,6 +16,7 @@ use Rattle.ft_model.specs.Wire.{Wire, wire_of, HasWire}
 use Rattle.server_node.specs.Alone.{IsNearFor, KeyTurn}
 use Rattle.server_node.specs.Restarts.{IsRestorable}
 use Rattle.server_node.specs.Whose.{of_key}
+use Rattle.node_link.specs.declared.role.Loggers.{Loggers}
 use Rattle.node_link.specs.ServerTurns.{ServerTurn, wires_in, input_from}
 
 -- how far a server is, as one key has it
@@ -102,15 +102,15 @@ module _ {State : Type 0} (service : Machine State) (node : Node) (key : Key) wh
   IsFairFor input (Fetches count fetched) = IsSoundFor (restarts_by node input (Fetching count fetched))
   IsFairFor input (Has place) = IsNearFor node.server input place
 
-  module _ (logger : Addr) where
+  module _ (loggers : Loggers) where
     -- the key's turns so far
     abbrev pub KeyRun : List ServerTurn → KeyStage → Type 0
     KeyRun [] at = at ≡ Asks
-    KeyRun (turn ∷ earlier) at = (before : KeyStage) × KeyRun earlier before × KeyAdvances before (input_from logger turn.received) at (wires_in turn.sent)
+    KeyRun (turn ∷ earlier) at = (before : KeyStage) × KeyRun earlier before × KeyAdvances before (input_from loggers turn.received) at (wires_in turn.sent)
 
     abbrev pub AreFairFor : List ServerTurn → Type 0
     AreFairFor [] = Unit {0}
-    AreFairFor (turn ∷ earlier) = AreFairFor earlier × ((at : KeyStage) → KeyRun earlier at → IsFairFor (input_from logger turn.received) at)
+    AreFairFor (turn ∷ earlier) = AreFairFor earlier × ((at : KeyStage) → KeyRun earlier at → IsFairFor (input_from loggers turn.received) at)
 
     -- as long as the premises hold of the key, its turns are lawful
     abbrev pub AreLawfulFor : List ServerTurn → Type 0

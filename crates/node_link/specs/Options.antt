@@ -6,7 +6,7 @@ use Rattle.clap.specs.Lexer.{long_of, short_of}
 use Rattle.clap.specs.Matches.{found_of, first_value}
 use Rattle.clap.specs.declared.parser.matches.ArgMatches.{ArgMatches}
 use Rattle.node_link.specs.declared.options.OptionName.{OptionName}
-use Rattle.node_link.specs.declared.options.OptionName.TheVariants.{Local, Logger, Server, Service, Boot, Isn, Turns, Script, Program, Base, First, Second, Journal}
+use Rattle.node_link.specs.declared.options.OptionName.TheVariants.{Local, Logger, SecondLogger, Server, Service, Boot, Isn, Turns, Script, Program, Base, First, Second, Journal, Part, Other, To}
 
 abbrev pub Text : Type 0
 Text = List ℕ
@@ -19,6 +19,7 @@ pub record Use : Type 0 where
 abbrev pub name_of : OptionName → Text
 name_of Local = codes "local"
 name_of Logger = codes "logger"
+name_of SecondLogger = codes "second"
 name_of Server = codes "server"
 name_of Service = codes "service"
 name_of Boot = codes "boot"
@@ -30,10 +31,14 @@ name_of Base = codes "base"
 name_of First = codes "first"
 name_of Second = codes "second"
 name_of Journal = codes "journal"
+name_of Part = codes "part"
+name_of Other = codes "other"
+name_of To = codes "to"
 
 -- an option that its role can't do without
 abbrev pub is_required : OptionName → Bool
 is_required Script = false
+is_required SecondLogger = false
 is_required _ = true
 
 -- `--`, and what begins with one hyphen but for `-` alone

@@ -8,6 +8,7 @@ use Rattle.ft_model.specs.declared.schedule.Script.{Script}
 use Rattle.ft_model.specs.Spelling.{addr_of, number_of, service_of, script_of}
 use Rattle.node_link.specs.declared.options.OptionName.{OptionName}
 use Rattle.node_link.specs.declared.options.OptionName.TheVariants as option
+use Rattle.node_link.specs.declared.role.Loggers.{Loggers}
 use Rattle.node_link.specs.declared.role.ServerRole.{ServerRole}
 use Rattle.node_link.specs.declared.role.LoggerRole.{LoggerRole}
 use Rattle.node_link.specs.declared.role.ClientRole.{ClientRole}
@@ -34,6 +35,18 @@ script_in (Some word) = option_map Some (script_of word)
 abbrev pub script_at : List Use → OptionName → Option (Option Script)
 script_at uses o = script_in (value_of uses o)
 
+-- a second logger may be left out
+abbrev pub second_in : Option Text → Option (Option Addr)
+second_in None = Some None
+second_in (Some word) = option_map Some (addr_of word)
+
+abbrev pub loggers_from : Option Addr → Option (Option Addr) → Option Loggers
+loggers_from (Some first) (Some second) = Some (record { first = first; second = second })
+loggers_from _ _ = None
+
+abbrev pub loggers_in : List Use → Option Loggers
+loggers_in uses = loggers_from (addr_at uses option.Logger) (second_in (value_of uses option.SecondLogger))
+
 -- a program, and a file, is named by a word that isn't empty and doesn't begin with `-`
 abbrev pub is_name : Text → Bool
 is_name [] = false
@@ -51,14 +64,14 @@ isn_in uses = number_at 0 (2 ^ 32 - 1) uses option.Isn
 abbrev pub turns_in : List Use → Option ℕ
 turns_in uses = number_at 1 1000000 uses option.Turns
 
-abbrev pub server_from : Option ServiceKind → Option Addr → Option Addr → Option ℕ → Option ℕ → Option ℕ → Option ServerRole
-server_from service (Some local) (Some logger) (Some boot) (Some isn) (Some turns) =
-    Some (record { local = local; logger = logger; service = service; boot = boot; isn = isn; turns = turns })
+abbrev pub server_from : Option ServiceKind → Option Addr → Option Loggers → Option ℕ → Option ℕ → Option ℕ → Option ServerRole
+server_from service (Some local) (Some loggers) (Some boot) (Some isn) (Some turns) =
+    Some (record { local = local; loggers = loggers; service = service; boot = boot; isn = isn; turns = turns })
 server_from _ _ _ _ _ _ = None
 
 abbrev pub server_with : List Use → Option ServiceKind → Option ServerRole
 server_with uses service =
-    server_from service (addr_at uses option.Local) (addr_at uses option.Logger) (number_at 1 (2 ^ 64 - 1) uses option.Boot) (isn_in uses) (turns_in uses)
+    server_from service (addr_at uses option.Local) (loggers_in uses) (number_at 1 (2 ^ 64 - 1) uses option.Boot) (isn_in uses) (turns_in uses)
 
 abbrev pub server_in : List Use → Option ServerRole
 server_in uses = option_and_then (λ service. server_with uses (Some service)) (service_at uses option.Service)
@@ -96,7 +109,7 @@ pair_in uses =
 
 -- the options of each role
 abbrev pub server_options : List OptionName
-server_options = option.Local ∷ option.Logger ∷ option.Service ∷ option.Boot ∷ option.Isn ∷ option.Turns ∷ []
+server_options = option.Local ∷ option.Logger ∷ option.SecondLogger ∷ option.Service ∷ option.Boot ∷ option.Isn ∷ option.Turns ∷ []
 
 abbrev pub own_server_options : List OptionName
 own_server_options = option.Local ∷ option.Logger ∷ option.Boot ∷ option.Isn ∷ option.Turns ∷ []

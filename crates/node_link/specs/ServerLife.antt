@@ -20,9 +20,9 @@ module _ {State : Type 0} (services : ℕ → Machine State) where
     pub at_boot : List Sent
     pub turns : List ServerTurn  -- the newest first
     pub count_is : length turns ≡ role.turns
-    pub tells : Tells old new (Bound role.local ∷ server_calls role.logger at_boot turns)
+    pub tells : Tells old new (Bound role.local ∷ server_calls role.loggers at_boot turns)
     pub serves : Serves services role at_boot turns
-    pub written : Writes (count_line (counts_of (server_calls role.logger at_boot turns)))
+    pub written : Writes (count_line (counts_of (server_calls role.loggers at_boot turns)))
 
   -- one that ended because memory ran out: it sent nothing at what it received last, and that doesn't fence it
   pub record IsCutServer (role : ServerRole) (old new : Option (List LinkCall)) : Type 0 where
@@ -30,7 +30,7 @@ module _ {State : Type 0} (services : ℕ → Machine State) where
     pub turns : List ServerTurn
     pub last : Option Received
     pub within : length turns ≤ role.turns
-    pub tells : Tells old new (Bound role.local ∷ (server_calls role.logger at_boot turns ++ map received_as (option_to_list last)))
+    pub tells : Tells old new (Bound role.local ∷ (server_calls role.loggers at_boot turns ++ map received_as (option_to_list last)))
     pub serves : Serves services role at_boot turns
     pub unfenced : IfSome last (λ received. fence_in role received ≡ None)
 
@@ -44,7 +44,7 @@ module _ {State : Type 0} (services : ℕ → Machine State) where
     pub turns : List ServerTurn
     pub last : Received
     pub within : length turns < role.turns
-    pub tells : Tells old new (Bound role.local ∷ (server_calls role.logger at_boot turns ++ received_as last ∷ []))
+    pub tells : Tells old new (Bound role.local ∷ (server_calls role.loggers at_boot turns ++ received_as last ∷ []))
     pub serves : Serves services role at_boot turns
     pub fenced : fence_in role last ≡ Some newer
 

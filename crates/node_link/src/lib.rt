@@ -5,7 +5,10 @@
 pub use counts::{Counts, tell_counts};
 pub use options::{OptionName, read_options};
 pub use program::{Program, is_name};
-pub use role::{ClientRole, LoggerRole, PairRole, Role, ServerRole, logger_role, read_role};
+pub use receiving::{DATAGRAM_ROOM, receive};
+pub use role::{
+    ClientRole, LoggerRole, Loggers, PairRole, Role, ServerRole, addr_at, logger_role, read_role,
+};
 pub use status::{NodeEnd, Status};
 pub use telling::tell;
 pub use top::{node, node_of};

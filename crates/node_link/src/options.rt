@@ -19,6 +19,8 @@ use std::alloc::{AllocError, Global};
 pub enum OptionName {
     Local,
     Logger,
+    /// The second of two loggers that act as one. Its word is that of [`OptionName::Second`].
+    SecondLogger,
     Server,
     Service,
     Boot,
@@ -28,9 +30,16 @@ pub enum OptionName {
     Program,
     Base,
     First,
+    /// The turns of a pair's second server.
     Second,
     /// The file in which a logger keeps its log. No role of `node` has this option.
     Journal,
+    /// Of no role of `node`: which of two loggers it is.
+    Part,
+    /// Of no role of `node`: the other logger.
+    Other,
+    /// Of no role of `node`: the logger that serves alone from now on.
+    To,
 }
 
 impl OptionName {
@@ -41,6 +50,7 @@ impl OptionName {
         match self {
             OptionName::Local => "local",
             OptionName::Logger => "logger",
+            OptionName::SecondLogger => "second",
             OptionName::Server => "server",
             OptionName::Service => "service",
             OptionName::Boot => "boot",
@@ -52,6 +62,9 @@ impl OptionName {
             OptionName::First => "first",
             OptionName::Second => "second",
             OptionName::Journal => "journal",
+            OptionName::Part => "part",
+            OptionName::Other => "other",
+            OptionName::To => "to",
         }
     }
 
@@ -59,7 +72,7 @@ impl OptionName {
     fn is_required(self) -> bool
         ensures { result ≡ is_required_lem self }
     {
-        !matches!(self, OptionName::Script)
+        !matches!(self, OptionName::Script | OptionName::SecondLogger)
     }
 
     fn arg<'a>(self, alloc: Global) -> Arg<'a>

@@ -9,10 +9,10 @@ use crate::counts::Counts;
 use ft_io::{Addr, Heard, Link};
 
 /// Room for a datagram, in bytes: no packet and no message is longer.
-pub(crate) const DATAGRAM_ROOM: usize = 2_048;
+pub const DATAGRAM_ROOM: usize = 2_048;
 
 /// Receives once: how many bytes came to the front of the buffer, and from where. None is a tick.
-pub(crate) fn receive<L: Link>(
+pub fn receive<L: Link>(
     link: &mut L,
     buffer: &mut [u8],
     counts: &mut Counts,

@@ -7,7 +7,7 @@ ghost use Rattle.node_link.specs.Options.{Use, HasValues};
 ghost use Rattle.node_link.specs.Ranges.{ServerInRange, IsShort, ClientInRange, InRange};
 ghost use Rattle.node_link.specs.Roles.{addr_at as addr_lem, number_at as number_lem, service_at as service_lem, script_at as script_lem};
 ghost use Rattle.node_link.specs.Roles.{program_at as program_lem};
-ghost use Rattle.node_link.specs.Roles.{server_with as server_lem, server_in, own_server_in, logger_in, client_in, pair_in};
+ghost use Rattle.node_link.specs.Roles.{loggers_in, server_with as server_lem, server_in, own_server_in, logger_in, client_in, pair_in};
 ghost use Rattle.node_link.specs.Roles.{server_of, own_server_of, logger_of, client_of, pair_of, role_of, own_role_of};
 ghost use Rattle.node_link.specs.OwnRoles.{as_role};
 
@@ -19,9 +19,10 @@ use ft_model::{Script, ServiceKind};
 use schedule_text::{read_addr, read_number, read_script, read_service};
 use std::alloc::Global;
 
-const SERVER_OPTIONS: [OptionName; 6] = [
+const SERVER_OPTIONS: [OptionName; 7] = [
     OptionName::Local,
     OptionName::Logger,
+    OptionName::SecondLogger,
     OptionName::Service,
     OptionName::Boot,
     OptionName::Isn,
@@ -60,13 +61,21 @@ const LAST_BASE: u64 = 65_533;
 /// The most turns of a role.
 const TURN_LIMIT: u64 = 1_000_000;
 
+/// The loggers of a server: one, or two that act as one.
+#[derive(Clone, Copy, Debug)]
+pub struct Loggers {
+    /// The one logger, or the first of two.
+    pub first: Addr,
+    pub second: Option<Addr>,
+}
+
 /// An incarnation of the server.
 #[derive(Clone, Copy, Debug)]
 pub struct ServerRole {
     /// Its own address and port.
     pub local: Addr,
-    /// The logger's address and port.
-    pub logger: Addr,
+    /// The addresses of its logger, or of both.
+    pub loggers: Loggers,
     /// One of the four, or none where the program has a service of its own.
     pub service: Option<ServiceKind>,
     /// At least 1.
@@ -144,7 +153,8 @@ pub(crate) enum OwnRole {
     Logger(LoggerRole),
 }
 
-fn addr_at(matches: &ArgMatches<'_>, option: OptionName) -> Option<Addr>
+/// The address that an option gives.
+pub fn addr_at(matches: &ArgMatches<'_>, option: OptionName) -> Option<Addr>
     ensures { (uses : List Use) → HasValues uses matches.now → result ≡ addr_lem uses option }
 {
     read_addr(matches.get_str(option.word())?.as_bytes())
@@ -195,13 +205,30 @@ fn program_at(
     }
 }
 
+/// The loggers. None stands for a word that spells no address.
+fn loggers_at(matches: &ArgMatches<'_>) -> Option<Loggers>
+    ensures { (uses : List Use) → HasValues uses matches.now → result ≡ loggers_in uses }
+{
+    let first = addr_at(matches, OptionName::Logger)?;
+    match matches.get_str(OptionName::SecondLogger.word()) {
+        None => Some(Loggers {
+            first,
+            second: None,
+        }),
+        Some(word) => Some(Loggers {
+            first,
+            second: Some(read_addr(word.as_bytes())?),
+        }),
+    }
+}
+
 fn server_with(matches: &ArgMatches<'_>, service: Option<ServiceKind>) -> Option<ServerRole>
     ensures range { IfSome result (λ role. ServerInRange role) }
     ensures value { (uses : List Use) → HasValues uses matches.now → result ≡ server_lem uses service }
 {
     Some(ServerRole {
         local: addr_at(matches, OptionName::Local)?,
-        logger: addr_at(matches, OptionName::Logger)?,
+        loggers: loggers_at(matches)?,
         service,
         boot: number_at(matches, OptionName::Boot, 1, u64::MAX)?,
         isn: number_at(matches, OptionName::Isn, 0, u64::from(u32::MAX))? as u32,

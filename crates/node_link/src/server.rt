@@ -1,7 +1,7 @@
 //! The server: a node over a link. Each turn is one receive and the node's turn of what came, whose packets are all handed to send before the next
 //! receive.
 
-ghost use Rattle.std.specs.Prelude.{List, ◌≡◌, ◌<◌, ◌≤◌, ◌^◌, [], ◌∷◌, take, length, IfSome, IfOk, IfErr, OnOk, OnErr, IsErrOf, MatchOption};
+ghost use Rattle.std.specs.Prelude.{List, ◌≡◌, ◌<◌, ◌≤◌, ◌*◌, ◌^◌, [], ◌∷◌, take, length, IfSome, IfOk, IfErr, OnOk, OnErr, IsErrOf, MatchOption};
 ghost use Rattle.std.specs.Io.KnownBytes.{Appends};
 ghost use Rattle.std.specs.declared.option.Option.{Option};
 ghost use Rattle.ft_io.specs.Faults.{Rose};
@@ -15,20 +15,20 @@ ghost use Rattle.node_link.specs.Counts.{HasRoom};
 ghost use Rattle.node_link.specs.Ends.{UnlessFault};
 ghost use Rattle.node_link.specs.Received.{Received, datagram, IsQuiet};
 ghost use Rattle.node_link.specs.Ranges.{ServerInRange};
-ghost use Rattle.node_link.specs.ServerTurns.{address_of as address_lem, input_from};
+ghost use Rattle.node_link.specs.ServerTurns.{address_of as address_lem, second_for as second_lem, is_from as is_from_lem, is_from_logger as is_from_logger_lem, input_from};
 ghost use Rattle.node_link.specs.ServerLife.{IsServer, ServerStops};
-ghost use Rattle.node_link.specs.Turning.{standing_of, HasSent, HasBooted, HasTurned, TurnStops, HasServed, ServeStops};
+ghost use Rattle.node_link.specs.Turning.{standing_of, HasHanded, HasSent, HasBooted, HasTurned, TurnStops, HasServed, ServeStops};
 
 use crate::counts::{Counts, tell_counts};
 use crate::receiving::{DATAGRAM_ROOM, receive};
-use crate::role::ServerRole;
+use crate::role::{Loggers, ServerRole};
 use crate::status::NodeEnd;
 use ft_io::{Addr, Failed, Link, NoMemory, Sink};
 use server_node::{Input, Node, OutPacket, To, TurnEnd};
 use server_trait::Service;
 use std::alloc::Global;
 
-/// Where a packet goes: to its client's own address, or to the logger's.
+/// Where a packet goes: to its client's own address, or to the logger's, the first of two.
 fn address_of(logger: Addr, to: To) -> Addr
     ensures { result ≡ address_lem logger (party_of to) }
 {
@@ -41,29 +41,80 @@ fn address_of(logger: Addr, to: To) -> Addr
     }
 }
 
+/// The second logger, where a packet is a message.
+fn second_for(loggers: Loggers, to: To) -> Option<Addr>
+    ensures { result ≡ second_lem loggers (party_of to) }
+{
+    match to {
+        To::Client(_) => None,
+        To::Logger => loggers.second,
+    }
+}
+
+/// Hands bytes to send.
+fn hand<L: Link>(link: &mut L, to: Addr, bytes: &[u8], counts: &mut Counts)
+    requires { HasRoom 1 counts.old }
+    ensures handed { HasHanded to bytes.now (L.told link.old) (L.told link.new) counts.old counts.new }
+    ensures no_bind_fault { L.bind_fault_count link.new ≡ L.bind_fault_count link.old }
+{
+    let sent = link.send(to, bytes);
+    counts.note_sent(&sent);
+}
+
+/// Hands a packet to send: a message to each logger, the first of them first.
+fn send_one<L: Link>(link: &mut L, loggers: Loggers, packet: &OutPacket, counts: &mut Counts)
+    requires { HasRoom 2 counts.old }
+    ensures sent { HasSent loggers (packet.now ∷ []) (L.told link.old) (L.told link.new) counts.old counts.new }
+    ensures no_bind_fault { L.bind_fault_count link.new ≡ L.bind_fault_count link.old }
+{
+    hand(
+        link,
+        address_of(loggers.first, packet.to()),
+        packet.bytes(),
+        counts,
+    );
+    if let Some(second) = second_for(loggers, packet.to()) {
+        hand(link, second, packet.bytes(), counts);
+    }
+}
+
 /// Hands packets to send, in order.
-fn send_all<L: Link>(link: &mut L, logger: Addr, packets: &[OutPacket], counts: &mut Counts)
-    requires { HasRoom (length packets.now) counts.old }
-    ensures sent { HasSent logger packets.now (L.told link.old) (L.told link.new) counts.old counts.new }
+fn send_all<L: Link>(link: &mut L, loggers: Loggers, packets: &[OutPacket], counts: &mut Counts)
+    requires { HasRoom (2 * length packets.now) counts.old }
+    ensures sent { HasSent loggers packets.now (L.told link.old) (L.told link.new) counts.old counts.new }
     ensures short { length packets.now < 2 ^ 64 }
     ensures no_bind_fault { L.bind_fault_count link.new ≡ L.bind_fault_count link.old }
 {
     for packet in packets {
-        let sent = link.send(address_of(logger, packet.to()), packet.bytes());
-        counts.note_sent(&sent);
+        send_one(link, loggers, packet, counts);
     }
 }
 
-/// What came, as the node takes it: a datagram from the logger's address is a message, any other a packet.
-fn input_of<'a>(logger: Addr, came: Option<(usize, Addr)>, buffer: &'a [u8]) -> Input<'a>
+fn is_from(at: Addr, from: Addr) -> bool
+    ensures { result ≡ is_from_lem at from }
+{
+    from.ip == at.ip && from.port == at.port
+}
+
+fn is_from_logger(loggers: Loggers, from: Addr) -> bool
+    ensures { result ≡ is_from_logger_lem loggers from }
+{
+    match loggers.second {
+        None => is_from(loggers.first, from),
+        Some(second) => is_from(loggers.first, from) || is_from(second, from),
+    }
+}
+
+/// What came, as the node takes it: a datagram from a logger's address is a message, any other a packet.
+fn input_of<'a>(loggers: Loggers, came: Option<(usize, Addr)>, buffer: &'a [u8]) -> Input<'a>
     requires { IfSome came (λ g. g.0 ≤ length buffer.now) }
-    ensures { (r : Received) → MatchOption came (IsQuiet r) (λ g. r ≡ datagram g.1 (take g.0 buffer.now)) → input_lem result ≡ input_from logger r }
+    ensures { (r : Received) → MatchOption came (IsQuiet r) (λ g. r ≡ datagram g.1 (take g.0 buffer.now)) → input_lem result ≡ input_from loggers r }
 {
     match came {
         None => Input::Tick,
         Some((len, from)) => {
             let bytes = &buffer[..len];
-            if from.ip == logger.ip && from.port == logger.port {
+            if is_from_logger(loggers, from) {
                 Input::Message(bytes)
             } else {
                 Input::Packet(bytes)
@@ -75,20 +126,20 @@ fn input_of<'a>(logger: Addr, came: Option<(usize, Addr)>, buffer: &'a [u8]) -> 
 /// One turn: a receive, and all that the node sends at what came.
 fn take_turn<S: Service, L: Link>(
     alloc: Global,
-    logger: Addr,
+    loggers: Loggers,
     node: &mut Node<S>,
     link: &mut L,
     counts: &mut Counts,
 ) -> Result<(), TurnEnd>
-    requires { HasRoom (2 ^ 64) counts.old }
-    ensures turned { OnOk result (HasTurned (machines S.started S.after) logger (standing_of node.old) (standing_of node.new) (L.told link.old) (L.told link.new) counts.old counts.new) }
-    ensures stops { IfErr result (TurnStops logger (standing_of node.old) (L.told link.old) (L.told link.new)) }
+    requires { HasRoom (2 ^ 65) counts.old }
+    ensures turned { OnOk result (HasTurned (machines S.started S.after) loggers (standing_of node.old) (standing_of node.new) (L.told link.old) (L.told link.new) counts.old counts.new) }
+    ensures stops { IfErr result (TurnStops loggers (standing_of node.old) (L.told link.old) (L.told link.new)) }
     ensures no_bind_fault { L.bind_fault_count link.new ≡ L.bind_fault_count link.old }
 {
     let mut buffer = [0; DATAGRAM_ROOM];
     let came = receive(link, &mut buffer, counts);
-    let packets = node.turn(alloc, input_of(logger, came, &buffer))?;
-    send_all(link, logger, packets, counts);
+    let packets = node.turn(alloc, input_of(loggers, came, &buffer))?;
+    send_all(link, loggers, packets, counts);
     Ok(())
 }
 
@@ -100,13 +151,13 @@ fn boot<S: Service, L: Link>(
     counts: &mut Counts,
 ) -> Result<Node<S>, NoMemory>
     requires range { ServerInRange role.now }
-    requires room { HasRoom (2 ^ 64) counts.old }
+    requires room { HasRoom (2 ^ 65) counts.old }
     ensures booted { IfOk result (λ node. HasBooted (machines S.started S.after) role.now (standing_of node) (L.told link.old) (L.told link.new) counts.old counts.new) }
     ensures lost { OnErr result (L.told link.new ≡ L.told link.old) }
     ensures no_bind_fault { L.bind_fault_count link.new ≡ L.bind_fault_count link.old }
 {
     let node = Node::boot(alloc, role.boot, role.isn, role.kind(), role.local)?;
-    send_all(link, role.logger, node.sent(), counts);
+    send_all(link, role.loggers, node.sent(), counts);
     Ok(node)
 }
 
@@ -124,7 +175,7 @@ fn serve<S: Service, L: Link>(
     let mut counts = Counts::new();
     let mut node = boot::<S, L>(alloc, role, link, &mut counts)?;
     for _turn in 0..role.turns {
-        take_turn(alloc, role.logger, &mut node, link, &mut counts)?;
+        take_turn(alloc, role.loggers, &mut node, link, &mut counts)?;
     }
     Ok(counts)
 }

@@ -28,4 +28,4 @@ returns-in_err-take_turn-clause-stops g c =
     of_error c.from_residual-in_err-take_turn.result c.from_residual-in_err-take_turn.ensures.1
     (λ end is. serving_stops (machines g.S.Service.started g.S.Service.after) c.args.role.now c.loop-turn._turn (standing_of c.loop-turn.node) (g.L.Link.told c.args.link.now) (g.L.Link.told c.loop-turn.link) (g.L.Link.told c.take_turn.new.link)
     c.loop-turn.counts end c.loop-turn-test.true c.loop-turn.invariant.0
-    (subst (TurnStops c.args.role.now.logger (standing_of c.loop-turn.node) (g.L.Link.told c.loop-turn.link) (g.L.Link.told c.take_turn.new.link)) (sym is) c.in_err-take_turn.ensures.stops))
+    (subst (TurnStops c.args.role.now.loggers (standing_of c.loop-turn.node) (g.L.Link.told c.loop-turn.link) (g.L.Link.told c.take_turn.new.link)) (sym is) c.in_err-take_turn.ensures.stops))

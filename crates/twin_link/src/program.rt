@@ -1,6 +1,6 @@
 //! All of `ftnode`, on a system that is given to it.
 
-use crate::top::node_with;
+use crate::top::node_in_pair;
 use disk::HostDesk;
 use ft_io::{ProcessSpawner, ReadSource, UdpLink, WriteSink};
 use std::fs::{File, Files};
@@ -11,7 +11,7 @@ use std::rt::Env;
 use std::time::Clock;
 use std::{env, io};
 
-/// `ftnode` with this system's arguments, sockets, files and processes, and with these three streams. Returns its exit status, that of [`node_with`], or std's
+/// `ftnode` with this system's arguments, sockets, files and processes, and with these three streams. Returns its exit status, that of [`node_in_pair`], or std's
 /// error if the arguments can't be read: one of them isn't UTF-8, or an allocation failed.
 pub fn run_ftnode<
     R: Env + AllocGlobal + Net + Clock + Files<File = File> + Processes,
@@ -26,7 +26,7 @@ pub fn run_ftnode<
     let mut err = WriteSink::new(err);
     let mut kids = ProcessSpawner::new(system, system.alloc());
     let mut desk = HostDesk::new(system);
-    let status = node_with(
+    let status = node_in_pair(
         system.alloc(),
         &words,
         &mut link,
