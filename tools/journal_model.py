@@ -12,7 +12,7 @@ import random
 import sys
 from struct import pack
 
-from model import Log, Message
+from loggers import Log, Message
 from twin_model import ANSWERS, read_message, spell_message, spelled
 
 MAGIC = b"ftlog 1\n"

@@ -3,8 +3,8 @@
 
     tools/ladder.py REPORT [--from E] [--to E] > PICTURE.svg      REPORT is a file, or - for standard input
 
-Time runs downwards, with a row for each event and each packet; clients, server and log have vertical lines. An arrow leads from the sending of a packet to its
-delivery. The arrow of a packet that is never delivered, or that reaches a server that is down, ends in a cross; that of a packet that is delivered again, or long
+Time runs downwards, with a row for each event and each packet; clients, server and log, or head and tail of two loggers, have vertical lines. An arrow leads from the sending of a packet to its
+delivery. The arrow of a packet that is never delivered, or that reaches a server that is down or a logger that has stopped, ends in a cross; that of a packet that is delivered again, or long
 after it was sent, begins at a small ring. A segment is labelled with its packet number, flags, sequence and acknowledgement number, bytes of text, and its window
 where that isn't 65,535; a message with its name and the fields that differ from one to the next. This file is outside the proofs: it shows what a report says, and
 judges nothing.
@@ -21,7 +21,7 @@ LETTER = 6.65  # the width of a letter of 11 pixels
 EVENTS = 30  # where the words of the events begin
 FIRST_LINE = 250  # the first client's lifeline
 CLIENT_GAP = 70  # between two clients
-GAP = 350  # between the last client and the server, and between server and log
+GAP = 350  # between the last client and the server, between server and log, and between two loggers
 TOP = 118  # the first row
 GROUNDS = ("even", "odd")  # the grounds of the events, in turn
 LATE_ROWS = 9  # a delivery this far below its sending isn't drawn as one line
@@ -29,8 +29,8 @@ SHOWN = ("count", "index", "offset", "first", "length", "reads", "acked", "newer
 
 LEGEND = (
     ("segment", "segment of a client or the server"),
-    ("message", "message of the server or the log"),
-    ("lost", "never delivered, or the server is down"),
+    ("message", "message of the server or a log"),
+    ("lost", "never delivered, or the receiver is down"),
     ("again", "delivered again"),
 )
 
@@ -97,10 +97,11 @@ class Drawing:
 
 @dataclass
 class Delivery:
-    """One delivery of a packet: when, whether the server was there to take it, and whether it was delivered before."""
+    """One delivery of a packet: when, to which lifeline, whether that one was there to take it, and whether the packet was delivered before."""
 
     event: object
     packet: object
+    receiver: str
     is_taken: bool
     is_first: bool
 
@@ -115,6 +116,22 @@ def is_server_up(events):
     return after
 
 
+def stopped_in(events):
+    """For each event, by its number, which of two loggers has stopped once it has happened, or None."""
+    stopped, after = None, {}
+    for event in events:
+        stopped = "HT"[int(event.words[1]) - 1] if event.words[0] == "stop" else stopped
+        after[event.number] = stopped
+    return after
+
+
+def lifeline(report, name, role, stopped):
+    """Whose lifeline a name of a way is: of two loggers the head receives what the server sends and the tail answers, until one has stopped."""
+    if name != "L" or not report.twin:
+        return name
+    return {"H": "T", "T": "H"}.get(stopped, "H" if role == "receiver" else "T")
+
+
 def boots_of(events):
     """For each event, by its number, the boot number of the server's last boot."""
     boot, after = "", {}
@@ -126,12 +143,13 @@ def boots_of(events):
 
 def deliveries_of(report):
     """Every delivery of the run, in order."""
-    packets, up, seen, found = report.packets, is_server_up(report.events), set(), []
+    packets, up, stopped, seen, found = report.packets, is_server_up(report.events), stopped_in(report.events), set(), []
     for event in report.events:
         if event.delivers is not None:
             packet = packets[event.delivers]
-            is_taken = packet.receiver != "S" or up[event.number]
-            found.append(Delivery(event, packet, is_taken, packet.number not in seen))
+            receiver = lifeline(report, packet.receiver, "receiver", stopped[event.number])
+            is_taken = up[event.number] if receiver == "S" else receiver != stopped[event.number]
+            found.append(Delivery(event, packet, receiver, is_taken, packet.number not in seen))
             seen.add(packet.number)
     return found
 
@@ -165,7 +183,11 @@ def field_label(kind, name, value):
 
 def message_label(packet, report, boot):
     """A message in words: name, whose it is where there are more clients, what it tells, and its boot number where another is the server's."""
+    if packet.forwarded:
+        return f"Forward {packet.fields['number']}: {message_label(packet.forwarded, report, boot)}"
     said = packet.fields
+    if packet.kind == "Got":
+        return f"Got {said['number']}"
     told = [packet.kind]
     if len(report.clients) > 1 and "key" in said:
         told.append("of " + next((name for name, address in report.clients.items() if address == said["key"]), said["key"]))
@@ -186,6 +208,7 @@ class Ladder:
         self.is_end = self.events[-1:] == report.events[-1:]
         self.numbers = {event.number for event in self.events}
         self.up = is_server_up(report.events)
+        self.stopped = stopped_in(report.events)
         self.boot = boots_of(report.events)
         self.deliveries = deliveries_of(report)
         self.drawing = Drawing()
@@ -195,13 +218,14 @@ class Ladder:
     def place_actors(self):
         """Where each lifeline stands. Clients of which nothing is shown are left out."""
         shown = {packet.sender for event in self.events for packet in event.packets}
-        shown |= {d.packet.receiver for d in self.deliveries if d.event.number in self.numbers}
+        shown |= {d.receiver for d in self.deliveries if d.event.number in self.numbers}
         clients = [name for name in self.report.clients if name in shown] or list(self.report.clients)[:1]
         self.x = {name: FIRST_LINE + CLIENT_GAP * place for place, name in enumerate(clients)}
         self.gap_left = max(self.x.values(), default=FIRST_LINE)
         self.x["S"] = self.gap_left + GAP
-        self.x["L"] = self.x["S"] + GAP
-        self.width = self.x["L"] + 90
+        for place, name in enumerate("HT" if self.report.twin else "L", 1):
+            self.x[name] = self.x["S"] + place * GAP
+        self.width = max(self.x.values()) + 90
 
     def place_rows(self):
         """Where each event and each packet's sending stands. A delivery has a row of its own above what is sent in it."""
@@ -244,11 +268,24 @@ class Ladder:
         shown = "" if self.is_front and self.is_end else f", events {self.events[0].number} to {self.events[-1].number}" if self.events else ""
         drawing.text(20, 28, f"ftreplay: {', '.join(names)}{shown}", "title")
         for name, x in self.x.items():
-            drawing.text(x, TOP - 44, {"S": "server", "L": "log"}.get(name, f"client {name}"), "actor", "middle")
-            if name == "S" or len(self.x) == 3:
+            drawing.text(x, TOP - 44, {"S": "server", "L": "log", "H": "head", "T": "tail"}.get(name, f"client {name}"), "actor", "middle")
+            if name == "S" or len(self.x) == 3 + report.twin:
                 drawing.text(x, TOP - 29, report.server if name == "S" else report.clients.get(name, ""), "under", "middle")
             if name != "S":
-                drawing.line(x, TOP - 20, x, self.bottom, "life")
+                self.draw_life(name, x)
+
+    def draw_life(self, name, x):
+        """The lifeline of a client or a logger, down to where it stops."""
+        end = next((event for event in self.report.events if self.stopped[event.number] == name), None)
+        if end is None or self.events and end.number > self.events[-1].number:
+            self.drawing.line(x, TOP - 20, x, self.bottom, "life")
+            return
+        y = self.event_y.get(end.number, TOP - 20)
+        self.drawing.line(x, TOP - 20, x, y, "life")
+        self.drawing.line(x, y, x, self.bottom, "down")
+        if end.number in self.numbers:
+            self.drawing.cross(x, y)
+            self.drawing.text(x - 12, y + 4, "stop", "crash-label", "end")
 
     def draw_server(self):
         """The server's lifeline: a bar while it is up, dots while it is down, with crash and boot where they break it."""
@@ -297,8 +334,9 @@ class Ladder:
         delivery = self.first_delivery(packet)
         kind = "segment" if packet.is_segment else "message"
         words = segment_label(packet, self.report) if packet.is_segment else message_label(packet, self.report, self.boot[packet.event])
-        y, start = self.sent_y[packet.number], self.edge(packet.sender, packet.receiver)
-        to_right = self.x[packet.receiver] > self.x[packet.sender]
+        sender, receiver = (lifeline(self.report, getattr(packet, role), role, self.stopped[packet.event]) for role in ("sender", "receiver"))
+        y, start = self.sent_y[packet.number], self.edge(sender, receiver)
+        to_right = self.x[receiver] > self.x[sender]
         near = max(start, self.gap_left) + 8 if to_right else start - 8
         if delivery is None or not self.is_one_line(delivery):
             room = max(0.35 * GAP, len(f"{packet.number} {words}") * LETTER + 12)
@@ -315,7 +353,8 @@ class Ladder:
         """The arrow that ends in a delivery: from the packet's sending, or out of a ring."""
         packet, y = delivery.packet, self.event_y[delivery.event.number]
         kind = "segment" if packet.is_segment else "message"
-        start, end = self.edge(packet.sender, packet.receiver), self.edge(packet.receiver, packet.sender)
+        sender = lifeline(self.report, packet.sender, "sender", self.stopped[packet.event])
+        start, end = self.edge(sender, delivery.receiver), self.edge(delivery.receiver, sender)
         ground = self.ground(delivery.event.number)
         flipped = delivery.event.words[2:] if delivery.event.words[0] == "flip" else []
         if self.is_one_line(delivery):
@@ -348,7 +387,7 @@ class Ladder:
         for place, words in enumerate(entries):
             who = f"{words[1]}: " if len(entries) > 1 else ""
             said = f"{who}length {words[3]}, reads {words[11] if len(words[11]) < 20 else words[11][:17] + '..'}"
-            self.drawing.text(self.x["L"], y + 14 * place, said, "under", "middle")
+            self.drawing.text(self.x[lifeline(self.report, "L", "sender", self.stopped[self.events[-1].number])], y + 14 * place, said, "under", "middle")
         self.bottom += 14 * max(1, len(entries))
 
     def draw_legend(self):

@@ -5,11 +5,12 @@ report of a schedule is compared with that of `ftreplay` (tools/seed_model.py), 
 """
 from collections import namedtuple
 
+from loggers import OPENINGS, Alone, Forward, Got, Message, Pair
+
 LIMIT = 1 << 24  # bytes of a stream, each way
 WINDOW = 65535
 READ = 2048  # bytes of a read
 UNANSWERED = 32  # reads on their way to the log
-OPENINGS = 64  # also the entries of a log
 PACKETS = 200_000  # packets of a run
 RUNS = 16  # runs of bytes that are held behind a gap
 WIDEST = 1 << 20  # the most units of a congestion window
@@ -20,7 +21,6 @@ SIZES = {"Hello": 16, "Summary": 18, "List": 18, "Entry": 48, "Bytes": 26, "Part
 SIZES |= {"Data": 31, "Stable": 31, "Read": 28, "Reads": 31, "Done": 22, "Ended": 22, "Stale": 24, "Full": 22}
 
 Segment = namedtuple("Segment", "flags seq ack window mss text")
-Message = namedtuple("Message", "name boot fields")
 
 
 def number(value):
@@ -38,9 +38,11 @@ def refusal(ack_of, ack=None):
 
 
 def size_of(content):
-    """The bytes of a packet or a message."""
+    """The bytes of a packet, a message or a datagram between two loggers."""
     if isinstance(content, Segment):
         return 40 + (4 if content.mss is not None else 0) + len(content.text)
+    if isinstance(content, (Forward, Got)):
+        return 16 + (size_of(content.message) if isinstance(content, Forward) else 0)
     return SIZES[content.name] + len(content.fields.get("bytes", b"")) + 2 * len(content.fields.get("lens", []))
 
 
@@ -263,91 +265,6 @@ class Congestion:
         if first:
             self.halve(flight)
         self.window, self.dups = self.mss, 0
-
-
-class Entry:
-    """What the log keeps of one connection."""
-
-    def __init__(self, key, cisn, sisn, mss):
-        self.key, self.cisn, self.sisn, self.mss = key, cisn, sisn, mss
-        self.data, self.fin, self.lengths, self.acked, self.done = bytearray(), 0, [], 0, 0
-
-    def keep_data(self, said):
-        self.acked = max(self.acked, said["acked"])
-        if not self.fin and said["offset"] <= len(self.data):
-            self.data += said["bytes"][len(self.data) - said["offset"] :]
-            self.fin = int(said["fin"] and said["offset"] + len(said["bytes"]) == len(self.data))
-
-    def keep_read(self, index, length):
-        total = sum(self.lengths) + length
-        closes = self.fin and total == len(self.data)
-        if index == len(self.lengths) and 0 not in self.lengths and total <= len(self.data) and (length or closes):
-            self.lengths.append(length)
-
-    def counts(self):
-        return {"key": self.key, "length": len(self.data), "fin": self.fin, "reads": len(self.lengths)}
-
-    def told(self, index):
-        said = {"index": index, "key": self.key, "cisn": self.cisn, "sisn": self.sisn, "mss": self.mss, "length": len(self.data)}
-        return {**said, "fin": self.fin, "done": self.done, "reads": len(self.lengths), "acked": self.acked}
-
-
-class Log:
-    """The logger: entries in the order of opening, and the largest boot number that said Hello."""
-
-    def __init__(self):
-        self.boot, self.entries = 0, {}
-
-    def answer(self, asked):
-        """What it answers to a message, or None."""
-        if asked.boot < self.boot:
-            return Message("Stale", asked.boot, {"newer": self.boot})
-        if asked.name == "Hello":
-            self.boot = asked.boot
-            return Message("Summary", asked.boot, {"count": len(self.entries)})
-        if asked.boot > self.boot:
-            return None
-        said = getattr(self, "on_" + asked.name.lower())(asked.fields)
-        return said and Message(said[0], asked.boot, said[1])
-
-    def on_list(self, said):
-        entries = list(self.entries.values())
-        return ("Entry", entries[said["index"]].told(said["index"])) if said["index"] < len(entries) else None
-
-    def on_bytes(self, said):
-        entry, at = self.entries.get(said["key"]), said["offset"]
-        if entry is None or at >= len(entry.data):
-            return None
-        return "Part", {"key": entry.key, "offset": at, "bytes": bytes(entry.data[at : at + 1024])}
-
-    def on_cuts(self, said):
-        entry, first = self.entries.get(said["key"]), said["first"]
-        if entry is None or first >= len(entry.lengths):
-            return None
-        return "Lens", {"key": entry.key, "first": first, "lens": entry.lengths[first : first + 512]}
-
-    def on_open(self, said):
-        if said["key"] not in self.entries:
-            if len(self.entries) == OPENINGS:
-                return "Full", {"key": said["key"]}
-            self.entries[said["key"]] = Entry(said["key"], said["cisn"], said["sisn"], said["mss"])
-        entry = self.entries[said["key"]]
-        return "Opened", {"key": entry.key, "cisn": entry.cisn, "sisn": entry.sisn, "mss": entry.mss}
-
-    def on_data(self, said):
-        entry = self.entries.get(said["key"])
-        return entry and (entry.keep_data(said), ("Stable", entry.counts()))[1]
-
-    def on_read(self, said):
-        entry = self.entries.get(said["key"])
-        return entry and (entry.keep_read(said["index"], said["length"]), ("Reads", entry.counts()))[1]
-
-    def on_done(self, said):
-        entry = self.entries.get(said["key"])
-        if entry is None:
-            return None
-        entry.done = 1
-        return "Ended", {"key": entry.key}
 
 
 class Connection(Stream):
@@ -708,13 +625,18 @@ class Server:
 
 
 class World:
-    """Clients, log, network and server, event by event."""
+    """Clients, one logger or two, network and server, event by event."""
 
-    def __init__(self, service, server, clients):
+    def __init__(self, service, server, clients, twin=False):
         self.service, self.address, self.clients = service, server, clients
         self.of_key = {client.key: place for place, client in enumerate(clients, 1)}
-        self.log, self.server, self.packets = Log(), None, []
+        self.twin, self.loggers, self.server, self.packets = twin, Pair() if twin else Alone(), None, []
         self.boots, self.crashes, self.last_boot = 0, 0, 0
+
+    @property
+    def log(self):
+        """The log that serves."""
+        return self.loggers.log
 
     def refuses(self, verb, words):
         """Why an event isn't allowed, by the tests in their order, or None."""
@@ -726,6 +648,8 @@ class World:
             if not 1 <= words[0] <= len(self.packets):
                 return "packet"
             return "bit" if verb == "flip" and words[1] >= 8 * size_of(self.packets[words[0] - 1][1]) else None
+        if verb == "stop":
+            return "stop" if not self.twin or self.loggers.stopped else None
         if not 1 <= words[0] <= len(self.clients):
             return "client"
         return self.clients[words[0] - 1].refuses(verb, words[1:])
@@ -748,6 +672,9 @@ class World:
             return []
         if verb == "flip":
             return []  # a packet or message with one bit changed has a wrong sum, or is refused before, whoever gets it
+        if verb == "stop":
+            self.loggers.stop("HT"[words[0] - 1])
+            return []
         if verb == "tick":
             return self.by_server(self.server.on_tick())
         if verb == "deliver":
@@ -756,9 +683,8 @@ class World:
 
     def deliver(self, way, content):
         sender, receiver = way.split(">")
-        if receiver == "L":
-            answer = self.log.answer(content)
-            return [("L>S", answer)] if answer else []
+        if receiver in ("L", "H", "T"):
+            return self.loggers.deliver(receiver, sender, content)
         if receiver != "S":
             self.clients[int(receiver) - 1].receive(content)
             return []

@@ -1,19 +1,25 @@
 #!/usr/bin/env python3
-"""Tests of tools/model.py: numbers computed from the rules by hand, a crash at each turn of the first path, transfers with lost segments, and the stored runs of
-crates/replay_script. It takes half a minute. Run it: tools/model_test.py"""
+"""Tests of tools/model.py: numbers computed from the rules by hand, a crash at each turn of the first path, also where one of two loggers stops there, transfers
+with lost segments, and the stored runs of crates/replay_script. It takes half a minute. Run it: tools/model_test.py"""
 import pathlib
 import re
 import unittest
 
 import lossy
 from endpoint_model import play_script
-from model import WIDEST, Client, Congestion, Connection, Log, Message, Segment, Server, Service, Stream, World, size_of
+from loggers import Forward, Got, Head, Log, Message, Tail
+from masked import Watch
+from model import WIDEST, Client, Congestion, Connection, Segment, Server, Service, Stream, World, size_of
 from reordered import drawn
 from replay_stored import FOLDER, printed
+from seed_model import drawn_run
 
 KEY, SERVER = "192.0.2.1:40000", "192.0.2.100:7"
 FIRST_PATH = "boot 1 5000|deliver 1|deliver 2|open 1 65535|deliver 3|deliver 4|deliver 5|deliver 6|ack 1 65535|deliver 7|send 1 0 5|deliver 8|deliver 10"
 FIRST_PATH += "|deliver 12|deliver 11|deliver 14|deliver 15"
+# The same with two loggers, and what goes between them.
+PAIRED_PATH = "boot 1 5000|deliver 1|deliver 2|deliver 3|deliver 4|open 1 65535|deliver 5|deliver 6|deliver 7|deliver 8|deliver 9|deliver 10|ack 1 65535"
+PAIRED_PATH += "|deliver 11|send 1 0 5|deliver 12|deliver 14|deliver 16|deliver 17|deliver 18|deliver 19|deliver 15|deliver 20|deliver 21|deliver 22|deliver 23"
 EDGE = 65535  # the right edge of a connection of which nothing is read
 
 
@@ -86,6 +92,44 @@ class Logs(unittest.TestCase):
             log.answer(said("Open", key=f"192.0.2.{place}:40000", cisn=1000, sisn=5000, mss=536))
         self.assertEqual(log.answer(said("Open", key="192.0.3.1:40000", cisn=1000, sisn=5000, mss=536)), said("Full", key="192.0.3.1:40000"))
         self.assertIsNone(log.answer(said("Bytes", key=KEY, offset=0)))
+
+
+class Pairs(unittest.TestCase):
+    """A head and a tail, message by message."""
+
+    def test_full_head(self):
+        head, hello = Head(), said("Hello")
+        for count in range(1, 65):
+            self.assertEqual(head.hear_server(hello), [Forward(n, hello) for n in range(1, count + 1)])
+        self.assertEqual([it.number for it in head.hear_server(said("List", index=0))], list(range(1, 65)))
+        head.hear_other(Got(65))
+        self.assertEqual(head.confirmed, 0)
+        head.hear_other(Got(64))
+        head.hear_other(Got(1))
+        self.assertEqual([it.number for it in head.hear_server(hello)], [65])
+        self.assertEqual(head.hear_server(said("Summary", count=0)), [])
+
+    def test_order(self):
+        tail, hello = Tail(), said("Hello")
+        self.assertEqual(tail.hear_server(hello) + tail.hear_other(Forward(2, hello)), [])
+        self.assertEqual(tail.hear_other(Forward(1, hello)), [said("Summary", count=0), Got(1)])
+        self.assertEqual(tail.hear_other(Forward(2, hello)), [said("Summary", count=0), Got(2)])
+        self.assertEqual(tail.hear_other(Forward(1, hello)), [Got(2)])
+
+    def test_alone(self):
+        head, tail, hello = Head(), Tail(), said("Hello")
+        head.hear_server(hello)
+        head.alone = tail.alone = True
+        self.assertEqual(tail.hear_other(Forward(1, hello)), [])
+        for logger in (head, tail):
+            self.assertEqual(logger.hear_server(hello), [said("Summary", count=0)])
+
+    def test_stops(self):
+        world = World("echo", SERVER, [], twin=True)
+        self.assertEqual((world.refuses("stop", [2]), World("echo", SERVER, []).refuses("stop", [1])), (None, "stop"))
+        play(world, "boot 1 5000", "stop 2", "deliver 1")
+        self.assertEqual(world.packets[1:], [("L>S", said("Summary", count=0))])
+        self.assertEqual([world.refuses("stop", [part]) for part in (1, 2)], ["stop", "stop"])
 
 
 class Streams(unittest.TestCase):
@@ -343,7 +387,7 @@ class StoredRuns(unittest.TestCase):
     def test_replay_script(self):
         stored = [(FOLDER / name).read_text() for name in ("stdin", "stdout")]
         told = {name: (stands, wanted) for name, stands, wanted in printed(*stored)}
-        self.assertEqual(sum(wanted is not None for _, wanted in told.values()), 79)
+        self.assertEqual(sum(wanted is not None for _, wanted in told.values()), 90)
         for name, (stands, wanted) in told.items():
             self.assertIn(wanted, (None, stands), name)
 
@@ -356,11 +400,18 @@ class StoredRuns(unittest.TestCase):
 
 class Worlds(unittest.TestCase):
     def test_crash_at_each_turn(self):
-        events = FIRST_PATH.split("|")
-        for count in range(1, 18):
+        self.check_crashes(FIRST_PATH.split("|"), ["crash"], twin=False)
+
+    def test_crash_and_stop_at_each_turn(self):
+        for part in (1, 2):
+            self.check_crashes(PAIRED_PATH.split("|"), ["crash", f"stop {part}"], twin=True)
+
+    def check_crashes(self, events, failures, twin):
+        """Behind each event of a path the server crashes, and the client goes on as far as it must: it gets its echo, and the log that serves has the read."""
+        for count in range(1, len(events) + 1):
             client = Client(KEY, 1000, b"hello")
-            world = World("echo", SERVER, [client])
-            play(world, *events[:count], "crash", "boot 2 900000")
+            world = World("echo", SERVER, [client], twin)
+            play(world, *events[:count], *failures, "boot 2 900000")
             start = drain(world, len(world.packets) - 1)
             if client.phase in ("new", "opening"):
                 play(world, "open 1 65535")
@@ -372,7 +423,7 @@ class Worlds(unittest.TestCase):
                 start = drain(world, start)
             play(world, "ack 1 65535")
             drain(world, start)
-            self.assertEqual((bytes(client.accepted), world.log.entries[KEY].lengths), (b"hello", [5]), f"crash behind event {count}")
+            self.assertEqual((bytes(client.accepted), world.log.entries[KEY].lengths), (b"hello", [5]), (count, failures))
 
     def test_segments_out_of_order(self):
         for seed in range(100):
@@ -383,7 +434,13 @@ class Worlds(unittest.TestCase):
             _, accepted, wanted = lossy.drawn(seed)
             self.assertEqual(accepted, wanted, seed)
 
+    def test_masked(self):
+        for seed in range(100):
+            drawn_run(seed, 1 + seed % 4, 1000, twin=True, watch=Watch())
+
     def test_sizes(self):
+        self.assertEqual(size_of(Forward(1, said("Hello"))), 32)
+        self.assertEqual(size_of(Got(1)), 16)
         self.assertEqual(size_of(said("Data", key=KEY, offset=0, acked=0, fin=0, bytes=b"hello")), 0x24)
         self.assertEqual(size_of(text(0, b"hello")), 45)
 

@@ -3,7 +3,8 @@
 
     tools/north_limits.py   prints them
 """
-from model import Connection, Message, Segment
+from loggers import Message
+from model import Connection, Segment
 
 
 def asks(size, count):

@@ -4,7 +4,7 @@
     tools/report_pcap.py REPORT CAPTURE.pcap      REPORT is a file, or - for standard input
     tcpdump -n -v -r CAPTURE.pcap
 
-The capture has each packet once, in the order of sending, whether or not it was delivered; messages between server and log are no packets and are left out. A
+The capture has each packet once, in the order of sending, whether or not it was delivered; messages between server and loggers are no packets and are left out. A
 report has no times: the packets of event E have the time E seconds, and follow each other by one microsecond. The bytes are the one spelling of docs/FORMATS.md
 ("Packets"), with both checksums computed here and not by the program. The link type is raw IP (101).
 """

@@ -1,9 +1,10 @@
 """Reads a report of `ftreplay` (docs/FORMATS.md), for the other tools in this folder."""
 import re
 import sys
-from dataclasses import dataclass, field
+from dataclasses import dataclass, field, replace
 
-WAY = re.compile(r"(\d+|S|L)>(\d+|S|L)")
+WAY = re.compile(r"(\d+|S)>(\d+|S)|S>L|L>S|H>T|T>H")
+LOGGERS = {"L", "H", "T"}
 
 
 class BadReport(Exception):
@@ -12,7 +13,7 @@ class BadReport(Exception):
 
 @dataclass
 class Packet:
-    """A packet of the run: who sent it to whom (`S`, `L`, or a client's number as text), and the words of its content."""
+    """A packet of the run: who sent it to whom (`S`, `L`, of two loggers `H` or `T`, or a client's number as text), and the words of its content."""
 
     number: int
     sender: str
@@ -22,17 +23,23 @@ class Packet:
 
     @property
     def is_segment(self):
-        return "L" not in (self.sender, self.receiver)
+        return not {self.sender, self.receiver} & LOGGERS
+
+    @property
+    def forwarded(self):
+        """Of a Forward the message in it, as a packet of its own; or None."""
+        return replace(self, words=self.words[3:]) if self.kind == "Forward" else None
 
     @property
     def kind(self):
-        """The letters of a segment's flags, or a message's name."""
+        """The letters of a segment's flags, or the name of a message or of a datagram between two loggers."""
         return self.words[0]
 
     @property
     def fields(self):
-        """The content behind the flags or the name: names and values in turn."""
-        return dict(zip(self.words[1::2], self.words[2::2]))
+        """The content behind the flags or the name: names and values in turn; of a Forward its number."""
+        words = self.words[:3] if self.kind == "Forward" else self.words
+        return dict(zip(words[1::2], words[2::2]))
 
 
 @dataclass
@@ -55,6 +62,7 @@ class Report:
 
     service: str = ""
     server: str = ""
+    twin: bool = False
     clients: dict = field(default_factory=dict)
     events: list = field(default_factory=list)
     closing: list = field(default_factory=list)
@@ -67,8 +75,8 @@ class Report:
 def read_packet(words, event):
     way = WAY.fullmatch(words[2])
     if not way:
-        raise BadReport(f"the way {words[2]} is none between clients, server and log")
-    return Packet(int(words[1]), way[1], way[2], words[3:], event)
+        raise BadReport(f"the way {words[2]} is none between clients, server and loggers")
+    return Packet(int(words[1]), *words[2].split(">"), words[3:], event)
 
 
 def take_line(report, words):
@@ -84,6 +92,8 @@ def take_line(report, words):
         report.service = words[1]
     elif head == "server":
         report.server = words[1]
+    elif head == "twin":
+        report.twin = True
     elif head == "client" and words[3] != "accepted":
         report.clients[words[1]] = words[2]
     elif head == "client":

@@ -3,19 +3,21 @@
 
     tools/seed_model.py seed SEED CLIENTS EVENTS      the summary of a schedule that is drawn from a seed
     tools/seed_model.py schedule SEED CLIENTS EVENTS  that schedule as text, for `ftreplay run`
+    tools/seed_model.py pair SEED CLIENTS EVENTS      one with two loggers: at drawn events one of them stops, and the server crashes if it is up
     tools/seed_model.py run < SCHEDULE                the report of a schedule, up to its first event that isn't allowed
-    tools/seed_model.py compare PROGRAM [--seeds N] [--events N] [--first SEED] [--through seed|run]
+    tools/seed_model.py compare PROGRAM [--seeds N] [--events N] [--first SEED] [--through seed|run|pair]
                                                       plays N seeds with 1 to 16 clients each by both, and compares what they write
 
 PROGRAM is a built `ftreplay`. `compare` ends with status 1 at the first difference, and prints the words that reproduce it. With `--through run` the program plays
-each schedule as text, and the whole reports are compared.
+each schedule as text, and the whole reports are compared; with `--through pair` these are the schedules with two loggers.
 """
 import argparse
 import signal
 import subprocess
 import sys
 
-from model import LIMIT, PACKETS, Client, Message, World
+from loggers import Forward, Got, Message
+from model import LIMIT, PACKETS, Client, World
 
 MULTIPLIER, INCREMENT = 6364136223846793005, 1442695040888963407
 SERVER = "192.0.2.100:7"
@@ -36,9 +38,9 @@ def fill(length):
     return bytes(97 + place % 26 for place in range(length))
 
 
-def drawn_world(draws, count):
+def drawn_world(draws, count, twin=False):
     clients = [Client(f"192.0.2.{i}:40000", draws.draw(), fill(1000 * i)) for i in range(1, count + 1)]
-    return World("echo", SERVER, clients)
+    return World("echo", SERVER, clients, twin)
 
 
 def drawn_event(draws, world):
@@ -74,16 +76,27 @@ def tick_or_boot(draws, world):
     return ("tick", []) if world.server else ("boot", [world.last_boot + 1, draws.draw()])
 
 
-def drawn_run(seed, count, events):
-    """The world behind a drawn schedule, with the events; `None` in its place where the packets pass their limit."""
+def drawn_failures(draws, events):
+    """Where one of two loggers stops, and where the server crashes: events by their places. The first event boots."""
+    stops, crashes = (1 + draws.draw() % max(1, events - 1) for _ in range(2))
+    return {crashes: ("crash", []), stops: ("stop", [1 + draws.draw() % 2])}
+
+
+def drawn_run(seed, count, events, twin=False, watch=None):
+    """The world behind a drawn schedule, with the events; `None` in its place where the packets pass their limit. `watch` finds faults in it after each."""
     draws, played = Generator(seed), []
-    world = drawn_world(draws, count)
+    world = drawn_world(draws, count, twin)
+    failures = drawn_failures(draws, events) if twin else {}
     for place in range(events):
         verb, words = drawn_event(draws, world) if place else ("boot", [1, draws.draw()])
+        if place in failures and world.refuses(*failures[place]) is None:
+            verb, words = failures[place]
         why = world.refuses(verb, words)
         if why:
             sys.exit(f"seed {seed} {count} {events}: event {place + 1}, {verb} {words}, isn't allowed: {why}")
         sent = world.step(verb, words)
+        for fault in watch.faults(world, sent) if watch else []:
+            sys.exit(f"seed {seed} {count} {events}: event {place + 1}, {verb} {words}: {fault}")
         if len(world.packets) > PACKETS:
             return None, played
         played.append((verb, words, sent))
@@ -92,17 +105,16 @@ def drawn_run(seed, count, events):
 
 def header(world, spelled):
     clients = [f"client {i} {it.key} {it.isn} {spelled[i - 1]}" for i, it in enumerate(world.clients, 1)]
-    return [f"service {world.service}", f"server {world.address}", *clients]
+    return [f"service {world.service}", f"server {world.address}", *["twin"] * world.twin, *clients]
 
 
 def event_words(verb, words):
     return " ".join([verb, *map(str, words)])
 
 
-def schedule_text(seed, count, events):
-    draws = Generator(seed)
-    lines = header(drawn_world(draws, count), [f"fill:{1000 * i}" for i in range(1, count + 1)])
-    return lines + [event_words(verb, words) for verb, words, _ in drawn_run(seed, count, events)[1]]
+def schedule_text(seed, count, events, twin=False):
+    lines = header(drawn_world(Generator(seed), count, twin), [f"fill:{1000 * i}" for i in range(1, count + 1)])
+    return lines + [event_words(verb, words) for verb, words, _ in drawn_run(seed, count, events, twin)[1]]
 
 
 def summary(seed, count, events):
@@ -119,6 +131,10 @@ def hexadecimal(data):
 
 
 def packet_words(content):
+    if isinstance(content, Forward):
+        return f"Forward number {content.number} {packet_words(content.message)}"
+    if isinstance(content, Got):
+        return f"Got number {content.number}"
     if isinstance(content, Message):
         words = [content.name, "boot", str(content.boot)]
         for name, value in content.fields.items():
@@ -146,11 +162,12 @@ def script_of(word):
 def play(text):
     """The report of a schedule that is in order, and why it ended early, or None."""
     lines = [line.split() for line in text.splitlines() if line.strip() and not line.startswith("#")]
+    twin = lines[2:3] == [["twin"]]
     heads = [words for words in lines if words[0] == "client"]
     clients = [Client(words[2], int(words[3]), script_of(words[4])) for words in heads]
-    world = World(lines[0][1], lines[1][1], clients)
+    world = World(lines[0][1], lines[1][1], clients, twin)
     report, number, done = ["ftreplay 1", *header(world, [words[4].lower() for words in heads])], 0, 0
-    for verb, *words in lines[2 + len(heads) :]:
+    for verb, *words in lines[2 + twin + len(heads) :]:
         words = [int(word) for word in words]
         why = world.refuses(verb, words)
         if why:
@@ -172,7 +189,7 @@ def differs(program, seed, count, events, through):
         wanted = summary(seed, count, events)
         words, given = ["seed", str(seed), str(count), str(events)], ""
     else:
-        given = "\n".join(schedule_text(seed, count, events)) + "\n"
+        given = "\n".join(schedule_text(seed, count, events, through == "pair")) + "\n"
         wanted, words = play(given)[0], ["run"]
     run = subprocess.run([program, *words], input=given, capture_output=True, text=True, timeout=120, check=False)
     return run.stdout != "".join(line + "\n" for line in wanted or [])
@@ -189,7 +206,7 @@ def compare(words):
 def main():
     parser = argparse.ArgumentParser(description=__doc__, formatter_class=argparse.RawDescriptionHelpFormatter)
     verbs = parser.add_subparsers(dest="verb", required=True)
-    for verb in ("seed", "schedule"):
+    for verb in ("seed", "schedule", "pair"):
         drawn = verbs.add_parser(verb)
         for name in ("seed", "clients", "events"):
             drawn.add_argument(name, type=int)
@@ -199,7 +216,7 @@ def main():
     both.add_argument("--seeds", type=int, default=1000)
     both.add_argument("--events", type=int, default=2000)
     both.add_argument("--first", type=int, default=1)
-    both.add_argument("--through", choices=("seed", "run"), default="seed")
+    both.add_argument("--through", choices=("seed", "run", "pair"), default="seed")
     words = parser.parse_args()
     signal.signal(signal.SIGPIPE, signal.SIG_DFL)
     if words.verb == "compare":
@@ -209,7 +226,8 @@ def main():
         print("\n".join(report))
         sys.exit(why)
     else:
-        lines = (summary if words.verb == "seed" else schedule_text)(words.seed, words.clients, words.events)
+        drawn = words.seed, words.clients, words.events
+        lines = summary(*drawn) if words.verb == "seed" else schedule_text(*drawn, words.verb == "pair")
         if lines is None:
             sys.exit("too long: packets")
         print("\n".join(lines))

@@ -4,15 +4,14 @@
 twin_model.py lines      reads a script of `twin_script` from standard input, and writes what it must print
 twin_model.py cases      writes the script that is stored beside the program
 
-It stores a head's whole history and spells each datagram again; the program stores only what is unconfirmed. The log is that of model.py.
+It stores a head's whole history and spells each datagram again; the program stores only what is unconfirmed. Log, head and tail are those of loggers.py.
 """
 import sys
 from struct import pack, unpack
 
-from model import Log, Message
+from loggers import ANSWERS, Forward, Got, Head, Message, Tail
 
 KINDS = "Hello Summary List Entry Bytes Part Cuts Lens Open Opened Data Stable Read Reads Done Ended Stale Full".split()
-ANSWERS = {"Summary", "Entry", "Part", "Lens", "Opened", "Stable", "Reads", "Ended", "Stale", "Full"}
 LIMIT = 1 << 24
 KEY, OPEN, KEPT = [("key", 6)], [("key", 6), ("cisn", 4), ("sisn", 4), ("mss", 2)], [("key", 6), ("length", 4), ("fin", 1), ("reads", 4)]
 FIELDS = {
@@ -118,78 +117,32 @@ def read_twin(data):
     return ("Alone",) if number == 0 else None
 
 
-def answered(log, message):
-    """What goes to the server where a log takes a message."""
-    answer = None if message.name in ANSWERS else log.answer(message)
-    return [] if answer is None else [("server", spell_message(answer))]
+def told(data):
+    """What a datagram of the other logger says, as the model has it, or None."""
+    said, kinds = read_twin(data), {"Forward": Forward, "Got": Got}
+    return kinds[said[0]](*said[1:]) if said and said[0] in kinds else None
 
 
-class Head:
-    """The log, all that was taken, in order, and how much of it is confirmed."""
-
-    def __init__(self):
-        self.log, self.taken, self.confirmed, self.alone = Log(), [], 0, False
-
-    def number(self):
-        return len(self.taken)
-
-    def server(self, data):
-        message = read_message(data)
-        if message is None:
-            return []
-        if self.alone:
-            return answered(self.log, message)
-        if message.name in ANSWERS:
-            return []
-        if len(self.taken) - self.confirmed < 64:
-            self.taken.append(data)
-            self.log.answer(message)
-        waiting = range(self.confirmed, len(self.taken))
-        return [("other", spelled(b"FU", 1, i + 1, self.taken[i])) for i in waiting]
-
-    def other(self, data):
-        said = read_twin(data)
-        if not self.alone and said and said[0] == "Got" and self.confirmed < said[1] <= len(self.taken):
-            self.confirmed = said[1]
-        return []
-
-
-class Tail:
-    """The log, and how many messages it has applied."""
-
-    def __init__(self):
-        self.log, self.applied, self.alone = Log(), 0, False
-
-    def number(self):
-        return self.applied
-
-    def server(self, data):
-        message = read_message(data)
-        return answered(self.log, message) if self.alone and message else []
-
-    def other(self, data):
-        said = read_twin(data)
-        if self.alone or said is None or said[0] != "Forward" or said[1] > self.applied + 1:
-            return []
-        answers = []
-        if said[1] == self.applied + 1:
-            answers = answered(self.log, read_message(said[2]))
-            self.applied += 1
-        return answers + [("other", spelled(b"FU", 2, self.applied, b""))]
+def spell(sent):
+    """To whom something goes, and its bytes."""
+    if isinstance(sent, Message):
+        return "server", spell_message(sent)
+    return "other", spelled(b"FU", 1, sent.number, sent.message) if isinstance(sent, Forward) else spelled(b"FU", 2, sent.number, b"")
 
 
 class Pair:
     """A head and a tail, with what each of them ever sent to the other."""
 
     def __init__(self):
-        self.parts, self.sent, self.stopped = {"head": Head(), "tail": Tail()}, {"head": [], "tail": []}, None
+        self.parts, self.sent, self.stopped = {"head": Head(read_message), "tail": Tail(read_message)}, {"head": [], "tail": []}, None
         self.passed = {"head": 0, "tail": 0}  # how much of what was sent to each has come in order
 
     def deliver(self, part, side, data):
         """What goes out; nothing of a part that has stopped."""
         if self.stopped == part:
             return []
-        out = getattr(self.parts[part], side)(data)
+        logger = self.parts[part]
+        out = [spell(it) for it in (logger.hear_server(data) if side == "server" else logger.hear_other(told(data)))]
         self.sent[part] += [bytes_ for to, bytes_ in out if to == "other"]
         return out
 
@@ -197,6 +150,10 @@ class Pair:
         if self.stopped is None:
             self.stopped = part
             self.parts[other_of(part)].alone = True
+
+    def number(self, part):
+        """How many messages the head has taken, or the tail has applied."""
+        return len(self.parts["head"].taken) if part == "head" else self.parts["tail"].applied
 
 
 def other_of(part):
@@ -272,7 +229,7 @@ def tally(count, length, seed):
                 answers, others = answers + (to == "server"), others + (to == "other")
                 for byte in data:
                     sum_ = (sum_ * 31 + byte) % (1 << 32)
-        numbers += pair.parts["head"].number() + pair.parts["tail"].number()
+        numbers += pair.number("head") + pair.number("tail")
     return f"random {count}: answers {answers} others {others} numbers {numbers} bytes {sum_}"
 
 
@@ -293,8 +250,8 @@ def played(pair, line):
         return line
     part, side = words[0], words[1]
     if side == "log":
-        logger = pair.parts[part]
-        return f"{line} number {logger.number()} boot {logger.log.boot} count {len(logger.log.entries)}"
+        log = pair.parts[part].log
+        return f"{line} number {pair.number(part)} boot {log.boot} count {len(log.entries)}"
     if side == "sent":
         sent = pair.sent[other_of(part)]
         data = sent[int(words[2]) - 1] if 1 <= int(words[2]) <= len(sent) else None
