@@ -12,6 +12,7 @@ import sys
 
 sys.path.insert(0, str(pathlib.Path(__file__).parent.parent / "tools"))
 
+import loggers  # noqa: E402
 import model  # noqa: E402
 from seed_model import Generator, packet_words  # noqa: E402
 
@@ -373,7 +374,7 @@ class Played:
     """A server and a log of the model, and a client that says what it is told to. Each turn is a line of the script, with what the model sends in it."""
 
     def __init__(self, service):
-        self.service, self.log, self.sent = service, model.Log(), []
+        self.service, self.log, self.sent = service, loggers.Log(), []
         self.boot(1, 5000)
 
     def boot(self, boot, isn):
@@ -657,13 +658,13 @@ class Struck(Played):
     def opens_hostile(self):
         """The log answers the fourth client's opening after all: it has a connection."""
         opening = self.server.places[HOSTILE]
-        self.says(self.log.answer(model.Message("Open", self.server.boot, {"key": HOSTILE, **opening})))
+        self.says(self.log.answer(loggers.Message("Open", self.server.boot, {"key": HOSTILE, **opening})))
 
     def resets_hostile(self):
         place = self.server.places[HOSTILE]
         it = model.Segment("R", (place.cisn + 1 + place.taken()) % 2**32, 0, 0, None, b"")
         self.turn(pkt(segment("1>S", packet_words(it).split(), {"1": key_of(HOSTILE)})), self.server.on_segment(HOSTILE, it))
-        self.says(self.log.answer(model.Message("Done", self.server.boot, {"key": HOSTILE})))
+        self.says(self.log.answer(loggers.Message("Done", self.server.boot, {"key": HOSTILE})))
 
     def says_of(self, number, at, text=b"", flags="A", ack=0):
         """A segment of one of the three, whose server's numbers follow one another."""

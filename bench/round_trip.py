@@ -19,7 +19,7 @@ def play(program, text):
 def asked_of(report):
     """The schedule that a report's lines hold."""
     lines = report.splitlines()
-    head = [line for line in lines[1:4] if line.split()[0] in ("service", "server", "client")]
+    head = [line for line in lines[1:5] if line.split()[0] in ("service", "server", "twin") or " accepted " not in line and line.startswith("client ")]
     return head + [line.split(" ", 2)[2] for line in lines if line.startswith("event ")]
 
 
@@ -34,6 +34,8 @@ def may_happen(rng, packets, script):
     if kind < 9 and script:
         start = rng.randrange(script)
         return f"send 1 {start} {rng.randint(1, min(1460, script - start))}"
+    if rng.random() < 0.2:
+        return f"stop {rng.randint(1, 2)}"
     return f"ack 1 {rng.choice([0, 65535, rng.randrange(65536)])}"
 
 
@@ -72,6 +74,8 @@ def schedule_of(rng, program):
     """A schedule in its plain spelling, whose events may happen."""
     script = rng.choice([0, 1, 5, 300, 3000])
     lines = ["service echo", f"server 192.0.2.{rng.randint(100, 255)}:{rng.randint(1, 65535)}"]
+    if rng.random() < 0.5:
+        lines.append("twin")
     if rng.random() < 0.9:
         data = "hex:" + rng.randbytes(script).hex() if script else "-"
         lines.append(f"client 1 192.0.2.{rng.randint(0, 99)}:{rng.randint(1, 65535)} {rng.choice([0, 1000, 2**32 - 1, rng.randrange(2**32)])} {data}")

@@ -1,8 +1,8 @@
 #!/usr/bin/env bash
 # A server that is killed again and again while many clients use it, and, if KILL says so, its logger too. CLIENTS clients of the kernel, each in its own network
 # namespace and with its own tools/bridge.py, send BYTES bytes each to an echo of ftnode and compare what is returned. Meanwhile the server is killed (kill -9) KILLS
-# times, and the logger as often, alternately. If clients send at a rate, the kills are distributed evenly over the time that this takes; else one comes each time
-# that a further part of all bytes has been returned. Each process is started again PAUSE seconds later: the server with the next boot number, the logger with its
+# times, and the logger as often, alternately. If clients send at a rate, the time that this takes has as many parts as there are kills, and each kill comes at a
+# random moment of its part; else one comes each time that a further part of all bytes has been returned. Each process is started again PAUSE seconds later: the server with the next boot number, the logger with its
 # journal. As many clients send the same to an echo server of the kernel over paths (bench/relay.py) with the same loss, without window scaling and selective
 # acknowledgements; nothing is killed there, and the pauses that ftnode's clients had are added to the time. Both run at each loss. Printed are resets, bytes lost,
 # the longest time in which a client received nothing, and the time.
@@ -17,7 +17,8 @@
 #     PAUSE     0.2, in seconds
 #     RATE      4000, or 2000 with the logger: bytes that a client sends in a second, so that there is one kill a second; 0: as fast as it can
 #     LIMIT     400, or 800 with the logger: seconds after which one of the two runs at a loss is ended
-#     RTO_MAX   the longest retransmission timeout of the clients, in milliseconds, at least 1000, on Linux 6.15 or later; the kernel's own is 120,000
+#     RTO_MAX   the longest retransmission timeout of the clients, in milliseconds, at least 1000, on Linux 6.15 or later; the kernel's own is 120,000. They give
+#               up after 255 retransmissions then, and not after 15, so that they don't give up earlier
 # It takes eleven minutes, or 22 with the logger, and at most LIMIT and half a minute for each run. It makes network namespaces and TUN devices, and removes them at
 # the end.
 set -eu
@@ -75,7 +76,7 @@ add_spaces() {
     for space in "${spaces[@]}"; do ip netns add "$space"; done
     for space in "${spaces[@]}" "$outside"; do
         ip netns exec "$space" sh -c 'echo 0 >/proc/sys/net/ipv4/tcp_window_scaling; echo 0 >/proc/sys/net/ipv4/tcp_sack'
-        [ -z "$rto_max" ] || ip netns exec "$space" sh -c "echo $rto_max >/proc/sys/net/ipv4/tcp_rto_max_ms" || missing "this kernel has no bound on its timeout"
+        [ -z "$rto_max" ] || ip netns exec "$space" sh -c "cd /proc/sys/net/ipv4; echo $rto_max >tcp_rto_max_ms; echo 255 >tcp_retries2" || missing "RTO_MAX can't be set"
     done
 }
 

@@ -112,14 +112,19 @@ class Client:
 
 
 class Kills:
-    """When they are due: evenly over the time in which the bytes can be sent; where they have no rate, each time that another part of all of them has come back."""
+    """When they are due. The time until the last bytes may be sent has as many parts as there are kills, and each comes at a random moment of its part: at even
+    distances they would keep step with timeouts that double. Where the bytes have no rate, one comes each time that another part of all of them is back."""
 
     def __init__(self, count, size, rate, clients):
-        self.count, self.done = count, 0
-        self.by_clock, self.part = rate > 0, (size / rate if rate > 0 else size * clients) / (count + 1)
+        dice = random.Random(count)
+        self.by_clock, self.done = rate > 0, 0
+        if self.by_clock:
+            self.due = [(part + dice.random()) * (size - PIECE) / rate / count for part in range(count)]
+        else:
+            self.due = [(part + 1) * size * clients / (count + 1) for part in range(count)]
 
     def is_due(self, passed, back):
-        if self.done == self.count or (passed if self.by_clock else back) <= (self.done + 1) * self.part:
+        if self.done == len(self.due) or (passed if self.by_clock else back) <= self.due[self.done]:
             return False
         self.done += 1
         return True
